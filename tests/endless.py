@@ -7,12 +7,14 @@ A function of Rattle waits only by a runtime with the bound `Wait`, sleeps by on
 wait. But each call of the standard library that waits is one of `std::sync`, `std::thread` or `std::time`, and a loop without
 an end is `rt.forever()`. So these are refused but in the files below, where they stand just so often: the two waits for the
 ring, the loop of a worker, the wait for a refusal that was told, the sleep in a wait, and the start of threads, which waits
-for their end. A loop needs no bound to go round 2^64 times: so a range is refused that ends with the greatest number of a
-type, a shifted one, or one of nine digits and more.
+for their end. A loop needs no bound to go round 2^64 times: so the end of a range and what a `while` asks may have no greatest
+number of a type, no turned or shifted one, none in hexadecimal, none of six digits and more, and no constant that is greater
+than 65,536 or isn't a number as it stands. A number that is computed or handed on isn't seen, nor are ranges in one another.
 
 Looked for in the crates of the program, and not in those of tests.
 """
 
+import functools
 import pathlib
 import re
 import sys
@@ -39,15 +41,41 @@ NAMED = {
     # Other names of the same calls.
     r"\bcore::": {},
     r"\bstd\s*(?:::\s*[{*]|\bas\b|;)": {},
-    # Loops that would take years.
-    r"\.\.=?\s*\(?\s*(?:\w+::MAX\b|1\w*\s*<<|0x\w{8,}|[0-9][0-9_]{8,})": {},
 }
+
+# Loops that could take years: what ends a range or is asked by a `while`, and what may not stand there.
+ENDS = re.compile(r"\.\.=?[^{};\n]*|\bwhile\b(?! let\b)[^{;]*")
+LONG = re.compile(r"\w*\bMAX\b|![0-9]\w*|[\w)]+\s*<<|\b0x\w+|\b[0-9](?:_?[0-9]){5,}")
+NAME = re.compile(r"\b[A-Z][A-Z0-9_]+\b")
+CONSTANT = re.compile(r"\bconst (\w+): \w+ = ([0-9_]+);")
+MOST_ROUNDS = 65_536
+
+
+def constants_in(code):
+    return {name: int(value.replace("_", "")) for name, value in CONSTANT.findall(code)}
+
+
+@functools.lru_cache(maxsize=None)
+def constants_of_all():
+    """The constants of all files: of those with one name the greatest."""
+    all_of = [constants_in(file.read_text()) for file in CRATES.glob("*/src/**/*.rt")]
+    return {name: max(it.get(name, 0) for it in all_of) for name in {name for it in all_of for name in it}}
+
+
+def long_loops(code):
+    """The places of a code where a loop could be told to go round for years, and what stands there."""
+    known = {**constants_of_all(), **constants_in(code)}
+    small = {name for name, value in known.items() if value <= MOST_ROUNDS}
+    for end in ENDS.finditer(code):
+        found = LONG.search(end.group()) or next((it for it in NAME.finditer(end.group()) if it.group() not in small), None)
+        if found:
+            yield end.start() + found.start(), " ".join(end.group()[: found.end()].split())
 
 
 def wrong_in(name, text):
     """Where a file of this name below crates/ has what it may not have, or not so often as it must."""
     code = COMMENT.sub("", text)
-    wrong = []
+    wrong = [f"{name}:{code.count(chr(10), 0, place) + 1}: {what}" for place, what in long_loops(code)]
     for word, files in NAMED.items():
         found = list(re.finditer(word, code))
         wanted = files.get(name, 0)

@@ -25,9 +25,30 @@ class Endless(unittest.TestCase):
         self.wrong(SEARCH % "if races > 1 << 32 { for _ in rt.forever() {} }", "7: forever")
 
     def test_a_loop_of_years(self):
-        for end in ("u64::MAX", "=usize::MAX", "(1 << 60)", "1u64 << 60", "1_000_000_000_000", "0xFFFF_FFFF_FFFF", "=999999999"):
-            self.wrong(SEARCH % f"for _ in 0..{end} {{}}", f"7: ..{end.removesuffix(')').removesuffix(' 60')}")
+        for end, found in (
+            ("u64::MAX", "u64::MAX"),
+            ("=usize::MAX", "=usize::MAX"),
+            ("(1 << 60)", "(1 <<"),
+            ("1u64 << 60", "1u64 <<"),
+            ("(u64::from(races) << 40)", "(u64::from(races) <<"),
+            ("!0u64", "!0u64"),
+            ("1_000_000_000_000", "1_000_000_000_000"),
+            ("100000", "100000"),
+            ("0xFFFF_FFFF_FFFF", "0xFFFF_FFFF_FFFF"),
+            ("LONG", "LONG"),
+            ("UNKNOWN", "UNKNOWN"),
+            ("races.max(u64::MAX)", "races.max(u64::MAX"),
+        ):
+            code = "const LONG: u64 = 999_999_999;\n" + SEARCH
+            self.wrong(code % f"for _ in 0..{end} {{}}", f"8: ..{found}")
         self.wrong(SEARCH % "for k in 0..races {}\n    for k in 0..1_000 {}\n    let none = u64::MAX;\n    &bytes[1 << 3..];")
+        self.wrong("const FEW: u64 = 1_000;\n" + SEARCH % "for _ in 0..=FEW {}")
+
+    def test_a_loop_of_years_by_what_it_asks(self):
+        for asked in ("n < u64::MAX", "n < !0", "n >> 3 < 1 << 60", "n < 0xFFFF_FFFF", "n != 4_294_967_296", "n < LONG"):
+            (found,) = endless.wrong_in(FILE, SEARCH % f"while {asked} {{ n += 1; }}")
+            self.assertTrue(found.startswith(f"{FILE}:7: while n"), found)
+        self.wrong(SEARCH % "while n < races && left >= 10_000 { n += 1; }\n    while let Some(k) = next(u64::MAX) {}")
 
     def test_calls_that_wait(self):
         for line, found in (

@@ -11,7 +11,7 @@ use crate::checks::follow_check;
 use crate::complaints::{FAILED, WORDS_REFUSED, complain};
 use crate::reports::follow_report;
 use shb_run::Settings;
-use shb_words::{Plan, WordsFault, plan_of};
+pub use shb_words::{Plan, WordsFault, plan_of};
 use std::env;
 use std::io::ErrorKind;
 use std::process::ExitCode;

@@ -34,3 +34,12 @@ pub struct Disciplined<'a> {
     pub ghost numbered: { IsNumberedByAccess events.now } by { IsNumberedByAccess-prop events.now },
     pub ghost meets: { IsDisciplined events.now } by { IsDisciplined-prop events.now },
 }
+
+impl<'a> Disciplined<'a> {
+    /// The trace that meets the discipline.
+    pub fn trace(&self) -> &'a Trace
+        ensures { result.now ≡ self.now.trace.now }
+    {
+        self.trace
+    }
+}

@@ -5,7 +5,7 @@ use Rattle.std.proofs.lemmas.Bool.Decides.{nat_tests}
 use mathlib.Core.Logic.{dite}
 use native.Mathlib.Decide.{ℕ_discrete, dec_lt}
 use Rattle.shb_fan.specs.Numbers.{weight, times, once_below}
-use Rattle.shb_fan.specs.declared.shares.RingSeat.{RingSeat}
+use Rattle.shb_fan.specs.declared.shares.Seat.{Seat}
 use Rattle.shb_fan.specs.declared.crew.Worker.{Worker}
 use Rattle.shb_fan.specs.Passes.{PassState}
 use Rattle.shb_fan.specs.Seated.{placed_of, lifted_of}
@@ -100,24 +100,24 @@ module _ (P : PassState → Type 0) where
   any_push xs y a = any_at xs y a.0 a.1 a.2 a.3 a.4
 
 module _ {T M : Type 0} where
-  none_placed : (k : ℕ) (seats : List (RingSeat T M)) → All (λ s. placed_of s ≡ []) seats → sum_by (λ s. times k (placed_of s)) seats ≡ 0
+  none_placed : (k : ℕ) (seats : List (Seat T M)) → All (λ s. placed_of s ≡ []) seats → sum_by (λ s. times k (placed_of s)) seats ≡ 0
   none_placed k [] all = refl
   none_placed k (s ∷ seats) all =
-      let c = sum_by-cons (λ (u : RingSeat T M). times k (placed_of u)) s seats in
+      let c = sum_by-cons (λ (u : Seat T M). times k (placed_of u)) s seats in
       let here = ap (times k) (all 0 s (omega arith)) in
       let rest = none_placed k seats (λ i d lt. all (suc i) d (omega (arith, lt))) in omega (arith, c, here, rest)
 
-  pub balanced_none : (passes : List PassState) (seats : List (RingSeat T M)) → passes ≡ [] → All (λ s. placed_of s ≡ []) seats → Balanced passes seats
+  pub balanced_none : (passes : List PassState) (seats : List (Seat T M)) → passes ≡ [] → All (λ s. placed_of s ≡ []) seats → Balanced passes seats
   balanced_none passes seats empty all = record {
     within = λ k. let z = none_placed k seats all in omega (arith, z);
     owed = λ some_halted. absurd (let inside = some_halted.2 in let long = ap length empty in omega (arith, inside, long));
   }
 
   -- one worker's pass and seat more
-  pub balanced_more : (passes more : List PassState) (seats others : List (RingSeat T M)) (p : PassState) (s : RingSeat T M) → Balanced passes seats → Accounts p.drawn (placed_of s) p.halted → more ≡ passes ++ p ∷ [] → others ≡ seats ++ s ∷ [] → Balanced more others
+  pub balanced_more : (passes more : List PassState) (seats others : List (Seat T M)) (p : PassState) (s : Seat T M) → Balanced passes seats → Accounts p.drawn (placed_of s) p.halted → more ≡ passes ++ p ∷ [] → others ≡ seats ++ s ∷ [] → Balanced more others
   balanced_more passes more seats others p s balanced accounts longer wider =
       let placed : (k : ℕ) → sum_by (λ u. times k (placed_of u)) others ≡ sum_by (λ u. times k (placed_of u)) seats + times k (placed_of s) =
-      (λ k. ap (sum_by (λ (u : RingSeat T M). times k (placed_of u))) wider ∙ sum_by_push (λ (u : RingSeat T M). times k (placed_of u)) seats s) in
+      (λ k. ap (sum_by (λ (u : Seat T M). times k (placed_of u))) wider ∙ sum_by_push (λ (u : Seat T M). times k (placed_of u)) seats s) in
       let drawn : (k : ℕ) → sum_by (λ (q : PassState). times k q.drawn) more ≡ sum_by (λ (q : PassState). times k q.drawn) passes + times k p.drawn =
       (λ k. ap (sum_by (λ (q : PassState). times k q.drawn)) longer ∙ sum_by_push (λ (q : PassState). times k q.drawn) passes p) in record {
         within = λ k. let a = placed k in let b = drawn k in let c = balanced.within k in let d = accounts.within k in omega (arith, a, b, c, d);
@@ -129,13 +129,13 @@ module _ {T M : Type 0} where
 
 -- ---- all pieces were lifted by one seat
 
-module _ {T M : Type 0} (passes : List PassState) (seats rest : List (RingSeat T M)) (own : RingSeat T M) (cut : seats ≡ rest ++ own ∷ []) (balanced : Balanced passes seats) (drawn limit : ℕ) (once : (x : ℕ) → sum_by (λ (q : PassState). times x q.drawn) passes ≡ once_below x drawn) (few : drawn ≤ limit)
+module _ {T M : Type 0} (passes : List PassState) (seats rest : List (Seat T M)) (own : Seat T M) (cut : seats ≡ rest ++ own ∷ []) (balanced : Balanced passes seats) (drawn limit : ℕ) (once : (x : ℕ) → sum_by (λ (q : PassState). times x q.drawn) passes ≡ once_below x drawn) (few : drawn ≤ limit)
     (before : (k : ℕ) → sum_by (λ s. times k (lifted_of s)) seats ≤ sum_by (λ s. times k (placed_of s)) seats) (lifted : (k : ℕ) → k < limit → 0 < times k (lifted_of own)) where
   placed_one : (k : ℕ) → k < limit → 0 < sum_by (λ s. times k (placed_of s)) seats
   placed_one k lt =
       let here = lifted k lt in
       let le = before k in
-      let sum : sum_by (λ s. times k (lifted_of s)) seats ≡ sum_by (λ s. times k (lifted_of s)) rest + times k (lifted_of own) = ap (sum_by (λ (s : RingSeat T M). times k (lifted_of s))) cut ∙ sum_by_push (λ (s : RingSeat T M). times k (lifted_of s)) rest own in
+      let sum : sum_by (λ s. times k (lifted_of s)) seats ≡ sum_by (λ s. times k (lifted_of s)) rest + times k (lifted_of own) = ap (sum_by (λ (s : Seat T M). times k (lifted_of s))) cut ∙ sum_by_push (λ (s : Seat T M). times k (lifted_of s)) rest own in
       omega (arith, here, le, sum)
 
   -- so each was drawn

@@ -4,7 +4,7 @@ use Rattle.std.proofs.lemmas.List.{length-replicate}
 use Rattle.std.proofs.Math.Seq.{take-append_seam}
 use Rattle.std.proofs.lemmas.List.Elements.{All-push, All-pop, All-same}
 use Rattle.shb_fan.specs.declared.shares.Ring.{Ring}
-use Rattle.shb_fan.specs.declared.shares.RingSeat.{RingSeat}
+use Rattle.shb_fan.specs.declared.shares.Seat.{Seat}
 use Rattle.shb_fan.specs.declared.crew.Worker.{Worker}
 use Rattle.shb_fan.specs.Numbers.{times}
 use Rattle.shb_fan.specs.Passes.{TicketSource, PassState, fresh}
@@ -39,17 +39,17 @@ module _ {T M J : Type 0} (value : J → ℕ → M) (count : J → ℕ) (z : Tic
       let both = All-pop (IsNew value count z ring) workers rest (Some worker) cut all in
       ((λ k d inside. new_begins _ (both.0 k d inside)), new_begins worker both.1)
 
-  abbrev IsHome : RingSeat T M → Type 0
+  abbrev IsHome : Seat T M → Type 0
   IsHome s = IsSeatOf value count ring s × (claimed_of s ≡ [])
 
-  pub back_none : (passes : List PassState) (seats : List (RingSeat T M)) → passes ≡ [] → All (IsNewSeat value count ring) seats → AreBack value count z ring passes seats
+  pub back_none : (passes : List PassState) (seats : List (Seat T M)) → passes ≡ [] → All (IsNewSeat value count ring) seats → AreBack value count z ring passes seats
   back_none passes seats empty all = record {
     our_passes = λ k d inside. absurd (let long = ap length empty in omega (arith, long, inside));
     our_seats = λ k d inside. let s = all k d inside in (s.0, s.1);
     balanced = balanced_none passes seats empty (λ k d inside. (all k d inside).2);
   }
 
-  pub back_more : (passes more : List PassState) (seats others : List (RingSeat T M)) (worker : Worker T M) → AreBack value count z ring passes seats → HasWorked value count z ring worker
+  pub back_more : (passes more : List PassState) (seats others : List (Seat T M)) (worker : Worker T M) → AreBack value count z ring passes seats → HasWorked value count z ring worker
       → more ≡ passes ++ worker.pass ∷ [] → others ≡ seats ++ worker.seat ∷ [] → AreBack value count z ring more others
   back_more passes more seats others worker back worked longer wider = record {
     our_passes = All-same (λ (q : PassState). q.source ≡ z) more (passes ++ worker.pass ∷ []) longer (All-push (λ (q : PassState). q.source ≡ z) passes worker.pass back.our_passes worked.0.0);

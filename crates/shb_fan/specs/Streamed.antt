@@ -1,7 +1,7 @@
 -- What a taker was given.
 use Rattle.std.specs.Prelude.{◌≡◌, ℕ, ◌+◌, ◌<◌, ◌≤◌, ◌⊎◌, Bool, false, IsTrue, All, Any, sum_by, List, [], ◌∷◌, map, Result, Ok, Err}
 use Rattle.shb_fan.specs.declared.shares.Ring.{Ring}
-use Rattle.shb_fan.specs.declared.shares.RingSeat.{RingSeat}
+use Rattle.shb_fan.specs.declared.shares.Seat.{Seat}
 use Rattle.shb_fan.specs.declared.crew.Worker.{Worker}
 use Rattle.shb_fan.specs.declared.streaming.Shared.{Shared}
 use Rattle.shb_fan.specs.declared.taker.StreamError.{StreamError}
@@ -46,7 +46,7 @@ module _ {T M : Type 0} where
   HasLifted worker count = (k : ℕ) → k < count → 0 < times k (lifted_of worker.seat)
 
   -- no piece was placed more often than it was drawn, and where a pass stopped the draw some piece was placed less often
-  pub record Balanced (passes : List PassState) (seats : List (RingSeat T M)) : Type 0 where
+  pub record Balanced (passes : List PassState) (seats : List (Seat T M)) : Type 0 where
     pub within : (k : ℕ) → sum_by (λ s. times k (placed_of s)) seats ≤ sum_by (λ p. times k p.drawn) passes
     pub owed : Any (λ p. IsTrue p.halted) passes → (k : ℕ) × (sum_by (λ s. times k (placed_of s)) seats < sum_by (λ p. times k p.drawn) passes)
 
@@ -68,7 +68,7 @@ module _ {T M J : Type 0} (value : J → ℕ → M) (count : J → ℕ) where
   IsNew tickets ring worker = (worker.pass ≡ fresh tickets) × IsNewSeat value count ring worker.seat
 
   -- passes and seats that have come back from workers, or were never given out
-  pub record AreBack (tickets : TicketSource) (ring : Ring T M J) (passes : List PassState) (seats : List (RingSeat T M)) : Type 0 where
+  pub record AreBack (tickets : TicketSource) (ring : Ring T M J) (passes : List PassState) (seats : List (Seat T M)) : Type 0 where
     pub our_passes : All (λ p. p.source ≡ tickets) passes
     pub our_seats : All (λ s. IsSeatOf value count ring s × (claimed_of s ≡ [])) seats
     pub balanced : Balanced passes seats

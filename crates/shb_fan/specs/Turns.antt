@@ -1,8 +1,8 @@
 -- What becomes of a list of steps; and the draws, one after the other, that lists of drawn numbers tell of.
 use Rattle.std.specs.Prelude.{◌≡◌, ℕ, ◌+◌, ◌<◌, Bool, MatchBool, false, cond, List, [], ◌∷◌, ◌++◌, Some, length, map, replicate, slice_get, slice_index_or, sum_by, take, Contains, IsTrue, IsFalse}
 use Rattle.std.specs.List.Sorted.{IsStrictlyIncreasing}
-use Rattle.shb_fan.specs.declared.machine.StepsRun.{StepsRun}
-use Rattle.shb_fan.specs.declared.machine.StepsRun.TheVariants.{Ended, Refused}
+use Rattle.shb_fan.specs.declared.machine.Replayed.{Replayed}
+use Rattle.shb_fan.specs.declared.machine.Replayed.TheVariants.{Ended, Refused}
 use Rattle.shb_fan.specs.declared.step.PieceState.TheVariants.{Empty}
 use Rattle.shb_fan.specs.declared.step.Step.{Step}
 use Rattle.shb_fan.specs.declared.step.Step.TheVariants.{Draw, Stop}
@@ -19,9 +19,9 @@ pub record IsRefusedAt (actors pieces : ℕ) (steps : List Step) (at : ℕ) : Ty
   pub refused : ¬ Allowed state step
 
 -- all steps are allowed and led here, where the facts hold; or this is the index of the first that isn't allowed
-abbrev pub HasRunSteps : ℕ → ℕ → List Step → StepsRun → Type 0
-HasRunSteps actors pieces steps (Ended fan) = Runs (start actors pieces) steps fan × Facts fan
-HasRunSteps actors pieces steps (Refused at) = IsRefusedAt actors pieces steps at
+abbrev pub HasReplayed : ℕ → ℕ → List Step → Replayed → Type 0
+HasReplayed actors pieces steps (Ended fan) = Runs (start actors pieces) steps fan × Facts fan
+HasReplayed actors pieces steps (Refused at) = IsRefusedAt actors pieces steps at
 
 -- each list rises, and together they are the numbers below `drawn`, each once
 pub record AreDrawn (lists : List (List ℕ)) (drawn : ℕ) : Type 0 where

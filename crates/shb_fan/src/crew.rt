@@ -7,7 +7,7 @@ ghost use Rattle.shb_fan.specs.Streamed.{IsIdle, IsNew, HasWorked, HasAccounts, 
 
 use crate::job::Job;
 use crate::pass::Pass;
-use crate::shares::{Ring, RingSeat};
+use crate::shares::{Ring, Seat};
 use crate::tickets::{DrawEnd, Tickets};
 use shb_io::NoMemory;
 use std::alloc::Global;
@@ -16,7 +16,7 @@ use std::alloc::Global;
 #[derive(Drop)]
 pub(crate) struct Worker<T, M> {
     pub(crate) pass: Pass,
-    pub(crate) seat: RingSeat<T, M>,
+    pub(crate) seat: Seat<T, M>,
 }
 
 /// What the threads draw from, and what they hand results over by.
@@ -32,7 +32,7 @@ impl<T: Drop, M, J: Job<Out = T, Meaning = M>> Desk<T, M, J> {
         &self,
         alloc: Global,
         passes: &mut Vec<Pass>,
-        seats: &mut Vec<RingSeat<T, M>>,
+        seats: &mut Vec<Seat<T, M>>,
     ) -> Result<Vec<Worker<T, M>>, NoMemory>
         requires passes { All (λ p. p ≡ fresh self.now.tickets) passes.old.items }
         requires seats { All (IsNewSeat J.value J.count self.now.ring) seats.old.items }
@@ -59,7 +59,7 @@ impl<T: Drop, M, J: Job<Out = T, Meaning = M>> Desk<T, M, J> {
         &self,
         mut workers: Vec<Worker<T, M>>,
         passes: &mut Vec<Pass>,
-        seats: &mut Vec<RingSeat<T, M>>,
+        seats: &mut Vec<Seat<T, M>>,
     )
         requires workers { All (HasWorked J.value J.count self.now.tickets self.now.ring) workers.items }
         requires passes { (passes.old.items ≡ []) × (length workers.items < vec_capacity passes.old) }
@@ -82,20 +82,20 @@ impl<T: Drop, M, J: Job<Out = T, Meaning = M>> Desk<T, M, J> {
     pub(crate) fn close_both(
         self,
         mut passes: Vec<Pass>,
-        mut seats: Vec<RingSeat<T, M>>,
+        mut seats: Vec<Seat<T, M>>,
         own: Worker<T, M>,
     ) -> DrawEnd
         requires back { AreBack J.value J.count self.tickets self.ring passes.items seats.items }
         requires passes { (length passes.items + 1 ≡ self.tickets.passes) × (length passes.items < vec_capacity passes) }
         requires seats { (length seats.items + 1 ≡ 65) × (length seats.items < vec_capacity seats) }
         requires own { IsIdle J.value J.count self.tickets self.ring own }
-        ensures { HasAccounts own → HasLifted own self.tickets.limit → (result.drawn ≡ self.tickets.limit) × (result.stopped ≡ false) }
+        ensures { HasAccounts own → HasLifted own self.tickets.limit → (result.closed.drawn ≡ self.tickets.limit) × (result.closed.stopped ≡ false) }
     {
         let Worker { pass, seat } = own;
         let Desk { tickets, ring } = self;
         passes.push(pass).unwrap();
         seats.push(seat).unwrap();
         ring.close(seats);
-        tickets.close(passes)
+        tickets.end(passes)
     }
 }

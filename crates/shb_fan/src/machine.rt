@@ -4,7 +4,7 @@ ghost use Rattle.std.specs.Prelude.{◌≡◌, ◌<◌, ◌≤◌, ◌^◌, ◌+
 ghost use Rattle.shb_fan.specs.declared.step.Step.{Step};
 ghost use Rattle.shb_fan.specs.declared.step.Step.TheVariants.{Claim, Draw, Free, Lift, Place, Stop};
 ghost use Rattle.shb_fan.specs.Machine.{Facts, HasAdvanced, IsInBounds, Runs, State, actor_of, after_draw, new_actor, piece_of, start, state_from};
-ghost use Rattle.shb_fan.specs.Turns.{AreDrawn, AreDraws, HasRunSteps, drawn_state};
+ghost use Rattle.shb_fan.specs.Turns.{AreDrawn, AreDraws, HasReplayed, drawn_state};
 
 pub use crate::step::{PieceState, Step};
 use shb_io::NoMemory;
@@ -109,6 +109,14 @@ impl Fan {
         ensures { result ≡ self.now.stopped }
     {
         self.stopped
+    }
+
+    /// Whether an actor was told that there is no more.
+    pub fn spent(&self, a: u32) -> bool
+        requires { a < length self.now.actors }
+        ensures { result ≡ (actor_of self.now a).spent }
+    {
+        self.actors[a as usize].is_spent()
     }
 
     /// The numbers that an actor drew, in order.
@@ -224,7 +232,7 @@ impl Fan {
 
 /// What became of a list of steps.
 #[derive(Drop)]
-pub enum StepsRun {
+pub enum Replayed {
     /// All were allowed, and led here.
     Ended(Fan),
     /// The index of the first step that isn't allowed.
@@ -275,24 +283,19 @@ fn new_fan(alloc: Global, actors: u32, pieces: u64) -> Result<Fan, NoMemory>
 
 /// Takes all steps from the start, up to the first that isn't allowed. Of the state that they end in
 /// the facts of [`what_holds`] hold. `NoMemory` where memory was refused.
-pub fn run_steps(
-    alloc: Global,
-    actors: u32,
-    pieces: u64,
-    steps: &[Step],
-) -> Result<StepsRun, NoMemory>
+pub fn replay(alloc: Global, actors: u32, pieces: u64, steps: &[Step]) -> Result<Replayed, NoMemory>
     requires some { 1 ≤ actors }
     requires actors { actors ≤ 65 }
     requires pieces { pieces ≤ 2 ^ 60 }
-    ensures { IfOk result (HasRunSteps actors pieces steps.now) }
+    ensures { IfOk result (HasReplayed actors pieces steps.now) }
 {
     let mut fan = new_fan(alloc, actors, pieces)?;
     for at in 0..steps.len() {
         if !advance(&mut fan, steps[at])? {
-            return Ok(StepsRun::Refused { at });
+            return Ok(Replayed::Refused { at });
         }
     }
-    Ok(StepsRun::Ended(fan))
+    Ok(Replayed::Ended(fan))
 }
 
 /// What holds after every list of allowed steps: no number is in two lists or twice in one, and the

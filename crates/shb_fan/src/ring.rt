@@ -7,7 +7,7 @@ ghost use Rattle.shb_fan.specs.Seated.{IsSeatOf, IsNewSeat, job_of, claimed_of, 
 
 use crate::job::Job;
 use crate::ring_steps::{Claim, CutSeat, Free, Lift, MergeSeats, Place};
-use crate::shares::{Ring, RingSeat};
+use crate::shares::{Ring, Seat};
 use atomic_table::{Closed, Table};
 use shb_io::NoMemory;
 use std::alloc::Global;
@@ -52,7 +52,7 @@ fn drop_all<S: Drop>(mut closed: Closed<S, Global>)
 impl<T: Drop, M, J: Job<Out = T, Meaning = M>> Ring<T, M, J> {
     /// A ring of 64 slots for the results of the job's pieces, and its 65 seats, in a list that has room
     /// for them again. `NoMemory` where memory was refused.
-    pub fn new(alloc: Global, job: &J) -> Result<(Ring<T, M, J>, Vec<RingSeat<T, M>>), NoMemory>
+    pub fn new(alloc: Global, job: &J) -> Result<(Ring<T, M, J>, Vec<Seat<T, M>>), NoMemory>
         ensures ring { IfOk result (λ r. (job_of r.0 ≡ job.now) × (r.0.table.shared.table_id.slots ≡ 64)) }
         ensures seats { IfOk result (λ r. (length r.1.items ≡ 65) × All (IsNewSeat J.value J.count r.0) r.1.items
             × (65 ≤ vec_capacity r.1)) }
@@ -65,16 +65,16 @@ impl<T: Drop, M, J: Job<Out = T, Meaning = M>> Ring<T, M, J> {
         let mut seats = Vec::with_capacity(alloc, SEATS as usize)?;
         for _ in 1..SEATS {
             let place = table.shared.split_seat::<CutSeat>(&mut first);
-            seats.push(RingSeat { place })?;
+            seats.push(Seat { place })?;
         }
-        seats.push(RingSeat { place: first })?;
+        seats.push(Seat { place: first })?;
         Ok((Ring { table }, seats))
     }
 
     /// Ends the ring, once all seats have come back. What is still placed is dropped. No piece was placed or
     /// lifted twice, only pieces that were placed were lifted, and a piece was placed only where the one 64
     /// before it was lifted.
-    pub fn close(self, mut seats: Vec<RingSeat<T, M>>)
+    pub fn close(self, mut seats: Vec<Seat<T, M>>)
         requires all { length seats.items ≡ 65 }
         requires ours { All (λ s. IsSeatOf J.value J.count self s × (claimed_of s ≡ [])) seats.items }
         ensures placed_once { (k : ℕ) → sum_by (λ s. times k (placed_of s)) seats.items ≤ 1 }
@@ -87,16 +87,16 @@ impl<T: Drop, M, J: Job<Out = T, Meaning = M>> Ring<T, M, J> {
         let Some(first) = seats.pop() else {
             unreachable!()
         };
-        let RingSeat { place: mut whole } = first;
+        let Seat { place: mut whole } = first;
         while let Some(seat) = seats.pop() {
-            let RingSeat { place } = seat;
+            let Seat { place } = seat;
             table.shared.join_seat::<MergeSeats>(&mut whole, place);
         }
         drop_all(table.close_with(whole));
     }
 
     /// One try to get the slot of piece k, which is empty once piece k - 64 has been lifted. Says whether the seat got it.
-    pub fn claim(&self, seat: &mut RingSeat<T, M>, k: u64) -> bool
+    pub fn claim(&self, seat: &mut Seat<T, M>, k: u64) -> bool
         requires seat { IsSeatOf J.value J.count self.now seat.old }
         requires piece { k < J.count (job_of self.now) }
         requires free { claimed_of seat.old ≡ [] }
@@ -132,7 +132,7 @@ impl<T: Drop, M, J: Job<Out = T, Meaning = M>> Ring<T, M, J> {
     }
 
     /// Places the value of the piece that the seat has claimed.
-    pub fn place(&self, seat: &mut RingSeat<T, M>, k: u64, value: T)
+    pub fn place(&self, seat: &mut Seat<T, M>, k: u64, value: T)
         requires seat { IsSeatOf J.value J.count self.now seat.old }
         requires piece { k < J.count (job_of self.now) }
         requires claimed { claimed_of seat.old ≡ k ∷ [] }
@@ -149,7 +149,7 @@ impl<T: Drop, M, J: Job<Out = T, Meaning = M>> Ring<T, M, J> {
     }
 
     /// One try to lift the value of piece k, which frees its slot for piece k + 64.
-    pub fn lift(&self, seat: &mut RingSeat<T, M>, k: u64) -> Option<T>
+    pub fn lift(&self, seat: &mut Seat<T, M>, k: u64) -> Option<T>
         requires seat { IsSeatOf J.value J.count self.now seat.old }
         requires piece { k < J.count (job_of self.now) }
         ensures seat { IsSeatOf J.value J.count self.now seat.new }

@@ -8,7 +8,7 @@ use std::alloc::Global;
 
 /// One thread's seat at the ring.
 #[derive(Drop)]
-pub struct RingSeat<T, M> {
+pub struct Seat<T, M> {
     pub(crate) place: atomic_table::Seat<Option<T>, SeatView<M>>,
 }
 

@@ -271,21 +271,10 @@ fn work_and_take<
     run_both_sides(rt, &shared, workers, &shared, own, taker)
 }
 
-/// Hands the values of all pieces to the taker in order, while workers run pieces at once.
-///
-/// At each call of the taker, also of a run that never ends, its number is how many came before it, what
-/// came before are the values of the pieces below that number in order, and the result is that of the
-/// piece. What the taker asks of such a call is all that the caller has to show.
-///
-/// The caller's thread takes; each worker runs in a thread of its own where the system has one for it. A piece
-/// that nobody has drawn when its turn comes the caller runs itself, so all of them where no worker has a
-/// thread. `Memory` where memory was refused, here or to a piece; `Taker` where the taker refused a value.
-/// After an error the taker was given the values of the first pieces, no call follows one that it refused, and
-/// values that it wasn't given are dropped.
-///
-/// On Ok the answer is how the draw ended: `drawn` is the number of the pieces, and nobody stopped. Of how
-/// far the draw came before an error no clause speaks.
-pub fn stream<
+/// What `stream` does, and how the draw ended: on Ok as many numbers were drawn as there are pieces, and nobody
+/// stopped. Who closes no tickets has no such answer to give. Of how far the draw came before an error no clause
+/// speaks.
+fn stream_to_close<
     R: Threads + Wait + Sync,
     T: Drop + Send,
     M,
@@ -303,7 +292,7 @@ pub fn stream<
 ) -> Result<DrawEnd, StreamError<E>>
     requires { MayTake J.meaning (J.value job.now) K.may_take (J.count job.now) taker.old }
     ensures ended { Ended J.meaning (J.value job.now) K.takes K.refuses (J.count job.now) taker.old result taker.new }
-    ensures drawn { IfOk result (λ end. (end.drawn ≡ J.count job.now) × (end.stopped ≡ false)) }
+    ensures drawn { IfOk result (λ end. (end.closed.drawn ≡ J.count job.now) × (end.closed.stopped ≡ false)) }
 {
     let threads = workers.get() + 1;
     let (tickets, mut passes) = match Tickets::new(alloc, job.pieces(), threads) {
@@ -330,4 +319,38 @@ pub fn stream<
     let end = desk.close_both(passes, seats, own);
     answer?;
     Ok(end)
+}
+
+/// Hands the values of all pieces to the taker in order, while workers run pieces at once.
+///
+/// At each call of the taker, also of a run that never ends, its number is how many came before it, what
+/// came before are the values of the pieces below that number in order, and the result is that of the
+/// piece. What the taker asks of such a call is all that the caller has to show.
+///
+/// The caller's thread takes; each worker runs in a thread of its own where the system has one for it. A piece
+/// that nobody has drawn when its turn comes the caller runs itself, so all of them where no worker has a
+/// thread. `Memory` where memory was refused, here or to a piece; `Taker` where the taker refused a value.
+/// After an error the taker was given the values of the first pieces, no call follows one that it refused, and
+/// values that it wasn't given are dropped.
+pub fn stream<
+    R: Threads + Wait + Sync,
+    T: Drop + Send,
+    M,
+    J: Job<Out = T, Meaning = M> + Sync,
+    G: Gate + Sync,
+    E,
+    K: Taker<T, Error = E>,
+>(
+    rt: &R,
+    alloc: Global,
+    job: &J,
+    gate: &G,
+    workers: Workers,
+    taker: &mut K,
+) -> Result<(), StreamError<E>>
+    requires { MayTake J.meaning (J.value job.now) K.may_take (J.count job.now) taker.old }
+    ensures ended { Ended J.meaning (J.value job.now) K.takes K.refuses (J.count job.now) taker.old result taker.new }
+{
+    stream_to_close(rt, alloc, job, gate, workers, taker)?;
+    Ok(())
 }

@@ -39,27 +39,19 @@ impl Model for Tickets {
         × (t.table.shared.key ≡ t.plan) × (0 < t.plan.passes) };
 }
 
-/// What is known once every pass has come back. Only [`Tickets::close`] gives it.
+/// What is known once every pass has come back.
 #[derive(Debug, Drop, Clone, Copy, PartialEq, Eq)]
-pub struct DrawEnd {
-    drawn: u64,
-    stopped: bool,
+pub struct Closed {
+    /// The numbers that were drawn are those below it, each once.
+    pub drawn: u64,
+    /// Whether some pass stopped the draw.
+    pub stopped: bool,
 }
 
-impl DrawEnd {
-    /// The numbers that were drawn are those below it, each once.
-    pub fn drawn(self) -> u64
-        ensures { result ≡ self.drawn }
-    {
-        self.drawn
-    }
-
-    /// Whether some pass stopped the draw.
-    pub fn stopped(self) -> bool
-        ensures { result ≡ self.stopped }
-    {
-        self.stopped
-    }
+/// How the draw of some tickets ended. [`Tickets::end`] alone makes one, so who has one has closed tickets.
+#[derive(Clone, Copy)]
+pub(crate) struct DrawEnd {
+    closed: Closed,
 }
 
 impl Tickets {
@@ -157,7 +149,7 @@ impl Tickets {
     }
 
     /// Ends the draw, once all passes have come back, and says how far it came.
-    pub fn close(self, mut passes: Vec<Pass>) -> DrawEnd
+    pub fn close(self, mut passes: Vec<Pass>) -> Closed
         requires all { length passes.items ≡ self.passes }
         requires ours { All (λ p. p.source ≡ self) passes.items }
         ensures each_once { (x : ℕ) → sum_by (λ p. times x p.drawn) passes.items ≡ once_below x result.drawn }
@@ -184,9 +176,22 @@ impl Tickets {
         let ticket = words.word(TICKET);
         let stop = words.word(STOP);
         words.free();
-        DrawEnd {
+        Closed {
             drawn: ticket.min(plan.limit),
             stopped: stop != 0,
+        }
+    }
+
+    /// What `close` does, and the evidence of it.
+    pub(crate) fn end(self, passes: Vec<Pass>) -> DrawEnd
+        requires all { length passes.items ≡ self.passes }
+        requires ours { All (λ p. p.source ≡ self) passes.items }
+        ensures each_once { (x : ℕ) → sum_by (λ p. times x p.drawn) passes.items ≡ once_below x result.closed.drawn }
+        ensures few { result.closed.drawn ≤ self.limit }
+        ensures stopped { IsTrue result.closed.stopped → Any (λ p. IsTrue p.halted) passes.items }
+    {
+        DrawEnd {
+            closed: self.close(passes),
         }
     }
 }

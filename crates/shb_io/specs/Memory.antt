@@ -19,6 +19,11 @@ pub record PageState : Type 0 where
   pub calls : ℕ
   pub failures : ℕ
 
+-- an endless source: its one byte, and how many of it were given
+pub record EndlessState : Type 0 where
+  pub byte : ℕ
+  pub given : ℕ
+
 -- a count of 64 bits and n more: it stays at the greatest number once it is there
 abbrev pub counted_on : ℕ → ℕ → ℕ
 counted_on count n = min (count + n) (2 ^ 64 - 1)

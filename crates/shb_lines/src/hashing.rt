@@ -16,7 +16,7 @@ ghost use Rattle.std.specs.Str.{bytes_eq};
 ghost use Rattle.std.proofs.lemmas.Slice.Eq.{bytes_eq-Decides};
 ghost use Rattle.shb_lines.specs.text.Hashing as spec;
 
-use shb_io::{NoMemory, random_keys};
+use shb_io::{Keys, NoMemory};
 use std::hash::{BuildHasher, Hash, Hasher};
 use std::random::RandomSource;
 
@@ -159,15 +159,15 @@ impl Hasher for KeyedHasher {
 /// The two secret keys of a table, which make its hashers.
 #[derive(Clone, Copy)]
 pub struct HashKeys {
-    first: u64,
-    second: u64,
+    keys: Keys,
 }
 
 impl HashKeys {
     /// Keys from the random source. A source that fails is answered like want of memory.
     pub fn new<R: RandomSource>(rt: &R) -> Result<HashKeys, NoMemory> {
-        let (first, second) = random_keys(rt)?;
-        Ok(HashKeys { first, second })
+        Ok(HashKeys {
+            keys: Keys::random(rt)?,
+        })
     }
 }
 
@@ -178,8 +178,8 @@ impl BuildHasher for HashKeys {
 
     fn build_hasher(&self) -> KeyedHasher {
         KeyedHasher {
-            state: self.first,
-            key: self.second,
+            state: self.keys.first(),
+            key: self.keys.second(),
         }
     }
 }

@@ -4,6 +4,7 @@ ghost use Rattle.std.specs.Prelude.{◌≡◌, ◌<◌, IfOk, length};
 ghost use Rattle.shb_places.specs.Lists.{none};
 
 use shb_io::NoMemory;
+use std::alloc::AllocError;
 
 /// The number of no record.
 pub const NONE: u32 = u32::MAX;
@@ -20,6 +21,6 @@ pub fn next_number<T>(table: &[T]) -> Result<u32, NoMemory>
     if count < NONE as usize {
         Ok(count as u32)
     } else {
-        Err(NoMemory::of_full(table))
+        Err(NoMemory::from(AllocError))
     }
 }

@@ -30,7 +30,7 @@ fn two(alloc: Global, limit: u32) -> Result<(Tickets, Pass, Pass), NoMemory>
     Ok((tickets, a, b))
 }
 
-fn close_two(alloc: Global, tickets: Tickets, a: Pass, b: Pass) -> Result<DrawEnd, NoMemory>
+fn close_two(alloc: Global, tickets: Tickets, a: Pass, b: Pass) -> Result<Closed, NoMemory>
     requires { (tickets.passes ≡ 2) × (a.source ≡ tickets) × (b.source ≡ tickets) }
 {
     let mut passes = Vec::new(alloc);
@@ -39,9 +39,9 @@ fn close_two(alloc: Global, tickets: Tickets, a: Pass, b: Pass) -> Result<DrawEn
     Ok(tickets.close(passes))
 }
 
-fn expect_end(rt: &impl Abort, end: DrawEnd, drawn: u64, stopped: bool) {
-    same(rt, &end.drawn(), &drawn, "what was drawn");
-    same(rt, &end.stopped(), &stopped, "whether the draw was stopped");
+fn expect_end(rt: &impl Abort, end: Closed, drawn: u64, stopped: bool) {
+    same(rt, &end.drawn, &drawn, "what was drawn");
+    same(rt, &end.stopped, &stopped, "whether the draw was stopped");
 }
 
 /// Draws by a pass, and asserts what comes.
@@ -169,7 +169,7 @@ impl Taker<u64> for Counter {
     }
 }
 
-/// Streams a job of so many pieces, and asserts that all are drawn and taken in order.
+/// Streams a job of so many pieces, and asserts that all are taken in order.
 fn expect_stream<R: Threads + Wait + Sync + AllocGlobal + Abort, G: Gate + Sync>(
     rt: &R,
     pieces: u32,
@@ -179,9 +179,7 @@ fn expect_stream<R: Threads + Wait + Sync + AllocGlobal + Abort, G: Gate + Sync>
     let job = make_numbers(pieces, &[], None);
     let mut taker = Counter { taken: 0 };
     let answer = stream(rt, rt.alloc(), &job, gate, so_many(rt, workers), &mut taker);
-    let drawn = answer.map(|end| (end.drawn(), end.stopped()));
-    let wanted = Ok((u64::from(pieces), false));
-    same(rt, &drawn, &wanted, "the answer of a stream");
+    same(rt, &answer, &Ok(()), "the answer of a stream");
     same(rt, &taker.taken, &u64::from(pieces), "values in order");
 }
 

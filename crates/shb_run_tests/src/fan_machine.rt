@@ -15,9 +15,9 @@ fn refused<R: AllocGlobal>(
     if actors < 1 || actors > 65 || pieces > 1000 {
         return Ok(Some(usize::MAX));
     }
-    match run_steps(rt.alloc(), actors, pieces, steps)? {
-        StepsRun::Ended(_) => Ok(None),
-        StepsRun::Refused { at } => Ok(Some(at)),
+    match replay(rt.alloc(), actors, pieces, steps)? {
+        Replayed::Ended(_) => Ok(None),
+        Replayed::Refused { at } => Ok(Some(at)),
     }
 }
 
@@ -27,7 +27,7 @@ fn expect_steps<R: Abort + AllocGlobal>(
     steps: &[Step],
     allowed: usize,
 ) -> Result<(), Fail> {
-    let StepsRun::Ended(mut fan) = run_steps(rt.alloc(), 2, 2, &[])? else {
+    let Replayed::Ended(mut fan) = replay(rt.alloc(), 2, 2, &[])? else {
         panic!(rt; "no step is refused");
     };
     for (at, step) in steps.iter().enumerate() {
@@ -38,9 +38,9 @@ fn expect_steps<R: Abort + AllocGlobal>(
 
 /// How many pieces are taken, the next one, and whether it is stopped, after steps that are allowed.
 fn ended(rt: &HostRuntime, steps: &[Step]) -> Result<Option<(u64, u64, bool)>, Fail> {
-    match run_steps(rt.alloc(), 2, 2, steps)? {
-        StepsRun::Ended(fan) => Ok(Some((fan.taken(), fan.next(), fan.stopped()))),
-        StepsRun::Refused { at: _ } => Ok(None),
+    match replay(rt.alloc(), 2, 2, steps)? {
+        Replayed::Ended(fan) => Ok(Some((fan.taken(), fan.next(), fan.stopped()))),
+        Replayed::Refused { at: _ } => Ok(None),
     }
 }
 

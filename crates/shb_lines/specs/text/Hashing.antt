@@ -58,4 +58,4 @@ written h bytes = record h { state = hash h.state h.key bytes }
 
 -- the hasher that the keys make
 abbrev pub keyed : HashKeys → KeyedHasher
-keyed keys = record { state = keys.first; key = keys.second }
+keyed keys = record { state = keys.keys.first; key = keys.keys.second }

@@ -4,7 +4,7 @@ use Rattle.shb_fan.specs.declared.step.Step.{Step}
 use Rattle.shb_fan.specs.Machine.{Runs, start}
 use Rattle.shb_fan.proofs.MachineFacts.{facts_hold}
 use Rattle.shb_fan.proofs.Starts.{refused_here, run_on}
-use Rattle.shb_fan.proofs.machine.run_steps.Goals as goal
+use Rattle.shb_fan.proofs.machine.replay.Goals as goal
 
 pub returns-then-not-branch : goal.returns-then-not-branch
 returns-then-not-branch c = refused_here c.args.actors c.args.pieces c.args.steps.now c.loop-at.at _ c.loop-at.fan c.advance.new.fan c.in_ok-advance.field-0 c.loop-at-test.true c.loop-at.invariant c.if-not-branch.true c.in_ok-advance.ensures.ok

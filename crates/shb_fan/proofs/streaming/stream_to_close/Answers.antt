@@ -1,7 +1,7 @@
 use Rattle.std.proofs.lemmas.List.Elements.{All-same}
 use Rattle.shb_fan.specs.Streamed.{CanBegin, HasWorked}
 use Rattle.shb_fan.proofs.MadeWorkers.{as_many, but_one, comes_back, new_last, passes_whole}
-use Rattle.shb_fan.proofs.streaming.stream.Goals as goal
+use Rattle.shb_fan.proofs.streaming.stream_to_close.Goals as goal
 
 pub work_and_take-answer-requires-clause-workers : goal.work_and_take-answer-requires-clause-workers
 work_and_take-answer-requires-clause-workers g c κs within =
