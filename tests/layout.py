@@ -28,7 +28,7 @@ def misplaced(folder, copies):
 
 
 def main():
-    crates = sorted(path.parent for path in (ROOT / "crates").glob("*/src"))
+    crates = [*sorted(path.parent for path in (ROOT / "crates").glob("*/src")), ROOT / "tests" / "calls"]
     failed = 0
     with tempfile.TemporaryDirectory() as room:
         shutil.copy(ROOT / "crates.txt", room)

@@ -1,5 +1,6 @@
 """What tests/surface.py finds in the sources of crates that it is given, and that its table has every crate of the library."""
 
+import re
 import unittest
 
 import surface
@@ -123,6 +124,14 @@ class Surface(unittest.TestCase):
 
     def test_a_crate_that_isnt_there(self):
         self.assertEqual(self.wrong(table="middle\n    struct Room\n"), ["struct Room"])
+
+    def test_each_name_of_the_table_is_used(self):
+        """What nothing calls would be found needless again: tests/calls is its user."""
+        lines = [it for it in surface.TABLE.read_text().split("\n") if it.startswith(" ")]
+        names = {re.match(r" +(?:(?:struct|enum|trait|fn|mod) )?(?:\w+::)*(\w+)", it)[1] for it in lines}
+        names |= {name for it in lines if " trait " in it for name in re.findall(r"(\w+)\(", it.partition("{")[2])}
+        used = {it for file in (surface.ROOT / "tests/calls/src").glob("*.rt") for it in re.findall(r"\w+", file.read_text())}
+        self.assertEqual(sorted(names - used), [])
 
     def test_the_table_has_the_librarys_crates(self):
         crates = [it.strip() for it in surface.TABLE.read_text().split("\n") if it and not it.startswith(" ")]

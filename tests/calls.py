@@ -1,0 +1,46 @@
+#!/usr/bin/env python3
+"""Makes each public call of the library's crates, and compares the answers with worked examples. The calls are a crate of
+their own, in tests/calls, which is put into a copy of the repository and run there without a proof: it costs a minute, and so
+no proof is made dearer by an example. Ends with the line 'N passed, N failed'.
+"""
+
+import pathlib
+import re
+import shutil
+import subprocess
+import sys
+import tempfile
+
+ROOT = pathlib.Path(__file__).resolve().parent.parent
+CALLS = ROOT / "tests" / "calls"
+SECONDS, STEPS = 100, 2_000_000_000  # for each test: a wrong body may go on for ever
+RESULT = re.compile(r"(?m)^test (\S+) \.\.\. (\w+)")
+
+
+def make_copy(room):
+    """Copies the crates that the calls need into a folder, and adds theirs. Its folder."""
+    kept = shutil.ignore_patterns("out", "must-fail", "shb_*tests")
+    shutil.copytree(ROOT / "crates", room / "crates", ignore=kept)
+    lines = [it for it in (ROOT / "crates.txt").read_text().splitlines() if not re.match(r"\w*_tests\b", it)]
+    (room / "crates.txt").write_text("\n".join([*lines, (CALLS / "crates.line").read_text()]))
+    shutil.copy(ROOT / "HANDLES", room)
+    shutil.copytree(CALLS / "src", room / "crates" / "shb_calls" / "src")
+    return room / "crates" / "shb_calls"
+
+
+def main():
+    wanted = {it for file in CALLS.glob("src/*.rt") for it in re.findall(r"#\[test\]\nfn (\w+)", file.read_text())}
+    with tempfile.TemporaryDirectory(prefix="calls-") as room:
+        words = ["rt", "try", "--test", "--seconds", str(SECONDS), "--steps", str(STEPS)]
+        ran = subprocess.run(words, cwd=make_copy(pathlib.Path(room)), stdin=subprocess.DEVNULL, stdout=subprocess.PIPE, stderr=subprocess.STDOUT)
+    said = ran.stdout.decode(errors="replace")
+    passed = {name.rpartition("::")[2] for name, result in RESULT.findall(said) if result == "ok"} & wanted
+    if ran.returncode or passed != wanted:
+        print(said)
+    failed = len(wanted - passed) or int(ran.returncode != 0)
+    print(f"{len(passed)} passed, {failed} failed")
+    return 1 if failed or not passed else 0
+
+
+if __name__ == "__main__":
+    sys.exit(main())

@@ -1,0 +1,30 @@
+//! Worked examples as calls: each public call of the library's crates is made, and its answer compared with what was worked out
+//! by hand. Nothing here is proved: `tests/calls.py` puts this crate into a copy of the repository and runs it there.
+#![tactic(auto)]
+
+#[cfg(test)]
+mod asserting;
+#[cfg(test)]
+mod checks;
+#[cfg(test)]
+mod devices;
+#[cfg(test)]
+mod fan;
+#[cfg(test)]
+mod machine;
+#[cfg(test)]
+mod orders;
+#[cfg(test)]
+mod pairs;
+#[cfg(test)]
+mod parses;
+#[cfg(test)]
+mod replays;
+#[cfg(test)]
+mod reports;
+#[cfg(test)]
+mod runs;
+#[cfg(test)]
+mod traces;
+#[cfg(test)]
+mod words;
