@@ -5,8 +5,8 @@
 
 - the form of the must-fail edits, the layout, the names in documents;
 - `rt check` in each crate that changed and, without --quick, in those above it: over the work that earlier checks kept;
-- without --quick: the must-fail edits of the crates that the record (tests/gate/refused.sums) doesn't answer for, the tests
-  of the test crates that changed, and the Python tests of the folders that changed.
+- without --quick: the must-fail edits of the crates that the record (tests/gate/refused.sums) doesn't answer for, the crates'
+  calls, the tests of the test crates that changed, and the Python tests of the folders that changed.
 
 --quick is what takes less than five minutes after a small change, once the crates below have been checked before.
 """
@@ -107,6 +107,7 @@ def check_change(base, is_quick):
         left_out += ["the crates above those that changed", "all must-fail edits", "the tests of the crates and of the folders"]
     else:
         left_out.append("a tenth of the edits that the record answers for")
+        steps.run("tests/calls.py", [sys.executable, "tests/calls.py"])
         try_edits(steps, layers, layers.above({*layers.uses}))
         for name in TEST_CRATES:
             if name in changed:
