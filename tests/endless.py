@@ -8,7 +8,7 @@ wait. But each call of the standard library that waits is one of `std::sync`, `s
 an end is `rt.forever()`. So these are refused but in the files below, where they stand just so often: the two waits for the
 ring, the loop of a worker, the wait for a refusal that was told, the sleep in a wait, and the start of threads, which waits
 for their end. A loop needs no bound to go round 2^64 times: so the end of a range and what a `while` asks may have no greatest
-number of a type, no turned or shifted one, none in hexadecimal, none of six digits and more, and no constant that is greater
+number of a type of 64 bits, no turned or shifted one, none in hexadecimal, none of six digits and more, and no constant that is greater
 than 65,536 or isn't a number as it stands. A number that is computed or handed on isn't seen, nor are ranges in one another.
 
 Looked for in the crates of the program, and not in those of tests.
@@ -45,8 +45,8 @@ NAMED = {
 
 # Loops that could take years: what ends a range or is asked by a `while`, and what may not stand there.
 ENDS = re.compile(r"\.\.=?[^{};\n]*|\bwhile\b(?! let\b)[^{;]*")
-LONG = re.compile(r"\w*\bMAX\b|![0-9]\w*|[\w)]+\s*<<|\b0x\w+|\b[0-9](?:_?[0-9]){5,}")
-NAME = re.compile(r"\b[A-Z][A-Z0-9_]+\b")
+LONG = re.compile(r"(?:u64|u128|usize|i64|i128|isize)::MAX\b|![0-9]\w*|[\w)]+\s*<<|\b0x\w+|\b[0-9](?:_?[0-9]){5,}")
+NAME = re.compile(r"(?<!::)\b[A-Z][A-Z0-9_]+\b")
 CONSTANT = re.compile(r"\bconst (\w+): \w+ = ([0-9_]+);")
 MOST_ROUNDS = 65_536
 

@@ -10,7 +10,8 @@ of the error that is converted into one; an allocator or a random source of the 
 
 A refusal is also had by asking for more memory than there is. So in the crates but those of tests each request for memory of
 some size is looked at: its size has to have one of the few forms below (`Sizes.is_bounded`). A size that is an argument of the
-function is looked at in each call of this function.
+function is looked at in each call of this function; but not of a method whose argument is below 2^32 by its type, since a
+method is known by its name and its number of arguments alone.
 """
 
 import pathlib
@@ -35,7 +36,7 @@ NAMED = {
     r"\bAllocator\s+for\b": (),
     r"\bRandomSource\s+for\b": (),
     r"\bfill_bytes\b": ("shb_io/src/keys.rt",),
-    r"\b(?:Build)?Hasher\b": (HASHES,),
+    r"\bBuildHasher\b|\bHasher\s+for\b": (HASHES,),
     r"\b(?:BuildHasherDefault|DefaultHasher|RandomState|SipHasher\w*)\b": (),
 }
 
@@ -52,7 +53,6 @@ LIST = re.compile(r"\bvec!\s*\[")
 COUNTS = "threads locks variables events pieces count".split()
 # Other sizes that the code needs, by the file, with what bounds them.
 OTHERS = {
-    ("shb_lines/src/names.rt", "number"): "the number of a name, of which there are no more than 2^30 bytes",
     ("shb_lines/src/read.rt", "limits.text"): "the most bytes of a text, at most 2^30 by the condition of `parse`",
     ("shb_fan/src/streaming.rt", "workers.get()"): "at most 64 by its type",
     ("shb_pairs/src/buckets.rt", "starts[count as usize]"): "the sum of all counts, which is the number of positions",
@@ -67,10 +67,11 @@ CLAUSE = re.compile(r"\b(?:requires|ensures|decreases)\b[ \w]*\Z")
 
 
 class Function:
-    """A function of a file: its name, with its type where it has one, its arguments, and its text."""
+    """A function of a file: its name, with its type where it has one, the types of its arguments by their names, and its text."""
 
     def __init__(self, file, name, arguments, start, text):
         self.file, self.name, self.arguments, self.start, self.text = file, name, arguments, start, text
+        self.takes_self = any(re.fullmatch(r"&?(?:'\w+ )?(?:mut )?self", it) for it in arguments)
 
 
 def functions_in(name, code):
@@ -79,7 +80,7 @@ def functions_in(name, code):
     for number, found in enumerate(starts):
         begins = code.index("(", end_of_parameters(code, found.end()))
         ends = end_of(code, begins)
-        arguments = [it.split(":")[0].replace("mut ", "").strip() for it in parts(code[begins + 1 : ends - 1], ",", True)]
+        arguments = dict(re.fullmatch(r"(?:mut )?([^:]*?)(?:\s*:\s*(.*))?", it, re.S).groups("") for it in parts(code[begins + 1 : ends - 1], ",", True))
         owner = re.findall(r"(?m)^impl\b(?:<.*?>)? (?:.* for )?(\w+)|^(\})", code[: found.start()])
         owner = owner[-1][0] if owner else ""
         body = body_at(code, ends)
@@ -140,7 +141,8 @@ class Sizes:
             return False
         made = re.findall(rf"\b(?:let|for) (?:mut )?{size}\b|\b{size}\s*(?:[-+*/%|&^]|<<|>>)?=(?!=)", function.text)
         if size in function.arguments and not made:
-            self.passed_on += [(function, size)] * ((function, size) not in self.passed_on)
+            is_small = function.takes_self and function.arguments[size] in ("u8", "u16", "u32")
+            self.passed_on += [(function, size)] * (not is_small and (function, size) not in self.passed_on)
             return True
         value = re.search(rf"\blet {size}(?:: \w+)? = (.*?);", function.text, re.S)
         return bool(value) and len(made) == 1 and self.is_bounded(value[1], function)
@@ -173,19 +175,18 @@ class Sizes:
     def look_at_calls(self, callee, argument):
         """Looks at a size that is passed to a function, in each call of it."""
         owner, _, name = callee.name.rpartition("::")
-        takes_self = any(re.fullmatch(r"&?(?:'\w+ )?self", it) for it in callee.arguments)
-        place = callee.arguments.index(argument) - takes_self
-        head = r"\." if takes_self else (rf"\b(?:{owner}|Self)(?:::<[^()]*>)?::" if owner else r"(?<![\w.:])")
+        place, count = [*callee.arguments].index(argument) - callee.takes_self, len(callee.arguments) - callee.takes_self
+        head = r"\." if callee.takes_self else (rf"\b(?:{owner}|Self)(?:::<[^()]*>)?::" if owner else r"(?<![\w.:])")
         for function in self.functions:
             for found in re.finditer(rf"{head}{name}(?:::<[^()]*>)?(?=\()", function.text):
                 ends = end_of(function.text, found.end())
                 arguments = parts(function.text[found.end() + 1 : ends - 1], ",")
-                size = arguments[place] if place < len(arguments) else "?"
-                self.look_at(size, function, found.start(), function.text[found.start() : ends])
+                if len(arguments) == count:
+                    self.look_at(arguments[place], function, found.start(), function.text[found.start() : ends])
 
     def all_wrong(self):
         for name, code in self.codes.items():
-            self.look_at_repeated(ARRAY, Function(name, "", [], 0, code))
+            self.look_at_repeated(ARRAY, Function(name, "", {}, 0, code))
         for function in self.functions:
             self.look_at_requests(function)
         for callee, argument in self.passed_on:  # it grows meanwhile

@@ -35,7 +35,9 @@ class Refusals(unittest.TestCase):
         self.wrong("unsafe impl Allocator for Refusing {}\nimpl<T> RandomSource\n    for Failing<T> {}\n", "1: Allocator for", "2: RandomSource\n    for")
 
     def test_hashers(self):
-        self.wrong("impl BuildHasher for Keyless {\n    type Hasher = KeyedHasher;\n", "1: BuildHasher", "2: Hasher")
+        self.wrong("impl BuildHasher for Keyless {\n", "1: BuildHasher")
+        self.wrong("impl Hasher for Keyless {\n", "1: Hasher for")
+        self.wrong("    fn hash<H: Hasher>(&self, state: &mut H) {\n")
         self.wrong("let keys = RandomState::new();\n", "1: RandomState")
         self.wrong("rt.fill_bytes(&mut bytes);\n", "1: fill_bytes")
         self.wrong("IndexMap::with_hasher(alloc, HashKeys::new(rt)?);\n")
