@@ -14,6 +14,7 @@ import tempfile
 ROOT = pathlib.Path(__file__).resolve().parent.parent
 CALLS = ROOT / "tests" / "calls"
 SECONDS, STEPS = 100, 2_000_000_000  # for each test: a wrong body may go on for ever
+TEST = re.compile(r"#\[test\]\nfn (\w+)")
 RESULT = re.compile(r"(?m)^test (\S+) \.\.\. (\w+)")
 
 
@@ -28,17 +29,26 @@ def make_copy(room):
     return room / "crates" / "shb_calls"
 
 
+def wanted_tests():
+    """The tests of the crate, each as its module and its name."""
+    return {f"{file.stem}::{name}" for file in CALLS.glob("src/*.rt") for name in TEST.findall(file.read_text())}
+
+
+def judged(wanted, said, status):
+    """How many of the wanted tests passed and failed, by what `rt` said and its status. A run that failed otherwise is one that failed."""
+    passed = {name for name, result in RESULT.findall(said) if result == "ok"} & wanted
+    return len(passed), len(wanted - passed) or int(status != 0)
+
+
 def main():
-    wanted = {it for file in CALLS.glob("src/*.rt") for it in re.findall(r"#\[test\]\nfn (\w+)", file.read_text())}
     with tempfile.TemporaryDirectory(prefix="calls-") as room:
         words = ["rt", "try", "--test", "--seconds", str(SECONDS), "--steps", str(STEPS)]
         ran = subprocess.run(words, cwd=make_copy(pathlib.Path(room)), stdin=subprocess.DEVNULL, stdout=subprocess.PIPE, stderr=subprocess.STDOUT)
     said = ran.stdout.decode(errors="replace")
-    passed = {name.rpartition("::")[2] for name, result in RESULT.findall(said) if result == "ok"} & wanted
-    if ran.returncode or passed != wanted:
+    passed, failed = judged(wanted_tests(), said, ran.returncode)
+    if failed:
         print(said)
-    failed = len(wanted - passed) or int(ran.returncode != 0)
-    print(f"{len(passed)} passed, {failed} failed")
+    print(f"{passed} passed, {failed} failed")
     return 1 if failed or not passed else 0
 
 
