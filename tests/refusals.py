@@ -24,6 +24,7 @@ from brackets import CLOSES, end_of, end_of_parameters, parts
 
 CRATES = pathlib.Path(__file__).resolve().parent.parent / "crates"
 CONVERTS = "shb_io/src/no_memory.rt"
+KEYS = "shb_io/src/keys.rt"
 HASHES = "shb_lines/src/hashing.rt"
 
 # What stands in no file but these.
@@ -35,7 +36,8 @@ NAMED = {
     r"\bOutOfMemory\b": ("shb_words/src/plan.rt", "shb/src/main.rt"),
     r"\bAllocator\s+for\b": (),
     r"\bRandomSource\s+for\b": (),
-    r"\bfill_bytes\b": ("shb_io/src/keys.rt",),
+    r"\bfill_bytes\b": (KEYS,),
+    r"\bof_random_source\b": (CONVERTS, KEYS),
     r"\bBuildHasher\b|\bHasher\s+for\b": (HASHES,),
     r"\b(?:BuildHasherDefault|DefaultHasher|RandomState|SipHasher\w*)\b": (),
 }

@@ -40,6 +40,7 @@ class Refusals(unittest.TestCase):
         self.wrong("    fn hash<H: Hasher>(&self, state: &mut H) {\n")
         self.wrong("let keys = RandomState::new();\n", "1: RandomState")
         self.wrong("rt.fill_bytes(&mut bytes);\n", "1: fill_bytes")
+        self.wrong("return Err(NoMemory::of_random_source());\n", "1: of_random_source", name="shb_io/src/page_sink.rt")
         self.wrong("IndexMap::with_hasher(alloc, HashKeys::new(rt)?);\n")
 
     def test_the_file_that_converts(self):
@@ -51,7 +52,7 @@ class Refusals(unittest.TestCase):
         self.wrong("use shb_io::{NoMemory, Sink};\nErr(NoMemory::from(refused))\nErr(WriteError::Memory(refused))\n")
 
     def test_only_its_module_can_make_one(self):
-        for file, name in ((refusals.CONVERTS, "NoMemory"), ("shb_io/src/keys.rt", "Keys")):
+        for file, name in ((refusals.CONVERTS, "NoMemory"), (refusals.KEYS, "Keys")):
             struct = re.search(rf"pub struct {name} \{{(.*?)\}}", (refusals.CRATES / file).read_text(), re.S)
             self.assertRegex(struct.group(1), r"^\s*\w+: ")
             self.assertNotIn("pub", struct.group(1))
