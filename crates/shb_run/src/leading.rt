@@ -15,7 +15,7 @@ use shb_io::Sink;
 use shb_lines::Pair;
 use shb_links::{Linked, links_of};
 use shb_pairs::open_variables;
-use shb_places::leading_races;
+use shb_search::leading_races;
 use shb_stamps::{Order, Ordered};
 use shb_witness::order_of_races;
 use shb_write::{BlockPlan, WriteError, write_list, write_report};

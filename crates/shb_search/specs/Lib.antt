@@ -1,0 +1,12 @@
+pub mod Accesses
+pub mod Asked
+pub mod Asking
+pub mod Classes
+pub mod Found
+pub mod Kept
+pub mod Looks
+pub mod Members
+pub mod Searched
+pub mod Sides
+pub mod State
+pub mod Tables

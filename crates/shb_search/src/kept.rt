@@ -1,0 +1,155 @@
+//! The accesses so far, by class.
+
+ghost use Rattle.std.specs.Prelude.{◌≡◌, ◌^◌, ◌+◌, ◌-◌, ◌<◌, ℕ, [], Bool, true, IfOk, OnOk, Some, length, map, slice_get};
+ghost use Rattle.std.specs.FinSet as set;
+ghost use Rattle.shb_search.specs.Classes.{HasKind, HasPut, IsNoted, class_key, kind};
+ghost use Rattle.shb_search.specs.Tables.{list_at};
+
+use crate::look::{Access, Class};
+use crate::numbering::Numbering;
+use shb_io::NoMemory;
+use shb_numbers::{Lists, NumberSet};
+use std::alloc::Global;
+use std::random::RandomSource;
+
+/// At which sites of a variable there are accesses that write, and at which others, by the sites' indexes.
+#[derive(Drop)]
+pub struct Kinds {
+    pub written: NumberSet,
+    pub others: NumberSet,
+}
+
+/// The classes, the accesses of each, and of each variable the kinds of accesses at its sites.
+#[derive(Drop)]
+pub struct Classes {
+    pub numbers: Numbering,
+    pub all: Vec<Class>,
+    pub events: Lists,
+    pub kinds: Vec<Kinds>,
+}
+
+/// A thread and a kind of access as a number.
+pub fn kind_of(thread: u32, writes: bool) -> u64
+    ensures { result ≡ kind thread writes }
+{
+    let both = thread as u64 * 2;
+    if writes { both + 1 } else { both }
+}
+
+/// No accesses at the sites of so many variables.
+fn no_kinds(alloc: Global, variables: u32) -> Result<Vec<Kinds>, NoMemory>
+    ensures { IfOk result (λ kinds. length kinds.items ≡ variables) }
+{
+    let mut kinds = Vec::with_capacity(alloc, variables as usize)?;
+    for _ in 0..variables {
+        kinds.push(Kinds {
+            written: NumberSet::new(alloc),
+            others: NumberSet::new(alloc),
+        })?;
+    }
+    Ok(kinds)
+}
+
+/// Notes that there are accesses of a kind at a site.
+fn note_kind(kinds: &mut Kinds, writes: bool, index: u32) -> Result<(), NoMemory>
+    ensures { OnOk result (HasKind kinds.old kinds.new writes index) }
+{
+    if writes {
+        kinds.written.insert(index)?;
+        return Ok(());
+    }
+    kinds.others.insert(index)?;
+    Ok(())
+}
+
+impl Classes {
+    /// No classes.
+    ///
+    /// # Errors
+    ///
+    /// `NoMemory` where memory was refused, or where there were no random numbers for the table.
+    pub fn new<R: RandomSource>(rt: &R, alloc: Global, variables: u32) -> Result<Classes, NoMemory>
+        ensures numbers { IfOk result (λ classes. classes.numbers ≡ []) }
+        ensures all { IfOk result (λ classes. classes.all.items ≡ []) }
+        ensures events { IfOk result (λ classes. classes.events ≡ []) }
+        ensures kinds { IfOk result (λ classes. length classes.kinds.items ≡ variables) }
+    {
+        let numbers = Numbering::new(rt, alloc)?;
+        let kinds = no_kinds(alloc, variables)?;
+        Ok(Classes {
+            numbers,
+            all: Vec::new(alloc),
+            events: Lists::new(alloc),
+            kinds,
+        })
+    }
+
+    /// A new class without accesses.
+    fn add(
+        &mut self,
+        of_site: &mut Lists,
+        access: Access,
+        index: u32,
+        local: u32,
+    ) -> Result<(), NoMemory>
+        requires site { access.site < length of_site.old }
+        requires variable { access.variable < length self.old.kinds.items }
+        requires few { length self.old.all.items < 2 ^ 32 - 1 }
+        requires short { length (list_at of_site.old access.site) < 2 ^ 32 - 1 }
+        ensures numbers { OnOk result (self.new.numbers ≡ self.old.numbers) }
+        ensures put { OnOk result (HasPut self.old self.new of_site.old of_site.new access index local (length self.old.all.items)) }
+    {
+        let c = self.all.len() as u32;
+        self.all.push(Class {
+            site: access.site,
+            index,
+            thread: access.thread,
+            writes: access.writes,
+            local,
+        })?;
+        self.events.add()?;
+        of_site.push(access.site as usize, c)?;
+        note_kind(
+            &mut self.kinds[access.variable as usize],
+            access.writes,
+            index,
+        )?;
+        Ok(())
+    }
+
+    /// Adds an access at a site to its class, or as the first of a new one, and answers the number of the class. Of the
+    /// lists of classes that of the site gets a new one, too.
+    ///
+    /// # Errors
+    ///
+    /// `NoMemory` where a growth was refused.
+    pub fn note(
+        &mut self,
+        of_site: &mut Lists,
+        access: Access,
+        index: u32,
+        local: u32,
+    ) -> Result<u32, NoMemory>
+        requires site { access.site < length of_site.old }
+        requires variable { access.variable < length self.old.kinds.items }
+        requires short { length (list_at of_site.old access.site) < 2 ^ 32 - 1 }
+        requires short_events { (c : ℕ) → length (list_at self.old.events c) < 2 ^ 32 - 1 }
+        requires few { length self.old.all.items < 2 ^ 32 - 1 }
+        requires numbered { self.old.numbers ≡ map class_key self.old.all.items }
+        requires with_events { length self.old.events ≡ length self.old.all.items }
+        ensures { IfOk result (IsNoted self.old self.new of_site.old of_site.new access index local) }
+    {
+        let (c, is_new) = self
+            .numbers
+            .number_of((access.site, kind_of(access.thread, access.writes)))?;
+        if is_new {
+            self.add(of_site, access, index, local)?;
+            self.events.push(c, access.event)?;
+            return Ok(c as u32);
+        }
+        let class = self.all[c];
+        self.all[c] = Class { local, ..class };
+        self.events.push(c, access.event)?;
+        Ok(c as u32)
+    }
+}
