@@ -29,7 +29,7 @@ HASHES = "shb_lines/src/hashing.rt"
 
 # What stands in no file but these.
 NAMED = {
-    r"\bAllocError\b": (CONVERTS, "shb_places/src/numbers.rt"),
+    r"\bAllocError\b": (CONVERTS,),
     r"\bAllocFailed\b": (CONVERTS,),
     r"\bTryReserveError\b": (),
     r"\bSpawnError\b": (),
@@ -57,6 +57,8 @@ COUNTS = "threads locks variables events pieces count".split()
 OTHERS = {
     ("shb_lines/src/read.rt", "limits.text"): "the most bytes of a text, at most 2^30 by the condition of `parse`",
     ("shb_fan/src/streaming.rt", "workers.get()"): "at most 64 by its type",
+    ("shb_numbers/src/lists.rt", "room.size"): "twice the length of a list, and at most 2^32 - 1 by its type",
+    ("shb_numbers/src/number_set.rt", "at"): "the word of a number of 32 bits, so below 2^26",
     ("shb_pairs/src/buckets.rt", "starts[count as usize]"): "the sum of all counts, which is the number of positions",
     ("shb_stamps/src/kept_rows.rt", "before"): "the number of a row, of which there are so many",
 }
