@@ -64,6 +64,7 @@ const char *source_name(const char *path);                   /* of one that was 
 int in_system(const char *path);       /* is it the system's or the compiler's? */
 
 /* names.c: modules, symbols, lines of code. */
+u64 size_of_module(const char *path);     /* of a regular file, by a path with a bar; else 0: a device or FIFO may have no end */
 enum { NAME_BYTES = 1400, PLACE_BYTES = 1000, THREAD_BYTES = 80 };   /* shb takes lines of 4,096 bytes */
 void read_modules(char *header);
 void note_caller(u64 caller);

@@ -124,9 +124,15 @@ bytes section_of(bytes file, const char *name) {
     return (bytes){0};
 }
 
+u64 size_of_module(const char *path) {
+    struct stat status;
+    return strchr(path, '/') && !stat(path, &status) && S_ISREG(status.st_mode) ? status.st_size : 0;
+}
+
 bytes map_module(const char *path) {
     struct stat status;
     bytes found = {0};
+    if (!strchr(path, '/')) return found;  /* as the kernel's own "linux-vdso.so.1", which is no file of this folder */
     int f = open(path, O_RDONLY | O_NONBLOCK | O_CLOEXEC);
     if (f >= 0 && !fstat(f, &status) && S_ISREG(status.st_mode) && status.st_size) {
         uint8_t *file = mmap(0, status.st_size, PROT_READ, MAP_PRIVATE, f, 0);

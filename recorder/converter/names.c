@@ -7,6 +7,7 @@
 #include <stdio.h>
 #include <stdlib.h>
 #include <string.h>
+#include <sys/resource.h>
 #include <sys/wait.h>
 #include <unistd.h>
 #include "converter.h"
@@ -42,7 +43,17 @@ static char *copy(const char *text) {
 /* A program that writes to `output`, from the input that it gets; nothing, and no process, where there is no such program. */
 typedef struct { FILE *output; pid_t process; } tool;
 
-static tool run_tool(const char *const *words, int input) {
+enum { TOOL_SECONDS = 600, TOOL_TIMES = 16 };   /* of processor time; of memory so many times the module's size, and this: */
+#define TOOL_BYTES (2ul << 30)
+
+static void limit(pid_t process, int resource, u64 most) {
+    struct rlimit limits;
+    if (prlimit(process, resource, 0, &limits)) return;      /* it has ended already */
+    if (limits.rlim_max > most) limits.rlim_cur = limits.rlim_max = most;
+    prlimit(process, resource, &limits, 0);
+}
+
+static tool run_tool(const char *const *words, int input, u64 bytes) {
     int ends[2], null = open("/dev/null", O_RDWR | O_CLOEXEC);
     posix_spawn_file_actions_t files;
     tool t = {0, 0};
@@ -51,6 +62,8 @@ static tool run_tool(const char *const *words, int input) {
     posix_spawn_file_actions_adddup2(&files, ends[1], 1);
     posix_spawn_file_actions_adddup2(&files, null, 2);
     int failed = posix_spawnp(&t.process, *words, &files, 0, (char *const *)words, environ);
+    if (!failed) limit(t.process, RLIMIT_AS, TOOL_BYTES + TOOL_TIMES * bytes);
+    if (!failed) limit(t.process, RLIMIT_CPU, TOOL_SECONDS);
     posix_spawn_file_actions_destroy(&files);
     close(ends[1]);
     close(null);
@@ -103,8 +116,10 @@ static void read_symbols(module *m) {
     u64 capacity = 0, at, size;
     int name = 0;
     m->read = 1;
+    u64 bytes = size_of_module(m->path);
+    if (!bytes) return;
     const char *const words[] = {"nm", "-C", "-S", "--defined-only", "--", m->path, 0};
-    tool nm = run_tool(words, -1);
+    tool nm = run_tool(words, -1, bytes);
     say_missing(nm, *words);
     while (fgets(line, sizeof line, nm.output)) {
         int sized = strlen(line) > 18 && line[18] != ' ';    /* else the type stands where the size would */
@@ -314,16 +329,18 @@ static void read_frames(FILE *f, module *m) {
 /* Has a tool tell of the callers in a module. */
 static void ask_for_lines(module *m) {
     const char *words[] = {"llvm-addr2line", "-aifC", "-e", m->path, 0};
+    u64 bytes = size_of_module(m->path);
+    if (!bytes) return;
     FILE *addresses = tmpfile();
     if (!addresses) die("cannot write to " P_tmpdir ": %s", strerror(errno));
     if (write_addresses(addresses, m)) {
         if (fflush(addresses) || ferror(addresses)) die("cannot write to " P_tmpdir ": %s", strerror(errno));
         rewind(addresses);
-        tool t = run_tool(words, fileno(addresses));
+        tool t = run_tool(words, fileno(addresses), bytes);
         if (!t.process) {
             end_tool(t);
             *words = "addr2line";
-            t = run_tool(words, fileno(addresses));
+            t = run_tool(words, fileno(addresses), bytes);
             say_missing(t, *words);
         }
         read_frames(t.output, m);

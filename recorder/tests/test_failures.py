@@ -1,5 +1,6 @@
 """What fails ends the recording, or the trace, and never the program."""
 
+import os
 import re
 import resource
 import signal
@@ -87,6 +88,23 @@ class Failures(recorder.Case):
         ran = recorder.must(recorder.call(self.program("sigev_thread.c"), env=recorder.settings(self.folder / "app.rec")))
         self.assertEqual(ran.stderr, b"shb recorder: the program has a function called in threads of the C library "
                                      b"(SIGEV_THREAD), which aren't seen: their races are missed\n")
+
+    def test_modules_that_are_no_regular_files(self):
+        """A record of a stranger may name any: no helper opens them, and code there is named by addresses. Nor is a file of the present
+        folder taken for a module without a path."""
+        program, path = self.program("mutex_ok.c"), self.folder / "app.rec"
+        recorder.must(recorder.call(program, env=recorder.settings(path)))
+        whole, ended = path.read_bytes(), 65536 - 256
+        os.mkfifo(self.folder / "pipe")
+        program.rename(self.folder / "moved")
+        (self.folder / "here").symlink_to("moved")
+        for other in (b"/dev/zero", os.fsencode(self.folder / "pipe"), os.fsencode(self.folder), b"here"):
+            header = whole[:ended].replace(b" %b\n" % os.fsencode(program), b" %b\n" % other).rstrip(b"\0").ljust(ended, b"\0")
+            path.write_bytes(header + whole[ended:])
+            words = [str(recorder.BUILT / "shb-std"), "--stacks", str(self.folder / "stacks"), str(path)]
+            answer = recorder.must(subprocess.run(words, cwd=self.folder, capture_output=True, timeout=recorder.SECONDS))
+            self.assertIn(b"|%b+0x" % (other.rpartition(b"/")[2] or b"here"), answer.stdout)
+            self.assertNotIn(b"mutex_ok.c:", answer.stdout)
 
     def test_a_deadlocked_program_that_is_killed(self):
         path = self.folder / "app.rec"
