@@ -3,6 +3,7 @@
 import collections
 import contextlib
 import io
+import json
 import os
 import pty
 import random
@@ -13,7 +14,8 @@ import program
 import shb
 from viewing import EXAMPLES, MADE, made, run, run_here, sections, settings, windows
 
-from shb_view import command, counting, groups, names, progress
+from shb_common import progress
+from shb_view import command, counting, groups, names
 
 FORK_JOIN = """\
 fork-join.std: 1 race at 1 place, in 1 group (7 events, 2 threads, 0 locks, 2 variables)
@@ -48,7 +50,7 @@ FORK_JOIN_ALL = FORK_JOIN + """
 
 # Three pairs of lines with a place in each order: two of them share the variable `total`.
 UNLOCKED_READ = """\
-unlocked-read.std: 3 races at 2 places, in 2 groups (18 events, 3 threads, 1 lock, 3 variables)
+unlocked-read.std: 3 races at 3 places, in 2 groups (18 events, 3 threads, 1 lock, 3 variables)
 
 1. items: main.c:11 is without lock (1 race, 1 place)
    In this trace lock is held at queue.c:22, and not at main.c:11.
@@ -64,7 +66,7 @@ unlocked-read.std: 3 races at 2 places, in 2 groups (18 events, 3 threads, 1 loc
    queue.c:31: 1 read by consumer
      holds lock
 
-2. closed: one thread writes (2 races, 1 place)
+2. closed: one thread writes (2 races, 2 places)
    In this trace only main writes, at main.c:12, and no lock is held at any access.
    queue.c:29 read what main.c:12 wrote: races behind this one are listed only once it is mended.
    main.c:12: 1 write by main
@@ -91,9 +93,9 @@ account.std: 1 race at 1 place, in 1 group (12 events, 2 threads, 1 lock, 1 vari
 
 # A place in each order of its two locations is one place; the counts are those of `races`.
 PLACES = """\
-places.std: 6 races at 2 places, in 1 group (4 events, 4 threads, 0 locks, 1 variable)
+places.std: 6 races at 3 places, in 1 group (4 events, 4 threads, 0 locks, 1 variable)
 
-1. total: 3 threads write (6 races, 2 places)
+1. total: 3 threads write (6 races, 3 places)
    In this trace 3 threads write, and no lock is held at any access.
    Report.java:30 read what Counter.java:12 wrote: races behind this one are listed only once it is mended.
    Counter.java:12: 3 writes by T1, T2 and T4
@@ -151,7 +153,7 @@ class Text(program.Case):
         self.assertEqual((answer.status, answer.err), (1, b""))
         said = answer.out.decode().splitlines()
         self.assertEqual(said[0], "`shb check` finds the report bad: bad race 1. What follows is only what the report says.")
-        self.assertEqual(said[1], "places.std: 6 races at 2 places, in 1 group (4 events, 4 threads, 0 locks, 1 variable)")
+        self.assertEqual(said[1], "places.std: 6 races at 3 places, in 1 group (4 events, 4 threads, 0 locks, 1 variable)")
         self.assertIn("     No schedule of this race is at hand: events are shown in the order of the trace.", said)
         self.assertNotIn("come next", answer.out.decode())
 
@@ -481,13 +483,24 @@ class Groups(program.Case):
         ):
             self.assertEqual(groups.common_name(variables), name)
 
-    def test_all_variables_where_the_races_are_few(self):
-        """With n accesses to each variable by each thread there are 2n² races: 80,000 are looked at one by one, 105,800 aren't."""
-        for many, name, note in ((200, "x and 1 more", ""), (230, "x and perhaps others", "The trace has too many races to look at each. "
-                                  "Of each place one is known, and what is said of a group holds for the variables of these.\n")):
+    def test_all_variables_whatever_the_number_of_races(self):
+        """With n accesses to each variable by each thread there are 2n² races: 80,000 are looked at one by one, 105,800 are counted by
+        variable."""
+        for many, name, note in ((200, "x and 1 more", ""), (230, "x and 1 more", "The trace has too many races to look at each. "
+                                  "Call stacks are those of one race of each variable at each place.\n")):
             events = [f"{thread} w {variable} {line}" for thread, line in (("A", 1), ("B", 2)) for _ in range(many) for variable in "xy"]
             out = run_here([self.file(trace_of(*events))])[1]
             self.assertIn(f"\n{note}\n1. {name}: 2 threads write ({2 * many * many:,} races, 1 place)\n", out)
+            found = self.folder / "found.json"
+            self.assertEqual(run_here(["--json", found, self.file(trace_of(*events))])[0], 0)
+            [place] = json.loads(found.read_text())["places"]
+            self.assertEqual(place["variables"], [{"name": name, "races": many * many} for name in "xy"])
+
+    def test_the_variable_of_nearly_all_races_is_named(self):
+        """The list begins with the others, which the first race of each place has."""
+        events = ["A w first 1", "B w first 2"] + [f"{thread} w served {line}" for thread, line in (("A", 1), ("B", 2)) for _ in range(330)]
+        out = run_here([self.file(trace_of(*events))])[1]
+        self.assertIn("   Variables: first and served\n", out)
 
     def test_a_report_of_some_races(self):
         """The report of `places` has one race of each place."""
@@ -495,9 +508,9 @@ class Groups(program.Case):
             program_said = program.run(["places", EXAMPLES / "places.std"]).out
             report.write(program_said)
         said = run_here([EXAMPLES / "places.std", self.folder / "t.report"])[1].splitlines()
-        self.assertEqual(said[0], "places.std: 3 of 6 races at 2 places, in 1 group (4 events, 4 threads, 0 locks, 1 variable)")
+        self.assertEqual(said[0], "places.std: 3 of 6 races at 3 places, in 1 group (4 events, 4 threads, 0 locks, 1 variable)")
         self.assertEqual(said[2:5], ["The report has not all races of the trace; the counts are the report's.", "",
-                                     "1. total: 3 threads write (3 races, 2 places)"])
+                                     "1. total: 3 threads write (3 races, 3 places)"])
 
     def test_two_hundred_groups_are_shown(self):
         for many, more in ((200, ""), (202, "\nand 2 more groups\n")):
@@ -689,7 +702,7 @@ class Waiting(program.Case):
         return Terminal()
 
     def test_words_on_a_terminal_go_away_again(self):
-        said = progress.Progress(self.terminal())
+        said = progress.Progress("shb-view", self.terminal())
         said.next = 0  # as after the first second
         said.step("reading", 1, 4)
         said.clear()
@@ -715,11 +728,11 @@ class Waiting(program.Case):
         self.assertRegex(terminal.getvalue(), r"\A\r\x1b\[Kshb-view: reading the report \d+%.*\r\x1b\[K\Z")
 
     def test_nothing_is_said_in_the_first_second(self):
-        said = progress.Progress(self.terminal())
+        said = progress.Progress("shb-view", self.terminal())
         self.assertLess(abs(said.next - progress.time.monotonic() - 1), 0.5)
 
     def test_nothing_is_said_elsewhere(self):
-        said = progress.Progress(io.StringIO())
+        said = progress.Progress("shb-view", io.StringIO())
         said.step("reading", 1, 4)
         said.clear()
         self.assertEqual(said.out.getvalue(), "")

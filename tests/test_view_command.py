@@ -49,7 +49,7 @@ exec REAL "$@"
         self.assertEqual((status, err), (0, ""))
         self.assertEqual(out.splitlines()[0],
                          "fork-join.std: 900,000,000 races at 1 place, in 1 group (7 events, 2 threads, 0 locks, 2 variables)")
-        self.assertIn("\n1. count and perhaps others: 2 threads write (900,000,000 races, 1 place)\n", out)
+        self.assertIn("\n1. count: 2 threads write (900,000,000 races, 1 place)\n", out)
         self.assertIn("     races with worker.c:3 (900,000,000 races)", out)
 
     def test_notes_stand_below_the_title(self):
@@ -110,7 +110,10 @@ exec REAL "$@"
         self.assertNotIn("items", out)
         self.assertIn("items", page.read_text())
         wrong = self.file(b"a.c:1 b.c:2\n", "wrong")
-        self.assertEqual(self.said(["--only", wrong, trace]), f"--only: {wrong}, line 1: a place is two locations or functions with a tab between them")
+        self.assertEqual(self.said(["--only", wrong, trace], 4), f"--only: {wrong}, line 1: a place is two locations or functions and a variable, "
+                                                                 "with tabs between them")
+        only = self.file(b"queue.c:29\tmain.c:12\titems\n", "places")
+        self.assertIn("\nOf 2 groups 0 are shown", run_here(["--only", only, trace])[1])
 
     def test_a_title(self):
         status, out, _ = run_here(["--title", "./app 3\x1b", TRACE])

@@ -67,7 +67,7 @@ class Pages(program.Case):
         page = self.page(self.example("unlocked-read"))
         self.assertEqual([text for _, text in page.all("li")], [
             "1. items main.c:11 is without lock 1 race, 1 placeIn this trace lock is held at queue.c:22, and not at main.c:11.",
-            "2. closed one thread writes 2 races, 1 placeIn this trace only main writes, at main.c:12, and no lock is held at any access."])
+            "2. closed one thread writes 2 races, 2 placesIn this trace only main writes, at main.c:12, and no lock is held at any access."])
         self.assertEqual([attributes["id"] for attributes, _ in page.all("section")], ["g1", "g2"])
         self.assertEqual([attributes["class"] for attributes, _ in page.all("li")], ["rank2", "rank4"])
         self.assertEqual([text for _, text in page.all("h2")], ["1 items: main.c:11 is without lock", "2 closed: one thread writes"])

@@ -151,7 +151,7 @@ class Stacks(program.Case):
         _, out, _ = self.shown(stacks(tables=tables.replace(b"x.head", b"<b>\x1b[31m")), trace=trace)
         self.assertIn(r"<b>\x1b[31m of main: ", out)
         status, _, err = self.shown(stacks(tables=TABLES + b"local 2\tx\n"), trace=trace)
-        self.assertEqual(status, 2)
+        self.assertEqual(status, 4)
         self.assertIn("is damaged: `local 2", err)
 
     def test_a_free(self):
@@ -223,17 +223,20 @@ class Stacks(program.Case):
         for content in (b"", b"shb-stacks 2 %020d\n" % 5, stacks()[:30], stacks()[:53], stacks(NODES[:4]), TRACE):
             with self.subTest(content=content[:60]):
                 status, out, err = self.shown(content)
-                self.assertEqual((status, out), (2, ""))
+                self.assertEqual((status, out), (4, ""))
                 self.assertRegex(err, r"\Ashb-view: \S*app.stacks doesn't have the stacks of this trace\n\Z")
         for shift in ("1", "-1"):
-            self.assertEqual(self.shown(stacks(), f"--shift={shift}")[0], 2)
+            self.assertEqual(self.shown(stacks(), f"--shift={shift}")[0], 4)
 
     def test_damaged_tables_are_refused_or_shown(self):
-        for line in (b"frame x", b"stack x", b"stack 1", b"stack 1 1 99", b"thread T1", b"block 1", b"block a b", b"free 1", b"free a b", b"source a", b"atomic a\tb\tc", b"atomic a\tb\tc\tload"):
+        for line in (b"frame x", b"stack x", b"stack 1", b"stack 1 1 99", b"thread T1", b"block 1", b"block a b", b"free 1", b"free a b", b"source a", b"atomic a\tb\tc", b"atomic a\tb\tc\tload",
+                     b"stack 1 0 0", b"stack 1 0 -1", b"free 99999999999999999999999 1", b"local 1\tx", b"block 1 -1", b"thread a\tx"):
             with self.subTest(line=line):
                 status, _, err = self.shown(stacks(tables=TABLES + line + b"\n"))
-                self.assertEqual(status, 2)
-                self.assertIn("is damaged", err)
+                self.assertEqual(status, 4)
+                self.assertRegex(err, rf"app.stacks is damaged in line {2 + TABLES.count(10)}: `")
+        for content in (stacks(tables=TABLES + b"frame x\ty"), b"shb-stacks 1 " + b"9" * 20 + b"\n"):
+            self.assertEqual(self.shown(content)[0], 4)
         odd = ([9] * 5, b"stack 9 9\n"), ([7] * 5, b""), ([2**32 - 1] * 5, TABLES), (NODES, TABLES + b"new kind\n")
         for nodes, tables in odd:
             with self.subTest(tables=tables):

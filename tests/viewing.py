@@ -17,13 +17,14 @@ EXAMPLES = program.HERE.parent / "examples"
 sys.path[:0] = [str(VIEW), str(VIEW.parent / "common")]
 
 from shb_common.report import Counts
-from shb_view import command, progress, view
+from shb_common import progress
+from shb_view import command, view
 from shb_view.analyser import Verdict
 from shb_view.groups import Gathered
 from shb_view.trace import Trace
 
 MADE = 150  # traces
-QUIET = progress.Progress(io.StringIO())
+QUIET = progress.Progress("shb-view", io.StringIO())
 
 
 def sections(text, report, is_good=True):

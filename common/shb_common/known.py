@@ -1,24 +1,63 @@
 """Places as they are written in tables, and the file of known places.
 
-Which of two accesses comes first depends on the interleaving, so the two orders of a pair of locations are one place here.
-
-The file has two of these a line with a tab between them, in either order: a location, or the function that it lies in,
-`FILE:FUNCTION()`, which an edit above doesn't change. `*` stands for any text, and `\\*` for the sign itself. Empty lines, and
-lines that begin with `#`, are passed over; a location that begins with `#` is written with a backslash before it. Lines end with
-LF or CR LF.
+A line of the file has three fields with a tab between them: two sides of a place, in either order, and the variable. A side is a
+location, or the function that it lies in, `FILE:FUNCTION()`, which an edit above doesn't change. `*` stands for any text, and `\\*`
+for the sign itself. Empty lines, and lines that begin with `#`, are skipped; `\\#` begins a field with that sign. A location that
+itself ends with `()` has a backslash before these, so it is never taken for a function. Lines end with LF or CR LF. A line with two
+fields, as earlier versions wrote it, is of every variable.
 """
 
 import itertools
 import re
-import types
+import typing
 
 from shb_common.refused import MARK
+from shb_common.shown import shown
 
 STAR = re.compile(rb"\\\*|\*")
+MOST_BYTES = 64 << 20       # of a file of known places
+MOST_OFFSETS = 4            # of one block or object, that are written one by one
+MOST_STALE = 20             # lines that are said to match nothing
+CALL = b"()"
+FORM = "a place is two locations or functions and a variable, with tabs between them"
+# What differs from run to run in the name of a variable: the line and the number of a block, a thread's stack, an index, an address.
+BLOCK = re.compile(rb"(.+):[0-9]+#[0-9]+((?:\+[0-9]+)?)", re.S)
+STACK = re.compile(rb"stack\..+-0x[0-9a-f]+", re.S)
+INDEX = re.compile(rb"\[[0-9]+\]")
+ADDRESS = re.compile(rb"(.+)~(?:0x)?[0-9a-f]+((?:[.+\[].*)?)", re.S)
+OFFSET = re.compile(rb"\+[0-9]+$")
 
 
 class BadLine(Exception):
     """A line of the file of known places that is none."""
+
+
+class Side(typing.NamedTuple):
+    """What a location may be called in the file: its names, and those of each function that it lies in. The first of several names
+    is the one that is written."""
+
+    names: typing.Tuple[bytes, ...]
+    functions: typing.Tuple[typing.Tuple[bytes, ...], ...] = ()
+
+    def keys(self):
+        return [*((False, name) for name in self.names), *((True, name) for names in self.functions for name in names)]
+
+    def field(self):
+        """The location as a field of the file."""
+        return location_field(self.names[0])
+
+    def function(self):
+        """The function as a field; None where it isn't known, or one of several."""
+        return function_field(self.functions[0][0]) if len(self.functions) == 1 else None
+
+
+class Line(typing.NamedTuple):
+    """A line of the file. `variable` has the pieces of the third field, None where there is none."""
+
+    number: int
+    text: bytes
+    sides: tuple        # of each: whether it is a function, and its pieces
+    variable: typing.Optional[tuple]
 
 
 def written(name):
@@ -27,18 +66,84 @@ def written(name):
 
 
 def pair_of(first, second):
-    """The place of two locations, whichever comes first."""
+    """Two locations as tables have them, whichever comes first."""
     return tuple(sorted((written(first), written(second))))
 
 
-def line_of(pair):
-    """The line of a file of known places that has this place alone."""
-    line = b"\t".join(part.replace(b"*", b"\\*") for part in pair)
+def side_of(location, functions=()):
+    """A location and its functions, `FILE:FUNCTION()`, as the file has them."""
+    return Side((written(location),), tuple((written(function),) for function in sorted(functions)))
+
+
+def location_field(location):
+    """A location as a field."""
+    return (location[:-2] + b"\\()" if location.endswith(CALL) else location).replace(b"*", b"\\*")
+
+
+def function_field(function):
+    """A function `FILE:FUNCTION()` as a field; None where it can't be written as one."""
+    return None if function[:-2].endswith(b"\\") or not function.endswith(CALL) else function.replace(b"*", b"\\*")
+
+
+def line_of_fields(first, second, variable):
+    line = b"\t".join([*sorted((first, second)), variable])
     return (b"\\" if line.lstrip(b"\\").startswith(b"#") else b"") + line + b"\n"
 
 
+def line_of(pair, variable):
+    """The line that makes this variable known at these two locations, and nothing else."""
+    return line_of_fields(*map(location_field, pair), written(variable).replace(b"*", b"\\*"))
+
+
+def lasting(variable):
+    """The name of a variable as a field, with stars for what differs from run to run."""
+    name = written(variable).replace(b"*", b"\\*")
+    block = BLOCK.fullmatch(name)
+    if block:
+        return block[1] + b":*#*" + block[2]
+    if STACK.fullmatch(name):
+        return b"stack.*"
+    address = ADDRESS.fullmatch(name)
+    if address:
+        name = address[1] + b"~*" + address[2]
+    return INDEX.sub(b"[*]", name)
+
+
+def lasting_names(variables):
+    """The same of several variables, each once; of one object with many offsets a single name."""
+    found = {}
+    for name in sorted(set(map(lasting, variables))):
+        found.setdefault(OFFSET.sub(b"", name), []).append(name)
+    return [one for base, names in sorted(found.items())
+            for one in ([base + b"*"] if len(names) > MOST_OFFSETS else names)]
+
+
+def fields_of(sides):
+    """Two sides as fields of the file, sorted: as functions where each location lies in one; and as two locations."""
+    by_location, functions = tuple(sorted(side.field() for side in sides)), [side.function() for side in sides]
+    return (tuple(sorted(functions)) if all(functions) else by_location), by_location
+
+
+def lines_of(places):
+    """The lines of a file of known places with these: each has its two sides, the names of its variables, and whether there are
+    more than these. By functions where these are known, with the locations in a comment above."""
+    found, more = {}, set()
+    for sides, variables, has_more in places:
+        fields, by_location = fields_of(sides)
+        names, comments = found.setdefault(fields, (set(), set()))
+        names.update(variables)
+        comments.update([by_location] if by_location != fields else [])
+        more.update([fields] if has_more else [])
+    for fields, (names, comments) in found.items():
+        yield from (b"# " + b"\t".join(pair) + b"\n" for pair in sorted(comments))
+        if fields in more:
+            yield b"# it has more variables than are listed; a line with * as its third field is of all:\n"
+            yield b"# " + line_of_fields(*fields, b"*")
+        yield from (line_of_fields(*fields, name) for name in lasting_names(names))
+
+
 def pieces_of(text):
-    """What stands before, between and after the stars of a location of the file."""
+    """What stands before, between and after the stars of a field."""
     pieces, start = [b""], 0
     for found in STAR.finditer(text):
         pieces[-1] += text[start:found.start()]
@@ -46,79 +151,113 @@ def pieces_of(text):
         pieces[-1] += b"*" if found[0] != b"*" else b""
         start = found.end()
     pieces[-1] += text[start:]
-    return pieces
+    return tuple(pieces)
 
 
-def matches(pieces, location):
-    """Whether a location has these pieces, in this order and without overlap, from its beginning to its end. Of several places
-    of a piece the first one will do, so no search is done twice."""
+def matches(pieces, text):
+    """Whether a text has these pieces, in this order and without overlap, from its beginning to its end. Of several occurrences of
+    a piece the first one will do, so no search is done twice."""
     first, *inner, last = pieces if len(pieces) > 1 else (pieces[0], b"")
     if len(pieces) == 1:
-        return location == first
-    if not location.startswith(first) or not location.endswith(last):
+        return text == first
+    if not text.startswith(first) or not text.endswith(last):
         return False
-    at, end = len(first), len(location) - len(last)
+    at, end = len(first), len(text) - len(last)
     for piece in inner:
-        at = location.find(piece, at, end)
+        at = text.find(piece, at, end)
         if at < 0:
             return False
         at += len(piece)
     return at <= end
 
 
-def functions_of(pair, functions):
-    """The functions that the locations of a place lie in, the lesser first; None where one isn't known, or one of several.
-    `functions` has those of each location."""
-    found = [functions.get(location, ()) for location in pair]
-    return pair_of(*(name for [name] in found)) if all(len(names) == 1 for names in found) else None
+def side_in(field):
+    """Whether a field of the file is a function, and its pieces."""
+    if field.endswith(b"\\()"):
+        return False, pieces_of(field[:-3] + CALL)
+    return field.endswith(CALL), pieces_of(field)
 
 
-def lines_of(pairs, functions):
-    """A file of known places with these: by their functions where these are known, with the locations in a comment above."""
-    found = {}
-    for pair in pairs:
-        found.setdefault(functions_of(pair, functions) or pair, []).append(pair)
-    for place, locations in found.items():
-        yield from (b"# " + b"\t".join(pair) + b"\n" for pair in locations if pair != place)
-        yield line_of(place)
+def words_of_old(known):
+    """What is said of lines that name no variable."""
+    old = known.of_every_variable()
+    if old:
+        more = f" and {len(old) - 1:,} more" if len(old) > 1 else ""
+        yield f"line {old[0].number}{more}: no variable is named, so every variable there is known; a third field names one"
+
+
+def words_of_stale(lines, names):
+    """What is said of lines that matched nothing. `names` are those of the source files (`programs.Names`)."""
+    for line in lines[:MOST_STALE]:
+        several = [files for _, pieces in line.sides for files in [names.several(pieces[0].rpartition(b":")[0])] if files]
+        why = f"; {shown(several[0][0])} is the end of {len(several[0][1])} source files' paths: " if several else ""
+        yield f"line {line.number}: no race matched `{shown(line.text)}`" + why + ", ".join(map(shown, several[0][1][:3] if several else ()))
+    if len(lines) > MOST_STALE:
+        yield f"{len(lines) - MOST_STALE:,} more lines: no race matched"
 
 
 class Known:
-    """The places of a file."""
+    """The places of a file, and which of its lines were needed."""
 
     def __init__(self, text=b""):
-        self.places, self.patterns, self.found = set(), [], {}
+        self.lines, self.exact, self.patterns, self.found, self.used = [], {}, [], {}, set()
         for number, line in enumerate(text[len(MARK) if text.startswith(MARK) else 0:].split(b"\n"), 1):
             line = line[:-1] if line.endswith(b"\r") else line
             if line and not line.startswith(b"#"):
                 self.add(line, number)
 
     def add(self, line, number):
-        if line.lstrip(b"\\").startswith(b"#"):
-            line = line[1:]
-        if line.count(b"\t") != 1:
-            raise BadLine(f"line {number}: a place is two locations or functions with a tab between them")
-        pair = [pieces_of(part) for part in line.split(b"\t")]
-        if all(len(pieces) == 1 for pieces in pair):
-            self.places.add(tuple(sorted(pieces[0] for pieces in pair)))
+        fields = (line[1:] if line.lstrip(b"\\").startswith(b"#") else line).split(b"\t")
+        if len(fields) not in (2, 3):
+            raise BadLine(f"line {number}: {FORM}")
+        sides = tuple(map(side_in, fields[:2]))
+        self.lines.append(Line(number, line, sides, pieces_of(fields[2]) if len(fields) == 3 else None))
+        if all(len(pieces) == 1 for _, pieces in sides):
+            self.exact.setdefault(tuple(sorted((kind, pieces[0]) for kind, pieces in sides)), []).append(len(self.lines) - 1)
         else:
-            self.patterns.append(pair)
+            self.patterns.append(len(self.lines) - 1)
 
-    def has(self, pair, functions=types.MappingProxyType({})):
-        """Whether a place, as `pair_of` gives it, is known. `functions` has those that each location lies in."""
-        names = [{location, *functions.get(location, ())} for location in pair]
-        if any(tuple(sorted(both)) in self.places for both in itertools.product(*names)):
+    def has(self, sides, variable):
+        """Whether this variable is known at a place with these two sides; None stands for variables that aren't named."""
+        found = [line for line in self.lines_at(sides) if self.is_of(self.lines[line], variable)]
+        self.used.update(found)
+        return bool(found)
+
+    def has_all(self, sides, variables, has_more=False):
+        """Whether all variables of a place are known. `has_more` says that it has more than these."""
+        return all([self.has(sides, variable) for variable in [*variables, *[None] * (has_more or not variables)]])
+
+    @staticmethod
+    def is_of(line, variable):
+        if line.variable is None:
             return True
-        (first, second), (other_first, other_second) = map(self.patterns_of_any, names)
-        return not (first.isdisjoint(other_second) and second.isdisjoint(other_first))
+        return line.variable == (b"", b"") if variable is None else matches(line.variable, written(variable))
 
-    def patterns_of_any(self, names):
-        """The lines with stars whose first location or function is one of these, and those whose second."""
-        return [set().union(*numbers) for numbers in zip(*map(self.patterns_of, names))]
+    def lines_at(self, sides):
+        """The numbers of the lines whose first two fields name these sides."""
+        one, other = (side.keys() for side in sides)
+        found = {line for both in itertools.product(one, other) for line in self.exact.get(tuple(sorted(both)), ())}
+        if self.patterns:
+            (first, second), (other_first, other_second) = map(self.patterns_of_any, (one, other))
+            found |= first & other_second | second & other_first
+        return found
 
-    def patterns_of(self, location):
-        """The lines with stars whose first location this one matches, and those whose second."""
-        if location not in self.found:
-            self.found[location] = tuple({number for number, pair in enumerate(self.patterns) if matches(pair[side], location)}
-                                         for side in (0, 1))
-        return self.found[location]
+    def patterns_of_any(self, keys):
+        """The lines with stars whose first field is one of these, and those whose second."""
+        return [set().union(*numbers) for numbers in zip(*map(self.patterns_of, keys))]
+
+    def patterns_of(self, key):
+        """The lines with stars whose first field this one matches, and those whose second."""
+        if key not in self.found:
+            kind, name = key
+            self.found[key] = tuple({number for number in self.patterns for is_function, pieces in [self.lines[number].sides[side]]
+                                     if is_function == kind and matches(pieces, name)} for side in (0, 1))
+        return self.found[key]
+
+    def stale(self):
+        """The lines that nothing matched so far."""
+        return [line for number, line in enumerate(self.lines) if number not in self.used]
+
+    def of_every_variable(self):
+        """The lines that name no variable."""
+        return [line for line in self.lines if line.variable is None]

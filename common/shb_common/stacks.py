@@ -4,22 +4,28 @@ import array
 import bisect
 import collections
 import functools
+import os
 import re
 import sys
 import typing
 
+from shb_common.files import open_regular
 from shb_common.shown import shown
 
 BEGIN = re.compile(rb"shb-stacks 1 ([0-9]{20})\n")
 BEGIN_BYTES = 34
 NUMBER_BYTES = 4    # of an event's stack
-BLOCK = re.compile(rb".*#([0-9]+)(?:\+[0-9]+)?", re.S)  # a variable in a block, as the recorder names it
+BLOCK = re.compile(rb".*#([0-9]{1,18})(?:\+[0-9]+)?", re.S)  # a variable in a block, as the recorder names it
 LOCATION = re.compile(rb"(.+):[0-9]+", re.S)
 QUALIFIERS = re.compile(rb"(?: const| volatile)+$")
 ORDERS = b"relaxed", b"acquire", b"release", b"both"
+USES = b"load", b"store", b"update"
 FRAMES = b"frame", b"system-frame"
 OTHER = "doesn't have the stacks of this trace"
 MOST_DEEP = 200  # calls of a stack that are looked at
+MOST_FRAMES = 2_000  # of these calls, of which inlined code has several each
+MOST_LINE = 1 << 20  # bytes of a line
+NUMBER = re.compile(rb"[0-9]{1,18}")
 
 
 class BadStacks(Exception):
@@ -60,50 +66,38 @@ class Stacks:
         self.sources = {}  # by the name in a location: the file's path
         self.locals = {}  # by variable on a stack: events, each with the name of the local that it is from there on
         self.free_starts, self.free_ends, self.shift = array.array("Q"), array.array("Q"), shift
-        with open(path, "rb") as file:
+        with open_regular(path) as file:
             count = events_in(file)
             self.numbers = numbers_of(file, shift, events) if 0 <= shift <= count - events else ()
             if len(self.numbers) != events:
                 raise BadStacks(OTHER)
-            file.seek(BEGIN_BYTES + NUMBER_BYTES * count)
-            for line in file:
-                try:
-                    self.read(line.rstrip(b"\n"))
-                except (ValueError, IndexError):
-                    raise BadStacks(f"is damaged: `{shown(line[:80])}`") from None
-        for names in self.locals.values():
-            names.sort(key=lambda it: it[0])  # of several at one event the last one holds
+            takers = {"frame": self.take_frame, "stack": self.take_stack, "thread": self.take_thread, "block": self.take_block,
+                      "atomic": self.add_use, "source": self.take_source, "local": self.take_local, "free": self.take_free}
+            for kind, fields in entries_in(file, count):
+                takers[kind](*fields)
+        sort_locals(self.locals)
 
-    def read(self, line):
-        kind, _, rest = line.partition(b" ")
-        if kind in FRAMES:
-            function, location = rest.split(b"\t")
-            self.frames.append(Frame(function, location, kind == b"system-frame"))
-        elif kind == b"stack":
-            number, outer, *frames = map(int, rest.split())
-            self.calls[number] = outer, tuple(self.frames[frame] for frame in frames)
-        elif kind == b"thread":
-            name, number = rest.split(b"\t")
-            self.threads[name] = self.stack(int(number))
-        elif kind == b"block":
-            block, number = map(int, rest.split())
-            self.blocks[block] = self.stack(number)
-        elif kind == b"atomic":
-            name, thread, location, how = rest.split(b"\t")
-            use, order = how.split(b" ")
-            if order not in ORDERS:
-                raise ValueError
-            self.add_use(AtomicUse(name, thread, location, use, order))
-        elif kind == b"source":
-            name, file = rest.split(b"\t")
-            self.sources[name] = file
-        elif kind == b"local":
-            event, variable, name = rest.split(b"\t")
-            self.locals.setdefault(variable, []).append((int(event), name))
-        elif kind == b"free":
-            first, last = map(int, rest.split())
-            self.free_starts.append(first)
-            self.free_ends.append(last)
+    def take_frame(self, function, location, in_system):
+        self.frames.append(Frame(function, location, in_system))
+
+    def take_stack(self, number, outer, frames):
+        self.calls[number] = outer, tuple(self.frames[frame] for frame in frames)
+
+    def take_thread(self, name, number):
+        self.threads[name] = number
+
+    def take_block(self, block, number):
+        self.blocks[block] = number
+
+    def take_source(self, name, path):
+        self.sources[name] = path
+
+    def take_local(self, event, variable, name):
+        self.locals.setdefault(variable, []).append((event, name))
+
+    def take_free(self, first, last):
+        self.free_starts.append(first)
+        self.free_ends.append(last)
 
     def add_use(self, use):
         if use.kind != b"load":
@@ -115,14 +109,19 @@ class Stacks:
         """The frames of a stack, the innermost first."""
         found = []
         for _ in range(MOST_DEEP):
-            if number not in self.calls:
+            if number not in self.calls or len(found) > MOST_FRAMES:
                 break
             number, frames = self.calls[number]
             found.extend(frames)
-        return tuple(found)
+        return tuple(found[:MOST_FRAMES])
 
+    @functools.cached_property
     def functions(self):
-        return functions_of(self.frames[1:])
+        """By location the functions that it lies in, as `Tables` has them."""
+        found = {}
+        for frame in self.frames[1:]:
+            add_function(found, frame.function, frame.location)
+        return found
 
     def of_event(self, event):
         return self.stack(self.numbers[event - 1]) if 0 < event <= len(self.numbers) else ()
@@ -134,18 +133,16 @@ class Stacks:
 
     def local_of(self, variable, event):
         """The local that a variable on a stack is at an event, or nothing."""
-        names = self.locals.get(variable, ())
-        number = bisect.bisect(names, (event + self.shift + 1,))
-        return names[number - 1][1] if number else b""
+        return local_in(self.locals, variable, event + self.shift)
 
     def of_thread(self, name):
         """Where a thread was created."""
-        return self.threads.get(name, ())
+        return self.stack(self.threads.get(name, 0))
 
     def of_variable(self, name):
         """Where the block of a variable was allocated."""
         found = BLOCK.fullmatch(name)
-        return self.blocks.get(int(found[1]), ()) if found else ()
+        return self.stack(self.blocks.get(int(found[1]), 0)) if found else ()
 
     def counted(self, events, marked):
         """The stacks of some events, each with whether the event is a marked one, and how many are so, the most frequent first."""
@@ -155,7 +152,7 @@ class Stacks:
 class NoStacks:
     """Of a trace without such a file nothing is known."""
 
-    sources, stores, loads, locals = {}, (), {}, {}
+    sources, stores, loads, locals, functions = {}, (), {}, {}, {}
 
     def of_event(self, event):
         return ()
@@ -165,9 +162,6 @@ class NoStacks:
     def local_of(self, variable, event):
         return b""
 
-    def functions(self):
-        return {}
-
     def free_of(self, event):
         return None
 
@@ -175,37 +169,130 @@ class NoStacks:
         return []
 
 
+class Tables:
+    """Of a file of stacks what names places: by location the functions that it lies in, without parameters and arguments of
+    templates; the path of each source file by its name in locations; and the locals, as `Stacks` has them."""
+
+    def __init__(self, path=None):
+        self.functions, self.sources, self.locals = {}, {}, {}
+        if path:
+            self.read(path)
+            sort_locals(self.locals)
+
+    def read(self, path):
+        with open_regular(path) as file:
+            for kind, fields in entries_in(file, events_in(file)):
+                if kind == "frame":
+                    add_function(self.functions, *fields[:2])
+                elif kind == "source":
+                    self.sources[fields[0]] = fields[1]
+                elif kind == "local":
+                    self.locals.setdefault(fields[1], []).append((fields[0], fields[2]))
+
+    def local_of(self, variable, event):
+        """The local that a variable on a stack is at an event of the whole file, or nothing."""
+        return local_in(self.locals, variable, event)
+
+
+def add_function(functions, function, location):
+    """Notes that a line of a file lies in a function."""
+    if function and LOCATION.fullmatch(location):
+        functions.setdefault(location, set()).add(bare(function))
+
+
+def sort_locals(names_by_variable):
+    for names in names_by_variable.values():
+        names.sort(key=lambda it: it[0])  # of several at one event the last one holds
+
+
+def local_in(names_by_variable, variable, event):
+    names = names_by_variable.get(variable, ())
+    number = bisect.bisect(names, (event + 1,))
+    return names[number - 1][1] if number else b""
+
+
 def events_in(file):
     """The number of events of an open file of stacks; it stands behind its first line then."""
     begin = BEGIN.fullmatch(file.read(BEGIN_BYTES))
-    if not begin:
+    if not begin or BEGIN_BYTES + NUMBER_BYTES * int(begin[1]) > os.fstat(file.fileno()).st_size:
         raise BadStacks(OTHER)
     return int(begin[1])
 
 
-def tables_in(path):
-    """Of a file of stacks: the functions that each location lies in, as `functions_of` has them, and the path of each source file."""
-    frames, sources = [], {}
-    with open(path, "rb") as file:
-        file.seek(BEGIN_BYTES + NUMBER_BYTES * events_in(file))
-        for line in file:
-            kind, _, rest = line.rstrip(b"\n").partition(b" ")
-            one, _, other = rest.partition(b"\t")
-            if kind in FRAMES:
-                frames.append((one, other))
-            elif kind == b"source":
-                sources[one] = other
-    return functions_of(frames), sources
+def entries_in(file, count):
+    """The lines of an open file of stacks of so many events, each as its kind and its fields. Lines of other kinds are skipped."""
+    file.seek(BEGIN_BYTES + NUMBER_BYTES * count)
+    frames = 0
+    for number, line in enumerate(iter(lambda: file.readline(MOST_LINE), b""), 2):
+        kind, _, rest = line.rstrip(b"\n").partition(b" ")
+        try:
+            if not line.endswith(b"\n"):
+                raise ValueError
+            entry = FIELDS[kind](rest) if kind in FIELDS else None
+            if kind == b"stack" and not all(0 < frame <= frames for frame in entry[1][2]):
+                raise ValueError
+        except ValueError:
+            raise BadStacks(f"is damaged in line {number}: `{shown(line[:80].rstrip())}`") from None
+        frames += kind in FRAMES
+        if entry:
+            yield entry
 
 
-def functions_of(frames):
-    """The functions that each location lies in: `FILE:FUNCTION()`, without parameters and arguments of templates."""
-    found = {}
-    for function, location, *_ in frames:
-        file = LOCATION.fullmatch(location)
-        if function and file:
-            found.setdefault(location, set()).add(b"%b:%b()" % (file[1], bare(function)))
-    return found
+def whole(text):
+    """A number of the file."""
+    if not NUMBER.fullmatch(text):
+        raise ValueError
+    return int(text)
+
+
+def fields_of(rest, count):
+    fields = rest.split(b"\t")
+    if len(fields) != count:
+        raise ValueError
+    return fields
+
+
+def frame_fields(in_system):
+    return lambda rest: ("frame", (*fields_of(rest, 2), in_system))
+
+
+def stack_fields(rest):
+    number, outer, *frames = map(whole, rest.split())
+    return "stack", (number, outer, frames)
+
+
+def thread_fields(rest):
+    name, number = fields_of(rest, 2)
+    return "thread", (name, whole(number))
+
+
+def numbers_fields(kind):
+    def fields(rest):
+        first, second = map(whole, rest.split())
+        return kind, (first, second)
+    return fields
+
+
+def atomic_fields(rest):
+    name, thread, location, how = fields_of(rest, 4)
+    use, _, order = how.partition(b" ")
+    if order not in ORDERS or use not in USES:
+        raise ValueError
+    return "atomic", (AtomicUse(name, thread, location, use, order),)
+
+
+def source_fields(rest):
+    return "source", tuple(fields_of(rest, 2))
+
+
+def local_fields(rest):
+    event, variable, name = fields_of(rest, 3)
+    return "local", (whole(event), variable, name)
+
+
+FIELDS = {b"frame": frame_fields(False), b"system-frame": frame_fields(True), b"stack": stack_fields, b"thread": thread_fields,
+          b"block": numbers_fields("block"), b"free": numbers_fields("free"), b"atomic": atomic_fields, b"source": source_fields,
+          b"local": local_fields}
 
 
 def numbers_of(file, first, count):

@@ -1,28 +1,28 @@
 """The words of the command, its passes and its statuses."""
 
 import argparse
-import contextlib
 import os
 import pathlib
 import shlex
 import shutil
 import signal
 import sys
-import time
 import traceback
 import typing
 
-from shb_common.known import BadLine, Known
+from shb_common.files import read_at_most
+from shb_common.known import MOST_BYTES, BadLine, Known, words_of_old, words_of_stale
 from shb_common.standard import leave_standard_output, open_standard_files, words_of
 from shb_common.version import with_version
-from shb_farm import engines, files, limits, merging, passes, tables, traces
+from shb_farm import engines, files, limits, merging, passes, since, tables, traces
 from shb_farm.calls import Calls
 from shb_farm.sources import Sources
 
 ABOUT = """\
 Analyses all traces in a folder and below, and joins what was found: a row for
-each place, a pair of locations with a race, with the number of traces that have
-it. A trace is NAME.std, NAME.std.gz or NAME.std.xz; links are followed. Each trace
+each two locations that race, whichever comes first, with their variables and the
+number of traces that have them. A place is such a pair in one order. A trace is
+NAME.std, NAME.std.gz or NAME.std.xz; links within the folder are followed. Each trace
 ends as a file in OUT/outcomes, put in place whole and last. To resume, or when
 traces or the program have changed, run the same command again: it makes what
 isn't there yet."""
@@ -31,19 +31,22 @@ Files in OUT:
   places.txt      the places as text, which is also printed; then the traces
                   without a report
   places.tsv      the places as a table, with an example and its report
+  places.json     the places with all that is known of them, for programs
   places.sarif    the places for code review tools, in SARIF 2.1.0
+  facts.tsv       what was found, a number on each line (see Exit status)
   unknown.places  the places that aren't known, as a file of known places
   traces.tsv      how each trace ended: a report, refused, out of memory, time
-                  or size, or missing
+                  or size, or missing; with its seconds and MiB
   reports/        for each unknown place the full report of the smallest trace
                   that has it
 
 Known places:
-  On a line two locations, or functions as FILE:FUNCTION(), with a tab between
-  them, in either order; * stands for any text, and \\* for the sign itself.
-  Empty lines, and lines that begin with #, are passed over; \\# begins a
-  location with this sign. Functions are known where the recorder's NAME.stacks
-  stands beside NAME.std.
+  On a line two locations, or functions as FILE:FUNCTION(), in either order, and
+  the variable, with tabs between; * stands for any text, and \\* for the sign
+  itself. A line with two fields is of every variable. Empty lines, and lines
+  that begin with #, are skipped; \\# begins a field with this sign. Functions
+  are known where the recorder's NAME.stacks stands beside NAME.std. Lines that
+  match nothing are reported.
 
 Exit status:
   The first that applies:
@@ -51,17 +54,20 @@ Exit status:
   4  no trace, or a folder, a file or an engine failed; the reason is on standard
      error
   2  a trace has no outcome: it is missing
-  1  there is a place that isn't known
+  1  there is a place that isn't known; with --fail-on-stale also: a line of
+     the known places matched nothing
   5  a trace was refused, or memory, time or size didn't suffice
+  6  a file of call stacks is damaged
   0  none of these
+  Several may be true. A script asks for one by its line in OUT/facts.tsv, a name,
+  a tab and a number: traces, reports, refused, missing, damaged, places, unknown,
+  known, stale, and with --since new, gone, same. For example
+      awk '$1 == "refused" && $2 > 0 { bad = 1 } END { exit bad }' out/facts.tsv
 
 Environment:
   SHB          the program to run, if not the one that came with this command
   SHB_WINDOWS  the same of shb-windows, which cuts traces that are too long
 """
-TEMPORARY_SECONDS = 86_400      # a day: no run takes longer to write a file or to cut a trace
-
-
 class Farm(typing.NamedTuple):
     engine: str
     jobs: int
@@ -85,6 +91,10 @@ class Parser(argparse.ArgumentParser):
 def arguments(words):
     parser = Parser(prog="shb-farm", description=ABOUT, epilog=with_version(NOTES), formatter_class=argparse.RawDescriptionHelpFormatter)
     parser.add_argument("--known", metavar="FILE", help="places to pass over")
+    parser.add_argument("--fail-on-stale", action="store_true", help="end with status 1 where a line of --known matched nothing")
+    parser.add_argument("--since", metavar="OLD", help="say which places are new, gone and the same since an earlier result: the folder "
+                        "OUT of a farm, or a places.json")
+    parser.add_argument("--links", action="store_true", help="follow links that lead out of TRACES")
     parser.add_argument("--source", metavar="DIR", help="the repository, whose files places.sarif names where it finds them")
     parser.add_argument("--engine", choices=sorted(engines.ENGINES), default="xargs",
                         help="xargs: this machine (the default); slurm: a job array on a cluster whose nodes see the same folders")
@@ -93,7 +103,8 @@ def arguments(words):
     parser.add_argument("--memory", metavar="MIB,..", type=numbers, help="memory of each pass; a trace that needs more goes on to "
                         "the next (256,1024,4096, then with xargs what the machine has, with slurm 16384)")
     parser.add_argument("--seconds", metavar="N", type=number, default=3600, help="processor time of a trace (%(default)s)")
-    parser.add_argument("--size", metavar="MIB", type=number, default=1024, help="most of a report (%(default)s)")
+    parser.add_argument("--size", metavar="MIB", type=number, default=1024,
+                        help="most of a report, and of the text of a packed trace (%(default)s)")
     parser.add_argument("--sbatch", metavar="WORDS", type=shell_words, default=[], help="with slurm: further words for sbatch")
     parser.add_argument("traces", metavar="TRACES", help="the folder of the traces")
     parser.add_argument("out", metavar="OUT", help="the folder for outcomes and tables")
@@ -147,7 +158,7 @@ def command_of(variable, *places):
     return os.path.realpath(found[0]) if found else None
 
 
-def pass_of(options):
+def pass_of(options, room):
     """What all passes of this farm share."""
     shb = command_of("SHB", "../bin/shb", "../../bin/shb")
     if not shb:
@@ -156,16 +167,20 @@ def pass_of(options):
     with open(shb, "rb") as program:
         checksum = files.checksum_of_file(program)
     traces, out = os.path.realpath(options.traces), os.path.realpath(options.out)
-    return passes.Pass(shb, checksum, windows or "", traces, out, seconds=options.seconds, size=options.size)
+    view = command_of("SHB_VIEW", "../view/shb-view", "shb-view")
+    return passes.Pass(shb, checksum, windows or "", traces, out, str(room), view or "", options.links, seconds=options.seconds, size=options.size)
 
 
 def known_in(path):
     if not path:
         return Known()
     try:
-        return Known(pathlib.Path(path).read_bytes())
+        found = Known(read_at_most(path, MOST_BYTES))
     except BadLine as fault:
         raise Refused(f"{path}: {fault}")
+    for words in words_of_old(found):
+        engines.say(f"{path}, {words}")
+    return found
 
 
 def check_sources(folder):
@@ -173,21 +188,13 @@ def check_sources(folder):
         raise Refused(f"{folder}: no such folder of sources")
 
 
-def clean(room):
-    """Deletes what killed runs have left. Other farms may work in the same folder: what they delete meanwhile is passed over."""
-    for path in room.iterdir():
-        with contextlib.suppress(FileNotFoundError):
-            if path.stat().st_mtime < time.time() - TEMPORARY_SECONDS:
-                shutil.rmtree(path) if path.is_dir() else path.unlink()
-
-
-def run_passes(farm, work, names):
+def run_passes(farm, work, names, outside=()):
     """Runs the traces of these names, and gives how each ended. A trace begins with the first pass that has room for its size,
-    and goes on to the next where it ran out of memory or got no outcome."""
+    and goes on to the next where it ran out of memory or got no outcome. `outside` are links that aren't followed."""
     last = work._replace(memory=farm.memory[-1])
-    endings = {name: merging.ending_of(last, name) for name in names}
+    endings = {name: merging.ending_of(last, name, outside) for name in names}
     for memory in farm.memory:
-        now = work._replace(memory=memory)
+        now = work._replace(memory=memory, last=memory == last.memory)
         waiting = waiting_for(now, endings, memory == last.memory)
         if waiting:
             engines.run_pass(now._replace(names=waiting), farm)
@@ -222,19 +229,29 @@ def report_of(work, name, ending):
 def run(options):
     """Runs the farm, writes its tables, and gives the status."""
     check_sources(options.source)
-    known_places, work = known_in(options.known), pass_of(options)
+    known_places, earlier = known_in(options.known), since.read(options.since) if options.since else None
     farm = Farm(options.engine, options.jobs, memory_of(options), options.sbatch)
-    clean(passes.room_in(work.out))
-    names = traces.names_in(work.traces, work.out)
-    if not names:
-        raise Refused(f"{options.traces}: there is no trace in this folder and below (NAME.std, NAME.std.gz or NAME.std.xz)")
-    endings = run_passes(farm, work, names)
-    calls = Calls(work.traces, [name for name, ending in endings.items() if ending.places])
-    sources = Sources(options.source, calls.sources)
-    rows = with_reports(farm, work, merging.rows_of(endings, known_places, calls.functions))
-    status = merging.status_of(rows, endings)
-    write_out(tables.write(pathlib.Path(work.out), tables.Found(rows, endings, status), sources, calls))
-    return status
+    with passes.room_in(os.path.realpath(options.out)) as room:
+        work = pass_of(options, room)
+        names, outside = traces.names_in(work.traces, work.out, work.links)
+        if not names:
+            raise Refused(f"{options.traces}: there is no trace in this folder and below (NAME.std, NAME.std.gz or NAME.std.xz)")
+        endings, calls = run_passes(farm, work, names, outside), Calls(work.traces)
+        rows, files = merging.rows_of(endings, known_places, calls)
+        rows = with_reports(farm, work, rows)
+        found = found_of(options, rows, endings, known_places, len(calls.damaged), earlier)
+        for words in words_of_stale(found.stale, files):
+            engines.say(f"{options.known}, {words}")
+        write_out(tables.write(pathlib.Path(work.out), room, found, Sources(options.source), calls))
+        return found.status
+
+
+def found_of(options, rows, endings, known_places, damaged, earlier):
+    """All that was found. Where a trace is missing it isn't known which known places are stale."""
+    compared = None if earlier is None else since.compared(options.since, earlier, rows)
+    stale = known_places.stale()
+    facts = merging.facts_of(rows, endings, len(stale), damaged, compared)
+    return tables.Found(rows, endings, facts, stale, compared, merging.status_of(facts, options.fail_on_stale))
 
 
 def write_out(text):
@@ -256,7 +273,7 @@ def main(words):
         return run(arguments(words))
     except BadWords as fault:
         status, said = 3, str(fault)
-    except (Refused, engines.NotInstalled) as refused:
+    except (Refused, engines.NotInstalled, since.BadDocument) as refused:
         said = str(refused)
     except OSError as fault:
         said = words_of(fault)

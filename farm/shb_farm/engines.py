@@ -10,9 +10,13 @@ import shlex
 import signal
 import subprocess
 import sys
+import tempfile
 import time
 
+from shb_common.progress import Progress
+from shb_common.words import counted
 from shb_farm import limits, passes
+from shb_farm.children import end_with_parent
 
 # Without a PATH Python doesn't know its own name. A job needs nothing of this machine's packages, whose start costs time.
 JOB = [sys.executable or "python3", "-I", "-S", str(pathlib.Path(__file__).resolve().with_name("job.py"))]
@@ -20,6 +24,8 @@ TRACES_A_JOB = 50       # at most: so Python's start is a small part of a job
 MOST_TASKS = 1000       # of an array, below Slurm's own bound of 1,001
 BESIDE_MIB = 64         # what a job needs beside the program, where a cluster counts memory
 POLL_SECONDS = 5
+LOOK_SECONDS = 0.2
+MANY = 100              # traces of a pass, of which some words are said meanwhile
 
 
 class NotInstalled(Exception):
@@ -34,7 +40,7 @@ def run_xargs(work, path, farm):
     say(f"{counted(count, 'trace')} with {work.memory} MiB each, {at_once} at once")
     numbers = "".join(f"{number}\n" for number in range(jobs))
     words = ["xargs", "-n", "1", "-P", str(at_once), *JOB, path, str(jobs)]
-    run_group(words, numbers)
+    run_group(words, numbers, Watch(work))
 
 
 def run_slurm(work, path, farm):
@@ -54,13 +60,13 @@ def run_slurm(work, path, farm):
     array = said.split(";")[0].strip()
     say(f"{counted(count, 'trace')} with {work.memory} MiB each, in {counted(tasks, 'task')} of job {array}")
     try:
-        wait_for(array)
+        wait_for(array, Watch(work))
     except BaseException:
         cancel(array)
         raise
 
 
-def wait_for(array):
+def wait_for(array, watch):
     """Waits until a job array has no task that may still run. Says when the controller no longer answers, and when it does again.
     Where a node or the controller failed, Slurm holds what it couldn't start again, until somebody comes: such tasks are given
     up, and their traces are missing for now."""
@@ -80,6 +86,7 @@ def wait_for(array):
             say(f"Slurm holds what is left of job {array}, which is given up: {tasks[0]}")
             cancel(array)
             return
+        watch.look()
         time.sleep(POLL_SECONDS)
 
 
@@ -102,18 +109,54 @@ def call(words):
 ENGINES = {"xargs": run_xargs, "slurm": run_slurm}
 
 
-def run_group(words, given):
-    """Runs a command with all that it starts in a process group of its own, which ends with this process if a signal comes."""
+class Watch:
+    """Says how many traces of a pass are done: on a terminal all the time, else at each tenth of many."""
+
+    def __init__(self, work):
+        self.path, self.whole, self.said = pathlib.Path(work.room) / passes.DONE, len(work.names), 0
+        self.start, self.progress = self.size(), Progress("shb-farm", sys.stderr)
+
+    def size(self):
+        try:
+            return self.path.stat().st_size
+        except OSError:
+            return 0
+
+    def look(self):
+        done = min(self.size() - self.start, self.whole)
+        tenth = 10 * done // self.whole
+        if self.progress.is_terminal:
+            self.progress.step(f"{done:,} of {counted(self.whole, 'trace')}", done, self.whole)
+        elif self.whole >= MANY and tenth > self.said and tenth < 10:
+            say(f"{done:,} of {counted(self.whole, 'trace')} done")
+        self.said = max(self.said, tenth)
+
+    def clear(self):
+        self.progress.clear()
+
+
+def run_group(words, given, watch):
+    """Runs a command with all that it starts in a process group of its own, which ends with this process, however that ends."""
+    with tempfile.TemporaryFile("w+") as numbers:
+        numbers.write(given)
+        numbers.seek(0)
+        try:
+            started = subprocess.Popen(words, stdin=numbers, stdout=sys.stderr, start_new_session=True, preexec_fn=end_with_parent)
+        except FileNotFoundError:
+            raise NotInstalled(f"{words[0]} isn't installed")
     try:
-        started = subprocess.Popen(words, stdin=subprocess.PIPE, stdout=sys.stderr, start_new_session=True, text=True)
-    except FileNotFoundError:
-        raise NotInstalled(f"{words[0]} isn't installed")
-    try:
-        started.communicate(given)
+        while True:
+            try:
+                started.wait(LOOK_SECONDS)
+                break
+            except subprocess.TimeoutExpired:
+                watch.look()
     except BaseException:
         os.killpg(started.pid, signal.SIGTERM)
         started.wait()
         raise
+    finally:
+        watch.clear()
 
 
 def run_pass(work, farm):
@@ -125,7 +168,3 @@ def run_pass(work, farm):
 
 def say(text):
     print(f"shb-farm: {text}", file=sys.stderr, flush=True)
-
-
-def counted(count, word):
-    return f"{count} {word}" if count == 1 else f"{count} {word}s"

@@ -1,36 +1,6 @@
-"""Files that are whole or not there, and what tells whether a file is as it was."""
+"""What tells whether a file is as it was."""
 
-import contextlib
 import hashlib
-import os
-import pathlib
-import tempfile
-
-
-@contextlib.contextmanager
-def temporary_file(folder):
-    """A new open file and its path; it is deleted at the end if it is still there."""
-    number, path = tempfile.mkstemp(dir=folder)
-    try:
-        with open(number, "w+b") as file:
-            yield file, path
-    finally:
-        with contextlib.suppress(FileNotFoundError):
-            os.unlink(path)
-
-
-def put(path, text, room):
-    """Puts a file in place whole; `room` is a folder of the same file system."""
-    with temporary_file(room) as (file, new):
-        file.write(text)
-        file.flush()
-        put_file(new, path)
-
-
-def put_file(new, path):
-    os.chmod(new, 0o644)
-    pathlib.Path(path).parent.mkdir(parents=True, exist_ok=True)
-    os.replace(new, path)
 
 
 def stamp_of(state):

@@ -15,32 +15,47 @@ import sys
 HOME = pathlib.Path(__file__).resolve().parents[1]
 sys.path[:0] = [str(HOME), str(HOME.parent / "common")]     # installed, all packages are in the first
 
+from shb_common.files import open_regular, put
 from shb_common.standard import words_of
-from shb_farm import files, outcomes, passes, reports, running
+from shb_farm import files, outcomes, passes, reports, running, traces
+from shb_farm.children import end_with
+from shb_farm.outcomes import Cost
+from shb_farm.running import METER
 
 
 def make_outcome(work, name):
     """Makes the outcome of a trace, unless there is one that stands. Gives its kind. If the trace changes meanwhile, the outcome
     has the stamp of before, and doesn't count."""
     path, place = pathlib.Path(work.traces) / name, passes.outcome_path(work.out, work.form, name)
-    old = outcomes.read(place)
+    old = outcomes.read(place, name)
     if passes.stands(old, work, name, files.stamp_of(os.stat(path))):
         return old.kind
-    with open(path, "rb") as trace:
+    if not work.links and not traces.is_below(os.path.realpath(path), work.traces):
+        raise running.NotHere(traces.LEADS_OUT)
+    METER.clear()
+    with open_regular(path) as trace:
         stamp = files.stamp_of(os.fstat(trace.fileno()))
         checksum = files.checksum_of_file(trace)
         if old is not None and old.trace == checksum and passes.is_final(old, work, name):
             new = old._replace(stamp=stamp)
         else:
             end, places = reports.analysed(work, name, trace)
-            new = outcomes.Outcome(work.program, checksum, stamp, end.kind, end.words, places)
-    files.put(place, outcomes.text_of(new), passes.room_in(work.out))
+            new = outcomes.Outcome(name, work.program, checksum, stamp, Cost(METER.seconds, METER.kib, METER.text), end.kind, end.words, places)
+    put(place, outcomes.text_of(new), work.room)
     if new.kind == "failed":
         print(f"shb-farm: {name}: {new.words}", file=sys.stderr)
     return new.kind
 
 
+def note_done(work):
+    """Counts a trace as done, for who watches the pass."""
+    number = os.open(pathlib.Path(work.room) / passes.DONE, os.O_WRONLY | os.O_APPEND | os.O_CREAT, 0o666)
+    os.write(number, b".")
+    os.close(number)
+
+
 def main(words):
+    end_with(os.getppid())
     sys.stderr.reconfigure(errors="backslashreplace")
     work, every = passes.read(words[0]), int(words[1])
     first = int(words[2] if len(words) > 2 else os.environ["SLURM_ARRAY_TASK_ID"])
@@ -52,6 +67,7 @@ def main(words):
             kind = "failed"
             said = words_of(fault) if isinstance(fault, OSError) else str(fault)
             print(f"shb-farm: {name}: {said}", file=sys.stderr)
+        note_done(work)
         if kind == "failed":
             status = 1
     return status

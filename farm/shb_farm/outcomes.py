@@ -1,45 +1,75 @@
 """The outcome of one trace: a file that is put in place whole and last.
 
-    shb-farm 1
+    shb-farm 2
+    name NAME                the trace, below the folder of the traces
     program SUM              the program that was run
     trace SUM                the trace that it read
     stamp SIZE:TIME          the trace's size and time of change
+    cost SECONDS KIB BYTES   processor time and most memory of the runs, and how long the trace's text is
     KIND WORDS               how it ended
-    at LOCATION              the places of a report, two lines each
+    at LOCATION              the places of a report
     and LOCATION
+    on I J VARIABLE          each variable that races there, with the events of one race
+    more                     there are more variables
     sum SUM                  of all lines before: an outcome without it isn't whole, and doesn't count
 
 KIND and WORDS are `report` and what the trace has; `refused` and the program's words; `memory`, `time` or `size` and
 the limit that didn't suffice (MiB, seconds of processor time, MiB); or `failed` and why. What failed is tried again.
 """
 
+import os
 import pathlib
 import typing
 
+from shb_common.known import written
 from shb_farm import files
 
-FIRST = b"shb-farm 1\n"
+FIRST = b"shb-farm 2\n"
+HEAD = b"name", b"program", b"trace", b"stamp", b"cost"
+
+
+class Place(typing.NamedTuple):
+    """A place of a trace: its locations, the first access's first; its variables, each with the events of one race; and whether it
+    has more of them."""
+
+    first: bytes
+    second: bytes
+    variables: tuple
+    has_more: bool = False
+
+
+class Cost(typing.NamedTuple):
+    seconds: float
+    kib: int
+    text: int       # bytes of the trace's text
 
 
 class Outcome(typing.NamedTuple):
+    name: str
     program: str
     trace: str
     stamp: str
+    cost: Cost
     kind: str
     words: str
-    places: typing.List[typing.Tuple[bytes, bytes]]
+    places: typing.List[Place]
 
 
 def text_of(outcome):
-    head = [f"program {outcome.program}", f"trace {outcome.trace}", f"stamp {outcome.stamp}",
+    cost = f"{outcome.cost.seconds:.2f} {outcome.cost.kib} {outcome.cost.text}"
+    head = [f"program {outcome.program}", f"trace {outcome.trace}", f"stamp {outcome.stamp}", f"cost {cost}",
             f"{outcome.kind} {' '.join(outcome.words.split())}"]
-    lines = FIRST + "".join(line + "\n" for line in head).encode("utf-8", "surrogateescape")
-    lines += b"".join(b"at %s\nand %s\n" % place for place in outcome.places)
+    lines = FIRST + b"name %s\n" % written(os.fsencode(outcome.name))
+    lines += "".join(line + "\n" for line in head).encode("utf-8", "surrogateescape")
+    for place in outcome.places:
+        lines += b"at %s\nand %s\n" % place[:2]
+        lines += b"".join(b"on %d %d %s\n" % (*events, variable) for variable, events in place.variables)
+        lines += b"more\n" * place.has_more
     return lines + f"sum {files.checksum_of(lines)}\n".encode()
 
 
-def read(path):
-    """The outcome in a file, or None where there is none or it isn't whole."""
+def read(path, name):
+    """The outcome of a trace in a file, or None where there is none or it isn't whole."""
     try:
         text = pathlib.Path(path).read_bytes()
     except OSError:
@@ -47,7 +77,31 @@ def read(path):
     body, _, last = text.rpartition(b"sum ")
     if not text.startswith(FIRST) or last != files.checksum_of(body).encode() + b"\n":
         return None
-    lines = body[len(FIRST):].split(b"\n")
-    program, trace, stamp, end = (line.decode("utf-8", "surrogateescape").partition(" ") for line in lines[:4])
-    places = [(at[3:], other[4:]) for at, other in zip(lines[4:-1:2], lines[5:-1:2])]
-    return Outcome(program[2], trace[2], stamp[2], end[0], end[2], places)
+    try:
+        return outcome_in(body[len(FIRST):-1].split(b"\n"), name)
+    except (ValueError, IndexError):
+        return None     # whoever wrote its sum, it wasn't this program
+
+
+def outcome_in(lines, name):
+    fields = [line.partition(b" ") for line in lines[:len(HEAD)]]
+    if tuple(word for word, _, _ in fields) != HEAD or fields[0][2] != written(os.fsencode(name)):
+        raise ValueError
+    program, trace, stamp, cost = (rest.decode("utf-8", "surrogateescape") for _, _, rest in fields[1:])
+    seconds, kib, text = cost.split(" ")
+    kind, _, words = lines[len(HEAD)].decode("utf-8", "surrogateescape").partition(" ")
+    places = []
+    for line in lines[len(HEAD) + 1:]:
+        word, _, rest = line.partition(b" ")
+        if word == b"at":
+            places.append(Place(rest, b"", ()))
+        elif word == b"and":
+            places[-1] = places[-1]._replace(second=rest)
+        elif word == b"on":
+            first, second, variable = rest.split(b" ", 2)
+            places[-1] = places[-1]._replace(variables=(*places[-1].variables, (variable, (int(first), int(second)))))
+        elif word == b"more":
+            places[-1] = places[-1]._replace(has_more=True)
+        else:
+            raise ValueError
+    return Outcome(name, program, trace, stamp, Cost(float(seconds), int(kib), int(text)), kind, words, places)

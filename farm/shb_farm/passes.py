@@ -1,15 +1,25 @@
 """A pass: some traces to be run within the same limits. Its file is all that a job is told."""
 
+import contextlib
+import fcntl
+import hashlib
 import json
 import os
 import pathlib
+import re
+import shutil
 import tempfile
+import time
 import typing
 
 from shb_farm.limits import TOO_LONG
 
 LIST, FULL = "list", "full"     # the places of a trace; its report with schedules
 FOLDER_OF = {LIST: "outcomes", FULL: "reports"}
+LOCK, DONE = "lock", "done"
+TEMPORARY_SECONDS = 86_400      # a day: what no lock tells about is deleted then
+MOST_OF_NAME = 60               # characters of a trace's name that are in the name of its outcome
+OTHER = re.compile(r"[^A-Za-z0-9._-]+")
 
 
 class Pass(typing.NamedTuple):
@@ -18,16 +28,20 @@ class Pass(typing.NamedTuple):
     windows: str                # the command that cuts a long trace into windows, or nothing
     traces: str                 # the folder of the traces
     out: str                    # the folder of the outcomes
+    room: str                   # the folder for files of this run that aren't whole yet
+    view: str = ""              # the command that says what is known of places, or nothing
+    links: bool = False         # whether links may lead out of the folder of the traces
     form: str = LIST
     memory: int = 0             # MiB of address space
     seconds: int = 0            # of processor time
-    size: int = 0               # MiB of a report
+    size: int = 0               # MiB of a report, and of the text of a packed trace
+    last: bool = True           # whether no pass with more memory comes after it
     names: typing.List[str] = []    # the traces to run, below their folder
 
 
 def write(work):
     """Writes the file of a pass, and gives its path."""
-    number, path = tempfile.mkstemp(prefix="pass-", dir=room_in(work.out))
+    number, path = tempfile.mkstemp(prefix="pass-", dir=work.room)
     with open(number, "w", encoding="ascii") as file:
         json.dump(work._asdict(), file)
     return path
@@ -38,24 +52,65 @@ def read(path):
         return Pass(**json.load(file))
 
 
+@contextlib.contextmanager
 def room_in(out):
-    """The folder for files that aren't whole yet."""
-    room = pathlib.Path(out) / "tmp"
-    room.mkdir(parents=True, exist_ok=True)
-    return room
+    """A folder for files that aren't whole yet. It is locked as long as the run lasts, and goes with it; what a killed run left goes
+    first."""
+    tmp = pathlib.Path(out) / "tmp"
+    tmp.mkdir(parents=True, exist_ok=True)
+    clean(tmp)
+    room = pathlib.Path(tempfile.mkdtemp(prefix="run-", dir=tmp))
+    with open(room / LOCK, "wb") as lock:
+        fcntl.flock(lock, fcntl.LOCK_EX)
+        try:
+            yield room
+        finally:
+            shutil.rmtree(room, ignore_errors=True)
+
+
+def clean(tmp):
+    """Deletes what killed runs have left. Other farms may work in the same folder: what is locked stays, and what they delete
+    meanwhile is passed over."""
+    for path in tmp.iterdir():
+        with contextlib.suppress(OSError):
+            if is_left(path):
+                shutil.rmtree(path) if path.is_dir() else path.unlink()
+
+
+def is_left(path):
+    """Whether a file or folder is of no run that still works."""
+    try:
+        with open(path / LOCK, "rb") as lock:
+            fcntl.flock(lock, fcntl.LOCK_EX | fcntl.LOCK_NB)
+            return True
+    except BlockingIOError:
+        return False
+    except OSError:
+        return path.lstat().st_mtime < time.time() - TEMPORARY_SECONDS
+
+
+def key_of(name):
+    """What the files of a trace are named by: the end of its name as far as it is plain, and a sum of the whole."""
+    plain = OTHER.sub("_", name.rpartition("/")[2])[:MOST_OF_NAME]
+    return f"{plain}-{hashlib.blake2b(os.fsencode(name), digest_size=10).hexdigest()}"
 
 
 def outcome_path(out, form, name):
-    return pathlib.Path(out) / FOLDER_OF[form] / f"{name}.outcome"
+    return pathlib.Path(out) / FOLDER_OF[form] / f"{key_of(name)}.outcome"
 
 
 def report_path(out, name):
-    return pathlib.Path(out) / FOLDER_OF[FULL] / f"{name}.report"
+    return pathlib.Path(out) / FOLDER_OF[FULL] / f"{key_of(name)}.report"
+
+
+def found_path(out, name):
+    """What the view says of the places of a trace."""
+    return pathlib.Path(out) / FOLDER_OF[FULL] / f"{key_of(name)}.json"
 
 
 def windows_path(out, name):
     """The folder with the reports of a trace's windows."""
-    return pathlib.Path(out) / FOLDER_OF[FULL] / f"{name}.windows"
+    return pathlib.Path(out) / FOLDER_OF[FULL] / f"{key_of(name)}.windows"
 
 
 def stands(outcome, work, name, stamp):

@@ -6,10 +6,11 @@ import signal
 import subprocess
 import typing
 
+from shb_common import analyser
+from shb_farm.children import end_with_parent
 from shb_farm.limits import MIB
 
-MOST_WORDS = 500    # bytes of a reason that are kept
-WORDS = {"list": ["places", "--list", "--workers", "1"], "full": ["places", "--workers", "1"]}
+WORDS = {"list": [*analyser.LIST, "--workers", "1"], "full": [*analyser.FULL, "--workers", "1"]}
 
 
 class End(typing.NamedTuple):
@@ -21,6 +22,22 @@ class End(typing.NamedTuple):
 
 class NotHere(Exception):
     """This machine can't give what the pass promises; another one may."""
+
+
+class Meter:
+    """What the runs for a trace took: the sum of their processor time, and the most memory of one."""
+
+    def __init__(self):
+        self.clear()
+
+    def clear(self):
+        self.seconds, self.kib, self.text = 0.0, 0, 0
+
+    def add(self, seconds, kib):
+        self.seconds, self.kib = self.seconds + seconds, max(self.kib, kib)
+
+
+METER = Meter()
 
 
 def limits_of(work):
@@ -39,17 +56,18 @@ def check_machine(work):
 
 def set_limits(work):
     """What a child process does first."""
+    end_with_parent()
     resource.setrlimit(resource.RLIMIT_CORE, (0, 0))
     for name, limit, _ in limits_of(work):
         resource.setrlimit(name, (limit, resource.getrlimit(name)[1]))
 
 
-def run(work, words, given, out):
-    """Runs a command to its end, with open files as its input, from its beginning, and its output; gives its status and its words."""
+def run(work, words, given, out, **how):
+    """Runs a command to its end, with open files as its input, from its beginning, and its output; gives its `Answer`."""
     check_machine(work)
-    os.lseek(given.fileno(), 0, os.SEEK_SET)    # Python's own `seek` may move in its buffer alone
-    ran = subprocess.run(words, stdin=given, stdout=out, stderr=subprocess.PIPE, preexec_fn=lambda: set_limits(work))
-    return ran.returncode, words_in(ran.stderr)
+    answer = analyser.call(words, given, out, preexec=lambda: set_limits(work), **how)
+    METER.add(answer.seconds, answer.kib)
+    return answer
 
 
 def start(work, words, given):
@@ -57,11 +75,6 @@ def start(work, words, given):
     check_machine(work)
     return subprocess.Popen(words, bufsize=0, stdin=subprocess.PIPE, stdout=subprocess.PIPE, stderr=subprocess.PIPE,
                             pass_fds=[given.fileno()], preexec_fn=lambda: set_limits(work))
-
-
-def words_in(said):
-    """What a command said, as words of an outcome."""
-    return " ".join(said[:MOST_WORDS].decode("utf-8", "backslashreplace").split())
 
 
 def end_of(work, status, said, written):
@@ -83,5 +96,5 @@ def end_of(work, status, said, written):
 def analyse(work, form, given, out):
     """Runs the program on an open trace, its report to an open file. The trace is its standard input, since it takes no file
     name that isn't UTF-8."""
-    status, said = run(work, [work.shb, *WORDS[form]], given, out)
-    return end_of(work, status, said, os.fstat(out.fileno()).st_size)
+    answer = run(work, [work.shb, *WORDS[form]], given, out)
+    return end_of(work, answer.status, answer.words, os.fstat(out.fileno()).st_size)

@@ -5,22 +5,19 @@ import posixpath
 
 
 class Sources:
-    """The files below a folder, or none where no folder is given. Paths are bytes, and count from the folder. `recorded` has the
-    paths that a name in locations had where its program was compiled."""
+    """The files below a folder, or none where no folder is given. Paths are bytes, and count from the folder."""
 
-    def __init__(self, folder=None, recorded=None):
-        self.recorded = recorded or {}
+    def __init__(self, folder=None):
         self.folder = os.fsencode(os.path.realpath(folder)) if folder else None
         self.by_name = None     # the paths of all files, by their last part; once one is looked up
         self.lines = {}         # of the files that were read
 
-    def find(self, path):
+    def find(self, path, compiled=b""):
         """The file that a path of a location names: the one that was compiled, the path itself, or the only file whose path ends with
         it; else None."""
         if not self.folder:
             return None
-        compiled = self.recorded.get(path, ())
-        return (self.find_path(*compiled) if len(compiled) == 1 else None) or self.find_path(path)
+        return (self.find_path(compiled) if compiled else None) or self.find_path(path)
 
     def find_path(self, path):
         path = posixpath.normpath(path)

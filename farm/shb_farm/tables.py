@@ -1,20 +1,26 @@
-"""The tables of a farm, as tab-separated values and as text."""
+"""The tables of a farm: as tab-separated values, as text, for programs and for code review tools."""
 
 import os
 import typing
 
-from shb_common import known
+from shb_common import known, result, sarif
+from shb_common.files import put
 from shb_common.shown import shown
-from shb_farm import files, passes, sarif
+from shb_farm import calls
 
-WIDEST = 60     # columns of the text's tables; a longer field moves what stands after it
+WIDEST = 60         # columns of the text's tables; a longer field moves what stands after it
+MOST_NAMED = 3      # variables in a table
 
 
 class Found(typing.NamedTuple):
-    """What a farm has found: a row for each place, how each trace ended, and the status."""
+    """What a farm has found: a row for each two locations, how each trace ended, the facts as numbers, the lines of the known places
+    that matched nothing, what is new since an earlier farm or None, and the status."""
 
     rows: list
     endings: dict
+    facts: dict
+    stale: list
+    since: typing.Any
     status: int
 
 
@@ -27,33 +33,48 @@ def state_of(row):
     return "known" if row.is_known else "unknown"
 
 
-def places_table(rows):
-    """A line for each place: how many traces have it, whether it is known, its locations, one of the traces, its report."""
-    lines = [b"traces\tstate\tfirst\tsecond\texample\treport\n"]
-    for row in rows:
-        fields = [b"%d" % row.traces, field(state_of(row)), *row.pair, field(row.example), field(row.report)]
+def variables_of(row):
+    """The variables of a row as one field: the unknown ones first."""
+    names = [name for name, _ in sorted(row.variables, key=lambda one: one[1])]
+    more = [b"%d more" % (len(names) - MOST_NAMED)] if len(names) > MOST_NAMED else []
+    return b", ".join([*map(known.written, names[:MOST_NAMED]), *more, *[b".."] * row.has_more])
+
+
+def places_table(found):
+    """A line for each two locations: how many traces have them, whether they are known, one of the traces, its report, in how many
+    orders they race, their variables, and whether that is new."""
+    lines = [b"traces\tstate\tfirst\tsecond\texample\treport\tplaces\tvariables\tsince\n"]
+    for row in found.rows:
+        fields = [b"%d" % row.traces, field(state_of(row)), *row.names, field(row.example), field(row.report), b"%d" % row.places,
+                  variables_of(row), field(found.since.state_of(row) if found.since else "")]
         lines.append(b"\t".join(fields) + b"\n")
     return b"".join(lines)
 
 
 def traces_table(endings):
-    """A line for each trace: how it ended, how many places it has, and the words of its outcome."""
-    lines = [b"trace\toutcome\tplaces\twords\n"]
+    """A line for each trace: how it ended, how many places it has, the words of its outcome, and what it cost."""
+    lines = [b"trace\toutcome\tplaces\twords\tseconds\tMiB\n"]
     for name, ending in endings.items():
-        places = b"%d" % len({known.pair_of(*place) for place in ending.places}) if ending.kind == "report" else b""
-        lines.append(b"\t".join([field(name), field(ending.kind), places, field(ending.words)]) + b"\n")
+        places = b"%d" % len(ending.places) if ending.kind == "report" else b""
+        cost = [b"%.2f" % ending.cost.seconds, b"%d" % (ending.cost.kib // 1024)] if ending.cost else [b"", b""]
+        lines.append(b"\t".join([field(name), field(ending.kind), places, field(ending.words), *cost]) + b"\n")
     return b"".join(lines)
 
 
-def unknown_places(rows, functions):
+def facts_table(facts):
+    """A line for each fact: its name and its number."""
+    return "".join(f"{name}\t{count}\n" for name, count in facts.items()).encode()
+
+
+def unknown_places(rows):
     """The unknown places as a file of known places has them."""
-    return b"".join(known.lines_of([row.pair for row in rows if not row.is_known], functions))
+    return b"".join(known.lines_of((row.sides, row.unknown(), row.has_more) for row in rows if not row.is_known))
 
 
 def why(ending):
     """Why a trace has no report, for a reader."""
     return {"memory": f"out of memory in {ending.words} MiB", "time": f"not done in {ending.words} s of processor time",
-            "size": f"its report is longer than {ending.words} MiB"}.get(ending.kind, ending.words)
+            "size": f"its report, or the text of a packed trace, is longer than {ending.words} MiB"}.get(ending.kind, ending.words)
 
 
 def note_of(ending):
@@ -72,17 +93,19 @@ def aligned(lines):
     return ["  ".join(part.ljust(width) for part, width in zip(line, widths)).rstrip() for line in lines]
 
 
-def text(rows, endings):
+def text(found):
     """What the farm prints: how much there is, the places, the traces without a report, and those of which something is to know."""
-    kinds = [ending.kind for ending in endings.values()]
-    reports, missing = kinds.count("report"), kinds.count("missing")
-    unknown = sum(not row.is_known for row in rows)
-    lines = [f"traces {len(kinds)} reports {reports} refused {len(kinds) - reports - missing} missing {missing}",
-             f"places {len(rows)} unknown {unknown} known {len(rows) - unknown}"]
+    rows, endings, facts = found.rows, found.endings, found.facts
+    lines = [f"traces {facts['traces']} reports {facts['reports']} refused {facts['refused']} missing {facts['missing']}",
+             f"places {facts['places']} unknown {facts['unknown']} known {facts['known']}"]
+    lines += [f"since {found.since.name}: new {facts['new']} gone {facts['gone']} same {facts['same']}"] if found.since else []
     if rows:
-        head = [b"traces", b"state", b"first", b"second", b"example"]
-        table = [[b"%d" % row.traces, field(state_of(row)), *row.pair, field(row.example)] for row in rows]
+        head = [b"traces", b"state", b"first", b"second", b"variables", b"example", *[b"since"] * bool(found.since)]
+        table = [[b"%d" % row.traces, field(state_of(row)), *row.names, variables_of(row), field(row.example),
+                  *[field(found.since.state_of(row)) for _ in [0] if found.since]] for row in rows]
         lines += ["", *aligned([head, *table])]
+    if found.since and found.since.gone:
+        lines += ["", *aligned([[b"gone", *map(os.fsencode, gone)] for gone in found.since.gone])]
     lost = [(name, ending) for name, ending in endings.items() if ending.kind != "report"]
     if lost:
         words = ["missing" if ending.kind == "missing" else "refused" for _, ending in lost]
@@ -94,12 +117,55 @@ def text(rows, endings):
     return "".join(line + "\n" for line in lines)
 
 
-def write(out, found, sources, calls):
-    """Writes all tables, each whole, and gives the text. `sources` has the files that locations name, `calls` the call stacks."""
-    rows, endings, said = found.rows, found.endings, text(found.rows, found.endings)
-    room = passes.room_in(out)
-    for name, content in (("places.tsv", places_table(rows)), ("traces.tsv", traces_table(endings)),
-                          ("unknown.places", unknown_places(rows, calls.functions)), ("places.txt", said.encode("utf-8", "surrogateescape")),
-                          ("places.sarif", sarif.log(found, sources, calls.accesses_of(rows, out)))):
-        files.put(out / name, content, room)
+def entry_of(row, entries, since):
+    """A row as `places.json` has it, with what the view says of it in its example."""
+    said = entries.get((row.example, frozenset(map(result.text, row.texts))), {})
+    shown_there = {access["in_trace"]: access for access in said.get("accesses", ())}
+    accesses = [{**shown_there.get(result.text(text), {}), **result.access(name, location, text)}
+                for name, location, text in zip(row.names, row.key, row.texts)]
+    variables = [{"name": result.text(name), "state": "known" if is_known else "unknown"} for name, is_known in row.variables]
+    more = {name: said[name] for name in ("races", "headline", "facts") if name in said}
+    return {"state": state_of(row), "places": row.places, "accesses": accesses, "variables": variables, "has_more_variables": row.has_more,
+            **more, "traces": row.traces, "example": result.text(os.fsencode(row.example)), **({"since": since.state_of(row)} if since else {})}
+
+
+def document(found, entries):
+    """What programs read."""
+    traces = [{"trace": result.text(os.fsencode(name)), "outcome": ending.kind, "words": ending.words,
+               **({"seconds": ending.cost.seconds, "MiB": ending.cost.kib // 1024} if ending.cost else {})}
+              for name, ending in found.endings.items()]
+    stale = [{"line": line.number, "text": result.text(line.text)} for line in found.stale]
+    places = [entry_of(row, entries, found.since) for row in found.rows]
+    return result.document("shb-farm", {**found.facts, "status": found.status}, places, stale=stale, traces=traces)
+
+
+def log(found, sources, entries, accesses):
+    """The log for code review tools. `accesses` has those of a race at each place, where their stacks are known."""
+    endings, alerts = found.endings, []
+    for row in found.rows:
+        said = entries.get((row.example, frozenset(map(result.text, row.texts))), {})
+        have = "1 of {} traces has it" if row.traces == 1 else f"{row.traces} of {{}} traces have it"
+        seen = f"{have.format(len(endings))}, for example {shown(field(row.example))}"
+        alerts.append(sarif.Alert(row.names, row.key, [name for name, _ in row.variables], " ".join(said.get("facts", ())), seen, row.is_known,
+                                  os.fsencode(row.example), accesses.get(row.key, ()), {"traces": row.traces}))
+    return sarif.log(alerts, sources, [notification_of(name, ending) for name, ending in endings.items() if ending.kind != "report" or note_of(ending)],
+                     found.status != 2, found.status)
+
+
+LEVELS = {"missing": "error", "report": "note"}
+
+
+def notification_of(name, ending):
+    """What is said of a trace that has no report, or of whose report something is to know."""
+    return LEVELS.get(ending.kind, "warning"), f"{shown(field(name))}: {shown(field(note_of(ending) or why(ending)))}"
+
+
+def write(out, room, found, sources, stacks):
+    """Writes all tables, each whole, and gives the text. `sources` has the files that locations name, `stacks` the call stacks."""
+    said, entries = text(found), calls.entries_of(found.rows, out)
+    for name, content in (("places.tsv", places_table(found)), ("traces.tsv", traces_table(found.endings)), ("facts.tsv", facts_table(found.facts)),
+                          ("unknown.places", unknown_places(found.rows)), ("places.txt", said.encode("utf-8", "surrogateescape")),
+                          ("places.json", document(found, entries)),
+                          ("places.sarif", log(found, sources, entries, stacks.accesses_of(found.rows, out)))):
+        put(out / name, content, room)
     return said

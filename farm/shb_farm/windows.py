@@ -8,6 +8,7 @@ import contextlib
 import os
 import shutil
 
+from shb_common.analyser import words_in
 from shb_farm import passes, reports, running
 from shb_farm.limits import MIB, MOST_BYTES, MOST_EVENTS
 from shb_farm.running import End
@@ -19,14 +20,14 @@ def analysed(work, name, trace, folder):
     folder.mkdir()
     check_room(trace, folder)
     ends, places = [], {}
-    end = cut(work, trace, folder, lambda window: take(work, window, ends, places))
+    end = cut(work, trace, folder, lambda window, shift: take(work, window, shift, ends, places))
     if end.kind == "report":
         end = ends[-1] if ends else End("failed", "shb-windows made no window")
     if end.kind != "report":
         return end, []
     if work.form == passes.FULL:
         put_reports(folder, passes.windows_path(work.out, name))
-    return End("report", f"{len(ends)} windows"), list(places)
+    return End("report", f"{len(ends)} windows"), list(places.values())
 
 
 def check_room(trace, folder):
@@ -43,35 +44,51 @@ def cut(work, trace, folder, use):
     words = [work.windows, "--one-by-one", "-n", str(MOST_EVENTS), "-o", str(folder), f"/dev/fd/{trace.fileno()}"]
     with running.start(wide, words, trace) as cutter:
         for row in cutter.stdout:       # where a use fails nobody reads the next row, which ends the command
-            use(folder / row.decode().split("\t")[0])
+            window, first, _, added = row.decode().split("\t")
+            use(folder / window, int(first) - 1 - int(added))
             with contextlib.suppress(BrokenPipeError):
                 cutter.stdin.write(b"\n")
         said = cutter.stderr.read()
-    return running.end_of(wide, cutter.returncode, running.words_in(said), 0)
+    return running.end_of(wide, cutter.returncode, words_in(said), 0)
 
 
-def take(work, window, ends, places):
+def take(work, window, shift, ends, places):
     """Adds how the program ended on a window to `ends`, and to `places` those that it found, and deletes it where it has no report
-    that is kept. After one without a report no other is analysed, but the trace is read on, since it may be refused."""
+    that is kept. So many events of the trace come before its first. After one without a report no other is analysed, but the trace
+    is read on, since it may be refused."""
     if all(end.kind == "report" for end in ends):
-        end, more = window_analysed(work, window, places)
-        places.update(dict.fromkeys(more))
+        end, found = window_analysed(work, window, places)
+        for place in found:
+            places[place[:2]] = joined(places.get(place[:2]), place, shift)
         ends.append(end._replace(words=f"{window.stem}: {end.words}") if end.kind in ("refused", "failed") else end)
     if not window.with_suffix(".report").exists():
         window.unlink()
 
 
+def joined(before, place, shift):
+    """A place of a trace with what a window of it has there, whose events count from `shift` on."""
+    variables = {variable: tuple(event + shift for event in events) for variable, events in place.variables}
+    known = dict(before.variables) if before else {}
+    has_more = place.has_more or bool(before and before.has_more)
+    return place._replace(variables=tuple({**variables, **known}.items()), has_more=has_more)
+
+
+def is_new(place, places):
+    """Whether a place, or a variable of it, isn't among these."""
+    before = places.get(place[:2])
+    return not before or bool(dict(place.variables).keys() - dict(before.variables).keys())
+
+
 def window_analysed(work, window, places):
-    """How the program ended on one window, and its places that aren't among `places`. Of a pass for full reports the window's
-    report is put beside it if it has such a place."""
+    """How the program ended on one window, and its places. Of a pass for full reports the window's report is put beside it if it has
+    a place that isn't among `places`."""
     with open(window, "rb") as trace:
         end, found = reports.report_of(work._replace(form=passes.LIST), trace, None)
-        more = [place for place in found if place not in places]
-        if end.kind != "report" or work.form == passes.LIST or not more:
-            return end, more
+        if end.kind != "report" or work.form == passes.LIST or not any(is_new(place, places) for place in found):
+            return end, found
         trace.seek(0)
         end, _ = reports.report_of(work, trace, window.with_suffix(".report"))
-    return end, more
+    return end, found
 
 
 def put_reports(folder, place):

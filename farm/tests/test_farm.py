@@ -3,6 +3,7 @@
 import gzip
 import lzma
 import os
+import re
 import shutil
 import subprocess
 import sys
@@ -11,31 +12,31 @@ from unittest import mock
 import farm
 from farm import BAD, BAD_WORDS, CLEAN, OTHER_ORDER, RACE
 from shb_farm import merging
-from shb_farm.passes import Pass
+from shb_farm.passes import Pass, key_of
 
 FULL_TEXT = f"""\
 traces 5 reports 3 refused 1 missing 1
-places 2 unknown 1 known 1
+places 3 unknown 2 known 1
 
-traces  state    first  second  example
-2       unknown  a.c:1  b.c:2   one.std
-1       known    k.c:1  k.c:2   three.std
+traces  state    first  second  variables  example
+2       unknown  a.c:1  b.c:2   x          one.std
+1       known    k.c:1  k.c:2   y          three.std
 
 refused  bad.std   {BAD_WORDS}
 missing  gone.std  No such file or directory
 """
-FULL_PLACES = """\
-traces	state	first	second	example	report
-2	unknown	a.c:1	b.c:2	one.std	reports/one.std.report
-1	known	k.c:1	k.c:2	three.std	
+FULL_PLACES = f"""\
+traces	state	first	second	example	report	places	variables	since
+2	unknown	a.c:1	b.c:2	one.std	reports/{key_of('one.std')}.report	2	x	
+1	known	k.c:1	k.c:2	three.std		1	y	
 """
 FULL_TRACES = f"""\
-trace	outcome	places	words
-bad.std	refused		{BAD_WORDS}
-gone.std	missing		No such file or directory
-one.std	report	1	events 2 threads 2 locks 0 variables 1
-three.std	report	2	events 4 threads 2 locks 0 variables 2
-two.std	report	0	events 2 threads 1 locks 0 variables 1
+trace	outcome	places	words	seconds	MiB
+bad.std	refused		{BAD_WORDS}	S	M
+gone.std	missing		No such file or directory		
+one.std	report	1	events 2 threads 2 locks 0 variables 1	S	M
+three.std	report	2	events 4 threads 2 locks 0 variables 2	S	M
+two.std	report	0	events 2 threads 1 locks 0 variables 1	S	M
 """
 ONE_REPORT = b"""\
 shb-report 2
@@ -64,10 +65,10 @@ class Tables(farm.Case):
         answer = self.farm("--known", self.known(b"k.c:1\tk.c:2\n"))
         self.assertEqual((answer.status, answer.out), (2, FULL_TEXT))
         for name, wanted in (("places.txt", FULL_TEXT), ("places.tsv", FULL_PLACES), ("traces.tsv", FULL_TRACES),
-                             ("unknown.places", "a.c:1\tb.c:2\n")):
-            self.assertEqual((self.out / name).read_text(), wanted)
-        self.assertEqual([path.name for path in (self.out / "reports").glob("*.report")], ["one.std.report"])
-        self.assertEqual((self.out / "reports" / "one.std.report").read_bytes(), ONE_REPORT)
+                             ("unknown.places", "a.c:1\tb.c:2\tx\n")):
+            self.assertEqual(re.sub(r"\t\d+\.\d\d\t\d+\n", "\tS\tM\n", (self.out / name).read_text()), wanted)
+        self.assertEqual([path.name for path in (self.out / "reports").glob("*.report")], [f"{key_of('one.std')}.report"])
+        self.assertEqual((self.out / "reports" / f"{key_of('one.std')}.report").read_bytes(), ONE_REPORT)
         self.assertEqual(list((self.out / "tmp").iterdir()), [])
 
     def test_no_trace(self):
@@ -84,19 +85,18 @@ class Tables(farm.Case):
                 "head -n -1": "line 11 of the report is missing; it should be `end`",
                 "head -c -1": "line 11 of the report is cut off: `end`; it should be `end`",
                 "sed /^second/d": "line 10 of the report is `end`; it should be `second ACCESS`",
-                "sed s/b.c:2$/c.c:3/": None,
+                "sed s/b.c:2$/c.c:3/": "race 1 of the report: its locations aren't those of the trace",
                 "sed 's/^and .*/and c.c:3/'": "the places that the report begins with aren't those of its races"}
         for number, (words, wanted) in enumerate(said.items()):
             shb = self.script(f"shb{number}", f"{farm.SHB} \"$@\" | {words}\n")
             answer = self.farm("--memory", "256", shb=shb)
-            end = ("missing", f"`shb` wrote no whole report: {wanted}") if wanted else ("report", "events 2 threads 2 locks 0 variables 1")
-            self.assertEqual((answer.status, self.ends()["race.std"]), (2 if wanted else 1, end))
+            self.assertEqual((answer.status, self.ends()["race.std"]), (2, ("missing", f"`shb` wrote no whole report: {wanted}")))
 
     def test_a_full_report_that_is_not_whole(self):
         self.trace("race.std", RACE)
         shb = self.script("cut", f"case \"$*\" in *--list*) exec {farm.SHB} \"$@\" ;; esac\n{farm.SHB} \"$@\" | head -n -1\n")
         self.assertEqual(self.farm("--memory", "256", shb=shb).status, 2)
-        self.assertEqual(self.table("places.tsv"), [["1", "unknown", "a.c:1", "b.c:2", "race.std", "missing"]])
+        self.assertEqual(self.table("places.tsv"), [["1", "unknown", "a.c:1", "b.c:2", "race.std", "missing", "1", "x", ""]])
         self.assertEqual(list((self.out / "reports").glob("*.report")), [])
 
     def test_a_long_location_does_not_make_all_lines_long(self):
@@ -126,7 +126,7 @@ class Tables(farm.Case):
                 (["--memory", "x"], 3, "argument --memory: invalid numbers value: 'x'"),
                 (["--known", self.folder / "none"], 4, f"{self.folder}/none: No such file or directory"),
                 (["--known", self.known(b"# one\nno tab\n")], 4,
-                 f"{self.folder}/known: line 2: a place is two locations or functions with a tab between them")):
+                 f"{self.folder}/known: line 2: a place is two locations or functions and a variable, with tabs between them")):
             answer = self.farm(*words)
             self.assertEqual((answer.status, answer.out), (status, ""))
             self.assertTrue(answer.err.startswith(f"shb-farm: {said}"), answer.err)
@@ -178,7 +178,7 @@ class Tables(farm.Case):
         self.trace("c.std", RACE)
         self.trace("b.std", OTHER_ORDER)
         self.farm()
-        self.assertEqual(self.table("places.tsv"), [["3", "unknown", "a.c:1", "b.c:2", "b.std", "reports/b.std.report"]])
+        self.assertEqual(self.table("places.tsv"), [["3", "unknown", "a.c:1", "b.c:2", "b.std", f"reports/{key_of('b.std')}.report", "2", "x", ""]])
 
     def test_help(self):
         answer = self.farm("--help")
@@ -219,8 +219,25 @@ class Names(farm.Case):
         (self.out / "reports").mkdir()
         (self.traces / "reports").symlink_to(self.out / "reports")
         (self.out / "reports" / "window-0001.std").write_bytes(BAD)
-        answer = self.farm()
+        answer = self.farm("--links")
         self.assertEqual((answer.status, list(self.ends())), (1, ["nightly/deep/race.std", "plain/clean.std"]), answer.err)
+
+    def test_links_that_lead_out_are_refused(self):
+        """They aren't read: of a stranger's archive any file could be shown."""
+        far = self.folder / "far"
+        far.mkdir()
+        (far / "secret.std").write_text("secret\n")
+        self.trace("clean.std", CLEAN)
+        (self.traces / "inside.std").symlink_to("clean.std")
+        (self.traces / "p.std").symlink_to(far / "secret.std")
+        (self.traces / "q").symlink_to(far)
+        answer = self.farm()
+        self.assertEqual((answer.status, self.ends()), (5, {
+            **dict.fromkeys(["clean.std", "inside.std"], ("report", "events 2 threads 1 locks 0 variables 1")),
+            **dict.fromkeys(["p.std", "q"], ("refused", "it is a link that leads out of the folder; --links follows it"))}), answer.err)
+        self.assertFalse(any(b"secret\n" in path.read_bytes() for path in self.out.rglob("*") if path.is_file()))
+        self.assertEqual(self.farm("--links").status, 5)
+        self.assertIn("it is `secret`", self.ends()["p.std"][1])
 
     def test_packed_traces(self):
         for name, pack in (("a.std.gz", gzip.compress), ("b.std.xz", lzma.compress)):
@@ -249,16 +266,20 @@ class Names(farm.Case):
     def test_a_trace_that_cannot_be_read_is_missing_and_not_tried(self):
         """It has no size then. (Root reads all files, so the answer of the system is a stand-in.)"""
         self.trace("race.std", RACE)
-        work = Pass("", "", "", str(self.traces), str(self.out))
+        work = Pass("", "", "", str(self.traces), str(self.out), "")
         self.assertEqual(merging.ending_of(work, "race.std").size, len(RACE))
         with mock.patch.object(merging.os, "access", lambda path, mode: not str(path).endswith("race.std")):
             self.assertEqual(merging.ending_of(work, "race.std"), merging.Ending("missing", "Permission denied", [], None))
 
-    def test_a_name_that_is_too_long_for_an_outcome_is_missing(self):
-        self.trace("n" * 251 + ".std", RACE)
+    def test_names_that_are_long_or_lie_in_one_another(self):
+        """Each has an outcome and a report of its own."""
+        names = ["n" * 251 + ".std", "x.std", "x.std.outcome/y.std", "z.std", "z.std.report/w.std", "a/b.std", "a_b.std"]
+        for number, name in enumerate(names):
+            self.trace(name, RACE.replace(b"a.c", b"%d.c" % number))
         answer = self.farm()
-        self.assertEqual(answer.status, 2)
-        self.assertIn("File name too long", answer.err)
+        self.assertEqual((answer.status, {name: end[0] for name, end in self.ends().items()}), (1, dict.fromkeys(names, "report")), answer.err)
+        reports = {row[5] for row in self.table("places.tsv")}
+        self.assertEqual((len(reports), [(self.out / report).is_file() for report in reports]), (len(names), [True] * len(names)))
 
     def test_outcomes_in_the_folder_of_the_traces(self):
         self.trace("race.std", RACE)
@@ -271,7 +292,7 @@ class Names(farm.Case):
     def test_locations_that_are_hard_for_a_table(self):
         self.trace("race.std", b"T1|w(x)|a\tb|\x1b[31mc\nT2|w(x)|\xff\n")
         answer = self.farm()
-        self.assertIn("1       unknown  a\\tb|\\x1b[31mc  \\xff    race.std\n", answer.out)
+        self.assertIn("1       unknown  a\\tb|\\x1b[31mc  \\xff    x          race.std\n", answer.out)
         self.assertEqual(self.table("places.tsv")[0][2:4], ["a\\tb|\x1b[31mc", "\udcff"])
         self.assertEqual(self.farm("--known", self.out / "unknown.places").status, 0)
 

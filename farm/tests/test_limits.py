@@ -7,7 +7,7 @@ import subprocess
 import farm
 from farm import BAD, CLEAN, RACE
 from shb_farm import limits, running
-from shb_farm.passes import Pass
+from shb_farm.passes import Pass, key_of
 from shb_farm.running import End
 
 MIB = 1 << 20
@@ -92,7 +92,7 @@ class Size(farm.Case):
         self.trace("many.std", many_places(110))        # 5,995 places
         answer = self.farm("--size", "1")
         self.assertEqual((answer.status, self.ends()["many.std"]), (5, ("size", "1")))
-        self.assertIn("\nrefused  many.std  its report is longer than 1 MiB\n", answer.out)
+        self.assertIn("\nrefused  many.std  its report, or the text of a packed trace, is longer than 1 MiB\n", answer.out)
         self.assertEqual(self.farm("--size", "8").status, 1)
         self.assertEqual(self.ends()["many.std"][0], "report")
 
@@ -100,15 +100,15 @@ class Size(farm.Case):
         """Its list has a few lines, and its schedule is as long as the trace."""
         self.trace("long.std", b"T1|w(y)|q\n" * 200_000 + RACE)
         self.assertEqual(self.farm("--size", "1").status, 1)
-        self.assertEqual(self.table("places.tsv"), [["1", "unknown", "a.c:1", "b.c:2", "long.std", "its report is longer than 1 MiB"]])
+        self.assertEqual(self.table("places.tsv"), [["1", "unknown", "a.c:1", "b.c:2", "long.std", "its report, or the text of a packed trace, is longer than 1 MiB", "1", "x", ""]])
         self.assertEqual(list((self.out / "reports").glob("*.report")), [])
         self.assertEqual(self.farm("--size", "2").status, 1)
-        self.assertEqual(self.table("places.tsv")[0][5], "reports/long.std.report")
+        self.assertEqual(self.table("places.tsv")[0][5], f"reports/{key_of('long.std')}.report")
 
 
 class Ends(farm.Case):
     def test_how_a_run_ended(self):
-        work = Pass("", "", "", "", "", memory=256, seconds=60, size=1)
+        work = Pass("", "", "", "", "", "", memory=256, seconds=60, size=1)
         for status, said, written, wanted in (
             (0, "", 9, End("report", "")),
             (2, "line 1: the operation is not known", 0, End("refused", "line 1: the operation is not known")),

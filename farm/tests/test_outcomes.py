@@ -1,5 +1,6 @@
 """Outcomes: what is kept, what is made again, and what a lost or doubled job does."""
 
+import fcntl
 import os
 import shutil
 import signal
@@ -8,40 +9,62 @@ import time
 
 import farm
 from farm import BAD, CLEAN, RACE
-from shb_farm import outcomes
-from shb_farm.outcomes import Outcome
+from shb_farm import files, outcomes
+from shb_farm.outcomes import Cost, Outcome, Place
+from shb_farm.passes import key_of
 
+COST = Cost(1.25, 4096, 34)
 TEXT = b"""\
-shb-farm 1
+shb-farm 2
+name d/x\\ty.std
 program p1
 trace t1
 stamp 12:34
+cost 1.25 4096 34
 report events 2
 at a
 and b c
+on 1 2 x y
+on 3 4 z
+more
+at 
+and 
+on 5 6 v
 sum """
 
 
 class Files(farm.Case):
     def test_the_text_of_an_outcome(self):
-        outcome = Outcome("p1", "t1", "12:34", "report", "events 2", [(b"a", b"b c")])
+        places = [Place(b"a", b"b c", ((b"x y", (1, 2)), (b"z", (3, 4))), True), Place(b"", b"", ((b"v", (5, 6)),))]
+        outcome = Outcome("d/x\ty.std", "p1", "t1", "12:34", COST, "report", "events 2", places)
         text = outcomes.text_of(outcome)
         self.assertEqual(text[:-65], TEXT)
         path = self.folder / "outcome"
         path.write_bytes(text)
-        self.assertEqual(outcomes.read(path), outcome)
+        self.assertEqual(outcomes.read(path, "d/x\ty.std"), outcome)
+        self.assertIsNone(outcomes.read(path, "other.std"))
 
     def test_what_is_not_whole_is_no_outcome(self):
         path = self.folder / "outcome"
-        text = outcomes.text_of(Outcome("p", "t", "1:2", "refused", "words", [(b"sum ", b"end")]))
+        text = outcomes.text_of(Outcome("n", "p", "t", "1:2", COST, "refused", "words", [Place(b"sum ", b"end", ((b"v", (1, 2)),))]))
         for number in range(len(text)):
             path.write_bytes(text[:number])
-            self.assertIsNone(outcomes.read(path))
+            self.assertIsNone(outcomes.read(path, "n"))
         for damaged in (text.replace(b"refused", b"report"), text + b"\n", b"\n" + text):
             path.write_bytes(damaged)
-            self.assertIsNone(outcomes.read(path))
-        self.assertIsNone(outcomes.read(self.folder / "none"))
-        self.assertIsNone(outcomes.read(self.folder))
+            self.assertIsNone(outcomes.read(path, "n"))
+        self.assertIsNone(outcomes.read(self.folder / "none", "n"))
+        self.assertIsNone(outcomes.read(self.folder, "n"))
+
+    def test_a_sum_does_not_make_one(self):
+        """Whoever can write the sum can write anything: each line is read with care."""
+        lines = [b"name n", b"program p", b"trace t", b"stamp 1:2", b"cost 1.0 2 3", b"report x", b"at a", b"and b", b"on 1 2 v"]
+        path = self.folder / "outcome"
+        for number in range(len(lines)):
+            for bad in (b"", b"on", b"on x y z", b"and q", b"cost x", b"more"):
+                text = b"shb-farm 2\n" + b"".join(line + b"\n" for line in [*lines[:number], bad, *lines[number + 1:]])
+                path.write_bytes(text + b"sum " + files.checksum_of(text).encode() + b"\n")
+                outcomes.read(path, "n")    # None or an outcome, and no fault
 
 
 class Again(farm.Case):
@@ -51,7 +74,7 @@ class Again(farm.Case):
         self.race, self.bad = self.trace("race.std", RACE), self.trace("bad.std", BAD)
         self.trace("clean.std", CLEAN)
         self.first = self.farm(shb=self.shb)
-        self.assertEqual((self.first.status, self.runs()), (1, 4))      # three lists and one full report
+        self.assertEqual((self.first.status, self.runs()), (1, 6))      # three lists, one by variable, a full report, and the view's
 
     def again(self, count, status=1):
         answer = self.farm(shb=self.shb)
@@ -78,7 +101,7 @@ class Again(farm.Case):
     def test_a_new_program_makes_all_anew(self):
         with open(self.shb, "a") as program:
             program.write("# another\n")
-        self.assertEqual(self.again(4).out, self.first.out)
+        self.assertEqual(self.again(6).out, self.first.out)
 
     def test_a_trace_that_is_gone_does_not_count(self):
         self.race.unlink()
@@ -86,17 +109,17 @@ class Again(farm.Case):
         self.assertEqual(list(self.ends()), ["bad.std", "clean.std"])
 
     def test_a_torn_outcome_is_made_again(self):
-        path = self.out / "outcomes" / "race.std.outcome"
+        path = self.out / "outcomes" / f"{key_of('race.std')}.outcome"
         path.write_bytes(path.read_bytes()[:-1])
-        self.assertEqual(self.again(1).out, self.first.out)
+        self.assertEqual(self.again(2).out, self.first.out)
 
     def test_a_lost_or_cut_report_is_made_again(self):
-        path = self.out / "reports" / "race.std.report"
+        path = self.out / "reports" / f"{key_of('race.std')}.report"
         whole = path.read_bytes()
         path.unlink()
-        self.again(1)
+        self.again(2)
         path.write_bytes(whole[:-1])
-        self.again(1)
+        self.again(2)
         self.assertEqual(path.read_bytes(), whole)
 
 
@@ -111,6 +134,22 @@ class Rests(farm.Case):
         self.trace("clean.std", CLEAN)
         self.assertEqual(self.farm().status, 0)
         self.assertEqual([path.name for path in room.iterdir()], ["new"])
+
+
+    def test_what_a_killed_run_has_left_is_deleted_at_the_next_start(self):
+        """What is locked is of a run that still works."""
+        room = self.out / "tmp"
+        for name in ("run-left", "run-works"):
+            (room / name / "windows").mkdir(parents=True)
+            (room / name / "lock").touch()
+            (room / name / "windows" / "big").touch()
+        self.trace("clean.std", CLEAN)
+        with open(room / "run-works" / "lock") as lock:
+            fcntl.flock(lock, fcntl.LOCK_EX)
+            self.assertEqual(self.farm().status, 0)
+            self.assertEqual([path.name for path in room.iterdir()], ["run-works"])
+        self.assertEqual(self.farm().status, 0)
+        self.assertEqual(list(room.iterdir()), [])
 
 
 class Engines(farm.Case):
@@ -154,7 +193,7 @@ class Engines(farm.Case):
             self.assertEqual(farm_.returncode, 1)
 
     def test_an_outcome_that_cannot_be_put_in_place_is_missing(self):
-        place = self.out / "outcomes" / "bad.std.outcome"
+        place = self.out / "outcomes" / f"{key_of('bad.std')}.outcome"
         place.mkdir(parents=True)
         answer = self.farm()
         self.assertEqual(answer.status, 2)
@@ -286,15 +325,18 @@ exec {farm.SHB} "$@"
         self.assertEqual({path: path.stat().st_mtime_ns for path in made}, times)
         plain = self.farm(shb=self.shb, out=self.folder / "plain")
         self.assertEqual(again[:2], plain[:2])
-        for name in ("places.tsv", "traces.tsv", "places.sarif", "places.txt", "unknown.places"):
+        for name in ("places.tsv", "places.sarif", "places.txt", "unknown.places", "facts.tsv"):
             self.assertEqual((self.out / name).read_bytes(), (self.folder / "plain" / name).read_bytes())
+        self.assertEqual(self.ends(), self.ends(self.folder / "plain"))
 
     def test_killed_midway(self):
+        """What it started ends with it: xargs, its jobs, and the program."""
         started = self.start()
+        programs = list(map(int, self.pids.read_text().split()))
+        group = os.getpgid(programs[0])
         started.kill()
         started.wait()
-        group = os.getpgid(int(self.pids.read_text().split()[0]))
-        os.killpg(group, signal.SIGKILL)        # xargs and its jobs
+        self.wait_for_the_end_of(group)
         self.finish()
 
     def test_ended_by_a_signal_with_all_that_it_ran(self):
@@ -302,6 +344,10 @@ exec {farm.SHB} "$@"
         group = os.getpgid(int(self.pids.read_text().split()[0]))
         started.terminate()
         self.assertEqual(started.wait(), 128 + signal.SIGTERM)
+        self.wait_for_the_end_of(group)
+        self.finish()
+
+    def wait_for_the_end_of(self, group):
         deadline = time.monotonic() + farm.SECONDS
         while True:
             try:
@@ -310,4 +356,3 @@ exec {farm.SHB} "$@"
                 break
             self.assertLess(time.monotonic(), deadline)
             time.sleep(0.02)
-        self.finish()

@@ -143,7 +143,8 @@ class Log(Base):
     def test_a_place(self):
         self.trace("race.std", RACE)
         result = self.log()["results"][0]
-        self.assertEqual(result["message"], {"text": "Data race between a.c:1 and [b.c:2](1): 1 of 1 traces have it, for example race.std."})
+        self.assertEqual(result["message"], {"text": "Data race on `x` between a.c:1 and [b.c:2](1). In this trace 2 threads write, and no lock is "
+                                                       "held at any access. 1 of 1 traces has it, for example race.std."})
         place = lambda uri, line: {"artifactLocation": {"uri": uri, "uriBaseId": "SRCROOT"}, "region": {"startLine": line}}
         self.assertEqual(result["locations"], [{"physicalLocation": place("a.c", 1)}])
         self.assertEqual(result["relatedLocations"], [{"id": 1, "message": {"text": "The other access."}, "physicalLocation": place("b.c", 2)}])
@@ -251,7 +252,7 @@ class Fingerprints(farm.Case):
         self.farm()
         results = json.loads((self.out / "places.sarif").read_text())["runs"][0]["results"]
         pairs = [tuple(line[2:4]) for line in self.table("places.tsv")]
-        return dict(zip(pairs, (result["partialFingerprints"]["places/v1"] for result in results)))
+        return dict(zip(pairs, (result["partialFingerprints"]["places/v2"] for result in results)))
 
     def test_lines_of_other_files_change_nothing(self):
         other = b"T1|w(y)|other.c:%d\nT2|w(y)|other.c:%d\n"

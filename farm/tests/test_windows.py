@@ -7,7 +7,7 @@ from unittest import mock
 import farm
 from farm import BAD, CLEAN, RACE
 from shb_farm import running, windows
-from shb_farm.passes import Pass
+from shb_farm.passes import Pass, key_of
 from shb_farm.running import End
 
 LONG = b"A|end\n" * 4_194_305
@@ -57,9 +57,9 @@ class Windows(farm.Case):
         self.assertTrue((self.out / "places.txt").read_text().endswith(f"\n\nreport  long.std  {note}\n"))
         [invocation] = json.loads((self.out / "places.sarif").read_text())["runs"][0]["invocations"]
         self.assertEqual(invocation["toolExecutionNotifications"], [{"level": "note", "message": {"text": f"long.std: {note}"}}])
-        self.assertEqual(self.table("places.tsv"), [["2", "unknown", "a.c:1", "b.c:2", "race.std", "reports/race.std.report"],
-                                                    ["1", "unknown", "k.c:1", "k.c:2", "long.std", "reports/long.std.windows"]])
-        kept = self.out / "reports" / "long.std.windows"
+        self.assertEqual(self.table("places.tsv"), [["2", "unknown", "a.c:1", "b.c:2", "race.std", f"reports/{key_of('race.std')}.report", "1", "x", ""],
+                                                    ["1", "unknown", "k.c:1", "k.c:2", "long.std", f"reports/{key_of('long.std')}.windows", "1", "y", ""]])
+        kept = self.out / "reports" / f"{key_of('long.std')}.windows"
         self.assertEqual(sorted(path.name for path in kept.iterdir()),
                          ["window-0001.report", "window-0001.std", "window-0002.report", "window-0002.std", "windows.tsv"])
         self.assertEqual((kept / "window-0002.std").read_bytes(), WINDOWS[1])
@@ -78,7 +78,7 @@ class Windows(farm.Case):
         self.assertEqual(self.ends()["long.std"], ("refused", "window-0002: " + farm.BAD_WORDS))
 
     def test_a_window_on_which_the_program_is_killed(self):
-        shb = self.watching(f"test $(wc -l < {self.folder}/counts) != 3 || kill -9 $$")
+        shb = self.watching(f"test $(wc -l < {self.folder}/counts) != 4 || kill -9 $$")
         (self.traces / "race.std").unlink()
         self.assertEqual(self.farm("--memory", "2000", shb=shb, SHB_WINDOWS=self.cutter(WINDOWS)).status, 2)
         self.assertEqual(self.ends()["long.std"], ("missing", "window-0002: signal 9"))
@@ -95,7 +95,7 @@ class Windows(farm.Case):
         """Beside those with a report, once reports are made: here the first."""
         (self.traces / "race.std").unlink()
         shb, cutter = self.watching(), self.cutter((RACE, *[CLEAN] * 8))
-        for words, status, counts in ((("--known", self.known(b"*\t*\n")), 0, [0] + [2] * 9), ((), 1, [0, 2, 2] + [3] * 8)):
+        for words, status, counts in ((("--known", self.known(b"*\t*\n")), 0, [0] + [2] * 10), ((), 1, [0, 2, 2, 2] + [3] * 8)):
             self.assertEqual(self.farm(*words, shb=shb, SHB_WINDOWS=cutter).status, status)
             self.assertEqual((self.ends()["long.std"], self.counts()), (("report", "9 windows"), counts))
             self.assertEqual(list((self.out / "tmp").iterdir()), [])
@@ -118,11 +118,11 @@ class Windows(farm.Case):
                              ("exit 0", ("missing", "shb-windows made no window"))):
             self.farm("--memory", "2000", SHB_WINDOWS=self.cutter((), more))
             self.assertEqual(self.ends()["long.std"], wanted)
-            (self.out / "outcomes" / "long.std.outcome").unlink()
+            (self.out / "outcomes" / f"{key_of('long.std')}.outcome").unlink()
 
     def test_a_disk_without_room_for_its_windows(self):
         """They take twice the trace's bytes, which are 28, and a GiB and a half at most."""
-        work = Pass("", "", str(self.cutter(())), "", str(self.out), memory=2000, seconds=600, size=1)
+        work = Pass("", "", str(self.cutter(())), "", str(self.out), str(self.out), memory=2000, seconds=600, size=1)
         use = shutil.disk_usage(self.folder)
         with open(self.traces / "race.std", "rb") as trace:
             with mock.patch("shutil.disk_usage", return_value=use._replace(free=56)):

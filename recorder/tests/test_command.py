@@ -1,5 +1,6 @@
 """shb-record: one command from a program to its races, for programs that gcc built for its own library."""
 
+import json
 import os
 import pathlib
 import re
@@ -11,7 +12,9 @@ import time
 import recorder
 
 PLACE = ("status.c:9", "status.c:9")
-UNKNOWN = "# status.c:9\tstatus.c:9\nstatus.c:work()\tstatus.c:work()\n"
+UNKNOWN = "# status.c:9\tstatus.c:9\nstatus.c:work()\tstatus.c:work()\tshared\n"
+TABLES = ["places.json", "places.sarif", "places.tsv"]
+ONE = "shb-record: One interleaving of many was seen; --runs N tries others."
 LIST = "made-by-shb-record.txt"
 
 
@@ -48,16 +51,16 @@ class Command(recorder.Case):
         self.assertRegex(said, r"(?m)^shb-record: run 1, process \d+ \(\S+/status 0 race\): .*; 1 place with races$")
         self.assertIn("status.c:9", said)
         page, = (self.folder / "status.shb").glob("*.html")
-        self.assertEqual(said.splitlines()[-2:], ["shb-record: 1 place with races; the program's own status: 0; files in "
-                                                  f"{self.folder}/status.shb", f"shb-record: page: {page}"])
+        self.assertEqual(said.splitlines()[-3:], ["shb-record: 1 place with races; the program's own status: 0; files in "
+                                                  f"{self.folder}/status.shb", ONE, f"shb-record: page: {page}"])
         self.assertRegex(text_of(page), r"<title>\S+/status 0 race \(run 1, process \d+, \d{4}-\d\d-\d\d \d\d:\d\d\): 1 race at 1 place, ")
-        self.assertEqual(self.names(), ["places.tsv", "run1.N.html", "run1.N.report", "run1.N.stacks", "run1.N.std",
+        self.assertEqual(self.names(), [*TABLES, "run1.N.html", "run1.N.report", "run1.N.stacks", "run1.N.std",
                                         "unknown.places"])
         self.assertIn("     | shared = 1; /* RACE */\n", said)  # by the debug information
         self.assertIn("<code>    shared = 1; /* RACE */</code>", text_of(page))
         self.assertEqual(text_of(self.folder / "status.shb" / "unknown.places"), UNKNOWN)
         self.assertRegex(text_of(self.folder / "status.shb" / "places.tsv"),  # main forks both, then each writes
-                         r"^status.c:9\tstatus.c:9\tunknown\t\d+\t\d+\trun 1, process \d+\trun1\.\d+\.std\n$")
+                         r"\nstatus.c:9\tstatus.c:9\t1\tshared\tunknown\t\d+\t\d+\trun 1, process \d+\trun1\.\d+\.std\n$")
 
     def test_code_where_the_sources_were_moved(self):
         """The debug information has the old paths."""
@@ -87,8 +90,9 @@ class Command(recorder.Case):
         [there, back] = re.findall(r"(?m)^at (.*)\nand (.*)$", text_of(report))
         self.assertEqual(there, back[::-1])
         for shown in said, text_of(page):
-            self.assertRegex(shown, r"2 races at 1 place, in \d group")
+            self.assertRegex(shown, r"2 races at 2 places, in \d group")
         self.assertIn(f"races with {there[1]} (2 races)", said)
+        self.assertIn("shb-record: 2 places with races;", said)
         self.assertNotIn("has not all races", said)
         self.assertNotIn("can't judge it", said)
 
@@ -114,10 +118,10 @@ class Command(recorder.Case):
         status, _, said = self.record("--window", "2000", program)
         self.assertEqual(status, 66)
         events, windows = map(int, re.search(r"(\d+) events, (\d+) windows that ", said).groups())
-        rows = [line.split("\t") for line in text_of(self.folder / "long_race.shb" / "places.tsv").splitlines()]
-        found = {row[0]: (row[1], row[6]) for row in rows}
+        rows = [line.split("\t") for line in text_of(self.folder / "long_race.shb" / "places.tsv").splitlines()[1:]]
+        found = {row[0]: (row[1], row[8]) for row in rows}
         self.assertEqual(found, {early: (early, "window-0001.std"), late: (late, f"window-{windows:04}.std")})
-        numbers = {row[0]: [int(number) for number in row[3:5]] for row in rows}
+        numbers = {row[0]: [int(number) for number in row[5:7]] for row in rows}
         self.assertLess(numbers[early][1], 100)
         self.assertGreater(numbers[late][0], events - 100)
         reach = re.search(rf"{windows} windows that cover races of accesses up to ([\d,]+) events apart; 2 places with races", said)[1]
@@ -180,7 +184,7 @@ class Command(recorder.Case):
             status, _, said = self.record(program, word)
             self.assertEqual(status, wanted, said)
             self.assertIn(f"shb-record: 0 places with races; the program's own status: {wanted};", said)
-            self.assertEqual(self.names(), ["places.tsv", "unknown.places"])
+            self.assertEqual(self.names(), [*TABLES, "unknown.places"])
 
     def test_a_race_wins_over_the_own_status(self):
         program = self.program()
@@ -215,6 +219,122 @@ class Command(recorder.Case):
             self.assertIn("1 unknown place with races;" if wanted else
                           "0 unknown places with races, 1 known one passed over;", said)
 
+    STATS = ("#include <pthread.h>\nint hits, balance;\npthread_mutex_t m = PTHREAD_MUTEX_INITIALIZER;\n"
+             "void *serve(void *p) {\n    hits++;\n    LOCK balance++; UNLOCK\n    return p;\n}\nint main(void) {\n    pthread_t t, u;\n"
+             "    pthread_create(&t, 0, serve, 0);\n    pthread_create(&u, 0, serve, 0);\n    pthread_join(t, 0);\n    return pthread_join(u, 0);\n}\n")
+
+    def build_stats(self, folder, locked, line=False):
+        """A program whose function has a race of `hits`, and where it isn't locked one of `balance`, maybe at the same line."""
+        (self.folder / folder).mkdir(exist_ok=True)
+        text = self.STATS.replace("LOCK", "pthread_mutex_lock(&m);" * locked, 1).replace("UNLOCK", "pthread_mutex_unlock(&m);" * locked)
+        (self.folder / folder / "stats.c").write_text(text.replace("hits++;\n   ", "hits++;") if line else text)
+        out = self.folder / folder / "stats"
+        recorder.must(recorder.call("gcc", "-w", "-g", "-O1", "-fsanitize=thread", "-pthread", self.folder / folder / "stats.c", "-o", out))
+        return out
+
+    def test_a_known_place_names_its_variable(self):
+        """A race of `hits` is accepted; then the lock round another variable of the same function is taken away."""
+        self.assertEqual(self.record("-o", "first", self.build_stats("one", True))[0], 66)
+        unknown = text_of(self.folder / "first" / "unknown.places")
+        self.assertEqual(unknown, "# stats.c:5\tstats.c:5\nstats.c:serve()\tstats.c:serve()\thits\n")
+        known = self.known(unknown)
+        for line in False, True:
+            status, _, said = self.record("-o", "locked", "--known", known, self.build_stats("one", True, line))
+            self.assertEqual((status, "0 unknown places with races, 1 known one passed over" in said), (0, True), said)
+            status, _, said = self.record("-o", "open", "--known", known, self.build_stats("one", False, line))
+            self.assertEqual((status, "1 unknown place with races" in said), (66, True), said)
+            self.assertIn(". balance: ", said) if not line else self.assertIn("balance", said)
+            self.assertIn("\tbalance\n", text_of(self.folder / "open" / "unknown.places"))
+            self.assertNotIn("\thits\n", text_of(self.folder / "open" / "unknown.places"))
+
+    def test_two_fields_are_read_and_said(self):
+        known = self.known("stats.c:serve()\tstats.c:serve()\n")
+        status, _, said = self.record("--known", known, self.build_stats("one", False))
+        self.assertEqual((status, f"shb-record: {known}, line 1: no variable is named, so every variable there is known" in said), (0, True), said)
+
+    def test_stale_lines_of_known_places(self):
+        program = self.build_stats("one", True)
+        known = self.known("stats.c:serve()\tstats.c:serve()\thits\nstats.c:9999\tstats.c:8888\t*\n")
+        for words, wanted in ((), 0), (("--fail-on-stale",), 66):
+            status, _, said = self.record(*words, "--known", known, program)
+            self.assertEqual((status, f"shb-record: {known}, line 2: no race matched `stats.c:9999\\tstats.c:8888\\t*`\n" in said), (wanted, True), said)
+            self.assertNotIn("line 1: no race", said)
+        self.assertEqual(json.loads(text_of(self.folder / "stats.shb" / "places.json"))["stale"], [{"line": 2, "text": "stats.c:9999\tstats.c:8888\t*"}])
+
+    def test_files_of_one_name_in_two_programs_are_two(self):
+        """The race of the second isn't hidden by that of the first, with a known place of it or without."""
+        for name, function, variable in (("one", "known_stats", "counter"), ("two", "pay", "balance")):
+            (self.folder / name).mkdir()
+            (self.folder / name / "w.c").write_text(
+                f"#include <pthread.h>\nstatic int {variable};\nstatic void *{function}(void *p) {{\n    /* a race */\n    {variable}++;\n    return p;\n}}\n"
+                f"int main(void) {{\n    pthread_t a, b;\n    pthread_create(&a, 0, {function}, 0); pthread_create(&b, 0, {function}, 0);\n"
+                "    pthread_join(a, 0);\n    return pthread_join(b, 0);\n}\n")
+            recorder.must(recorder.call("gcc", "-w", "-g", "-O1", "-fsanitize=thread", "-pthread", self.folder / name / "w.c", "-o", self.folder / f"prog-{name}"))
+        both = ("sh", "-c", "./prog-one; ./prog-two")
+        status, _, said = self.record("-o", "out", *both)
+        self.assertEqual((status, "2 places with races" in said, "counter: " in said, "balance: " in said), (66, True, True, True), said)
+        rows = [line.split("\t")[:4] for line in text_of(self.folder / "out" / "places.tsv").splitlines()[1:]]
+        self.assertEqual(rows, [["one/w.c:5", "one/w.c:5", "1", "counter"], ["two/w.c:5", "two/w.c:5", "1", "balance"]])
+        self.assertEqual(self.record("-o", "one.out", "./prog-one")[0], 66)
+        known = self.folder / "one.out" / "unknown.places"
+        status, _, said = self.record("-o", "out", "--known", known, *both)
+        self.assertEqual((status, "balance: " in said), (66, True), said)
+        self.assertIn("w.c is the end of 2 source files' paths: one/w.c, two/w.c", said)
+        known.write_text(text_of(known).replace("w.c:known_stats", "one/w.c:known_stats"))
+        status, _, said = self.record("-o", "out", "--known", known, *both)
+        self.assertEqual((status, "1 unknown place with races, 1 known one passed over" in said, "counter: " in said), (66, True, False), said)
+        self.assertEqual(self.record("-o", "out", "--known", known, "./prog-one")[0], 0)     # a longer end of the path
+
+    def test_results_for_programs(self):
+        """Of what is shown they have what the page has; of what is known the rest."""
+        program = self.build_stats("one", False)
+        known = self.known("stats.c:serve()\tstats.c:serve()\thits\n")
+        self.assertEqual(self.record("--known", known, program)[0], 66)
+        folder = self.folder / "stats.shb"
+        found, log = (json.loads(text_of(folder / f"places.{end}")) for end in ("json", "sarif"))
+        self.assertEqual((found["form"], found["version"], found["command"]), ("shb-places", 1, "shb-record"))
+        self.assertEqual({name: found["summary"][name] for name in ("places", "unknown", "known", "stale", "status", "runs")},
+                         {"places": 2, "unknown": 1, "known": 1, "stale": 0, "status": 66, "runs": 1})
+        by_state = {place["state"]: place for place in found["places"]}
+        place = by_state["unknown"]
+        self.assertEqual([one["name"] for one in place["variables"]], ["balance"])
+        self.assertEqual({access["operation"] for access in place["accesses"]} - {"read", "write"}, set())
+        for access in place["accesses"]:
+            self.assertEqual((access["location"], access["functions"], access["file"], access["code"]),
+                             ("stats.c:6", ["serve"], str(self.folder / "one" / "stats.c"), "balance++;"))
+            self.assertEqual((access["locks"], access["without_lock"] > 0, len(access["threads"])), ([], True, 2))
+            self.assertEqual(access["stacks"][0]["frames"][0], {"function": "serve", "location": "stats.c:6"})
+        self.assertIn("no lock is held at any access", place["facts"][0])
+        self.assertEqual([one["state"] for one in by_state["known"]["variables"]], ["known"])
+        results = log["runs"][0]["results"]
+        self.assertEqual([bool(result["suppressions"]) for result in results], [True, False])
+        self.assertTrue(results[1]["message"]["text"].startswith("Data race on `balance` between stats.c:6 and [stats.c:6](1). In this trace 2 threads write, "
+                                                                 "and no lock is held at any access. Seen in run 1, process "), results[1])
+
+    def test_what_a_quiet_run_means(self):
+        """Code without hooks, code without debug information, and that one interleaving was seen."""
+        (self.folder / "bare.c").write_text("int bare(int x) { return x + 1; }\n")
+        (self.folder / "nameless.c").write_text("int twice(int x) { return 2 * x; }\n")
+        (self.folder / "main.c").write_text("#include <pthread.h>\nint bare(int), twice(int), x;\nvoid *work(void *p) { x = twice(bare(1)); return p; }\n"
+                                            "int main(void) { pthread_t t; pthread_create(&t, 0, work, 0); return pthread_join(t, 0); }\n")
+        for words in (("-shared", "-fPIC", "-g", "bare.c", "-o", "libbare.so"), ("-shared", "-fPIC", "-fsanitize=thread", "nameless.c", "-o", "libnameless.so"),
+                      ("-g", "-fsanitize=thread", "-pthread", "main.c", "-o", "app", "./libbare.so", "./libnameless.so")):
+            recorder.must(recorder.call("gcc", *words, cwd=self.folder))
+        status, _, said = self.record("./app")
+        self.assertEqual(status, 0, said)
+        self.assertEqual(said.splitlines()[-3:], ["shb-record: Accesses by code without hooks aren't seen: libbare.so.",
+                                                  "shb-record: Without debug information (-g) locations are addresses: libnameless.so.", ONE])
+        status, _, said = self.record("--runs", "2", "./app")
+        self.assertNotIn(ONE, said)
+        self.assertRegex(said, "2 runs gave [12] different interleavings?")
+        (self.folder / "main.c").write_text(text_of(self.folder / "main.c").replace("return pthread", "x = 1; return pthread"))
+        recorder.must(recorder.call("gcc", "-g", "-fsanitize=thread", "-pthread", "main.c", "-o", "app", "./libbare.so", "./libnameless.so", cwd=self.folder))
+        self.assertEqual(self.record("./app")[0], 66)
+        page, = (self.folder / "app.shb").glob("*.html")
+        for line in ("Accesses by code without hooks aren&#x27;t seen: libbare.so.", "Without debug information (-g) locations are addresses: libnameless.so.",
+                     "One interleaving of many was seen; --runs N tries others."):
+            self.assertIn(line, text_of(page))
+
     def test_the_file_of_unknown_places_is_one_of_known_places(self):
         program = self.program()
         self.record(program, "0", "race")
@@ -244,7 +364,7 @@ class Command(recorder.Case):
     def test_a_file_of_known_places_with_a_line_that_is_none(self):
         status, _, said = self.record("--known", self.known("a.c:1\tb.c:2\na.c:1 b.c:2\n"), self.program(), "0")
         self.assertEqual(status, 125)
-        self.assertIn("known, line 2: a place is two locations or functions with a tab between them", said)
+        self.assertIn("known, line 2: a place is two locations or functions and a variable, with tabs between them", said)
 
     def test_runs_show_each_place_once(self):
         status, out, said = self.record("--runs", "3", self.program(), "0", "race")
@@ -327,7 +447,7 @@ class Command(recorder.Case):
         found = re.findall(r"(?m)^shb-record: run 1, process \d+ \((.*)\): .*; (\d+) places? with races$", said)
         self.assertEqual(sorted(found), [("./atomic_plain", "1"), ("./status 0 race", "1")])
         self.assertIn("shb-record: 2 places with races; the program's own status: 0;", said)
-        self.assertEqual(self.names("make.shb"), ["places.tsv", *["run1.N.html"] * 2, *["run1.N.report"] * 2,
+        self.assertEqual(self.names("make.shb"), [*TABLES, *["run1.N.html"] * 2, *["run1.N.report"] * 2,
                                                   *["run1.N.stacks"] * 2, *["run1.N.std"] * 2, "unknown.places"])
 
     def test_a_daemon_is_waited_for(self):
@@ -348,12 +468,12 @@ class Command(recorder.Case):
     def test_results_of_an_earlier_call_are_replaced(self):
         program = self.program()
         self.record("--keep", program, "0", "race")
-        self.assertEqual(self.names(), ["places.tsv", "run1.N.html", "run1.N.rec", "run1.N.report", "run1.N.stacks",
+        self.assertEqual(self.names(), [*TABLES, "run1.N.html", "run1.N.rec", "run1.N.report", "run1.N.stacks",
                                         "run1.N.std", "unknown.places"])
         _, _, said = self.record(program, "0")
         self.assertRegex(said, rf"(?m)^shb-record: {self.folder}/status.shb: the results of an earlier call are replaced on \S+ \S+, for: "
                          rf"{program} 0 race$")
-        self.assertEqual(self.names(), ["places.tsv", "unknown.places"])
+        self.assertEqual(self.names(), [*TABLES, "unknown.places"])
 
     def test_files_that_it_did_not_make_stay(self):
         """Whatever their names; and none is written over."""
@@ -384,7 +504,7 @@ class Command(recorder.Case):
         folders = [re.search(r"files in (.*)", text)[1] for text in said]
         self.assertEqual(sorted(folders), [f"{self.folder}/sh.shb{end}" for end in ("", "-2", "-3", "-4")])
         for folder in folders:
-            self.assertEqual(self.names(folder), ["places.tsv", "run1.N.html", "run1.N.report", "run1.N.stacks", "run1.N.std",
+            self.assertEqual(self.names(folder), [*TABLES, "run1.N.html", "run1.N.report", "run1.N.stacks", "run1.N.std",
                                                   "unknown.places"])
 
     def test_a_part_of_a_run_is_called_one(self):
@@ -443,6 +563,7 @@ class Command(recorder.Case):
         home = self.folder / "recorder"
         home.mkdir()
         shutil.copy(recorder.BUILT / "shb-record", home)
+        shutil.copytree(recorder.BUILT / "shb_record", home / "shb_record")
         (home / "lib").symlink_to(recorder.BUILT / "lib")
         for name in ("view", "common"):
             (self.folder / name).symlink_to(recorder.SOURCES.parent / name)
@@ -464,7 +585,8 @@ class Command(recorder.Case):
     def test_an_analyser_that_fails_late(self):
         """The second process is the one that it doesn't take."""
         fake = self.folder / "shb"
-        fake.write_text(f'#!/bin/sh\nif [ "$1 $2" = "places --list" ]; then [ -e ran ] && exit 4; touch ran; fi\nexec {recorder.SHB} "$@"\n')
+        fake.write_text(f'#!/bin/sh\nif [ "$1 $2" = "places --list" ]; then [ -e ran2 ] && exit 4; [ -e ran ] && touch ran2; touch ran; fi\n'
+                        f'exec {recorder.SHB} "$@"\n')
         fake.chmod(0o755)
         program = self.program()
         status, _, said = self.record("sh", "-c", f"{program} 0 race; {program} 0 race", SHB=str(fake))
@@ -512,6 +634,7 @@ class Command(recorder.Case):
         (prefix / "bin").mkdir(parents=True)
         shutil.copytree(recorder.BUILT / "lib", home, symlinks=True)
         shutil.copytree(recorder.SOURCES.parent / "common" / "shb_common", home / "shb_common")
+        shutil.copytree(recorder.BUILT / "shb_record", home / "shb_record")
         for name in ("shb-record", "shb-std"):
             shutil.copy(recorder.BUILT / name, home)
         (prefix / "bin" / "shb-record").symlink_to("../lib/shb/shb-record")

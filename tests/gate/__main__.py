@@ -37,7 +37,7 @@ import steps
 ROOT = pathlib.Path(__file__).resolve().parent.parent.parent
 SUMS = ROOT / "tests" / "gate" / "refused.sums"
 MEMORY = 3_000_000_000  # a check of edits waits until so many bytes are free; most take less than 2.5 GB
-SUITES = ("recorder/tests", "tests", "farm/tests", "install/tests")  # the longest first
+SUITES = ("recorder/tests", "tests", "farm/tests", "install/tests", "common/tests")  # the longest first
 AT_ONCE = 2  # suites
 CLOSING = re.compile(r"(\d+) passed, (\d+) failed(?:, \d+ skipped)?")
 

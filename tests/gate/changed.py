@@ -30,6 +30,7 @@ TEST_CRATES = ("shb_run_tests", "shb_tests")
 SUITES = {
     "tests": ("tests/", "view/", "common/", "plain/", "examples/", "crates/"),
     "recorder/tests": ("recorder/", "view/", "common/", "tests/side_by_side.py"),
+    "common/tests": ("common/", "tests/side_by_side.py"),
     "farm/tests": ("farm/", "common/", "tests/side_by_side.py"),
     "install/tests": ("install/", "Makefile", "recorder/", "farm/", "fix/", "view/", "common/", "tests/side_by_side.py"),
 }

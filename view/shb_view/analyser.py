@@ -5,10 +5,13 @@ import subprocess
 import tempfile
 import typing
 
-from shb_common.report import BadReport, Report
+from shb_common.analyser import HEAD, LIST, call
+from shb_common.report import BadReport, Race, Report
+from shb_common.variables import TooLong, variables_in, write_copy
 from shb_view.faults import Refused
-from shb_view.names import short
+from shb_view.names import short, shown
 from shb_view.refused import refused_line
+from shb_view.words import EACH, SOME
 
 MOST_BYTES = 4_096  # of the program's words that are looked at
 MOST_SAID = 200  # columns of the program's words that are shown
@@ -26,9 +29,10 @@ class Verdict(typing.NamedTuple):
 
 class Analyser:
     def __init__(self, program, trace, file):
-        """`file` is the trace, opened: where its path isn't UTF-8 the program, which takes no such word, opens it by its number."""
-        self.program, self.path, self.file = str(program), os.path.abspath(trace), file.fileno()
-        self.trace = self.path if is_utf8(self.path) else f"/proc/self/fd/{self.file}"
+        """`file` is the trace, opened: where its path isn't UTF-8, which the program doesn't take, or is of this process alone, the
+        program opens it by its number."""
+        self.program, self.path, self.opened, self.file = str(program), os.path.abspath(trace), file, file.fileno()
+        self.trace = self.path if is_utf8(self.path) and not self.path.startswith(("/dev/", "/proc/")) else f"/proc/self/fd/{self.file}"
         self.errors = tempfile.TemporaryFile()  # what the program says on standard error
 
     def started(self, words, **how):
@@ -54,6 +58,42 @@ class Analyser:
             except BadReport as fault:
                 self.end(words, process, (0,))
                 raise Refused(f"`shb races --list` wrote no report: {fault}") from None
+            finally:
+                process.stdout.close()
+                process.kill()
+
+    def share_variables(self, head, take):
+        """Gives a race of each variable at each place to `take`, with how many there are, whatever the number of races: `shb` counts
+        them in a copy of the trace whose locations have the variable. Says whether each variable was found."""
+        locations = {location for place in head.places for location in place}
+        with tempfile.TemporaryFile() as copy, tempfile.TemporaryFile() as report:
+            try:
+                numbers = write_copy(self.opened, locations, copy)
+            except TooLong:
+                return SOME
+            counts = self.report_of(HEAD, copy, report).places
+            report.seek(0)
+            report.truncate()
+            self.run(LIST, copy, report)
+            for by_variable in variables_in(report, numbers, counts).values():
+                for found in by_variable.values():
+                    take(Race(0, *found.events, b"", b"", None), *found.accesses, found.races)
+        return EACH
+
+    def run(self, words, given, report):
+        """Analyses an open trace into an open file."""
+        answer = call([self.program, *words], given, report)
+        if answer.status:
+            raise Refused(f"`shb {' '.join(words)}` ended with status {answer.status}: {shown(answer.words.encode())}")
+        report.seek(0)
+
+    def report_of(self, words, given, report):
+        """The front of a report, whose rest isn't written."""
+        with subprocess.Popen([self.program, *words], stdin=rewound(given), stdout=subprocess.PIPE, stderr=subprocess.DEVNULL) as process:
+            try:
+                return Report(process.stdout)
+            except BadReport as fault:
+                raise Refused(f"`shb {' '.join(words)}` wrote no report: {fault}") from None
             finally:
                 process.stdout.close()
                 process.kill()
@@ -93,6 +133,12 @@ class Analyser:
             raise Refused(f"`shb` refuses the trace: {said}{refused_line(self.path, said)}")
         how = f"was ended by signal {-status}" if status < 0 else f"ended with status {status}"
         raise Refused(f"`shb {' '.join(words)}` {how}{': ' if said else ''}{said}")
+
+
+def rewound(file):
+    """An open file at its beginning, also for a process that gets it."""
+    os.lseek(file.fileno(), 0, os.SEEK_SET)
+    return file
 
 
 def is_utf8(path):

@@ -4,16 +4,17 @@ import argparse
 import contextlib
 import os
 import sys
+import traceback
 
+from shb_common.progress import Progress
 from shb_common.report import BadReport
 from shb_common.standard import leave_standard_output, open_standard_files, words_of
 from shb_common.version import with_version
-from shb_view import text
-from shb_view.faults import Refused
+from shb_view import result, text
+from shb_view.faults import Damaged, Refused
 from shb_view.names import shown
 from shb_view.output import new_file, write_parts
 from shb_view.page import page_parts
-from shb_view.progress import Progress
 from shb_view.view import make_view
 
 ABOUT = """\
@@ -21,8 +22,10 @@ Explains the races of a trace: runs `shb` for them, and says for each group of l
 that share a variable which lines use it, in which threads and under which locks."""
 STATUS = """\
 Exit status: 0 shown; 1 the report is bad; 2 nothing could be shown: the trace is refused,
-`shb` failed, or a file can't be read or written; 3 wrong command line. SHB=PROGRAM names
-another `shb`."""
+`shb` failed, or a file can't be read or written; 3 wrong command line; 4 a file of --stacks
+or --only is damaged. SHB=PROGRAM names another `shb`.
+
+A place is a pair of locations that race, that of the first access and that of the second."""
 
 
 class Parser(argparse.ArgumentParser):
@@ -43,6 +46,9 @@ def arguments(words, program):
     parser.add_argument("--all", action="store_true", help="in the text, add a race of each group and what comes before it")
     parser.add_argument("--note", metavar="TEXT", action="append", default=[],
                         help="say this of the trace below the title, as that it isn't the whole run; may be given again")
+    parser.add_argument("--about", metavar="TEXT", action="append", default=[],
+                        help="say this among what is known of the trace, as that a library wasn't recorded; may be given again")
+    parser.add_argument("--json", metavar="FILE", help="write the places to this file, for programs (docs/FORMATS.md has the form)")
     parser.add_argument("--stacks", metavar="FILE", help="show call stacks and names of locals, as `shb-std --stacks` wrote them")
     parser.add_argument("--recorded-source", action="store_true", help="show lines of the source files that the file of --stacks names")
     parser.add_argument("--shift", metavar="N", type=int, default=0,
@@ -60,7 +66,7 @@ def arguments(words, program):
 
 def show(options, progress, is_open):
     """Writes what was asked for, and gives the status."""
-    wants_text = options.text or not options.html
+    wants_text = options.text or not (options.html or options.json)
     if wants_text and not is_open:
         raise Refused("standard output is closed")
     inputs = [options.trace, options.report or options.trace]
@@ -68,6 +74,9 @@ def show(options, progress, is_open):
         view = make_view(options, progress)
         if out:
             write_parts(out, page_parts(view), options.html)
+    if options.json:
+        with new_file(options.json, inputs) as out:
+            write_parts(out, [result.document(view).decode()], options.json)
     progress.clear()
     if wants_text:
         write_text(text.text_lines(view, text.Colours(is_coloured(sys.stdout)), options.all))
@@ -89,7 +98,7 @@ def write_text(lines):
 
 def main(words, program=None):
     is_open = open_standard_files()
-    options, progress = arguments(words, program), Progress(sys.stderr)
+    options, progress = arguments(words, program), Progress("shb-view", sys.stderr)
     try:
         return show(options, progress, is_open)
     except BrokenPipeError:
@@ -98,12 +107,16 @@ def main(words, program=None):
         status, said = 1, str(fault)
     except Refused as fault:
         status, said = 2, str(fault)
+    except Damaged as fault:
+        status, said = 4, str(fault)
     except OSError as fault:
         status, said = 2, words_of(fault)
     except MemoryError:
         status, said = 2, "out of memory"
     except KeyboardInterrupt:
         status, said = 2, "stopped"
+    except Exception:
+        status, said = 2, traceback.format_exc().rstrip()  # 1, with which Python would end, says that the report is bad
     progress.clear()
     print(f"shb-view: {said}", file=sys.stderr)
     return status

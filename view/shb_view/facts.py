@@ -4,9 +4,10 @@ variables of the listed races, and says so; it names no fault."""
 import collections
 import typing
 
+from shb_common.words import counted
 from shb_view.held import read_lock
 from shb_view.names import by_numbers
-from shb_view.words import Code, counted, listed, place
+from shb_view.words import Code, listed, place
 
 MOST_NAMED = 3  # lines in a sentence
 

@@ -3,3 +3,7 @@
 
 class Refused(Exception):
     """The words say what is wrong with the trace, a file, the analyser or the words of the command."""
+
+
+class Damaged(Exception):
+    """The words say what is wrong with a file beside the trace: with its call stacks or its places."""

@@ -3,6 +3,7 @@
 import re
 import typing
 
+from shb_common.variables import atomic_of
 from shb_view.words import Code
 
 # Names as the recorder writes them: of a variable on a stack; of any other one, which may be a local `of` a function.
@@ -11,13 +12,17 @@ NAME = re.compile(rb"(?P<base>.*?)(?P<block>#[0-9]+)?(?P<inside>(?:\.[A-Za-z_]\w
 
 
 class Pair:
-    """Two lines that race. A pair has no order. `races` is how many there are, `listed` how many of these the report has, and
-    `closest` the one of these whose events are closest in the trace."""
+    """Two lines that race, whichever comes first. `orders` has how many races each of its places has, `listed` is how many of
+    these the report has, and `closest` the one of these whose events are closest in the trace."""
 
-    __slots__ = ("locations", "races", "listed", "closest")
+    __slots__ = ("locations", "orders", "listed", "closest")
 
     def __init__(self, locations, race):
-        self.locations, self.races, self.listed, self.closest = locations, 0, 0, race
+        self.locations, self.orders, self.listed, self.closest = locations, {}, 0, race
+
+    @property
+    def races(self):
+        return sum(self.orders.values())
 
 
 class Group(typing.NamedTuple):
@@ -34,6 +39,10 @@ class Group(typing.NamedTuple):
 
     def listed(self):
         return sum(pair.listed for pair in self.pairs)
+
+    def count(self):
+        """How many places it has."""
+        return sum(len(pair.orders) for pair in self.pairs)
 
     def locations(self):
         """The racing lines."""
@@ -56,13 +65,6 @@ def distance(race):
     return race.second - race.first, race.first
 
 
-def atomic_of(first, second):
-    """The atomic that two racing accesses are of, or None: what a thread T writes atomically to X the recorder names `X!T`."""
-    write = first if first.word == b"w" else second
-    base, _, thread = write.name.rpartition(b"!")
-    return base if base and thread == write.thread else None
-
-
 class Gathered:
     """The races of a report, as pairs and groups."""
 
@@ -75,9 +77,12 @@ class Gathered:
         self.texts = {}  # each line once
         self.racing = {}  # by variable and location: the events of the races that were read
         self.reads = {}  # by a read: the writes before it that it races with, each with the locations of both
+        self.variables = {}  # by place: how many races each variable has, by its name in the trace
 
-    def share(self, race, first, second):
-        """Takes the variable of two racing accesses that aren't shown themselves."""
+    def share(self, race, first, second, races=1):
+        """Takes the variable of two racing accesses that aren't shown themselves, which stand for so many races."""
+        by_variable = self.variables.setdefault((first.location, second.location), {})
+        by_variable[first.name] = by_variable.get(first.name, 0) + races
         atomic = atomic_of(first, second)
         if atomic:
             self.atomics[first.name] = atomic
@@ -92,10 +97,10 @@ class Gathered:
         place = first.location, second.location
         locations = tuple(sorted(place))
         pair = self.pairs.setdefault(locations, Pair(locations, race))
-        pair.races += places.pop(place, 0) if places is not None else 1
+        pair.orders[place] = pair.orders.get(place, 0) + (places.pop(place, 0) if places is not None else 1)
         pair.listed += 1
         pair.closest = min(pair.closest, race, key=distance)
-        self.share(race, first, second)
+        self.share(race, first, second, 1 if places is None else 0)
         for number, line in ((race.first, race.first_line), (race.second, race.second_line)):
             self.lines[number] = self.texts.setdefault(line, line)
 
@@ -152,7 +157,7 @@ def joined_groups(groups):
 def group_name(view, group):
     """What a group is about, as parts. Of a sample the other races may be of further variables."""
     name, more = common_name(group.variables)
-    others = "and perhaps others" if view.is_sample and group.listed() < group.races() else ""
+    others = "and perhaps others" if view.is_sample == "some" and group.listed() < group.races() else ""
     return [Code(name), *(f" {words}" for words in (more, others) if words)]
 
 

@@ -1,8 +1,9 @@
 """A race as a text that can be pasted into an issue."""
 
+from shb_common.words import counted
 from shb_view.names import code_line, short
 from shb_view.stacks import caller_lines, sentences
-from shb_view.words import KINDS, NO_LOCK, Code, counted, lock_parts, place
+from shb_view.words import KINDS, NO_LOCK, Code, lock_parts, place
 
 NAME = 120  # columns
 MOST_FRAMES = 16  # of a stack

@@ -4,6 +4,7 @@ import base64
 import hashlib
 import pathlib
 
+from shb_common.words import counted
 from shb_view.groups import group_name
 from shb_view.issue import issue_lines, order_text
 from shb_view.markup import Markup, code, element, joined, marked
@@ -11,7 +12,7 @@ from shb_view.names import code_line, short
 from shb_view.picture import picture
 from shb_view.source import excerpt
 from shb_view.stacks import frame_parts, headline, origins, sentences
-from shb_view.words import (VERBS, MOST_SITES, MOST_THREADS, MOST_VARIABLES, NO_LOCK, Code, accesses_text, counted, listed,
+from shb_view.words import (VERBS, MOST_SITES, MOST_THREADS, MOST_VARIABLES, NO_LOCK, Code, accesses_text, listed,
                             lock_parts, lock_words, notes_of, partner_parts, place, races_text, seen_parts, share, summary)
 
 HERE = pathlib.Path(__file__).resolve().parent
@@ -64,6 +65,7 @@ def header(view):
     races, size = summary(view)
     notes = [element("p", note, class_="verdict good" if view.verdict.is_good and not number else "faint")
              for number, note in enumerate(notes_of(view))]
+    notes += [element("p", line, class_="faint") for line in view.about]
     given = [element("p", note, class_="verdict bad") for note in view.notes]
     return element("header", *verdict, element("h1", view.title), *given, element("p", races, class_="sum"),
                    element("p", size, class_="faint"), *notes)

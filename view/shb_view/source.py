@@ -8,9 +8,9 @@ import re
 import stat
 import typing
 
+from shb_common.words import counted
 from shb_view.faults import Refused
 from shb_view.names import shown
-from shb_view.words import counted
 
 MOST_FILES = 200_000
 MOST_BYTES = 4_000_000  # of a file

@@ -4,9 +4,10 @@ import os
 import re
 
 from shb_common.stacks import BadStacks, Stacks, bare
-from shb_view.faults import Refused
+from shb_common.words import counted
+from shb_view.faults import Damaged
 from shb_view.names import shown
-from shb_view.words import Code, counted, lock_parts, place
+from shb_view.words import Code, lock_parts, place
 
 BLOCK_PART = re.compile(rb"\+[0-9]+$")  # behind the name of a block
 WITH = {b"relaxed": "relaxed", b"acquire": "with acquire", b"release": "with release", b"both": "with acquire and release"}
@@ -19,7 +20,7 @@ def stacks_of(path, shift, events):
     try:
         return Stacks(path, shift, events)
     except BadStacks as fault:
-        raise Refused(f"{shown(os.fsencode(path))} {fault}") from None
+        raise Damaged(f"{shown(os.fsencode(path))} {fault}") from None
 
 
 def origins(view, section):

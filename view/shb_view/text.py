@@ -3,11 +3,13 @@
 import collections
 
 from shb_common import known
+from shb_common.programs import Names, Origin
+from shb_common.words import counted
 from shb_view.groups import group_name
 from shb_view.issue import issue_lines
 from shb_view.names import code_line, columns, padded, short
 from shb_view.stacks import caller_lines, headline, origins, sentences
-from shb_view.words import (MOST_SITES, MOST_THREADS, MOST_VARIABLES, Code, accesses_text, counted, listed, lock_words, notes_of,
+from shb_view.words import (MOST_SITES, MOST_THREADS, MOST_VARIABLES, Code, accesses_text, listed, lock_words, notes_of,
                             operation_text, partner_parts, place, races_text, seen_parts, share, summary)
 
 NAME = 80  # columns of a name or a location
@@ -48,6 +50,7 @@ def text_lines(view, colours, is_whole):
     yield f"{colours.bold(f'{view.title}: {races}')} ({size})"
     yield from map(colours.red, view.notes)
     yield from notes_of(view)
+    yield from view.about
     chosen = chosen_sections(view)
     if len(chosen) < len(view.sections):
         yield f"Of {counted(len(view.sections), 'group')} {len(chosen):,} are shown, those with a place that is asked for."
@@ -65,9 +68,21 @@ def text_lines(view, colours, is_whole):
 
 def chosen_sections(view):
     """The groups that have a place which is asked for, with their numbers."""
-    numbered, functions = list(enumerate(view.sections, 1)), view.stacks.functions() if view.only else {}
-    return [(number, section) for number, section in numbered
-            if view.only is None or any(view.only.has(known.pair_of(*pair), functions) for pair in section.group.places())]
+    numbered, origin, names = list(enumerate(view.sections, 1)), Origin(view.stacks), Names()
+    if view.only is None:
+        return numbered
+    for location in {location for section in view.sections for location in section.group.locations()}:
+        origin.location(location)
+    names.add_all(origin)
+    return [(number, section) for number, section in numbered if any(is_asked_for(view.only, origin, names, pair, section.group)
+                                                                     for pair in section.group.places())]
+
+
+def is_asked_for(only, origin, names, pair, group):
+    """Whether two lines with one of the group's variables are among these places."""
+    sides = [names.side(origin.location(location)) for location in pair]
+    sides = [side._replace(names=(*side.names, known.written(location))) for side, location in zip(sides, pair)]
+    return any([only.has(sides, name) for name in {*group.variables, *group.names}])
 
 
 def section_lines(view, number, section, colours):

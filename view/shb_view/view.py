@@ -7,13 +7,17 @@ import sys
 import tempfile
 import typing
 
+from shb_common.files import read_at_most
+from shb_common.known import MOST_BYTES as MOST_KNOWN
 from shb_common.known import BadLine, Known
 from shb_common.report import BadReport, Counts, Report, in_order
+from shb_common.result import text
 from shb_common.stacks import AtomicUse, NoStacks, Stacks
+from shb_common.words import counted
 from shb_view.analyser import MOST_LISTED, Analyser, Verdict
 from shb_view.counting import Counting, Kinds
 from shb_view.facts import Fact, Site, fact_of, sites_of
-from shb_view.faults import Refused
+from shb_view.faults import Damaged, Refused
 from shb_view.groups import Gathered, Group, joined_groups, object_of
 from shb_view.names import by_numbers, shown
 from shb_view.refused import warnings
@@ -21,7 +25,6 @@ from shb_view.source import Source
 from shb_view.stacks import publications, stacks_of
 from shb_view.trace import CHANGED, Trace
 from shb_view.windows import Window, make_windows
-from shb_view.words import counted
 
 MOST_GROUPS = 200
 MOST_BYTES = 1_073_741_824  # of a given report
@@ -48,8 +51,9 @@ class Section(typing.NamedTuple):
 
 class View(typing.NamedTuple):
     """All that is shown. `races` is how many the trace has, `listed` how many of these a given report has. `pairs` and `groups` are
-    how many there are, `sections` those that are shown. `is_sample` says that of each place one race is known. `notes` are what
-    the caller said of the trace; `only` are the places whose groups the text has, or None for all."""
+    how many there are, `sections` those that are shown. `is_sample` isn't empty where one race of each variable at each place is
+    known, and says whether `EACH` variable is, or `SOME`. `notes` are what the caller said of the trace, `about` what it said of the
+    recorder; `only` are the places whose groups the text has, or None for all."""
 
     title: str
     counts: Counts
@@ -59,12 +63,23 @@ class View(typing.NamedTuple):
     groups: int
     sections: typing.List[Section]
     verdict: Verdict
-    is_sample: bool
+    is_sample: str
     source: Source
     notes: typing.List[str]
+    about: typing.List[str]
     stacks: typing.Union[Stacks, NoStacks]
     kinds: Kinds
+    gathered: Gathered
     only: typing.Optional[Known]
+
+    def variables(self, pair):
+        """The variables that race at two lines, each with how many races it has."""
+        found = {}
+        for place in pair.orders:
+            for name, races in self.gathered.variables.get(place, {}).items():
+                name = text(self.kinds.name(name))
+                found[name] = found.get(name, 0) + races
+        return [{"name": name, "races": races} for name, races in sorted(found.items())]
 
 
 class Given(typing.NamedTuple):
@@ -89,6 +104,7 @@ def make_view(options, progress):
         analyser = Analyser(options.shb, options.trace, file)
         gathered = Gathered()
         head = analyser.head(None if options.report else gathered.share)
+        is_sample = "" if options.report or head.count <= MOST_LISTED else analyser.share_variables(head, gathered.share)
         given = given_report(options, analyser, stack) if options.report else own_report(analyser, head, stack)
         listed, has_schedules = read_report(given, head.counts, gathered, progress) if options.report or head.count else (0, True)
         if options.report and not has_schedules:
@@ -101,21 +117,20 @@ def make_view(options, progress):
         asked = Asked(is_whole, whole, Kinds(gathered, stacks), gathered, head.counts.events)
         count, sections = make_sections(asked, Trace(file, progress), given, groups)
         title = shown(os.fsencode(options.title or os.path.basename(options.trace)))
-        pairs = sum(len(group.pairs) for group in groups)
+        pairs = sum(group.count() for group in groups)
         source = Source(options.source, os.fstat(file.fileno()).st_mtime, stacks.sources if options.recorded_source else {})
-        is_sample = not options.report and head.count > MOST_LISTED
-        notes = [*(shown(os.fsencode(note)) for note in options.note), *warnings(options.trace)]
+        notes, about = ([shown(os.fsencode(line)) for line in lines] for lines in (options.note, options.about))
         return View(title, head.counts, head.count, listed if options.report else head.count, pairs, count, sections, given.verdict,
-                    is_sample, source, notes, stacks, asked.kinds, places_of(options.only) if options.only else None)
+                    is_sample, source, [*notes, *warnings(options.trace)], about, stacks, asked.kinds, gathered,
+                    places_of(options.only) if options.only else None)
 
 
 def places_of(path):
     """The places of a file of known places."""
-    with open(path, "rb") as file:
-        try:
-            return Known(file.read())
-        except BadLine as fault:
-            raise Refused(f"--only: {shown(os.fsencode(path))}, {fault}") from None
+    try:
+        return Known(read_at_most(path, MOST_KNOWN))
+    except BadLine as fault:
+        raise Damaged(f"--only: {shown(os.fsencode(path))}, {fault}") from None
 
 
 def open_regular(path):

@@ -1,7 +1,8 @@
 """Words that the text and the page share. What is said is a list of parts: plain text, and names as `Code`. A place is a pair of lines
-that race, whatever their order; a group is the places that share a variable."""
+that race, that of the first access and that of the second; a group is the places that share a variable."""
 
 from shb_common.stacks import Stacks
+from shb_common.words import counted
 from shb_view.held import read_lock
 from shb_view.names import by_numbers, short
 
@@ -11,6 +12,7 @@ MOST_SITES = 20  # lines that are shown of a group
 MOST_LOCKS, MOST_SOME, MOST_PARTNERS, MOST_THREADS = 8, 3, 8, 3  # that are named at a line; MOST_SOME are held at some accesses
 MOST_VARIABLES = 8  # that are named of a group
 NO_LOCK = "no lock held"
+SOME, EACH = "some", "each"  # variables that a sample of the races has
 
 
 class Code(bytes):
@@ -21,10 +23,6 @@ def operation_text(event, most):
     """An event's operation in so many columns."""
     operation = event.word + b"(" + event.name + b")" if event.name else event.word
     return short(operation, most)
-
-
-def counted(count, word, words=None):
-    return f"{count:,} {word if count == 1 else words or word + 's'}"
 
 
 def place(location):
@@ -110,8 +108,8 @@ def notes_of(view):
     if view.listed < view.races:
         yield "The report has not all races of the trace; the counts are the report's."
     if view.is_sample:
-        yield ("The trace has too many races to look at each. Of each place one is known, and what is said of a group holds for "
-               "the variables of these.")
+        yield ("The trace has too many races to look at each. Call stacks are those of one race of each variable at each place"
+               + (", and some variables aren't named." if view.is_sample == SOME else "."))
     if view.source.has_files() and view.sections:
         shown = [site.location for section in view.sections for site in section.sites[:MOST_SITES] if site.location]
         yield from view.source.missing(shown)
@@ -129,4 +127,4 @@ def seen_parts(section):
 
 def races_text(group):
     """How many races a group has, at how many places."""
-    return f"{counted(group.races(), 'race')}, {counted(len(group.pairs), 'place')}"
+    return f"{counted(group.races(), 'race')}, {counted(group.count(), 'place')}"

@@ -1,4 +1,4 @@
-"""How far a long reading is, on standard error where that is a terminal."""
+"""How far a long work is, on standard error where that is a terminal."""
 
 import time
 
@@ -7,9 +7,9 @@ PAUSE = 0.2  # seconds between further ones
 
 
 class Progress:
-    def __init__(self, out):
-        self.out = out
-        self.next = time.monotonic() + WAIT if out.isatty() else float("inf")
+    def __init__(self, command, out):
+        self.command, self.out, self.is_terminal = command, out, out.isatty()
+        self.next = time.monotonic() + WAIT if self.is_terminal else float("inf")
         self.said = False
 
     def step(self, doing, done, whole):
@@ -19,7 +19,7 @@ class Progress:
             return
         self.next, self.said = now + PAUSE, True
         part = f" {100 * min(done, whole) // whole}%" if whole else ""
-        self.out.write(f"\r\x1b[Kshb-view: {doing}{part}")
+        self.out.write(f"\r\x1b[K{self.command}: {doing}{part}")
         self.out.flush()
 
     def clear(self):

@@ -1,0 +1,99 @@
+"""Runs `shb` on traces, and reads what it says of their places."""
+
+import os
+import subprocess
+import tempfile
+import typing
+
+from shb_common import variables
+from shb_common.report import BadReport
+
+MOST_WORDS = 500    # bytes of a reason that are kept
+LIST, HEAD, FULL = ["places", "--list"], ["races", "--list"], ["places"]
+REFUSED = 2         # the status of `shb` for a refused trace
+
+
+class Answer(typing.NamedTuple):
+    """How a run of the program ended: its status, what it said, the seconds of processor time and the KiB of memory that it took."""
+
+    status: int
+    words: str
+    seconds: float = 0.0
+    kib: int = 0
+
+
+class Failed(Exception):
+    """The program ended with a status that isn't 0: `answer` says how."""
+
+    def __init__(self, answer):
+        super().__init__(answer.words)
+        self.answer = answer
+
+
+class Place(typing.NamedTuple):
+    """A place of a trace: its two locations, that of the first access first; by variable a race of it, as `variables.Found`; and
+    whether it has more variables than these."""
+
+    first: bytes
+    second: bytes
+    variables: dict
+    has_more: bool
+
+
+def call(words, given, out, preexec=None, **how):
+    """Runs a command on an open file, from its beginning, to its end, its output to another open file."""
+    os.lseek(given.fileno(), 0, os.SEEK_SET)    # Python's own `seek` may move in its buffer alone
+    with tempfile.TemporaryFile() as said:
+        started = subprocess.Popen(words, stdin=given, stdout=out, stderr=said, preexec_fn=preexec, **how)
+        try:
+            _, status, usage = os.wait4(started.pid, 0)
+            started.returncode = -os.WTERMSIG(status) if os.WIFSIGNALED(status) else os.WEXITSTATUS(status)
+        except BaseException:
+            started.kill()
+            started.wait()
+            raise
+        said.seek(0)
+        return Answer(started.returncode, words_in(said.read(MOST_WORDS)), usage.ru_utime + usage.ru_stime, usage.ru_maxrss)
+
+
+def words_in(said):
+    """What a command said, as words in one line."""
+    return " ".join(said[:MOST_WORDS].decode("utf-8", "backslashreplace").split())
+
+
+def must(answer):
+    """The answer of a run that has to succeed."""
+    if answer.status:
+        raise Failed(answer)
+    return answer
+
+
+def places_of(read, trace, run, room=None):
+    """The places of an open trace with their variables. `read` is the `Report` of its places; `run` analyses an open trace into an
+    open file, and gives its `Answer`. Copies of the trace are made in `room`."""
+    first = {(one.location, other.location): {one.name: variables.Found((race.first, race.second), (one, other), 1)}
+             for race, (one, other) in read.races()}
+    if not first:
+        return []
+    try:
+        found = all_variables({location for place in first for location in place}, trace, run, room)
+    except variables.TooLong:
+        return [Place(*place, named, True) for place, named in first.items()]
+    if found.keys() != first.keys():
+        raise BadReport("the places of the trace and of its copy differ")
+    return [Place(*place, *kept(found[place])) for place in first]
+
+
+def all_variables(locations, trace, run, room=None):
+    """By place and variable: a race of it in an open trace, whose races have these locations."""
+    with tempfile.TemporaryFile(dir=room) as copy, tempfile.TemporaryFile(dir=room) as report:
+        numbers = variables.write_copy(trace, locations, copy)
+        must(run(copy, report))
+        report.seek(0)
+        return variables.variables_in(report, numbers)
+
+
+def kept(by_variable):
+    """The first so many variables, and whether there are more."""
+    names = list(by_variable)[:variables.MOST_VARIABLES]
+    return {name: by_variable[name] for name in names}, len(names) < len(by_variable)

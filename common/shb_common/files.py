@@ -1,0 +1,63 @@
+"""Files that are whole or not there, and files of strangers, which may be anything."""
+
+import contextlib
+import os
+import pathlib
+import stat
+import tempfile
+
+
+class NotRegular(OSError):
+    """A file that is read must be a regular one: a device or a FIFO may have no end."""
+
+
+def open_regular(path):
+    """A regular file, open for reading; NotRegular for anything else, which isn't waited for."""
+    file = open(os.open(path, os.O_RDONLY | os.O_NONBLOCK | os.O_CLOEXEC), "rb")
+    if stat.S_ISREG(os.fstat(file.fileno()).st_mode):
+        return file
+    file.close()
+    raise NotRegular(0, "it isn't a regular file", path)
+
+
+def read_at_most(path, most):
+    """The bytes of a file that the user named, of any kind; OSError where it has more than `most`."""
+    with open(path, "rb") as file:
+        text = file.read(most + 1)
+    if len(text) > most:
+        raise OSError(0, f"it is longer than {most:,} bytes", path)
+    return text
+
+
+@contextlib.contextmanager
+def temporary_file(folder):
+    """A new open file and its path; it is deleted at the end if it is still there."""
+    number, path = tempfile.mkstemp(dir=folder)
+    try:
+        with open(number, "w+b") as file:
+            yield file, path
+    finally:
+        with contextlib.suppress(FileNotFoundError):
+            os.unlink(path)
+
+
+def put(path, text, room=None):
+    """Puts a file in place whole; `room` is a folder of the same file system, that of the file where it is left out."""
+    path = pathlib.Path(path)
+    with temporary_file(room or path.absolute().parent) as (file, new):
+        file.write(text)
+        file.flush()
+        put_file(new, path)
+
+
+def put_file(new, path):
+    """Puts a finished file in place."""
+    os.chmod(new, 0o666 & ~mask_of_new_files())
+    pathlib.Path(path).parent.mkdir(parents=True, exist_ok=True)
+    os.replace(new, path)
+
+
+def mask_of_new_files():
+    mask = os.umask(0)
+    os.umask(mask)
+    return mask

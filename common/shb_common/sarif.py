@@ -1,0 +1,207 @@
+"""Places as a log in SARIF 2.1.0, the static analysis results interchange format of OASIS: one result a place."""
+
+import collections
+import hashlib
+import json
+import os
+import posixpath
+import re
+import typing
+import urllib.parse
+
+from shb_common import known, version
+from shb_common.programs import Location
+from shb_common.shown import shown
+from shb_common.stacks import bare
+
+SCHEMA = "https://docs.oasis-open.org/sarif/sarif/v2.1.0/errata01/os/schemas/sarif-schema-2.1.0.json"
+RULE = {
+    "id": "data-race",
+    "name": "DataRace",
+    "shortDescription": {"text": "Two threads access a variable, one of them writes it, and nothing orders the two accesses."},
+    "fullDescription": {"text": "In a recorded run two threads access the same variable, at least one access is a write, and "
+                                "schedulable happens-before doesn't order them: a correct reordering of the run brings both next."},
+    "help": {"text": "Make both accesses under one lock, or order them: by a join, by a release and an acquire, or by making the "
+                     "variable atomic. The full report of the trace that the message names has a schedule that shows the race; "
+                     "shb-view explains it."},
+    "defaultConfiguration": {"level": "error"},
+}
+BASE = "SRCROOT"        # the folder that relative file names in the traces start from
+TRACES = "TRACES"       # the folder of the traces
+BASES = {BASE: "The folder that relative file names start from: the repository.", TRACES: "The folder of the traces."}
+LOCATION = re.compile(rb"(.+?):([1-9][0-9]{0,8})(?::[0-9]+)?", re.DOTALL)
+FOUND, RELATIVE, ABSOLUTE, NAME = range(4)      # what is known of a location, from what a reader can open best
+
+
+MOST_NAMED = 3          # variables in a message
+
+
+class Alert(typing.NamedTuple):
+    """A place for review. `names` are its two locations as they are called over all programs, `locations` whose they are,
+    `variables` those that race there; `facts` is what is known of their locks, `seen` where the place was seen, both as
+    sentences; `example` is the path of a trace that has it, from the folder of the traces; `accesses` are those of a race there
+    with their call stacks; `properties` are further facts."""
+
+    names: typing.Tuple[bytes, bytes]
+    locations: typing.Tuple[Location, Location]
+    variables: typing.List[bytes]
+    facts: str
+    seen: str
+    is_known: bool
+    example: bytes
+    accesses: tuple
+    properties: dict
+
+
+class Access(typing.NamedTuple):
+    """An access of a race: its line in the trace, its stack, the innermost frame first, and the path of each source file by its name
+    in locations."""
+
+    line: bytes
+    frames: typing.Sequence
+    files: dict
+
+
+class NoSources:
+    """Where no repository is named no file is found."""
+
+    def find(self, path, compiled=b""):
+        return None
+
+
+class Place(typing.NamedTuple):
+    """A location: its text, what is known of it, its file and line, and the text of this line or None."""
+
+    text: bytes
+    kind: int
+    path: bytes
+    line: int
+    code: typing.Optional[bytes]
+
+
+def place_of(name, sources, compiled=b""):
+    """What is known of a location: a file with a line where it has this form, the repository's file where that is found.
+    `compiled` is the path that the file had where its program was compiled."""
+    found = LOCATION.fullmatch(name)
+    if not found:
+        return Place(name, NAME, b"", 0, None)
+    path, line = found[1], int(found[2])
+    source = sources.find(path, compiled)
+    if source:
+        return Place(name, FOUND, source, line, sources.line(source, line))
+    return Place(name, ABSOLUTE if path.startswith(b"/") else RELATIVE, path, line, None)
+
+
+def uri_of(path, base):
+    """A file name as a URI reference; a relative one counts from a base."""
+    quoted = urllib.parse.quote_from_bytes(posixpath.normpath(path), safe="/")
+    if path.startswith(b"/"):
+        return {"uri": "file://" + quoted.replace("//", "/", 1)}
+    return {"uri": quoted, "uriBaseId": base}
+
+
+def location_of(place, **more):
+    """A location object: with a file and a line, or with a name alone."""
+    if place.kind == NAME:
+        return {**more, "logicalLocations": [{"fullyQualifiedName": named(place)}]}
+    return {**more, "physicalLocation": {"artifactLocation": uri_of(place.path, BASE), "region": {"startLine": place.line}}}
+
+
+def primary_of(place, example):
+    """The location of a result, which readers of such logs want in a file: without one it is the trace that has the place."""
+    if place.kind != NAME:
+        return location_of(place)
+    trace = {"artifactLocation": uri_of(example, TRACES), "region": {"startLine": 1}}
+    return {**location_of(place), "physicalLocation": trace}
+
+
+def named(place):
+    return shown(place.text) or "no location"
+
+
+def variables_of(alert):
+    """The variables of a place, in a name that lasts from run to run."""
+    return known.lasting_names(alert.variables)
+
+
+def fingerprint(alert):
+    """Names a place by its two locations, whichever comes first, and its variables, so it changes only with these."""
+    parts = [*sorted(map(known.written, alert.names)), *variables_of(alert)]
+    return hashlib.blake2b(b"\t".join(parts), digest_size=16).hexdigest()
+
+
+def line_fingerprint(first, second, alert):
+    """Names a place by the texts of its lines and its variables, so it stays when they move; nothing where the first line isn't
+    known."""
+    if first.code is None:
+        return None
+    parts = [first.path, first.code, *((second.text,) if second.code is None else (second.path, second.code)), *variables_of(alert)]
+    return hashlib.blake2b(b"\n".join(parts), digest_size=8).hexdigest()
+
+
+def code_flows(alert, sources):
+    """The property of a result with the ways to the two accesses of a race, a thread each; nothing where they aren't known."""
+    flows = [thread_flow(access, sources) for access in alert.accesses]
+    return {"codeFlows": [{"threadFlows": flows}]} if flows and all(flow["locations"] for flow in flows) else {}
+
+
+def thread_flow(access, sources):
+    """The calls of a thread that lead to its access, the outermost first. What is no line of the program's own isn't shown."""
+    thread, operation, *_ = access.line.split(b"|")
+    name = shown(thread)
+    steps = []
+    for frame in reversed(access.frames):
+        place = place_of(frame.location, sources, access.files.get(frame.location.rpartition(b":")[0], b""))
+        if place.kind != NAME and not frame.in_system:
+            steps.append({"location": location_of(place, message={"text": f"{name} in {plain(shown(bare(frame.function)) or 'a function')}"})})
+    return {"id": name, "message": {"text": plain(f"{name}: {shown(operation)}")}, "locations": steps}
+
+
+def message_of(alert, first, second):
+    """The variables, the two locations, the locks, and where the place was seen."""
+    names = [f"`{shown(name)}`" for name in alert.variables[:MOST_NAMED]]
+    more = len(alert.variables) - len(names)
+    on = " and ".join([", ".join(names), *([f"{more} more"] if more > 0 else [])]) if names else "a variable"
+    text = f"Data race on {plain(on)} between {plain(named(first))} and [{plain(named(second))}](1)"
+    return ". ".join([text, *(plain(part.rstrip(".")) for part in (alert.facts, alert.seen) if part)]) + "."
+
+
+def result_of(alert, sources, seen):
+    """The result of one place. `seen` counts the fingerprints of lines before it."""
+    first, second = sorted((place_of(name, sources, location.path) for name, location in zip(alert.names, alert.locations)),
+                           key=lambda place: (place.kind, place.text))
+    prints = {"places/v2": fingerprint(alert)}
+    by_lines = line_fingerprint(first, second, alert)
+    if by_lines:
+        seen[by_lines] += 1
+        prints["primaryLocationLineHash"] = f"{by_lines}:{seen[by_lines]}"
+    return {
+        "ruleId": RULE["id"],
+        "ruleIndex": 0,
+        "level": "error",
+        "message": {"text": message_of(alert, first, second)},
+        "locations": [primary_of(first, alert.example)],
+        "relatedLocations": [location_of(second, id=1, message={"text": "The other access."})],
+        "partialFingerprints": prints,
+        "suppressions": [{"kind": "external", "justification": "It is in the file of known places."}] if alert.is_known else [],
+        "properties": {**alert.properties, "variables": [shown(name) for name in alert.variables]},
+        **code_flows(alert, sources),
+    }
+
+
+def plain(text):
+    """A text in a message, where brackets begin a link and backslashes escape."""
+    return re.sub(r"([\\\[\]])", r"\\\1", text)
+
+
+def log(alerts, sources, notifications, is_whole, status):
+    """A log as bytes. `notifications` are pairs of a level and a sentence; `is_whole` says that the command did all that it should."""
+    seen, installed = collections.Counter(), version.installed()
+    run = {
+        "tool": {"driver": {"name": "shb", **({"version": installed} if installed else {}), "rules": [RULE]}},
+        "originalUriBaseIds": {name: {"description": {"text": text}} for name, text in BASES.items()},
+        "invocations": [{"executionSuccessful": is_whole, "exitCode": status, "toolExecutionNotifications":
+                         [{"level": level, "message": {"text": text}} for level, text in notifications]}],
+        "results": [result_of(alert, sources, seen) for alert in alerts],
+    }
+    return (json.dumps({"$schema": SCHEMA, "version": "2.1.0", "runs": [run]}, indent=1) + "\n").encode()

@@ -1,0 +1,1 @@
+"""Records a program, and shows the races of the run."""

@@ -1,0 +1,137 @@
+"""The words of the command, its runs and its statuses."""
+
+import ctypes
+import getopt
+import os
+import pathlib
+import shlex
+import shutil
+import signal
+
+from shb_common import known
+from shb_common.files import read_at_most
+from shb_common.version import with_version
+from shb_common.words import counted
+from shb_record.looking import Look, reason
+from shb_record.parts import LIBRARY, Failed, check_parts, say
+from shb_record.results import Results
+from shb_record.running import Run
+from shb_record.tables import tables_of
+
+RACES, CUT, FAILED, CANNOT_RUN, NOT_THERE = 66, 124, 125, 126, 127
+BECOME_PARENT_OF_ORPHANS = 36  # of prctl
+FLAGS = "help", "keep", "fail-on-stale"
+VALUES = "runs=", "known=", "source=", "strip=", "window=", "wait="
+
+
+class Options:
+    def __init__(self, words):
+        pairs, rest = getopt.getopt(words, "ho:", [*FLAGS, *VALUES])
+        given = dict(pairs)
+        self.source = [folder for option, folder in pairs if option == "--source"]
+        self.help = "-h" in given or "--help" in given
+        self.runs, self.wait = self.number(given, "--runs", "1"), self.number(given, "--wait", "10")
+        self.window = self.number(given, "--window", "4194304")
+        self.keep, self.strip, self.fail_on_stale = "--keep" in given, given.get("--strip"), "--fail-on-stale" in given
+        if not rest and not self.help:
+            raise getopt.GetoptError("no program is named")
+        if self.runs < 1:
+            raise getopt.GetoptError("--runs takes a number from 1")
+        self.program, self.arguments = (rest[0], rest[1:]) if rest else ("", [])
+        self.seed = self.number(os.environ, "SHB_SEED", "1")
+        self.folder = pathlib.Path(given.get("-o") or os.path.basename(self.program) + ".shb").absolute()
+        self.known_path = given.get("--known")
+        self.known = known_places(self.known_path) if self.known_path else known.Known()
+        if "%p" in str(self.folder):
+            raise getopt.GetoptError("the folder of the results can't have %p in its name")
+
+    @staticmethod
+    def number(given, option, otherwise):
+        text = given.get(option) or otherwise
+        if not text.isdecimal() or len(text) > 18:
+            raise getopt.GetoptError(f"{option} takes a number")
+        return int(text)
+
+
+def known_places(path):
+    try:
+        found = known.Known(read_at_most(path, known.MOST_BYTES))
+    except known.BadLine as fault:
+        raise Failed(f"{path}, {fault}") from None
+    for line in known.words_of_old(found):
+        say(f"{path}, {line}")
+    return found
+
+
+def record(options):
+    results = Results(options.folder, shlex.join([options.program, *options.arguments]).replace("\n", "\\n"))
+    signal.signal(signal.SIGTERM, signal.default_int_handler)  # between runs it ends this command, as SIGINT does
+    ctypes.CDLL(None).prctl(BECOME_PARENT_OF_ORPHANS, 1, 0, 0, 0)
+    look, own, status = Look(options, results), 0, FAILED
+    try:
+        for number in range(1, options.runs + 1):
+            run = Run(options, number, results.work)
+            own = own or run.status()
+            look.run(number)
+            if run.stop:
+                say(f"stopped by {signal.Signals(run.stop).name}")
+                break
+    except (Failed, OSError) as fault:
+        look.fail(fault)
+    finally:
+        status = status_of(look, own)
+        for name, text in tables_of(look, status).items():
+            results.tables[name].write_bytes(text)
+        results.close()
+    conclude(look, own)
+    return status
+
+
+def status_of(look, own):
+    unknown = look.places.unknown()
+    if unknown or look.options.fail_on_stale and look.stale():
+        return RACES
+    if look.has_failed:
+        return FAILED
+    return CUT if look.is_cut or look.is_killed and not own else own
+
+
+def conclude(look, own):
+    """Says what was found, and what that means."""
+    unknown = look.places.count(look.places.unknown())
+    passed_over = look.places.count(look.places.seen) - unknown
+    for words in known.words_of_stale(look.stale(), look.places.names):
+        say(f"{look.options.known_path}, {words}")
+    say(counted(unknown, "unknown place" if look.options.known_path else "place") + " with races"
+        + (f", {counted(passed_over, 'known one')} passed over" if passed_over else "")
+        + ("; not the whole of the run was seen" if look.is_cut or look.is_killed else "")
+        + ("; not all could be looked at" if look.has_failed else "")
+        + f"; the program's own status: {own}; files in {look.results.folder}")
+    for line in look.meaning():
+        say(line)
+    if look.options.runs > 1:
+        say(f"{counted(len(look.runs), 'run')} gave {counted(look.interleavings(), 'different interleaving')}")
+    if look.pages:
+        more = f" and {len(look.pages) - 1:,} more" if len(look.pages) > 1 else ""
+        say(f"{'pages' if more else 'page'}: {look.pages[0]}{more}")
+
+
+def main(words, about):
+    try:
+        options = Options(words)
+        if options.help:
+            print(with_version(about.replace("{library}", str(LIBRARY))), end="")
+            return 0
+        if not shutil.which(options.program):
+            there = os.path.exists(options.program)
+            say(f"{options.program}: " + ("can't be run" if there else "not found"))
+            return CANNOT_RUN if there else NOT_THERE
+        check_parts()
+        return record(options)
+    except getopt.GetoptError as fault:
+        say(f"{fault}; shb-record --help says more")
+    except (Failed, OSError) as fault:
+        say(reason(fault))
+    except KeyboardInterrupt:
+        say("stopped")
+    return FAILED

@@ -1,0 +1,42 @@
+"""What the command is made of, and where that is."""
+
+import os
+import pathlib
+import shutil
+import sys
+import time
+
+HERE = pathlib.Path(__file__).resolve().parents[1]
+
+
+class Failed(Exception):
+    """Nothing can be said of the run; with the reason."""
+
+
+def part(*paths):
+    """Where a part of the project is: in a checkout, or installed (then all but `shb` is in one folder)."""
+    places = [HERE / path for path in paths]
+    return next((place for place in places if place.exists()), places[0])
+
+
+LIBRARY = part("lib/libtsan.so", "libtsan.so").parent
+CONVERTER = part("shb-std")
+ANALYSER = pathlib.Path(os.environ.get("SHB") or part("../bin/shb", "../../bin/shb"))
+VIEW = part("../view/shb-view", "shb-view")
+
+
+def check_parts():
+    """Fails where something is missing that is needed after the program ran."""
+    for path in (LIBRARY / "libtsan.so", CONVERTER, VIEW):
+        if not path.exists():
+            raise Failed(f"{path} isn't there; in a checkout `make recorder` builds the recorder")
+    if not shutil.which(ANALYSER):
+        raise Failed(f"there is no analyser at {ANALYSER}; in a checkout `make build` makes it, and SHB=PROGRAM names another")
+
+
+def say(line=""):
+    print(f"shb-record: {line}" if line else "", file=sys.stderr, flush=True)
+
+
+def now():
+    return time.strftime("%Y-%m-%d %H:%M:%S")

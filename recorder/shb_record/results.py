@@ -1,0 +1,92 @@
+"""The folder of the results."""
+
+import contextlib
+import fcntl
+import itertools
+import os
+import pathlib
+import re
+import shutil
+import tempfile
+
+from shb_record.parts import Failed, now, say
+
+LIST = "made-by-shb-record.txt"
+LIST_BEGIN = "# What shb-record made in this folder"
+TABLES = "unknown.places", "places.tsv", "places.json", "places.sarif"
+OURS = re.compile(r"run\d+\.\d[\d-]*\.(rec|std|stacks|report|html|windows(/(window-\d+\.(std|report|html)|windows\.tsv))?)"
+                  r"|work-\w+|places\.(tsv|json|sarif)|unknown\.places")
+
+
+class Results:
+    """The folder of the results. What is made there is named in a list first, which is locked as long as the call lasts: so no call
+    takes another's files, and none deletes what it didn't make."""
+
+    def __init__(self, folder, command):
+        self.folder, self.list = unused_folder(folder)
+        self.remove_earlier()
+        self.list.truncate(0)
+        self.list.write(f"{LIST_BEGIN} on {now()}, for: {command}\n")
+        self.tables = {name: self.path(name) for name in TABLES}
+        self.work = pathlib.Path(tempfile.mkdtemp(prefix="work-", dir=self.folder))  # records, and windows before they are looked at
+        self.path(self.work.name, is_there=True)
+
+    def remove_earlier(self):
+        """Deletes what the list of an earlier call names, and says so."""
+        self.list.seek(0)
+        first, *names = self.list.read().splitlines() or [LIST_BEGIN]
+        if not first.startswith(LIST_BEGIN):
+            raise Failed(f"{self.folder / LIST} is there, and shb-record didn't make it")
+        removed = [name for name in reversed(names) if OURS.fullmatch(name) and remove(self.folder / name)]
+        if removed:
+            say(f"{self.folder}: the results of an earlier call are replaced{first[len(LIST_BEGIN):]}")
+
+    def path(self, name, is_there=False):
+        """The path of a file or folder that is to be made. What is there already isn't ours, and stays."""
+        path = self.folder / name
+        if os.path.lexists(path) and not is_there:
+            raise Failed(f"{path} is there, and shb-record didn't make it; -o names another folder")
+        self.list.write(f"{name}\n")
+        self.list.flush()
+        return path
+
+    def keep(self, path, name):
+        """Moves a finished file out of the folder of work. Gives its new path."""
+        kept = self.path(name)
+        path.rename(kept)
+        return kept
+
+    def close(self):
+        """Deletes the folder of work, and lets other calls use the folder."""
+        shutil.rmtree(self.work, ignore_errors=True)
+        self.list.close()
+
+
+def unused_folder(folder):
+    """The folder, or one with a number behind its name, that no other call uses, and its locked list."""
+    for number in itertools.count(1):
+        path = folder if number == 1 else folder.with_name(f"{folder.name}-{number}")
+        path.mkdir(parents=True, exist_ok=True)
+        file = open(path / LIST, "a+", encoding="utf-8", errors="surrogateescape")
+        try:
+            fcntl.flock(file, fcntl.LOCK_EX | fcntl.LOCK_NB)
+        except BlockingIOError:
+            file.close()
+            continue
+        if number > 1:
+            say(f"another call uses {folder}; the results go to {path}")
+        return path, file
+
+
+def remove(path):
+    """Deletes a file or folder of ours. Of a folder for windows only what was listed goes. Gives whether a file was there."""
+    if path.is_symlink() or path.is_file():
+        path.unlink()
+        return True
+    if path.name.startswith("work-"):
+        shutil.rmtree(path, ignore_errors=True)
+    elif path.is_dir():
+        with contextlib.suppress(OSError):
+            path.rmdir()
+    return False
+

@@ -1,0 +1,107 @@
+"""A run of the program."""
+
+import contextlib
+import mmap
+import os
+import pathlib
+import shutil
+import signal
+import subprocess
+import time
+
+from shb_common.words import counted
+from shb_record.parts import LIBRARY, say
+
+STOPS = {signal.SIGINT, signal.SIGTERM}
+
+
+def environment(options, number, folder):
+    """Our library stands before gcc's own, under its name: so what was built for ThreadSanitizer is recorded as it is."""
+    paths = [str(LIBRARY)] + [path for path in [os.environ.get("LD_LIBRARY_PATH")] if path]
+    return dict(os.environ, SHB_RECORD=str(folder / f"run{number}.%p.rec"), SHB_SEED=str(options.seed + number - 1),
+                LD_LIBRARY_PATH=":".join(paths))
+
+
+class Run:
+    """A run of the program. A signal that would end this command is passed on to the program and to what it leaves behind; what they
+    did is shown all the same."""
+
+    def __init__(self, options, number, folder):
+        self.wait, self.stop, self.end = options.wait, None, None  # the signal that stopped it, and when it is killed
+        watched = STOPS | {signal.SIGCHLD}
+        before = signal.pthread_sigmask(signal.SIG_BLOCK, watched)
+        try:
+            self.program = subprocess.Popen([options.program] + options.arguments, env=environment(options, number, folder),
+                                            preexec_fn=lambda: signal.pthread_sigmask(signal.SIG_SETMASK, before))
+            while self.program.poll() is None:
+                self.take_signal(watched, None if self.end is None else self.end - time.monotonic())
+            self.wait_for_orphans()
+        finally:
+            signal.pthread_sigmask(signal.SIG_SETMASK, before)
+
+    def status(self):
+        """The program's own, as a shell has it."""
+        return 128 - self.program.returncode if self.program.returncode < 0 else self.program.returncode
+
+    def take_signal(self, watched, seconds):
+        """Waits for a signal, passes it on, and kills what was told to end and is still there. The terminal has told all by itself."""
+        took = signal.sigwaitinfo(watched) if seconds is None else signal.sigtimedwait(watched, max(seconds, 0))
+        if took and took.si_signo in STOPS:
+            self.stop = took.si_signo
+            if took.si_code <= 0:  # from a process, not from the terminal
+                self.end = self.end or time.monotonic() + self.wait
+                self.tell(self.stop)
+        if self.end and time.monotonic() >= self.end:
+            self.tell(signal.SIGKILL)
+
+    def tell(self, number):
+        """Sends a signal to the program, or to what it left behind."""
+        for child in [self.program.pid] if self.program.returncode is None else children():
+            with contextlib.suppress(ProcessLookupError):
+                os.kill(child, number)
+
+    def wait_for_orphans(self):
+        """Processes whose parent is gone are ours: their records end when they do. They are told to end where the program was."""
+        if self.end:
+            self.tell(self.stop)
+        end = time.monotonic() + self.wait
+        while True:
+            try:
+                ended, _ = os.waitpid(-1, os.WNOHANG)
+            except ChildProcessError:
+                return
+            if ended:
+                continue
+            if time.monotonic() >= end:
+                break
+            self.take_signal(STOPS, 0.01)
+        if self.end:
+            self.tell(signal.SIGKILL)
+        else:
+            say(f"processes that the program started still run after {counted(self.wait, 'second')}; they are shown up to here")
+
+
+def children():
+    """The processes that are ours now."""
+    try:
+        return [int(number) for number in pathlib.Path(f"/proc/self/task/{os.getpid()}/children").read_text().split()]
+    except OSError:
+        return []
+
+
+def cause(program):
+    """Why the program left no record, as its file tells."""
+    path = shutil.which(program)
+    with open(path, "rb") as file:
+        if file.read(4) != b"\x7fELF":
+            return "no program that it started was compiled with -fsanitize=thread"
+        with mmap.mmap(file.fileno(), 0, access=mmap.ACCESS_READ) as content:
+            has_hooks, has_library = content.find(b"__tsan_init") >= 0, content.find(b"libtsan.so") >= 0
+    if not has_hooks:
+        return ("neither it nor a program that it started was compiled with -fsanitize=thread, or that one was started without this "
+                "command's environment (SHB_RECORD, LD_LIBRARY_PATH)")
+    if not has_library:
+        return ("ThreadSanitizer's own library is linked into it (by clang, or by gcc with -static-libtsan); with clang "
+                f"link with -fno-sanitize-link-runtime -L{LIBRARY} -ltsan")
+    return ("the recorder's library wasn't loaded (the program has rights of another user, or a search path of its own), "
+            "or couldn't write (then it said so above)")

@@ -1,0 +1,54 @@
+"""What is shown, in the form that programs read."""
+
+from shb_common import result
+from shb_common.programs import Names, Origin
+from shb_view.issue import flat
+from shb_view.stacks import headline, sentences
+from shb_view.words import KINDS, notes_of
+
+MOST_STACKS, MOST_FRAMES = 8, 40    # of an access
+
+
+def document(view):
+    """The places of the groups that are shown, as `result.document` has them."""
+    origin, names = Origin(view.stacks), Names()
+    pairs = [(section, pair) for section in view.sections for pair in section.group.pairs]
+    for location in {location for _, pair in pairs for location in pair.locations}:
+        origin.location(location)
+    names.add_all(origin)
+    places = [entry(view, section, pair, origin, names) for section, pair in pairs]
+    summary = {"races": view.races, "places": view.pairs, "groups": view.groups, **view.counts._asdict()}
+    notes = [*view.notes, *notes_of(view), *view.about]
+    return result.document("shb-view", summary, places, title=view.title, notes=notes)
+
+
+def entry(view, section, pair, origin, names):
+    """Two lines that race: what the trace has at their locations, and what is said of their group."""
+    sites = {site.location: site for site in section.sites}
+    accesses = []
+    for location in pair.locations:
+        its = origin.location(location)
+        found = result.access(names.name(its), its, location)
+        source = view.source.place(location)
+        if source and source.line() is not None:
+            found["code"] = result.text(source.line().strip())
+        if location in sites:
+            found.update(site_entry(sites[location]))
+        found["stacks"] = [stack_entry(frames, count) for (frames, _), count in section.callers.get(location, ())[:MOST_STACKS] if frames]
+        accesses.append(found)
+    return {"places": len(pair.orders), "accesses": accesses, "variables": view.variables(pair), "races": pair.races,
+            "headline": flat(headline(section)), "facts": [flat(parts) for parts in sentences(section)]}
+
+
+def site_entry(site):
+    """How often a location is accessed, by whom, and how many of these accesses hold each lock."""
+    locks = [{"lock": result.text(name), "for": use, "held": count} for use, held in (("writing", site.locks), ("reading", site.reading))
+             for name, count in sorted(held.items()) if count]
+    return {"uses": {KINDS[word]: count for word, count in sorted(site.accesses.items()) if count},
+            "threads": {result.text(thread): count for thread, count in sorted(site.threads.items())},
+            "locks": locks, "without_lock": site.bare}
+
+
+def stack_entry(frames, count):
+    return {"accesses": count, "frames": [{"function": result.text(frame.function), "location": result.text(frame.location)}
+                                          for frame in frames[:MOST_FRAMES]]}
