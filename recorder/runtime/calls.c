@@ -86,7 +86,7 @@ static __attribute__((noinline)) void set_frame(thread *t, uint32_t depth, uint6
    that was compiled without them, or a child made by vfork was in it. */
 PUBLIC void __tsan_func_entry(void *caller) {
     thread *t = self;
-    if (!t) return;
+    if (!t) return note_stranger();
     t->written = 0;
     if (!records_calls) return;
     uint32_t depth = t->depth;

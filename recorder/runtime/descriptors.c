@@ -190,6 +190,9 @@ RECEIVES(ssize_t, recvfrom, (int f, void *p, size_t n, int k, struct sockaddr *a
 RECEIVES(int, epoll_wait, (int f, struct epoll_event *p, int n, int ms), (f, p, n, ms), GETS_BYTES(r * sizeof *p))
 RECEIVES(int, epoll_pwait, (int f, struct epoll_event *p, int n, int ms, const sigset_t *s), (f, p, n, ms, s),
          GETS_BYTES(r * sizeof *p))
+int epoll_pwait2(int, struct epoll_event *, int, const struct timespec *, const sigset_t *);     /* glibc 2.35 has it */
+RECEIVES(int, epoll_pwait2, (int f, struct epoll_event *p, int n, const struct timespec *d, const sigset_t *s), (f, p, n, d, s),
+         GETS_BYTES(r * sizeof *p))
 /* At a place of a file, which is no order: a pipe has none. */
 BEFORE(ssize_t, pwrite, (int f, const void *p, size_t n, off_t at), (f, p, n, at), READS(p, least(n, MOST_BYTES)))
 BEFORE(ssize_t, pwrite64, (int f, const void *p, size_t n, off64_t at), (f, p, n, at), READS(p, least(n, MOST_BYTES)))

@@ -2,6 +2,7 @@
    what else a program asks of the system by prctl. */
 #define _GNU_SOURCE
 #include <errno.h>
+#include <linux/futex.h>
 #include <stdarg.h>
 #include <sys/mman.h>
 #include <sys/prctl.h>
@@ -34,7 +35,36 @@ PUBLIC int prctl(int option, ...) {
     return result;
 }
 
-/* seccomp has no function of its own. */
+/* ---- calls without a function of their own ---- */
+static int is_waiting_futex(int operation) {
+    switch (operation & FUTEX_CMD_MASK) {
+    case FUTEX_WAIT: case FUTEX_WAIT_BITSET: case FUTEX_WAIT_REQUEUE_PI: case FUTEX_LOCK_PI: return 1;
+#ifdef FUTEX_LOCK_PI2
+    case FUTEX_LOCK_PI2: return 1;
+#endif
+    default: return 0;
+    }
+}
+
+/* Does it often wait?  As the functions of waits.c; locks of the program's own wait by a futex. */
+static int often_waits(long number, long second) {
+    switch (number) {
+    case SYS_futex: return is_waiting_futex(second);
+#ifdef SYS_futex_waitv
+    case SYS_futex_waitv: return 1;
+#endif
+#ifdef SYS_epoll_pwait2
+    case SYS_epoll_pwait2: return 1;
+#endif
+    case SYS_sched_yield: case SYS_pause: case SYS_rt_sigsuspend: case SYS_rt_sigtimedwait:
+    case SYS_nanosleep: case SYS_clock_nanosleep: case SYS_flock:
+    case SYS_poll: case SYS_ppoll: case SYS_select: case SYS_pselect6: case SYS_epoll_wait: case SYS_epoll_pwait:
+    case SYS_wait4: case SYS_waitid: case SYS_msgrcv: case SYS_msgsnd: case SYS_semop: case SYS_semtimedop:
+    case SYS_mq_timedreceive: case SYS_mq_timedsend: case SYS_io_getevents: case SYS_io_uring_enter: return 1;
+    default: return 0;
+    }
+}
+
 PUBLIC long syscall(long number, ...) {
     va_list more;
     va_start(more, number);
@@ -42,6 +72,7 @@ PUBLIC long syscall(long number, ...) {
     long d = va_arg(more, long), e = va_arg(more, long), f = va_arg(more, long);
     va_end(more);
     if (number == SYS_seccomp) will_limit_calls();
+    if (often_waits(number, b)) let_others_run();
     register long r10 __asm__("r10") = d, r8 __asm__("r8") = e, r9 __asm__("r9") = f;
     __asm__ volatile("syscall" : "=a"(result)
                      : "a"(number), "D"(a), "S"(b), "d"(c), "r"(r10), "r"(r8), "r"(r9) : "rcx", "r11", "memory");

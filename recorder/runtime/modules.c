@@ -77,6 +77,19 @@ void *next_symbol(const char *name) {
     return p ? p : dlsym(RTLD_NEXT, name);
 }
 
+static uint64_t module_with(void *p) {
+    Dl_info info;
+    return p && dladdr(p, &info) ? (uint64_t)info.dli_fbase : 0;
+}
+
+int is_behind_the_c_library(void) {
+    static const char *const names[] = {"pthread_create", "pthread_join", "pthread_mutex_lock", "thrd_create"};
+    uint64_t c_library = module_with(dlsym(RTLD_DEFAULT, "gnu_get_libc_version"));
+    for (unsigned i = 0; i < sizeof names / sizeof *names; i++)
+        if (c_library && module_with(dlsym(RTLD_DEFAULT, names[i])) == c_library) return 1;
+    return 0;
+}
+
 static int count_modules(struct dl_phdr_info *info, size_t size, void *count) {
     *(unsigned long long *)count = info->dlpi_adds;
     return 1;

@@ -170,6 +170,16 @@ void note_end(const char *how) {
     if (header) snprintf(header + ENDED_AT, ENDED_BYTES, "%s", how);
 }
 
+static _Atomic int has_strangers;
+
+void note_stranger(void) {
+    if (!recording || atomic_exchange(&has_strangers, 1)) return;
+    tell("shb recorder: the program has threads whose begin isn't seen, as the C library calls functions in (SIGEV_THREAD), or "
+         "by a pthread_create that was looked up in it (dlsym): their races are missed\n");
+}
+
+const char *own_end(void) { return has_strangers ? "threads ran whose begin isn't seen" : ENDED_WHOLE; }
+
 void stop_recording(const char *reason) {
     if (!end_turns()) return;
     note_end(reason);
@@ -229,6 +239,7 @@ int leave_recording(void) {
                                                 MAP_PRIVATE | MAP_ANONYMOUS | MAP_NORESERVE, -1, 0));
     if (going_on) strcpy(header, parents);
     written = 0;
+    has_strangers = 0;
     forget_places();
     changes++;                         /* the new record has no read */
     atomic_store(&room, STEP_BYTES / sizeof *records);
@@ -251,6 +262,8 @@ int move_to_file(void) {
 static void note_whole(void) {
     char text[ENDED_BYTES];
     uint64_t sum = 0;
+    note_end(own_end());
+    if (has_strangers) return;
     for (uint64_t i = 0; i < written; i++) sum += entry_sum(i, records[i]);
     snprintf(text, sizeof text, "%s %lx %lx", ENDED_WHOLE, written, sum);
     note_end(text);

@@ -115,6 +115,8 @@ int move_to_file(void);
 void close_recording(void);
 void stop_recording(const char *reason);
 void note_end(const char *how);
+const char *own_end(void);             /* as note_end takes it, where nothing stopped the recording */
+void note_stranger(void);              /* a hook met a thread that nobody saw begin: its accesses are missed */
 void note_text(const char *line);      /* adds a line to the header */
 void unlock_record(void);
 void give_back_room(void);
@@ -135,6 +137,7 @@ static inline int instrumented(uint64_t caller) {            /* lies the code in
 }
 int tells_its_own_order(uint64_t caller);                    /* the begin and end of its objects are not recorded */
 void *next_symbol(const char *name);
+int is_behind_the_c_library(void);     /* do calls of the program go to that, and not to this library? */
 void note_modules(void);
 #define REAL(f) ({ \
     static __typeof__(&f) real_; \

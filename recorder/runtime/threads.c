@@ -2,7 +2,6 @@
 #define _GNU_SOURCE
 #include <errno.h>
 #include <limits.h>
-#include <mqueue.h>
 #include <stdarg.h>
 #include <stdlib.h>
 #include <string.h>
@@ -54,7 +53,7 @@ static void thread_exits(void *t_) {   /* runs again in each round of destructor
     thread *t = t_;
     if (++t->exit_rounds < PTHREAD_DESTRUCTOR_ITERATIONS) pthread_setspecific(at_exit, t);
     t->depth = 0;                      /* of functions in C that pthread_exit left */
-    give_turn(t);
+    let_others_run();
 }
 
 /* ---- a process made by fork: one thread, and a record of its own from here on ---- */
@@ -100,6 +99,12 @@ __attribute__((constructor(101))) static void begin(void) {
     if (!open_recording(path, setting("SHB_RECORDS", 64000000))) return;
     if (!has_number()) unsetenv("SHB_RECORD");               /* a program started by this one would write over it */
     note_modules();
+    if (is_behind_the_c_library()) {
+        note_end("the C library comes before the recorder's, so no thread is seen");
+        tell("shb recorder: calls of pthread_create go to the C library, which the program is linked with before -ltsan (or that comes "
+             "by dlopen): the program runs unrecorded\n");
+        return;
+    }
     thread *t = new_thread();
     if (!t || !number_thread(t) || pthread_key_create(&at_exit, thread_exits) || pthread_atfork(0, 0, in_child)) return;
     at_quick_exit(end);                                      /* the last of its handlers */
@@ -122,7 +127,7 @@ LEAVES(_Exit)
 #define EXECS(name, parameters, arguments) \
     PUBLIC int name parameters { \
         int own = is_own() && recording; \
-        if (own) note_end(ENDED_WHOLE); \
+        if (own) note_end(own_end()); \
         int r = REAL(name) arguments; \
         if (own) note_end(""); \
         return r; \
@@ -168,7 +173,7 @@ static void *run(void *t_) {
     thread *t = t_;
     begin_thread(t, t->c11_function ? (uint64_t)t->c11_function : (uint64_t)t->function);
     void *result = t->c11_function ? (void *)(long)t->c11_function(t->argument) : t->function(t->argument);
-    give_turn(t);
+    let_others_run();
     return result;
 }
 
@@ -254,21 +259,4 @@ PUBLIC int pthread_setname_np(pthread_t handle, const char *name) {
     int error = REAL(pthread_setname_np)(handle, name);
     if (!error) note_name(handle, name);
     return error;
-}
-
-/* ---- functions that the C library calls in threads of its own ---- */
-static void tell_of_calls_in_other_threads(const struct sigevent *event) {
-    static _Atomic int told;
-    if (!event || event->sigev_notify != SIGEV_THREAD || !recording || atomic_exchange(&told, 1)) return;
-    tell("shb recorder: the program has a function called in threads of the C library (SIGEV_THREAD), which aren't seen: their "
-         "races are missed\n");
-}
-
-PUBLIC int timer_create(clockid_t clock, struct sigevent *event, timer_t *timer) {
-    tell_of_calls_in_other_threads(event);
-    return REAL(timer_create)(clock, event, timer);
-}
-PUBLIC int mq_notify(mqd_t queue, const struct sigevent *event) {
-    tell_of_calls_in_other_threads(event);
-    return REAL(mq_notify)(queue, event);
 }

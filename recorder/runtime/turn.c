@@ -36,6 +36,11 @@
 #define PATIENCE_NS 300000             /* then a lone waiter looks at the holder; one of several after ten times it */
 #define TEST_YIELD() (void)0
 #endif
+#ifdef PATIENT                         /* for the tests: no waiter looks at the holder, so who waits has to give the turn up */
+#define IS_PATIENT 1
+#else
+#define IS_PATIENT 0
+#endif
 #define START_NS 1000000000            /* the longest wait for a new thread: on a busy machine it begins late */
 #define FIRST_SLICES 4                 /* without SHB_SLICE slices begin with 1, 2, 4 or 8 hooks, on average, */
 #define SLICES_OF_A_SCALE 64           /* are twice as long after so many, and end with */
@@ -232,7 +237,7 @@ void take_turn(thread *t) {
     if (!take_free(t)) for (;;) {
         int wakes = atomic_load(&t->wakes);                  /* before the turn: a later wake changes it */
         uint64_t word = atomic_load(&turn);
-        if (!recording || HOLDER(word) == NAME(t) || (look && past_its_access(word, &watch)))
+        if (!recording || HOLDER(word) == NAME(t) || (look && !IS_PATIENT && past_its_access(word, &watch)))
             if (accept(t, word)) break;
         look = syscall(SYS_futex, &t->wakes, FUTEX_WAIT_PRIVATE, wakes, &patience, 0, 0) && errno == ETIMEDOUT;
     }
@@ -253,6 +258,7 @@ int let_another_run(thread *t) {
 /* Without the turn: put asks for it. */
 thread *enter_access(enum yields yields) {
     thread *t = self;
+    if (!t) note_stranger();
     if (!t || !recording || t->inside) return 0;
     t->inside = 1;
     if (--t->quantum <= 0 && yields && waiters) hand_over(t, 1);

@@ -1,7 +1,13 @@
 /* Calls that often wait. */
 #define _GNU_SOURCE
+#include <mqueue.h>
 #include <poll.h>
+#include <signal.h>
+#include <sys/file.h>
+#include <sys/msg.h>
+#include <sys/resource.h>
 #include <sys/select.h>
+#include <sys/sem.h>
 #include <sys/wait.h>
 #include <threads.h>
 #include <time.h>
@@ -31,6 +37,35 @@ BLOCKS(int, nanosleep, (deadline d, struct timespec *left), (d, left))
 BLOCKS(int, clock_nanosleep, (clockid_t c, int f, deadline d, struct timespec *left), (c, f, d, left))
 BLOCKS(int, usleep, (useconds_t n), (n))
 BLOCKS(unsigned, sleep, (unsigned n), (n))
+BLOCKS(int, pause, (void), ())
 BLOCKS(int, poll, (struct pollfd *p, nfds_t n, int ms), (p, n, ms))
+BLOCKS(int, ppoll, (struct pollfd *p, nfds_t n, deadline d, const sigset_t *m), (p, n, d, m))
 BLOCKS(int, select, (int n, fd_set *a, fd_set *b, fd_set *c, struct timeval *d), (n, a, b, c, d))
+BLOCKS(int, pselect, (int n, fd_set *a, fd_set *b, fd_set *c, deadline d, const sigset_t *m), (n, a, b, c, d, m))
+BLOCKS(int, flock, (int f, int operation), (f, operation))
+
+/* As the compiler calls them with -D_FORTIFY_SOURCE. */
+int __poll_chk(struct pollfd *, nfds_t, int, size_t), __ppoll_chk(struct pollfd *, nfds_t, deadline, const sigset_t *, size_t);
+BLOCKS(int, __poll_chk, (struct pollfd *p, nfds_t n, int ms, size_t room), (p, n, ms, room))
+BLOCKS(int, __ppoll_chk, (struct pollfd *p, nfds_t n, deadline d, const sigset_t *m, size_t room), (p, n, d, m, room))
+
+/* ---- for processes and for signals ---- */
+BLOCKS(pid_t, wait, (int *s), (s))
+BLOCKS(pid_t, wait3, (int *s, int o, struct rusage *u), (s, o, u))
+BLOCKS(pid_t, wait4, (pid_t p, int *s, int o, struct rusage *u), (p, s, o, u))
+BLOCKS(int, waitid, (idtype_t k, id_t p, siginfo_t *s, int o), (k, p, s, o))
 BLOCKS(pid_t, waitpid, (pid_t p, int *s, int o), (p, s, o))
+BLOCKS(int, sigsuspend, (const sigset_t *m), (m))
+BLOCKS(int, sigwait, (const sigset_t *m, int *s), (m, s))
+BLOCKS(int, sigwaitinfo, (const sigset_t *m, siginfo_t *s), (m, s))
+BLOCKS(int, sigtimedwait, (const sigset_t *m, siginfo_t *s, deadline d), (m, s, d))
+
+/* ---- System V's and POSIX' queues, System V's semaphores: they order nothing in a trace ---- */
+BLOCKS(ssize_t, msgrcv, (int q, void *p, size_t n, long kind, int o), (q, p, n, kind, o))
+BLOCKS(int, msgsnd, (int q, const void *p, size_t n, int o), (q, p, n, o))
+BLOCKS(int, semop, (int s, struct sembuf *p, size_t n), (s, p, n))
+BLOCKS(int, semtimedop, (int s, struct sembuf *p, size_t n, deadline d), (s, p, n, d))
+BLOCKS(ssize_t, mq_receive, (mqd_t q, char *p, size_t n, unsigned *priority), (q, p, n, priority))
+BLOCKS(ssize_t, mq_timedreceive, (mqd_t q, char *p, size_t n, unsigned *priority, deadline d), (q, p, n, priority, d))
+BLOCKS(int, mq_send, (mqd_t q, const char *p, size_t n, unsigned priority), (q, p, n, priority))
+BLOCKS(int, mq_timedsend, (mqd_t q, const char *p, size_t n, unsigned priority, deadline d), (q, p, n, priority, d))

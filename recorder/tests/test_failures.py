@@ -84,10 +84,22 @@ class Failures(recorder.Case):
         self.assertIn(b"\nmain|join(T66002.work_with_another)|", last)
         self.assertEqual(recorder.places(last), {("many_in_turn.c:14", "many_in_turn.c:14")})
 
-    def test_threads_of_the_c_library_are_told_of(self):
-        ran = recorder.must(recorder.call(self.program("sigev_thread.c"), env=recorder.settings(self.folder / "app.rec")))
-        self.assertEqual(ran.stderr, b"shb recorder: the program has a function called in threads of the C library "
-                                     b"(SIGEV_THREAD), which aren't seen: their races are missed\n")
+    def test_threads_whose_begin_is_not_seen(self):
+        path = self.folder / "app.rec"
+        for name in "sigev_thread.c", "unseen_threads.c":
+            ran = recorder.must(recorder.call(self.program(name), env=recorder.settings(path)))
+            self.assertRegex(ran.stderr, rb"\Ashb recorder: the program has threads whose begin isn't seen, .*\n\Z")
+            self.assertIn(b"is not the whole run: threads ran whose begin isn't seen", recorder.part(recorder.convert(path)).stderr)
+            path.unlink()
+
+    def test_a_c_library_that_comes_first(self):
+        """Then calls of the program go there, and not to the recorder's library."""
+        path, program, code = self.folder / "app.rec", self.folder / "app", self.folder / "app.o"
+        recorder.must(recorder.call("gcc", "-w", "-c", "-fsanitize=thread", recorder.PROGRAMS / "unseen_threads.c", "-o", code))
+        recorder.must(recorder.call("gcc", code, f"-L{recorder.BUILT}/lib", "-lc", "-ltsan", "-o", program))
+        ran = recorder.must(recorder.call(program, env=recorder.settings(path)))
+        self.assertRegex(ran.stderr, rb"\Ashb recorder: calls of pthread_create go to the C library, .*: the program runs unrecorded\n\Z")
+        self.assertIn(b"is not the whole run: the C library comes before the recorder's", recorder.part(recorder.convert(path)).stderr)
 
     def test_modules_that_are_no_regular_files(self):
         """A record of a stranger may name any: no helper opens them, and code there is named by addresses. Nor is a file of the present

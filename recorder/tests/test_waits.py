@@ -1,0 +1,14 @@
+"""A thread that waits gives the turn up before it does."""
+
+import recorder
+
+
+class Waits(recorder.Case):
+    def test_each_wait_gives_the_turn_up(self):
+        """In a recorder in which no waiter takes the turn from one that sleeps, a wait that keeps it lasts for ever."""
+        patient = recorder.build_recorder(self.folder, "CFLAGS=-O2 -DPATIENT")
+        recorder.build(recorder.PROGRAMS / "waits.c", "-O1", self.folder / "waits", patient)
+        ways = recorder.must(recorder.call(self.folder / "waits"))
+        self.assertGreater(ways.stdout.count(b"\n"), 20)
+        ran = recorder.call("timeout", "100", self.folder / "waits", env=recorder.settings(self.folder / "app.rec"))
+        self.assertEqual((ran.stdout, ran.stderr, ran.returncode), (ways.stdout, b"", 0))
