@@ -10,6 +10,7 @@ import signal
 
 from shb_common import known
 from shb_common.files import read_at_most
+from shb_common.stops import Stops
 from shb_common.version import with_version
 from shb_common.words import counted
 from shb_record.looking import Look, reason
@@ -65,19 +66,22 @@ def known_places(path):
 
 def record(options):
     results = Results(options.folder, shlex.join([options.program, *options.arguments]).replace("\n", "\\n"))
-    signal.signal(signal.SIGTERM, signal.default_int_handler)  # between runs it ends this command, as SIGINT does
+    stops = Stops("shb-record: {}: what was recorded is still shown; another one ends at once, and keeps the record\n".format)
     ctypes.CDLL(None).prctl(BECOME_PARENT_OF_ORPHANS, 1, 0, 0, 0)
     look, own, status = Look(options, results), 0, FAILED
     try:
         for number in range(1, options.runs + 1):
             run = Run(options, number, results.work)
-            own = own or run.status()
+            own, stops.first = own or run.status(), stops.first or run.stop
             look.run(number)
-            if run.stop:
-                say(f"stopped by {signal.Signals(run.stop).name}")
+            if stops.first:
+                say(f"stopped by {signal.Signals(stops.first).name}")
                 break
     except (Failed, OSError) as fault:
         look.fail(fault)
+    except KeyboardInterrupt:
+        look.fail(Failed("stopped at once"))
+        results.keep_records()
     finally:
         status = status_of(look, own)
         for name, text in tables_of(look, status).items():

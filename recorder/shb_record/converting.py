@@ -9,10 +9,12 @@ import subprocess
 import tempfile
 import typing
 
+from shb_common.stops import APART
 from shb_record.parts import CONVERTER, Failed
 
 CUTS = "the recording is not the whole run: ", "the trace is cut "
 KILLED = CUTS[0] + "the program was killed"
+CRASHED = "the program crashed: "
 NOT_WHOLE = 1  # shb-std's status where the trace is a part of the run
 HEADER_BYTES, ENTRY_BYTES = 65536, 16  # record.h says where an entry has its thread and operation
 MODULE = re.compile(rb"^[0-9a-f]+ [0-9a-f]+ [0-9a-f]+ (.+)$", re.M)
@@ -84,7 +86,7 @@ class Conversion:
         """The trace or its windows, one after the other, each with whether there are several; none where the trace is empty."""
         before, is_cut_up = None, False
         pipes = {"bufsize": 0, "stdin": subprocess.PIPE, "stdout": subprocess.PIPE}
-        with tempfile.TemporaryFile() as said, subprocess.Popen(self.words, stderr=said, **pipes) as ran:
+        with tempfile.TemporaryFile() as said, subprocess.Popen(self.words, stderr=said, **pipes, **APART) as ran:
             try:
                 for row in ran.stdout:
                     name, *numbers = row.decode().split("\t")

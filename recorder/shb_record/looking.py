@@ -10,8 +10,9 @@ from shb_common import analyser, known
 from shb_common.programs import Origin
 from shb_common.report import BadReport, Report
 from shb_common.stacks import BadStacks, Tables
+from shb_common.stops import APART
 from shb_common.words import counted
-from shb_record.converting import KILLED, Conversion, check_room, order_of, processes
+from shb_record.converting import CRASHED, KILLED, Conversion, check_room, order_of, processes
 from shb_record.modules import Modules
 from shb_record.parts import ANALYSER, VIEW, Failed, now, say
 from shb_record.places import Places
@@ -110,8 +111,10 @@ class Look:
         try:
             for trace, is_window in looked.conversion.traces():
                 self.trace(process, trace, is_window, looked)
-        finally:
+        except (Failed, OSError):
             self.take_places(process, looked)
+            raise
+        self.take_places(process, looked)
 
     def trace(self, process, trace, is_window, looked):
         """Analyses a trace or a window, and keeps it where it has a place that none before had."""
@@ -164,7 +167,8 @@ class Look:
                 one.trace.path.unlink()
             return
         self.results.path(one.trace.path.with_suffix(".report").relative_to(self.results.folder)).write_bytes(one.report)
-        notes = [f"{cut[0].upper()}{cut[1:]}." for cut in looked.conversion.cuts]
+        first = [note for note in looked.conversion.notes if note.startswith(CRASHED)] + looked.conversion.cuts
+        notes = [f"{note[0].upper()}{note[1:]}." for note in first]
         notes += [window_note(one.trace, looked.reach())] * one.is_window
         stacks = ["--recorded-source", "--stacks", looked.stacks] if looked.stacks else []
         words = [f"--title={process.command} ({process.name}, {self.started})", *(f"--note={note}" for note in notes), *stacks,
@@ -179,7 +183,7 @@ class Look:
         lines = b"".join(line for one in unknown for line in lines_of_new(one))
         only.write_bytes(lines)
         words = [VIEW, *words, f"--shift={trace.number(0)}", "--text", "--only", only, "--json", found, "--html", page, trace.path]
-        if subprocess.run(words, stdout=sys.stderr).returncode:
+        if subprocess.run(words, stdout=sys.stderr, **APART).returncode:
             print(lines.decode(errors="backslashreplace"), end="", file=sys.stderr)
             return
         self.pages.append(page)
@@ -195,7 +199,7 @@ def lines_of_new(new):
 def places_of(trace, room):
     """The places of a trace with their variables, and the report of them without schedules."""
     def run(given, out):
-        return analyser.call([ANALYSER, *analyser.LIST], given, out)
+        return analyser.call([ANALYSER, *analyser.LIST], given, out, **APART)
 
     with open(trace, "rb") as file, tempfile.TemporaryFile(dir=room) as report:
         try:

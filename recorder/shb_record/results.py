@@ -56,6 +56,11 @@ class Results:
         path.rename(kept)
         return kept
 
+    def keep_records(self):
+        """Keeps the records that are still there."""
+        for record in sorted(self.work.glob("*.rec")):
+            say(f"the record is kept: {self.keep(record, record.name)}")
+
     def close(self):
         """Deletes the folder of work, and lets other calls use the folder."""
         shutil.rmtree(self.work, ignore_errors=True)

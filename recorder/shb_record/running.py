@@ -9,10 +9,9 @@ import signal
 import subprocess
 import time
 
+from shb_common.stops import STOPS
 from shb_common.words import counted
 from shb_record.parts import LIBRARY, say
-
-STOPS = {signal.SIGINT, signal.SIGTERM}
 
 
 def environment(options, number, folder):

@@ -612,6 +612,41 @@ class Command(recorder.Case):
             self.assertIn(f"the program's own status: {own};", said)
             self.assertIn(f"stopped by {number.name}", said)
 
+    def stopped(self, signals, at, *words):
+        """The command, to which a program that it starts sends signals: the analyser or the converter."""
+        tools, part = self.folder / f"tools of {at}" / "recorder", self.folder / "fake"
+        tools.mkdir(parents=True, exist_ok=True)
+        beside = {tools.parent / name: recorder.BUILT.parent / name for name in ("view", "common")}
+        parts = {tools / name: recorder.BUILT / name for name in ("lib", "shb-std") if name != at}
+        for place, path in {**beside, **parts}.items():
+            if not place.exists():
+                place.symlink_to(path)
+        real = recorder.SHB if at == "shb" else recorder.BUILT / at
+        fake = part if at == "shb" else tools / at
+        sends = "".join(f"kill -{number} $PPID; " for number in signals)
+        sent, waits = self.folder / "sent", "exec sleep 1000; " * (len(signals) > 1)
+        sent.unlink(missing_ok=True)
+        fake.write_text(f'#!/bin/sh\nif [ ! -e {sent} ]; then touch {sent}; {sends}{waits}fi\nexec {real} "$@"\n')
+        fake.chmod(0o755)
+        shutil.copy(recorder.BUILT / "shb-record", tools)
+        return self.record(*words, self.program(), "0", "race", command=tools / "shb-record", SHB=str(part if at == "shb" else recorder.SHB))
+
+    def test_a_signal_after_the_run_lets_it_be_shown(self):
+        for at in "shb", "shb-std":
+            for words, kept in ((), []), (("--keep",), ["run1.N.rec"]):
+                status, _, said = self.stopped(["TERM"], at, *words)
+                self.assertEqual((status, "1 place with races; the program's own status: 0" in said), (66, True), said)
+                self.assertIn("SIGTERM: what was recorded is still shown; another one ends at once, and keeps the record\n", said)
+                self.assertEqual([name for name in self.names() if name.endswith((".rec", ".html"))], ["run1.N.html", *kept])
+
+    def test_a_second_signal_ends_at_once_and_keeps_the_record(self):
+        for at in "shb", "shb-std":
+            status, _, said = self.stopped(["INT", "TERM"], at)
+            self.assertEqual((status, "stopped at once" in said), (125, True), said)
+            [record] = (self.folder / "status.shb").glob("*.rec")
+            self.assertIn(f"the record is kept: {record}\n", said)
+            recorder.must(recorder.convert(record))
+
     def test_without_an_analyser_the_program_does_not_run(self):
         status, out, said = self.record(self.program(), "0", SHB="/nowhere/shb")
         self.assertEqual((status, out), (125, ""))
