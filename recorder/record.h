@@ -8,7 +8,7 @@
    Then records of 16 bytes in the order in which things happened, until one of zeros or the file's end. */
 #include <stdint.h>
 
-#define RECORD_MAGIC "shb-record 6\n"
+#define RECORD_MAGIC "shb-record 7\n"
 #define LINE_END_IN_PATH 1
 #define HEADER_BYTES 65536
 #define ENDED_BYTES 256
@@ -27,6 +27,7 @@
 #define MOST_FRAMES 16384              /* of a thread; those further in aren't recorded */
 #define PLACE_BITS 24                  /* of each of the two numbers of a record OP_PLACE */
 #define NAME_PIECE 12                  /* so many bytes of a thread's name stand in a record OP_NAME, as in piece_of_name */
+#define HAS_ADDRESS 128                /* above the numbers of signals */
 #define ATOMIC_SIZE_BITS 5             /* of an atomic access: the memory order stands above the size, as __ATOMIC_.. */
 
 struct record {
@@ -71,5 +72,7 @@ enum operation {
     OP_DEPTH,                          /* the size is how many of these it is in now; so is one more than that of an OP_FRAME */
     OP_NAME,                           /* a piece of the name that the program gives the thread: the size is 0 in its first one,
                                           and NAME_PIECE in another right behind it, where there is more */
+    OP_CRASH,                          /* the last record of a thread that a signal ends with the program: the size is its number, and
+                                          HAS_ADDRESS where the kernel told the address. It was behind the caller that it came */
     OPERATIONS
 };

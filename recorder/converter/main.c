@@ -87,6 +87,7 @@ static void write_events(u64 i) {
     }
     else if (operation == OP_JOIN) write_join(thread_of(i), other_thread_of(i), caller_of(i));
     else if (operation == OP_FENCE) fence_events(i);
+    else if (operation == OP_CRASH) note_crash(i);
     else if (is_for_object(i)) object_events(i);
     else {
         u64 before = events;
@@ -224,6 +225,7 @@ int main(int count, char **words) {
     else only_open = 0;
     pass(write_events, 0);
     end_trace();
+    say_crash();
     if (!cut_reason) cut_reason = shortened;
     if (recording_cut) fprintf(stderr, "shb-std: the recording is not the whole run: %s\n", recording_cut);
     if (cut_reason) fprintf(stderr, "shb-std: the trace is cut %s\n", cut_reason);

@@ -15,7 +15,10 @@
                                                      that is known, where the name is empty
        atomic NAME TAB THREAD TAB LOCATION TAB KIND ORDER       an atomic that several threads use: a load, store or update with
                                                      the order relaxed, acquire, release or both, whether or not it is an event
+       crash THREAD TAB SIGNAL TAB ADDRESS TAB NODE  how the program ended, where a signal ended it that a thread's own code made; the
+                                                     address, hexadecimal, is what it had no access to, or empty
        source NAME TAB PATH                          a source file, as locations name it, and where it was when it was compiled */
+#define _GNU_SOURCE
 #include <errno.h>
 #include <stdio.h>
 #include <stdlib.h>
@@ -356,20 +359,77 @@ static int is_shown(const node *n, u32 outer, const inlined_frame *f) {
     return !f->is_hidden && (n->outer || !n->function || (!f->in_system && f->has_line));
 }
 
-static void write_stack(u32 k) {
-    u32 numbers[MOST_FRAMES_OF_A_CALL], outer = called_in(k);
+/* The frames of a node's innermost call, and the node of the stack further out. Where code without hooks lies in between the
+   last frame is the function that called it. */
+typedef struct { inlined_frame *at[MOST_FRAMES_OF_A_CALL], between; int count; u32 outer; } shown_call;
+
+static void find_call(u32 k, shown_call *call) {
+    u32 outer = called_in(k);
     const node *n = &nodes[k];
-    int count = 0;
-    for (inlined_frame *f = frames_of(n->caller); f && count < MOST_FRAMES_OF_A_CALL - 1; f = f->outer)
-        if (is_shown(n, outer, f)) numbers[count++] = frame_number(f);
-    inlined_frame *last = !outer && n->outer ? entered(n->outer) : 0, between;
+    call->count = 0;
+    for (inlined_frame *f = frames_of(n->caller); f && call->count < MOST_FRAMES_OF_A_CALL - 1; f = f->outer)
+        if (is_shown(n, outer, f)) call->at[call->count++] = f;
+    inlined_frame *last = !outer && n->outer ? entered(n->outer) : 0;
     if (last && *last->function) {     /* of the recorder's own only __tsan_create_fiber was entered */
-        between = (inlined_frame){.function = last->function, .location = "", .in_system_file = last->in_system_file};
-        numbers[count++] = frame_number(&between);
+        call->between = (inlined_frame){.function = last->function, .location = "", .in_system_file = last->in_system_file};
+        call->at[call->count++] = &call->between;
     }
-    fprintf(file, "stack %u %u", k, outer ? outer : n->outer);
-    for (int i = 0; i < count; i++) fprintf(file, " %u", numbers[i]);
+    call->outer = outer ? outer : n->outer;
+}
+
+static void write_stack(u32 k) {
+    shown_call call;
+    u32 numbers[MOST_FRAMES_OF_A_CALL];
+    find_call(k, &call);
+    for (int i = 0; i < call.count; i++) numbers[i] = frame_number(call.at[i]);
+    fprintf(file, "stack %u %u", k, call.outer);
+    for (int i = 0; i < call.count; i++) fprintf(file, " %u", numbers[i]);
     fputc('\n', file);
+}
+
+/* ---- the end by a signal ---- */
+enum { MOST_SAID = 20 };               /* frames */
+static struct { u64 address, caller; u32 thread, node; int signal; uint8_t is_met, has_address; } crash;
+
+void note_crash(u64 i) {
+    crash.signal = size_of(i) % HAS_ADDRESS;
+    crash.has_address = size_of(i) / HAS_ADDRESS;
+    crash.address = address_of(i);
+    crash.caller = caller_of(i);
+    crash.thread = thread_of(i);
+    crash.is_met = 1;
+    crash.node = stack_at(thread_of(i), caller_of(i));
+    use(crash.node);
+}
+
+static const char *signal_word(void) {
+    const char *word = sigabbrev_np(crash.signal);
+    return word ? word : "?";
+}
+
+static void write_crash(void) {
+    fprintf(file, "crash %s\tSIG%s\t", thread_name(crash.thread), signal_word());
+    if (crash.has_address) fprintf(file, "%lx", crash.address);
+    fprintf(file, "\t%u\n", crash.node);
+}
+
+/* On standard error: of the calls that have a line or a name. */
+void say_crash(void) {
+    if (!crash.is_met) return;
+    fprintf(stderr, "shb-std: the program crashed: SIG%s", signal_word());
+    if (crash.has_address) fprintf(stderr, " at address 0x%lx", crash.address);
+    fprintf(stderr, " in %s", thread_name(crash.thread));
+    if (!crash.node) fprintf(stderr, ": %.*s", (int)place_of(crash.caller).length, place_of(crash.caller).at);
+    int said = 0;
+    shown_call call;
+    for (u32 k = crash.node; k && said < MOST_SAID; k = call.outer) {
+        find_call(k, &call);
+        for (int i = 0; i < call.count && said < MOST_SAID; i++) {
+            const char *function = call.at[i]->function, *location = call.at[i]->location;
+            fprintf(stderr, "%s%s%s%s", said++ ? ", from " : ": ", function, *function && *location ? " " : "", location);
+        }
+    }
+    fputc('\n', stderr);
 }
 
 void end_stacks(void) {
@@ -385,6 +445,7 @@ void end_stacks(void) {
     for (u64 b = 1; b < block_count; b++)
         if (block_of(b)->named && block_nodes[b]) fprintf(file, "block %lu %u\n", b, block_nodes[b]);
     for (u64 i = 0; i < free_count; i++) fprintf(file, "free %lu %lu\n", frees[i].first, frees[i].last);
+    if (crash.is_met) write_crash();
     if (fclose(lines)) die("out of memory");
     fwrite(lines_text, 1, lines_bytes, file);
     write_sources(file);

@@ -148,6 +148,9 @@ void note_modules(void);
 /* memory.c */
 void *allocated(void *p, size_t size, uint64_t caller);      /* notes new variables; gives p */
 
+/* signals.c */
+void watch_crashes(void);
+
 /* waits.c */
 void let_others_run(void);             /* gives the turn up before a call that may wait */
 

@@ -41,19 +41,51 @@ static void handle(int signal, siginfo_t *info, void *context) {
     errno = saved;
 }
 
+/* ---- a signal that ends the program where its code made it: what it was, and where, is recorded; then it comes again ---- */
+static void crash(int signal, siginfo_t *info, void *context) {
+    uint64_t next = ((ucontext_t *)context)->uc_mcontext.gregs[REG_RIP] + 1;
+    int has_address = info->si_code > 0 && info->si_code != SI_KERNEL && (signal == SIGSEGV || signal == SIGBUS);
+    thread *t = self ? enter(NEVER_YIELD) : 0;               /* not where the fault is in a hook */
+    if (t) {
+        put(t, OP_CRASH, has_address ? info->si_addr : 0, signal | (has_address ? HAS_ADDRESS : 0), next);
+        leave(t);
+        close_recording();
+    }
+    REAL(sigaction)(signal, &(struct sigaction){.sa_handler = SIG_DFL}, 0);
+    syscall(SYS_rt_tgsigqueueinfo, getpid(), syscall(SYS_gettid), signal, info);
+}
+
+/* What a program asks for where it asks for the default. */
+static struct sigaction default_of(int signal) {
+    if (!from_the_code_itself(signal)) return (struct sigaction){.sa_handler = SIG_DFL};
+    return (struct sigaction){.sa_sigaction = crash, .sa_flags = SA_SIGINFO | SA_ONSTACK};
+}
+
+void watch_crashes(void) {
+    for (int signal = 1; signal < NSIG; signal++) {
+        struct sigaction now, ours = default_of(signal);
+        if (!from_the_code_itself(signal) || REAL(sigaction)(signal, 0, &now) || now.sa_handler != SIG_DFL) continue;
+        REAL(sigaction)(signal, &ours, 0);
+    }
+}
+
 PUBLIC int sigaction(int signal, const struct sigaction *new, struct sigaction *old) {
     int direct = new && new->sa_flags & SA_RESETHAND;       /* sent again it would meet no handler */
-    if (!self || direct || signal <= 0 || signal >= NSIG) return REAL(sigaction)(signal, new, old);
+    if (!self || signal <= 0 || signal >= NSIG) return REAL(sigaction)(signal, new, old);
     struct sigaction before = handlers[signal], ours;
-    if (new && new->sa_handler != SIG_DFL && new->sa_handler != SIG_IGN) {
+    if (new && !direct && new->sa_handler != SIG_DFL && new->sa_handler != SIG_IGN) {
         handlers[signal] = ours = *new;
         ours.sa_sigaction = handle;
         ours.sa_flags |= SA_SIGINFO;
+        new = &ours;
+    } else if (new && new->sa_handler == SIG_DFL && from_the_code_itself(signal)) {
+        ours = default_of(signal);
         new = &ours;
     }
     int error = REAL(sigaction)(signal, new, old);
     if (error) handlers[signal] = before;
     else if (old && old->sa_sigaction == handle) *old = before;
+    else if (old && old->sa_sigaction == crash) *old = (struct sigaction){.sa_handler = SIG_DFL};
     return error;
 }
 

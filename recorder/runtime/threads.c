@@ -110,6 +110,7 @@ __attribute__((constructor(101))) static void begin(void) {
     at_quick_exit(end);                                      /* the last of its handlers */
     begin_turns(setting("SHB_SLICE", 0), setting("SHB_SEED", 0));
     begin_thread(t, 0);
+    watch_crashes();
 }
 
 /* Ways out that run no destructor.  A process made by vfork uses its parent's memory and says nothing. */

@@ -1,0 +1,52 @@
+/* Ends by a signal that its own code makes, in a thread that has raced before; the word says how. */
+#include <pthread.h>
+#include <setjmp.h>
+#include <signal.h>
+#include <stdio.h>
+#include <stdlib.h>
+#include <string.h>
+#include <sys/resource.h>
+
+static int shared;
+static volatile int one = 1, zero;
+static int *volatile nowhere = (int *)64;
+static const char *volatile no_text;
+static const char *way;
+static sigjmp_buf back;
+
+static int is(const char *word) { return !strcmp(way, word); }
+
+static void resign(int number) {
+    signal(number, SIG_DFL);
+    raise(number);
+}
+static void recover(int number) { siglongjmp(back, 1); }
+
+static int fail(void) {
+    if (is("abort")) abort();
+    if (is("divide")) return one / zero;
+    if (is("library")) return strlen(no_text); /* LIBRARY */
+    *nowhere = 1; /* STORE */
+    return 0;
+}
+
+static void *work(void *p) {
+    shared++; /* RACE */
+    if (is("recover") && sigsetjmp(back, 1)) return p;
+    return fail() ? p : 0; /* CALL */
+}
+
+int main(int count, char **words) {
+    struct sigaction before;
+    pthread_t t;
+    way = words[1];
+    setrlimit(RLIMIT_CORE, &(struct rlimit){0, 0});
+    if (sigaction(SIGSEGV, 0, &before) || before.sa_handler != SIG_DFL) return 2;
+    if (is("resign")) signal(SIGSEGV, resign);
+    if (is("recover")) signal(SIGSEGV, recover);
+    if (sigaction(SIGSEGV, 0, &before) || (before.sa_handler == SIG_DFL) != (!is("resign") && !is("recover"))) return 3;
+    pthread_create(&t, 0, work, 0);
+    shared++; /* RACE */
+    pthread_join(t, 0);
+    return 0;
+}
