@@ -83,7 +83,8 @@ inlined_frame *frames_of(u64 caller);  /* null where it wasn't noted */
 inlined_frame *outermost(inlined_frame *f);
 int in_one_function(u64 caller, u64 other);
 const char *function_name(u64 address, char *buffer, size_t size);       /* "" where it is not known */
-int is_own_function(u64 address);      /* not of the system's libraries, nor of the C++ library's headers */
+/* Of a function that isn't of the system's libraries, nor of the C++ library's headers unless for a lambda of the program; else 0. */
+int own_function_name(u64 address, char *buffer, size_t size);
 void symbol_name(u64 address, char *buffer, size_t size);
 /* Of a function that is at `pc`, the local that lies so many bytes below the end of its return address, and above its stack pointer:
    "x.head of main"; 0 where none is known. */

@@ -24,15 +24,20 @@ static void set_name(u32 t, const char *name) {
     threads[t].length = strlen(threads[t].name);
 }
 
+enum { FUNCTION_BYTES = 60 };
+
 void name_thread(u32 t, u64 function) {
-    char of_function[60];
+    char name[FUNCTION_BYTES];
     if (!t || is_named[t]) return;
-    set_name(t, function_name(function, of_function, sizeof of_function));
-    is_named[t] = *of_function != 0;
+    set_name(t, function_name(function, name, sizeof name));
+    is_named[t] = *name != 0;
 }
 
 void name_by_own(u32 t, u64 function) {
-    if (!is_named[t] && is_own_function(function)) name_thread(t, function);
+    char name[FUNCTION_BYTES];
+    if (!t || is_named[t] || !own_function_name(function, name, sizeof name)) return;
+    set_name(t, name);
+    is_named[t] = 1;
 }
 
 void give_name(u32 t, const char *piece, int is_first) {

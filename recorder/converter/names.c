@@ -156,15 +156,34 @@ static int is_recorder(const module *m) {
     return slash && !strncmp(slash, "/libtsan.so", 11);
 }
 
-/* A function's name without its parameters and without the brace of a lambda, which is "main::lambda". */
-static char *short_name(const symbol *s) {
+/* Where a lambda begins in a function's name that isn't in an argument of a template or a parameter; or null. */
+static const char a_lambda[] = "{lambda(";
+static char *own_lambda(char *name) {
+    int depth = 0;
+    for (char *p = name; *p; p++) {
+        if (!depth && !strncmp(p, a_lambda, strlen(a_lambda))) return p;
+        depth += (*p == '<' || *p == '(') - (*p == '>' || *p == ')');
+    }
+    return 0;
+}
+
+/* A function's name without its parameters. A lambda in f(int) is "f::lambda". */
+static char *shortened(char *name) {
     static const char nameless[] = "(anonymous namespace)::";
-    char *name = copy(s->name), *at;
+    char *at;
     while ((at = strstr(name, nameless))) memmove(at, at + strlen(nameless), strlen(at + strlen(nameless)) + 1);
+    char *lambda = own_lambda(name);
+    if (lambda) *lambda = 0;
     name[strcspn(name, "(")] = 0;
-    if ((at = strchr(name, '{'))) memmove(at, at + 1, strlen(at));
+    if (lambda) {
+        size_t length = strlen(name);
+        int ends = length >= 2 && !strcmp(name + length - 2, "::");
+        strcpy(name + length, length && !ends ? "::lambda" : "lambda");
+    }
     return name;
 }
+
+static char *short_name(const symbol *s) { return shortened(copy(s->name)); }
 
 const char *function_name(u64 address, char *buffer, size_t size) {
     module *m = module_at(address);
@@ -175,15 +194,41 @@ const char *function_name(u64 address, char *buffer, size_t size) {
     return buffer;
 }
 
+static int is_of_cxx_library(const char *name) {
+    size_t length = strcspn(name, "<");
+    const char *standard = strstr(name, "std::"), *extension = strstr(name, "__gnu_cxx::");
+    return (standard && standard < name + length) || (extension && extension < name + length);
+}
+
+/* The first lambda of the program's own in the arguments of a template: what a function of the C++ library was made for. Or null. */
+static char *lambda_among(const char *name) {
+    for (const char *at = name; (at = strstr(at, a_lambda)); at++) {
+        const char *from = at;
+        for (int depth = 0; from > name; from--) {
+            char before = from[-1];
+            if (!depth && (before == '<' || before == '(' || before == ',')) break;
+            depth += (before == '>' || before == ')') - (before == '<' || before == '(');
+        }
+        char *found = copy(from + strspn(from, " "));
+        found[at + strlen(a_lambda) - from - strspn(from, " ")] = 0;
+        if (!is_of_cxx_library(shortened(found))) return found;
+        free(found);
+    }
+    return 0;
+}
+
 /* By its module and its name: what addr2line says of the beginning of a function hangs on what is inlined there. */
-int is_own_function(u64 address) {
+int own_function_name(u64 address, char *buffer, size_t size) {
     module *m = module_at(address);
     symbol *s = m && !in_system(m->path) && !is_recorder(m) ? symbol_at(m, address) : 0;
-    char *name = s ? short_name(s) : copy("std::");
-    name[strcspn(name, "<")] = 0;
-    int is_own = !strstr(name, "std::") && !strstr(name, "__gnu_cxx::");
+    char *name = s ? short_name(s) : 0;
+    if (name && is_of_cxx_library(name)) {
+        free(name);
+        name = lambda_among(s->name);
+    }
+    snprintf(buffer, size, "%s", name ? name : "");
     free(name);
-    return is_own;
+    return *buffer != 0;
 }
 
 /* "x", "x.head", "x[3]", "x+8"; of a name that isn't the only one "x~ADDRESS"; outside the program "lib.so:x". */

@@ -106,11 +106,28 @@ class Threads(recorder.Case):
                           "namespace { void __attribute__((noinline)) apart() { deeper(); } }\n"
                           "int main() {\n    std::thread t(work, 1), u([] { shared++; }), v(apart);\n    t.join();\n    u.join();\n"
                           "    v.join();\n}\n")
-        for option, names in (("-O0", ["T1.work", "T2.main::lambda", "T3.apart"]), ("-O1", ["T1.work", "T2", "T3.apart"])):
+        names = ["T1.work", "T2.main::lambda", "T3.apart"]
+        for option in "-O0", "-O1", "-O2":
             recorder.build(source, option, self.folder / "app")
             recorder.must(recorder.call(self.folder / "app", env=recorder.settings(self.folder / "app.rec")))
             trace = recorder.must(recorder.convert(self.folder / "app.rec")).stdout.decode()
             self.assertEqual(re.findall(r"(?m)^main\|fork\((.*?)\)", trace), names)
+
+    def test_a_thread_that_runs_a_lambda(self):
+        """It is named by the function that the lambda stands in, wherever the compiler puts it."""
+        source = self.folder / "own.cc"
+        source.write_text("#include <future>\n#include <thread>\n#include <vector>\nint shared;\nstatic void start(std::vector<int> v) {\n"
+                          "    std::thread t([&] { shared += v[0]; });\n    t.join();\n}\n"
+                          "template <class F> void __attribute__((noinline)) call(F f) { std::thread t([=] { f(1); }); t.join(); }\n"
+                          "struct Pool {\n    std::thread t{[this] { n++; shared++; }};\n    int n = 0;\n    ~Pool() { t.join(); }\n};\n"
+                          "int main() {\n    start({1, 2});\n    call([](int i) { shared += i; });\n    Pool p;\n"
+                          "    std::async(std::launch::async, [] { shared++; }).get();\n    shared++;\n}\n")
+        for option in "-O0", "-O1", "-O2":
+            recorder.build(source, option, self.folder / "app")
+            recorder.must(recorder.call(self.folder / "app", env=recorder.settings(self.folder / "app.rec")))
+            trace = recorder.must(recorder.convert(self.folder / "app.rec", "-a")).stdout.decode()
+            found = re.findall(r"(?m)^main\|fork\((.*?)\)", trace)
+            self.assertRegex("\n".join(found), r"\AT1\.start::lambda\nT2\.main::lambda\nT3\.Pool::\S*lambda\nT4\.main::lambda\Z", option)
 
 
 class Files(recorder.Case):
