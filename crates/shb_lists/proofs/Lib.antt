@@ -1,0 +1,9 @@
+pub mod NewestLemmas
+pub mod MetLemmas
+pub mod RivalLemmas
+pub mod RacingLemmas
+pub mod FoundLemmas
+pub mod PastLemmas
+pub mod KeyOrder
+pub mod ListedLemmas
+pub mod PieceLemmas

@@ -1,0 +1,149 @@
+//! The races of a trace, kept, in the order of the race list.
+
+ghost use Rattle.std.specs.Prelude.{◌≡◌, ◌≢◌, ◌<◌, ◌++◌, ℕ, false, Bool, List, None, Some, IfOk, IfSome, IsTrue, OnOk, length, map};
+ghost use Rattle.shb_lines.specs.declared.event.Event.{Event};
+ghost use Rattle.shb_lines.specs.events.Race.{IsRaceList, variable_at};
+ghost use Rattle.shb_lines.specs.events.Sizes.{IsNumberedByAccess};
+ghost use Rattle.shb_stamps.specs.Open.{is_open as is_open_in};
+ghost use Rattle.shb_pairs.specs.Open.{AreOpen};
+ghost use Rattle.shb_lists.specs.Listed.{IsListOf, pair_in, race_of, races_before};
+
+use crate::past::Past;
+use shb_discipline::Disciplined;
+use shb_io::NoMemory;
+use shb_lines::Events;
+use shb_links::{Linked, Links};
+use shb_stamps::{Ordered, Sweep, is_open};
+use std::alloc::Global;
+
+/// A race as the race list orders it: by the number of its variable, by its later event, and by its earlier one.
+#[derive(Clone, Copy, PartialEq, Eq, PartialOrd, Ord)]
+pub struct ListedRace {
+    pub variable: u32,
+    pub second: u32,
+    pub first: u32,
+}
+
+/// Whether one of the first variables is open.
+fn any_open(flags: &[bool], variables: u32) -> bool
+    ensures { result ≡ false → (x : ℕ) → x < variables → is_open_in flags.now x ≡ false }
+{
+    for x in 0..variables {
+        if is_open(flags, x) {
+            return true;
+        }
+    }
+    false
+}
+
+/// Whether so many races more can be kept beside those that are: any number, or not more than `most`.
+fn has_room(most: Option<u64>, kept: usize, more: usize) -> bool
+    ensures { most ≡ None → IsTrue result }
+{
+    match most {
+        Some(most) => more as u64 <= most.saturating_sub(kept as u64),
+        None => true,
+    }
+}
+
+/// The variable that an event accesses, or 0.
+fn variable_of(events: &Events, e: u32) -> u32
+    requires { e < length events.now }
+    ensures { (x : ℕ) → variable_at events.now e ≡ Some x → result ≡ x }
+{
+    events.op(e).variable().unwrap_or(0)
+}
+
+/// Adds the races of some events with a later one, which accesses this variable.
+fn add_races(
+    kept: &mut Vec<ListedRace>,
+    variable: u32,
+    second: u32,
+    firsts: &[u32],
+) -> Result<(), NoMemory>
+    ensures { OnOk result (kept.new.items ≡ kept.old.items ++ map (λ i. race_of variable second i) firsts.now) }
+{
+    for first in firsts {
+        kept.push(ListedRace {
+            variable,
+            second,
+            first: *first,
+        })?;
+    }
+    Ok(())
+}
+
+/// Some races in the order of the race list.
+fn in_list_order(races: Vec<ListedRace>) -> Vec<ListedRace>
+    ensures { (trace : List Event) (flags : List Bool) → IsNumberedByAccess trace → AreOpen trace flags
+        → IsListOf trace (races_before trace flags (length trace)) races.items → IsRaceList trace (map pair_in result.items) }
+{
+    let mut sorted = races;
+    sorted.sort_unstable();
+    sorted
+}
+
+/// The races of a trace in the order in which a sweep finds them, by their later events; or nothing, where there are more
+/// than `most`.
+fn found_races<'a>(
+    alloc: Global,
+    disciplined: &'a Disciplined<'a>,
+    links: &'a Links<'a>,
+    flags: &[bool],
+    most: Option<u64>,
+) -> Result<Option<Vec<ListedRace>>, NoMemory>
+    requires of_trace { links.now ≡ disciplined.now.events.now }
+    ensures races { IfOk result (λ kept. IfSome kept (λ races. IsListOf disciplined.now.events.now
+        (races_before disciplined.now.events.now flags.now (length disciplined.now.events.now)) races.items)) }
+    ensures all { most ≡ None → IfOk result (λ kept. kept ≢ None) }
+{
+    let mut kept = Vec::new(alloc);
+    if !any_open(flags, disciplined.sizes.variables) {
+        return Ok(Some(kept));
+    }
+    let mut found = Vec::new(alloc);
+    let mut past = Past::new(alloc, disciplined.sizes.variables)?;
+    let mut sweep = Sweep::new(alloc, Linked::new(&*disciplined, &*links))?;
+    for e in 0..disciplined.events.len() as u32 {
+        let ordered = Ordered::new(&sweep, &*disciplined, &*links);
+        past.pass(&ordered, flags, e, &mut found)?;
+        if !has_room(most, kept.len(), found.len()) {
+            return Ok(None);
+        }
+        let variable = variable_of(disciplined.events, e);
+        add_races(&mut kept, variable, e, found.as_slice())?;
+        sweep.pass(alloc)?;
+    }
+    Ok(Some(kept))
+}
+
+/// All races of a trace, in the order of the race list; or nothing, where there are more than `most`. One pass over the
+/// trace with a [`Sweep`], which is asked for accesses of open variables alone; none where no variable is open.
+///
+/// The links are of the trace, and a variable whose flag is false has no race (`open_variables` of `shb_pairs` tells
+/// which). An access of an open variable costs a comparison for each thread that accesses the variable, and a step for
+/// each of its races. Memory: 8 bytes an event, 12 for each variable and thread that accesses it, 12 a race.
+///
+/// # Errors
+///
+/// `NoMemory` where a growth was refused.
+pub fn kept_races<'a>(
+    alloc: Global,
+    disciplined: &'a Disciplined<'a>,
+    links: &'a Links<'a>,
+    flags: &[bool],
+    most: Option<u64>,
+) -> Result<Option<Vec<ListedRace>>, NoMemory>
+    requires of_trace { links.now ≡ disciplined.now.events.now }
+    requires settled { AreOpen disciplined.now.events.now flags.now }
+    ensures races { IfOk result (λ kept. IfSome kept (λ races. IsRaceList disciplined.now.events.now (map pair_in races.items))) }
+    ensures all { most ≡ None → IfOk result (λ kept. kept ≢ None) }
+{
+    match found_races(alloc, &*disciplined, &*links, flags, most)? {
+        Some(races) => {
+            let sorted = in_list_order(races);
+            Ok(Some(sorted))
+        }
+        None => Ok(None),
+    }
+}
