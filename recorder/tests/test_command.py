@@ -617,7 +617,7 @@ class Command(recorder.Case):
         tools, part = self.folder / f"tools of {at}" / "recorder", self.folder / "fake"
         tools.mkdir(parents=True, exist_ok=True)
         beside = {tools.parent / name: recorder.BUILT.parent / name for name in ("view", "common")}
-        parts = {tools / name: recorder.BUILT / name for name in ("lib", "shb-std") if name != at}
+        parts = {tools / name: recorder.BUILT / name for name in ("lib", "shb-std", "shb_record") if name != at}
         for place, path in {**beside, **parts}.items():
             if not place.exists():
                 place.symlink_to(path)

@@ -1,24 +1,29 @@
 //! The report of all races of a trace.
-ghost use Rattle.std.specs.Prelude.{◌-◌, ◌^◌, ◌<◌};
+ghost use Rattle.std.specs.Prelude.{◌-◌, ◌^◌, ◌<◌, false, true};
 ghost use Rattle.shb_run.specs.declared.settings.Choice.TheVariants.{All};
 ghost use Rattle.shb_run.specs.Outcomes.{HasSummed};
 
+use crate::known::{list_known, write_known};
 use crate::pipeline::summary_of;
 use crate::screened::Screened;
 use crate::settings::{Gates, Settings, Summary};
+use shb_discipline::Disciplined;
 use shb_fan::Gate;
+use shb_format::places_of;
 use shb_io::Sink;
-use shb_pairs::{RangeJob, accesses_of_open, pieces};
-use shb_stamps::Order;
+use shb_links::{Linked, links_of};
+use shb_lists::{kept_races, pairs_in_pieces};
+use shb_pairs::{RangeJob, accesses_of_open, open_variables, pieces};
+use shb_stamps::{Order, Ordered, by_event};
+use shb_witness::order_of_races;
 use shb_write::{BlockPlan, RaceSearch, WriteError, write_search};
 use std::alloc::Global;
 use std::random::RandomSource;
 use std::sync::Wait;
 use std::thread::Threads;
 
-/// Finds all races of an ordered trace, and writes their report. Without schedules no list of more races than
-/// events is made.
-pub(crate) fn report_found<
+/// Counts the races of an ordered trace, and writes their report without schedules. No list of them is made.
+fn list_many<
     R: Threads + Wait + Sync + RandomSource,
     K: Sink,
     O: Order + Sync,
@@ -33,7 +38,7 @@ pub(crate) fn report_found<
     gates: &Gates<'_, '_, P, W>,
 ) -> Result<Summary, WriteError>
     requires countable { K.failure_count sink.old < 2 ^ 64 - 1 }
-    ensures { HasSummed All settings.schedules screened.now.ordered.now.disciplined.now.trace.now K.taken K.failure_count sink.old sink.new result }
+    ensures { HasSummed All false screened.now.ordered.now.disciplined.now.trace.now K.taken K.failure_count sink.old sink.new result }
 {
     let ordered = screened.ordered;
     let accesses = accesses_of_open(alloc, ordered.disciplined, screened.flags)?;
@@ -46,10 +51,75 @@ pub(crate) fn report_found<
         &pieces,
     );
     let search = RaceSearch::new(ordered, &job, gates.pair, settings.workers);
+    let races = write_search(rt, alloc, sink, &search)?;
+    Ok(summary_of(ordered.disciplined.trace, races))
+}
+
+/// Finds all races of a trace, and writes their report without schedules. Where there are more of them than events,
+/// they aren't kept.
+pub(crate) fn list_all<
+    R: Threads + Wait + Sync + RandomSource,
+    K: Sink,
+    P: Gate + Sync,
+    W: Gate + Sync,
+>(
+    rt: &R,
+    alloc: Global,
+    sink: &mut K,
+    disciplined: &Disciplined<'_>,
+    settings: Settings,
+    gates: &Gates<'_, '_, P, W>,
+) -> Result<Summary, WriteError>
+    requires countable { K.failure_count sink.old < 2 ^ 64 - 1 }
+    ensures { HasSummed All false disciplined.now.trace.now K.taken K.failure_count sink.old sink.new result }
+{
+    let links = links_of(alloc, &*disciplined)?;
+    let flags = open_variables(alloc, &*disciplined, &links)?;
+    let most = u64::from(disciplined.trace.len());
+    match kept_races(alloc, &*disciplined, &links, &flags, Some(most))? {
+        Some(kept) => {
+            let races = pairs_in_pieces(rt, alloc, &kept, gates.pair, settings.workers)?;
+            let places = places_of(rt, alloc, disciplined.trace, &races)?;
+            list_known(sink, disciplined, &races, &places)
+        }
+        None => {
+            let order = by_event(alloc, Linked::new(&*disciplined, &links), &flags)?;
+            let ordered = Ordered::new(&order, &*disciplined, &links);
+            let screened = Screened::new(&ordered, &flags);
+            list_many(rt, alloc, sink, &screened, settings, gates)
+        }
+    }
+}
+
+/// Finds all races of a trace, keeps them, and writes their report with schedules, which go by an order that can be
+/// asked about the events of these races alone.
+pub(crate) fn schedule_all<
+    R: Threads + Wait + Sync + RandomSource,
+    K: Sink,
+    P: Gate + Sync,
+    W: Gate + Sync,
+>(
+    rt: &R,
+    alloc: Global,
+    sink: &mut K,
+    disciplined: &Disciplined<'_>,
+    settings: Settings,
+    gates: &Gates<'_, '_, P, W>,
+) -> Result<Summary, WriteError>
+    requires countable { K.failure_count sink.old < 2 ^ 64 - 1 }
+    ensures { HasSummed All true disciplined.now.trace.now K.taken K.failure_count sink.old sink.new result }
+{
+    let links = links_of(alloc, &*disciplined)?;
+    let flags = open_variables(alloc, &*disciplined, &links)?;
+    let Some(kept) = kept_races(alloc, &*disciplined, &links, &flags, None)? else {
+        unreachable!()
+    };
+    let races = pairs_in_pieces(rt, alloc, &kept, gates.pair, settings.workers)?;
+    let order = order_of_races(alloc, Linked::new(&*disciplined, &links), &races)?;
+    let ordered = Ordered::new(&order, &*disciplined, &links);
     let plan = BlockPlan {
         workers: settings.workers,
         gate: gates.witness,
     };
-    let races = write_search(rt, alloc, sink, &search, settings.schedules, &plan)?;
-    Ok(summary_of(ordered.disciplined.trace, races))
+    write_known(rt, alloc, sink, &ordered, &races, &plan)
 }

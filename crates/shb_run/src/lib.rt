@@ -8,6 +8,7 @@
 #![tactic(auto)]
 
 mod all;
+mod known;
 pub mod laws;
 mod leading;
 mod pipeline;

@@ -6,18 +6,14 @@ ghost use Rattle.shb_format.specs.Report.{counts_of};
 ghost use Rattle.shb_format.specs.Value.{AreShown, IsShown};
 ghost use Rattle.shb_run.specs.Runs.{summary_of};
 
-use crate::all::report_found;
+use crate::all::{list_all, schedule_all};
 use crate::leading::report_leading;
-use crate::screened::Screened;
 use crate::settings::{Choice, Gates, Settings, Summary, Task};
 use shb_check::{RunError, judge, read_trace};
 use shb_discipline::Disciplined;
 use shb_fan::{FreeGate, Gate};
 use shb_io::{Sink, Source};
 use shb_lines::Trace;
-use shb_links::{Linked, links_of};
-use shb_pairs::open_variables;
-use shb_stamps::{Ordered, by_event};
 use shb_write::WriteError;
 use std::alloc::Global;
 use std::random::RandomSource;
@@ -50,12 +46,11 @@ fn report_all<R: Threads + Wait + Sync + RandomSource, K: Sink, P: Gate + Sync, 
     requires countable { K.failure_count sink.old < 2 ^ 64 - 1 }
     ensures { HasSummed All settings.schedules disciplined.now.trace.now K.taken K.failure_count sink.old sink.new result }
 {
-    let links = links_of(alloc, &*disciplined)?;
-    let flags = open_variables(alloc, &*disciplined, &links)?;
-    let order = by_event(alloc, Linked::new(&*disciplined, &links), &flags)?;
-    let ordered = Ordered::new(&order, &*disciplined, &links);
-    let screened = Screened::new(&ordered, &flags);
-    report_found(rt, alloc, sink, &screened, settings, gates)
+    if settings.schedules {
+        schedule_all(rt, alloc, sink, disciplined, settings, gates)
+    } else {
+        list_all(rt, alloc, sink, disciplined, settings, gates)
+    }
 }
 
 /// Writes the report of a trace that is asked for.

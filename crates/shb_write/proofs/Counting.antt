@@ -1,6 +1,5 @@
 -- Races that are kept and counted.
-use Rattle.std.proofs.Common.{◌≡◌, ℕ, zero, suc, ◌^◌, ◌<◌, List, [], ◌∷◌, length, map, All, Option, None, Some, refl, sym, ap, subst, arith, Vec, Global}
-use Rattle.std.specs.Prelude.{IfSome}
+use Rattle.std.proofs.Common.{◌≡◌, ℕ, zero, suc, ◌^◌, ◌<◌, List, [], ◌∷◌, length, map, All, refl, sym, ap, subst, arith}
 use Rattle.shb_lines.specs.declared.event.Event.{Event}
 use Rattle.shb_lines.specs.declared.event.Pair.{Pair}
 use Rattle.shb_lines.specs.events.Race.{Race, ends}
@@ -35,17 +34,12 @@ of_trace_found trace events [] same are k d lt = All-nil (IsRaceOf trace) k d lt
 of_trace_found trace events (race ∷ races) same are zero d lt = race_of_trace trace events race.0 race.1 same (are 0 (pair_of d) (omega arith))
 of_trace_found trace events (race ∷ races) same are (suc k) d lt = of_trace_found trace events races same (λ j e l. are (suc j) e (omega arith)) k d (omega arith)
 
--- races that were kept
-pub kept_there : (kept : Option (Vec Pair Global)) (v : Vec Pair Global) (races : List (ℕ × ℕ)) → kept ≡ Some v → IfSome kept (λ k. map ends k.items ≡ races) → map ends v.items ≡ races
-kept_there kept v races is h = let there = subst (λ (o : Option (Vec Pair Global)). IfSome o (λ k. map ends k.items ≡ races)) is h in there
-
--- what was counted of a search, of which nothing was kept
-pub many_counted : (trace : TraceData) (races : List (ℕ × ℕ)) (c : Counted) → All (IsRaceOf trace) races → c.races < 2 ^ 64 → c.races ≡ length races → c.places ≡ counts_in (places_of_pairs trace (map pair_of races)) → c.kept ≡ None
+-- what was counted of a search
+pub many_counted : (trace : TraceData) (races : List (ℕ × ℕ)) (c : Counted) → All (IsRaceOf trace) races → c.races < 2 ^ 64 → c.races ≡ length races → c.places ≡ counts_in (places_of_pairs trace (map pair_of races))
     → IsCountOf trace races c
-many_counted trace races c of_trace few many places none = record {
+many_counted trace races c of_trace few many places = record {
   count = many;
   few = omega (arith, few, many);
   places_are = places;
   in_range = subst (All (IsPlaceOf trace)) (sym places) (places_in_range trace (map pair_of races) (pairs_of_trace trace (map pair_of races) (subst (All (IsRaceOf trace)) (sym (ends_back races)) of_trace)));
-  kept_are = subst (λ (o : Option (Vec Pair Global)). IfSome o (λ k. map ends k.items ≡ races)) (sym none) tt;
 }

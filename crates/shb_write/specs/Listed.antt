@@ -1,7 +1,6 @@
 -- What is counted and listed where the races of a search come piece by piece.
-use Rattle.std.specs.Prelude.{◌≡◌, ℕ, ◌^◌, ◌<◌, List, All, length, map, IfSome}
+use Rattle.std.specs.Prelude.{◌≡◌, ℕ, ◌^◌, ◌<◌, List, All, length, map}
 use Rattle.shb_fan.specs.Values.{values_of}
-use Rattle.shb_lines.specs.events.Race.{ends}
 use Rattle.shb_lines.specs.text.TraceData.{TraceData}
 use Rattle.shb_stamps.specs.Open.{OpenTrace}
 use Rattle.shb_pairs.specs.Races.{joined, pieces_in, races_at}
@@ -17,10 +16,9 @@ races_found search = joined (values_of (races_at search) (length (pieces_in sear
 abbrev pub IsRaceOf : TraceData → ℕ × ℕ → Type 0
 IsRaceOf trace race = (race.0 < length trace.events) × (race.1 < length trace.events)
 
--- how many races there are, their places, and the races themselves where they were kept
+-- how many races there are, and their places
 pub record IsCountOf (trace : TraceData) (races : List (ℕ × ℕ)) (counted : Counted) : Type 0 where
   pub count : counted.races ≡ length races
   pub few : length races < 2 ^ 64
   pub places_are : counted.places ≡ counts_in (places_of_pairs trace (map pair_of races))
   pub in_range : All (IsPlaceOf trace) counted.places
-  pub kept_are : IfSome counted.kept (λ kept. map ends kept.items ≡ races)

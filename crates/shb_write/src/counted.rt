@@ -1,6 +1,5 @@
-//! What the first search for the races of a list report gives.
+//! What the count of the races of a list report gives.
 use shb_format::Places;
-use shb_lines::Pair;
 
 /// How many races there are, and their places.
 #[derive(Drop)]
@@ -9,6 +8,4 @@ pub(crate) struct Counted {
     pub(crate) races: u64,
     /// Their places.
     pub(crate) places: Places,
-    /// The races, where they are so few that they were kept.
-    pub(crate) kept: Option<Vec<Pair>>,
 }

@@ -1,8 +1,6 @@
 //! The races that a search finds, counted, and listed without schedules.
-ghost use Rattle.std.specs.Prelude.{◌≡◌, ◌-◌, ◌^◌, ◌<◌, All, IfOk, false, length, map};
+ghost use Rattle.std.specs.Prelude.{◌-◌, ◌^◌, ◌<◌, All, IfOk, false, length};
 ghost use Rattle.shb_io.specs.Devices.{CountsFailure};
-ghost use Rattle.shb_lines.specs.events.Race.{ends};
-ghost use Rattle.shb_format.specs.Places.{IsPairOf};
 ghost use Rattle.shb_write.specs.Blocks.{WritesBlocks};
 ghost use Rattle.shb_write.specs.Listed.{IsCountOf, IsRaceOf, races_found};
 ghost use Rattle.shb_write.specs.Written.{write_failed};
@@ -11,11 +9,9 @@ use crate::block_writer::BlockWriter;
 use crate::counted::Counted;
 use crate::errors::WriteError;
 use crate::piece_lister::PieceLister;
-use crate::race_keeper::{KeepError, keep_races};
 use crate::race_search::RaceSearch;
 use shb_counts::{RaceCount, counted_races};
 use shb_fan::{Gate, StreamError, stream};
-use shb_format::places_of;
 use shb_io::{NoMemory, Sink};
 use shb_lines::{Pair, Trace};
 use shb_pairs::RangeJob;
@@ -25,26 +21,8 @@ use std::random::RandomSource;
 use std::sync::Wait;
 use std::thread::Threads;
 
-/// What is counted of races that were kept.
-fn counted_of_kept<R: RandomSource>(
-    rt: &R,
-    alloc: Global,
-    trace: &Trace,
-    kept: Vec<Pair>,
-) -> Result<Counted, NoMemory>
-    requires { All (IsPairOf trace.now) kept.items }
-    ensures { IfOk result (IsCountOf trace.now (map ends kept.items)) }
-{
-    let places = places_of(rt, alloc, trace, kept.as_slice())?;
-    Ok(Counted {
-        races: kept.len() as u64,
-        places,
-        kept: Some(kept),
-    })
-}
-
 /// Counts the races that a search finds, and those of each place, and keeps none.
-fn count_many<R: RandomSource, O: Order>(
+pub(crate) fn count_many<R: RandomSource, O: Order>(
     rt: &R,
     alloc: Global,
     trace: &Trace,
@@ -54,33 +32,10 @@ fn count_many<R: RandomSource, O: Order>(
     ensures { IfOk result (IsCountOf trace.now (races_found job.now)) }
 {
     let RaceCount { races, places } = counted_races(rt, alloc, trace, job)?;
-    Ok(Counted {
-        races,
-        places,
-        kept: None,
-    })
+    Ok(Counted { races, places })
 }
 
-/// Counts the races that a search finds, and keeps them where there are not more of them than events. Where
-/// there are more, they are counted in a search of their own.
-pub(crate) fn count_races<R: Threads + Wait + Sync + RandomSource, O: Order + Sync, G: Gate + Sync>(
-    rt: &R,
-    alloc: Global,
-    trace: &Trace,
-    search: &RaceSearch<'_, '_, '_, '_, '_, O, G>,
-) -> Result<Counted, NoMemory>
-    requires { All (IsRaceOf trace.now) (races_found search.now.job.now) }
-    ensures { IfOk result (IsCountOf trace.now (races_found search.now.job.now)) }
-{
-    let most = u64::from(trace.len());
-    match keep_races(rt, alloc, search, Some(most)) {
-        Ok(kept) => counted_of_kept(rt, alloc, trace, kept),
-        Err(KeepError::Many) => count_many(rt, alloc, trace, search.job),
-        Err(KeepError::Memory(refused)) => Err(refused),
-    }
-}
-
-/// Makes a search again, and writes the blocks of its races as they come. `room` is for the races of one
+/// Makes a search, and writes the blocks of its races as they come. `room` is for the races of one
 /// later access at a time.
 fn write_found_in<R: Threads + Wait + Sync, K: Sink, O: Order + Sync, G: Gate + Sync>(
     rt: &R,
@@ -120,7 +75,7 @@ fn write_found_in<R: Threads + Wait + Sync, K: Sink, O: Order + Sync, G: Gate + 
     }
 }
 
-/// Makes a search again, and writes the blocks of its races as they come.
+/// Makes a search, and writes the blocks of its races as they come.
 pub(crate) fn write_found<R: Threads + Wait + Sync, K: Sink, O: Order + Sync, G: Gate + Sync>(
     rt: &R,
     alloc: Global,
