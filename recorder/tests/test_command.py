@@ -617,7 +617,7 @@ class Command(recorder.Case):
         tools, part = self.folder / f"tools of {at}" / "recorder", self.folder / "fake"
         tools.mkdir(parents=True, exist_ok=True)
         beside = {tools.parent / name: recorder.BUILT.parent / name for name in ("view", "common")}
-        parts = {tools / name: recorder.BUILT / name for name in ("lib", "shb-std", "shb_record") if name != at}
+        parts = {tools / name: recorder.BUILT / name for name in ("lib", "shb-std") if name != at}
         for place, path in {**beside, **parts}.items():
             if not place.exists():
                 place.symlink_to(path)
@@ -629,6 +629,7 @@ class Command(recorder.Case):
         fake.write_text(f'#!/bin/sh\nif [ ! -e {sent} ]; then touch {sent}; {sends}{waits}fi\nexec {real} "$@"\n')
         fake.chmod(0o755)
         shutil.copy(recorder.BUILT / "shb-record", tools)
+        shutil.copytree(recorder.BUILT / "shb_record", tools / "shb_record", dirs_exist_ok=True)
         return self.record(*words, self.program(), "0", "race", command=tools / "shb-record", SHB=str(part if at == "shb" else recorder.SHB))
 
     def test_a_signal_after_the_run_lets_it_be_shown(self):
