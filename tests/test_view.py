@@ -496,6 +496,16 @@ class Groups(program.Case):
             [place] = json.loads(found.read_text())["places"]
             self.assertEqual(place["variables"], [{"name": name, "races": many * many} for name in "xy"])
 
+    def test_places_are_counted_as_the_program_does(self):
+        """Two locations that race in both orders are two."""
+        for name in ("unlocked-read", "places", "account"):
+            count = int(re.search(rb"\nplaces (\d+)\n", program.run(["places", "--list", EXAMPLES / f"{name}.std"]).out)[1])
+            found = self.folder / "found.json"
+            status, out, _ = run_here(["--text", "--json", found, EXAMPLES / f"{name}.std"])
+            document = json.loads(found.read_text())
+            self.assertEqual((document["summary"]["places"], sum(place["places"] for place in document["places"])), (count, count))
+            self.assertRegex(out, rf"races? at {count} places?, in ")
+
     def test_the_variable_of_nearly_all_races_is_named(self):
         """The list begins with the others, which the first race of each place has."""
         events = ["A w first 1", "B w first 2"] + [f"{thread} w served {line}" for thread, line in (("A", 1), ("B", 2)) for _ in range(330)]

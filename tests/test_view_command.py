@@ -1,5 +1,6 @@
 """view/shb-view as a command: its files, its statuses, and the `shb` that it runs."""
 
+import json
 import os
 import resource
 import shutil
@@ -7,6 +8,7 @@ import signal
 import subprocess
 import sys
 import threading
+from unittest import mock
 
 import program
 import shb
@@ -114,6 +116,26 @@ exec REAL "$@"
                                                                  "with tabs between them")
         only = self.file(b"queue.c:29\tmain.c:12\titems\n", "places")
         self.assertIn("\nOf 2 groups 0 are shown", run_here(["--only", only, trace])[1])
+
+    def test_what_is_said_of_the_recorder(self):
+        """Text, page and the result for programs have it; it is escaped."""
+        page, found = self.folder / "page.html", self.folder / "found.json"
+        status, out, err = run_here(["--about", "Code of <b>lib\x1b.so isn't seen.", "--text", "--html", page, "--json", found, TRACE])
+        self.assertEqual((status, err), (0, ""))
+        self.assertIn("\nCode of <b>lib\\x1b.so isn't seen.\n", out)
+        self.assertIn("Code of &lt;b&gt;lib\\x1b.so isn&#x27;t seen.", page.read_text())
+        document = json.loads(found.read_text())
+        self.assertEqual((document["form"], document["version"], document["command"], document["notes"][-1]),
+                         ("shb-places", 1, "shb-view", "Code of <b>lib\\x1b.so isn't seen."))
+        [place] = document["places"]
+        self.assertEqual([(access["location"], access["uses"], access["threads"]) for access in place["accesses"]],
+                         [("start.c:6", {"write": 1}, {"main": 1}), ("worker.c:3", {"write": 1}, {"worker": 1})])
+        self.assertEqual((place["places"], place["races"], place["variables"]), (1, 1, [{"name": "count", "races": 1}]))
+
+    def test_a_fault_of_the_view_itself_is_no_bad_report(self):
+        with mock.patch("shb_view.command.make_view", lambda *_: None):
+            status, out, err = run_here([TRACE])
+        self.assertEqual((status, out, err.startswith("shb-view: Traceback ")), (2, "", True))
 
     def test_a_title(self):
         status, out, _ = run_here(["--title", "./app 3\x1b", TRACE])

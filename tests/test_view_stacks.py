@@ -152,7 +152,7 @@ class Stacks(program.Case):
         self.assertIn(r"<b>\x1b[31m of main: ", out)
         status, _, err = self.shown(stacks(tables=TABLES + b"local 2\tx\n"), trace=trace)
         self.assertEqual(status, 4)
-        self.assertIn("is damaged: `local 2", err)
+        self.assertRegex(err, r"is damaged in line \d+: `local 2")
 
     def test_a_free(self):
         """One call frees a block of two variables that another thread uses: it is one free, and no write."""

@@ -106,7 +106,7 @@ const char *source_name(const char *path) {
     if (whole_paths || !*normal) return path;
     if (strip && !strncmp(normal, stripped_folder, strip) && normal[strip] == '/') return normal + strip + 1;
     if (sorted_count != source_count) sort_sources();
-    char **found = bsearch(&normal, sources, source_count, sizeof *sources, by_end);
+    char **found = source_count ? bsearch(&normal, sources, source_count, sizeof *sources, by_end) : 0;
     if (!found) return strrchr(normal, '/') + 1;
     const char *end = unique_end(found), *most = in_system(*found) ? *found + 1 : *found + common_length;
     return end < most ? most : end;
