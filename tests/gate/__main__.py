@@ -10,8 +10,8 @@
 `rt ci` proves the crates and their tests in a copy of the repository that has no must-fail edits; it takes over what an
 earlier run on this machine has proved of the same files over the same libraries. As soon as a crate is proved its edits
 are tried over the libraries that are built by then (joint.py), those that the record (record.py) doesn't answer for and of
-the others a tenth; as soon as the program is linked the tests of tests/, recorder/, farm/ and install/ run on it, two
-folders at once. Each part ends with a line 'N passed, N failed', and so does the whole.
+the others a tenth; as soon as the program is linked the tests of tests/, recorder/, farm/, install/ and common/ run on it, and
+what it costs is counted (tests/costs.py), two of these at once. Each part ends with a line 'N passed, N failed', and so does the whole.
 """
 
 import argparse
@@ -37,7 +37,8 @@ import steps
 ROOT = pathlib.Path(__file__).resolve().parent.parent.parent
 SUMS = ROOT / "tests" / "gate" / "refused.sums"
 MEMORY = 3_000_000_000  # a check of edits waits until so many bytes are free; most take less than 2.5 GB
-SUITES = ("recorder/tests", "tests", "farm/tests", "install/tests", "common/tests")  # the longest first
+SUITES = ("recorder/tests/run.py", "tests/run.py", "tests/costs.py", "farm/tests/run.py", "install/tests/run.py",
+          "common/tests/run.py")  # the longest first
 AT_ONCE = 2  # suites
 CLOSING = re.compile(r"(\d+) passed, (\d+) failed(?:, \d+ skipped)?")
 
@@ -125,11 +126,11 @@ class Edits:
         count.add(passed, len(told) - passed)
 
 
-def run_suite(folder, program):
-    """Runs the tests of a folder on the built program. Its name, status and output."""
-    words = [sys.executable, "-u", str(ROOT / folder / "run.py"), str(program)]
+def run_suite(script, program):
+    """Runs tests on the built program. The script's name, its status and output."""
+    words = [sys.executable, "-u", str(ROOT / script), str(program)]
     ran = subprocess.run(words, cwd=ROOT, stdin=subprocess.DEVNULL, stdout=subprocess.PIPE, stderr=subprocess.STDOUT)
-    return folder, ran.returncode, ran.stdout.decode(errors="replace")
+    return script, ran.returncode, ran.stdout.decode(errors="replace")
 
 
 def prove(room, command, edits, pool, count):
@@ -145,7 +146,7 @@ def prove(room, command, edits, pool, count):
                 print(f"{built}: built after {time.monotonic() - began:.0f} s", flush=True)
                 edits.begin(built)
             if built == "shb":
-                suites = [pool.submit(run_suite, folder, room / "crates/shb/out/shb") for folder in SUITES]
+                suites = [pool.submit(run_suite, script, room / "crates/shb/out/shb") for script in SUITES]
     count.add_command(proofs.returncode, last)
     return suites
 
@@ -165,8 +166,8 @@ def run_gate(room, options):
         if not suites:
             count.add(0, 1)
             print("the program wasn't built, so its tests didn't run")
-        for folder, status, said in (it.result() for it in suites):
-            print(f"== {folder}\n{said}", end="" if said.endswith("\n") else "\n", flush=True)
+        for script, status, said in (it.result() for it in suites):
+            print(f"== {script}\n{said}", end="" if said.endswith("\n") else "\n", flush=True)
             count.add_command(status, said)
     if options.record and not count.failed:
         record.write(SUMS, edits.sums)

@@ -1,0 +1,177 @@
+#!/usr/bin/env python3
+"""Counts what the built program costs on some traces, in instructions, and compares this with bounds. No clause of a
+contract speaks of cost, so only this step notices a table that isn't found again, or a search that looks twice.
+
+    costs.py [--only WORD] [--write] [PROGRAM]
+
+Each shape of traces (shapes.py) is analysed with a number of events and with twice as many, by valgrind's callgrind, with
+one worker. The first count has its own bound, in costs.tsv; the second may be at most 2.3 times the first. Of recorded
+traces there is the first count alone. Where a change makes a trace dearer, its bound is changed in the same commit, with
+the reason in the commit's message; --write writes bounds a tenth above what this program costs. Ends with the line
+'N passed, N failed'; a machine without valgrind fails.
+"""
+
+import argparse
+import concurrent.futures
+import lzma
+import pathlib
+import re
+import shutil
+import subprocess
+import sys
+import tempfile
+import threading
+import typing
+
+HERE = pathlib.Path(__file__).resolve().parent
+sys.dont_write_bytecode = True
+sys.path[:0] = [str(HERE), str(HERE.parent / "bench")]
+
+import growth
+import hot_traces
+import shapes
+
+BOUNDS = HERE / "costs.tsv"
+RECORDED = HERE / "recorded"
+GROWTH = 2.3
+ROOM = 1.1
+FIRST = 65_536  # of a list that is too long to be read, so much is read
+AT_ONCE = 2
+SECONDS = 600
+ENDED = (0, 2)  # a report was written, or the trace was refused
+COLLECTED = re.compile(rb"Collected : (\d+)")
+
+
+class Cost(typing.NamedTuple):
+    """A trace of `events` events, and the program's words for it."""
+
+    name: str
+    words: tuple
+    parts: typing.Callable
+    events: int
+    grows: bool = True
+    reads: typing.Optional[int] = None
+
+
+PLACES, RACES = ("places", "--list"), ("races", "--list")
+
+
+def hot(shape, threads, per_event):
+    """A shape of hot_traces, for a number of events: each of `threads` threads has its part."""
+    return lambda n: hot_traces.lines(shape, max(n // per_event, 1), threads, 1)
+
+
+def recorded(path):
+    return lambda _: [lzma.open(path, "rt", encoding="latin-1").read()]
+
+
+def costs():
+    """All that is counted."""
+    for name, parts in growth.SHAPES.items():
+        yield Cost(name, PLACES, parts, 10_000)
+    ours = {
+        "8 threads write under a lock": shapes.under_a_lock(8),
+        "256 threads write under a lock": shapes.under_a_lock(256),
+        "64 threads write under a lock at 100 locations": shapes.under_a_lock(64, 100),
+        "256 threads read under a lock": shapes.read_under_a_lock,
+        "one location, then many": shapes.one_location_then_many,
+        "locations of one thread": shapes.locations_of_one_thread,
+        "locations under a lock": shapes.locations_under_a_lock,
+        "a location for each access": shapes.a_location_for_each_access,
+        "many locations against one": shapes.many_against_one,
+        "locations without order": shapes.unordered_locations,
+        "locations and learning": shapes.learning,
+        "both kinds at one location": shapes.both_kinds,
+        "turns at one location": shapes.turns_at_a_location,
+        "places of many variables": shapes.variables_forwards,
+        "places of many variables, the last one first": shapes.variables_backwards,
+        "1,000 threads without order": shapes.crowd,
+        "a chain of 250 threads": shapes.chain,
+        "1,000 readers, few writes": shapes.many_readers,
+    }
+    for name, parts in ours.items():
+        yield Cost(name, PLACES, parts, 20_000)
+    for name in ("8 threads write under a lock", "256 threads write under a lock", "256 threads read under a lock", "a chain of 250 threads"):
+        yield Cost(name, RACES, ours[name], 20_000)
+    yield Cost("few and many races by turns", RACES, shapes.few_and_many_races, 40_000, reads=FIRST)
+    yield Cost("a counter of 2 threads", RACES, hot("counter", 2, 4), 20_000, reads=FIRST)
+    yield Cost("a counter of 64 threads", RACES, hot("counter", 64, 128), 20_000, reads=FIRST)
+    yield Cost("a counter of 64 threads", PLACES, hot("counter", 64, 128), 20_000)
+    yield Cost("locks and statistics", PLACES, hot("mixed", 8, 5), 20_000)
+    yield Cost("locks and statistics", RACES, hot("mixed", 8, 5), 20_000, reads=FIRST)
+    yield Cost("an array", RACES, hot("array", 8, 2), 20_000)
+    for path in sorted(RECORDED.glob("*.std.xz")):
+        yield Cost(path.name, PLACES, recorded(path), 0, grows=False)
+        yield Cost(path.name, RACES, recorded(path), 0, grows=False)
+
+
+def instructions(program, cost, times):
+    """The instructions of one analysis, of a trace with so many times the events."""
+    with tempfile.TemporaryDirectory() as room:
+        trace = pathlib.Path(room) / "trace.std"
+        with open(trace, "w", encoding="latin-1") as out:
+            out.writelines(cost.parts(times * cost.events))
+        words = ["valgrind", "--tool=callgrind", "--callgrind-out-file=/dev/null", program, *cost.words, "--workers", "1", trace]
+        with subprocess.Popen(words, stdout=subprocess.PIPE, stderr=open(pathlib.Path(room) / "said", "wb"), cwd=room) as ran:
+            limit = threading.Timer(SECONDS, ran.kill)
+            limit.start()
+            ran.stdout.read(FIRST if cost.reads else -1)
+            ran.stdout.close()
+            ran.wait()
+            limit.cancel()
+        said = (pathlib.Path(room) / "said").read_bytes()
+        counted = COLLECTED.search(said)
+        if not counted or (ran.returncode not in ENDED and not cost.reads):
+            raise RuntimeError(f"{cost.name}: status {ran.returncode}: {said[-400:].decode(errors='replace')}")
+        return int(counted[1])
+
+
+def key(cost):
+    return f"{cost.words[0]}: {cost.name}"
+
+
+def bounds():
+    return {name: int(bound) for name, bound in (line.split("\t") for line in BOUNDS.read_text().splitlines() if line)} if BOUNDS.exists() else {}
+
+
+def complaints(cost, once, twice, bound):
+    """What is wrong with the counts of a trace, and of twice as many events where there is such a one."""
+    if bound is None:
+        yield "has no bound in costs.tsv"
+    elif once > bound * 1000:
+        yield f"takes {once // 1000} thousand instructions, and may take {bound}"
+    if twice is not None and twice > GROWTH * once:
+        yield f"takes {twice / once:.2f} times as much for twice the events, and may take {GROWTH}"
+
+
+def measured(program, cost):
+    return instructions(program, cost, 1), instructions(program, cost, 2) if cost.grows else None
+
+
+def main():
+    parser = argparse.ArgumentParser(description=__doc__.splitlines()[0])
+    parser.add_argument("--only", default="")
+    parser.add_argument("--write", action="store_true")
+    parser.add_argument("program", nargs="?", default=HERE.parent / "bin" / "shb", type=pathlib.Path)
+    options = parser.parse_args()
+    if not shutil.which("valgrind"):
+        print("costs.py: valgrind isn't on the PATH (Debian: apt-get install valgrind)\n0 passed, 1 failed")
+        return 1
+    chosen = [cost for cost in costs() if options.only in key(cost)]
+    known, failed = bounds(), 0
+    with concurrent.futures.ThreadPoolExecutor(AT_ONCE) as pool:
+        for cost, (once, twice) in zip(chosen, pool.map(lambda cost: measured(options.program.resolve(), cost), chosen)):
+            if options.write:
+                known[key(cost)] = round(once * ROOM / 1000)
+            wrong = [*complaints(cost, once, twice, known.get(key(cost)))]
+            failed += bool(wrong)
+            growing = f", {twice / once:.2f} times for twice the events" if twice else ""
+            print(f"{'FAIL' if wrong else 'ok  '} {key(cost)}: {once // 1000} thousand{growing}", *wrong, sep="\n     ", flush=True)
+    if options.write:
+        BOUNDS.write_text("".join(f"{name}\t{bound}\n" for name, bound in known.items()))
+    print(f"{len(chosen) - failed} passed, {failed} failed")
+    return 1 if failed or not chosen else 0
+
+
+if __name__ == "__main__":
+    sys.exit(main())

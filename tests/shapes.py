@@ -1,0 +1,119 @@
+"""Shapes of traces whose cost is counted (costs.py): ordinary ones, and those that are chosen against an analyser.
+Each function takes how many events the trace shall have, about, and gives its text in parts. The same number gives
+the same text."""
+
+import random
+
+LOCATIONS = 16_384
+
+
+def under_a_lock(threads, locations=1):
+    """Two threads race, and then threads in turn write the variable under one lock."""
+
+    def parts(n):
+        yield "A|w(x)|a\nB|w(x)|b\n"
+        for k in range(n // 3):
+            yield "T{0}|acq(l)|c\nT{0}|w(x)|d{1}\nT{0}|rel(l)|e\n".format(k % threads, k % locations)
+
+    return parts
+
+
+def read_under_a_lock(n):
+    """The same with 256 threads that read."""
+    yield "A|w(x)|a\nB|w(x)|b\n"
+    for k in range(n // 3):
+        yield "T{0}|acq(l)|c\nT{0}|r(x)|d\nT{0}|rel(l)|e\n".format(k % 256)
+
+
+def one_location_then_many(n):
+    """A thread writes a variable at one location, and then another one writes it at many: each asks for the earliest
+    access at the first location."""
+    yield "A|w(x)|a\n" * (n // 2)
+    yield from (f"B|w(x)|b{k}\n" for k in range(n // 2))
+
+
+def locations_of_one_thread(n):
+    """A thread writes at many locations what another one wrote once: no two of these locations ever race."""
+    yield "B|w(x)|b\n"
+    yield from (f"A|w(x)|l{k % LOCATIONS}\n" for k in range(n))
+
+
+def locations_under_a_lock(n):
+    """Four threads write at many locations under one lock, after a race: nearly no two locations ever race."""
+    pick = random.Random(1)
+    yield "B|w(x)|b\n"
+    for _ in range(n // 3):
+        yield "T{0}|acq(l)|c\nT{0}|w(x)|l{1}\nT{0}|rel(l)|e\n".format(pick.randrange(4), pick.randrange(LOCATIONS))
+
+
+def a_location_for_each_access(n):
+    """Each access is at a location of its own, ordered by a lock but for the first one."""
+    yield "B|w(x)|b\n"
+    for k in range(n // 3):
+        yield f"T{k % 2}|acq(l)|c\nT{k % 2}|w(x)|l{k}\nT{k % 2}|rel(l)|e\n"
+
+
+def many_against_one(n):
+    """A thread writes at a new location each time, and another one three times at one location, in turn."""
+    yield from (f"A|w(x)|a{k}\n" + "B|w(x)|b\n" * 3 for k in range(n // 4))
+
+
+def unordered_locations(n):
+    """Two threads write a variable at 100 locations each, without order, and one location never races."""
+    pick = random.Random(1)
+    yield "B|acq(l)\nB|w(x)|z\nB|rel(l)\nA|acq(l)\nA|rel(l)\n"
+    for _ in range(n // 2):
+        yield f"A|w(x)|a{pick.randrange(100)}\nB|w(x)|b{pick.randrange(100)}\n"
+
+
+def learning(n):
+    """The same, where each access comes after its thread has learned something else."""
+    pick = random.Random(1)
+    for k in range(n // 5):
+        yield f"A|w(x)|a{pick.randrange(100)}\nC|w(y{k % 7})|c\nB|r(y{k % 7})|d\nB|w(x)|b{pick.randrange(100)}\nB|r(q)|e\n"
+
+
+def both_kinds(n):
+    """Two threads read and write a variable at one location in turn, as a counter without a lock does."""
+    yield from (f"T{k % 2}|r(x)|a\nT{k % 2}|w(x)|a\n" for k in range(n // 2))
+
+
+def turns_at_a_location(n):
+    """200 threads take turns at one location under a lock, while another location never races."""
+    yield "A|w(x)|a\nB|w(x)|b\n"
+    yield from (f"T{k % 200}|acq(l)\nT{k % 200}|w(x)|c\nT{k % 200}|rel(l)\nT{k % 200}|r(x)|d\n" for k in range(n // 4))
+
+
+def variables_forwards(n):
+    """Variables, each of them accessed at 100 locations by a thread and then by another: the same places each."""
+    yield from (f"A|w(v{k // 100})|a{k % 100}\n" for k in range(n // 2))
+    yield from (f"B|w(v{k // 100})|b{k % 100}\n" for k in range(n // 2))
+
+
+def variables_backwards(n):
+    """The same, where the second thread goes through them from the last one on: each place is found anew."""
+    yield from (f"A|w(v{k // 100})|a{k % 100}\n" for k in range(n // 2))
+    yield from (f"B|w(v{k // 100})|b{k % 100}\n" for k in reversed(range(n // 2)))
+
+
+def crowd(n):
+    """1,000 threads write a variable at one location without order."""
+    yield from (f"T{k % 1000}|w(x)|l\n" for k in range(n))
+
+
+def chain(n):
+    """250 threads read and write a variable in turn, each what the one before wrote."""
+    yield from (f"T{k % 250}|r(x)|a\nT{k % 250}|w(x)|b\n" for k in range(n // 2))
+
+
+def many_readers(n):
+    """1,000 threads read a variable at 50 locations, and one access in 997 writes."""
+    yield from (f"T{k % 1000}|{'w' if k % 997 == 0 else 'r'}(x)|l{k % 50}\n" for k in range(n))
+
+
+def few_and_many_races(n):
+    """Runs of accesses with many races and runs with none, by turns: one thread writes without order, and another one
+    after all of these writes."""
+    yield "A|w(x)|a\n" * 1024 + "A|acq(l)\nA|rel(l)\nC|acq(l)\nC|rel(l)\n"
+    for _ in range(n // 132):
+        yield "B|w(x)|b\n" * 64 + "B|acq(m)\nB|rel(m)\nC|acq(m)\nC|rel(m)\n" + "C|w(x)|c\n" * 64
