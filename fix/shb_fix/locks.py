@@ -4,18 +4,37 @@ import collections
 
 from shb_fix.events import Event, OWN
 
-VOLATILE, READER = OWN.encode() + b"volatile", OWN.encode() + b"reader."
+VOLATILE, READER = OWN.encode() + b"volatile.", OWN.encode() + b"reader."
+
+
+def later_readers(events):
+    """For each volatile write, by its place: the other threads that read the variable later, in the order of their first events."""
+    readers, found = collections.defaultdict(dict), {}
+    for k in range(len(events) - 1, -1, -1):
+        event = events[k]
+        if event.word == b"vr":
+            readers[event.name][event.thread] = None
+        elif event.word == b"vw":
+            found[k] = [reader for reader in sorted(readers[event.name]) if reader != event.thread]
+    return found
 
 
 def with_volatiles(events, repairs):
-    """A volatile or atomic access takes and gives a lock of its variable. So two of them are ordered and don't race."""
-    for event in events:
+    """What a thread did before a volatile write comes before what another one does after a later read of the variable, and nothing
+    else is ordered: a write takes and gives back a lock of its own for each such reader, which takes it at its next read."""
+    events, given = list(events), collections.defaultdict(list)
+    readers = later_readers(events)
+    for k, event in enumerate(events):
         if event.word not in (b"vr", b"vw"):
             yield event
             continue
-        repairs.note(event.line, "is a volatile access", "a volatile access is a lock of its own, taken and given back")
-        yield event.like(b"acq", event.name + VOLATILE)
-        yield event.like(b"rel", event.name + VOLATILE)
+        repairs.note(event.line, "is a volatile access", "a volatile access is made of locks, which order a read after the writes before it")
+        locks = given.pop((event.name, event.thread), []) if event.word == b"vr" else [b"%s%s%d.%s" % (event.name, VOLATILE, k, reader) for reader in readers[k]]
+        for lock in locks:
+            yield event.like(b"acq", lock)
+            yield event.like(b"rel", lock)
+        for reader, lock in zip(readers.get(k, ()), locks):
+            given[event.name, reader].append(lock)
 
 
 def with_waits(events, repairs):
