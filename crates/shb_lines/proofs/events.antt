@@ -8,6 +8,7 @@ pub mod Items
 pub mod Increasing
 pub mod Listed
 pub mod Locks
+pub mod Longer
 pub mod Indices
 pub mod Prefix
 pub mod Propositions

@@ -8,6 +8,11 @@ pub mod FaultLemmas
 pub mod LineLemmas
 pub mod LineTexts
 pub mod TakingLemmas
+pub mod LinesRead
+pub mod Operands
+pub mod OwnedLemmas
+pub mod NumberingLemmas
+pub mod TakenEvents
 pub mod Scanning
 pub mod FirstFault
 pub mod Taken

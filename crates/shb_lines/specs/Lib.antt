@@ -1,3 +1,4 @@
 pub mod text
 pub mod events
+pub mod Growing
 pub mod Lowest

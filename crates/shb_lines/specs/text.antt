@@ -10,6 +10,10 @@ pub mod Faults
 pub mod Messages
 pub mod TraceData
 pub mod Taking
+pub mod Lines
+pub mod OwnedNames
+pub mod Numbering
+pub mod Taken
 -- what the reader and the trace hold
 pub mod Hashing
 pub mod Spans

@@ -2,8 +2,8 @@
 //! no crate is proved a second time for its tests. Those of threads, devices, whole runs and the reading of
 //! reports are in `shb_run_tests`.
 //!
-//! A module has the tests of one crate, and has its name: `pairs` those of `shb_pairs`. They use public
-//! items alone.
+//! A module has the tests of one crate, and has its name: `pairs` those of `shb_pairs`. `source_lines` and
+//! `source_events` are about what `shb_lines` reads without keeping the text. They use public items alone.
 //!
 //! A test is proved like any function, and an assertion written in it costs some 9 seconds of
 //! proof. So a test calls the functions of `asserting`: `same(&rt, &found, &wanted, "what it is")`,
@@ -27,5 +27,9 @@ mod lines;
 mod pairs;
 #[cfg(test)]
 mod replay;
+#[cfg(test)]
+mod source_events;
+#[cfg(test)]
+mod source_lines;
 #[cfg(test)]
 mod witness;

@@ -39,15 +39,6 @@ same_thread trace k t e at of_thread = let same : Some e.thread ≡ Some t = sym
 pub same_op : (trace : List Event) (k : ℕ) (op : Op) (e : Event) → slice_get trace k ≡ Some e → op_at trace k ≡ Some op → e.op ≡ op
 same_op trace k op e at of_op = let same : Some e.op ≡ Some op = sym (op_is trace k e at) ∙ of_op in cc
 
--- an event whose thread and operation are known, and its line
-pub event_of_parts : (trace : List Event) (k t : ℕ) (op : Op) → thread_at trace k ≡ Some t → op_at trace k ≡ Some op → (line : ℕ) × (slice_get trace k ≡ Some record { thread = t; op = op; line = line })
-event_of_parts trace k t op of_thread of_op =
-    let event = event_of_thread trace k t of_thread in
-    (event.0.line, event.1 ∙ ap (λ e. Some e) (known event.0 event.2 (same_op trace k op event.0 event.1 of_op)))
-  where
-    known : (e : Event) → e.thread ≡ t → e.op ≡ op → e ≡ record { thread = t; op = op; line = e.line }
-    known e thread op = rw (sym thread, sym op) refl
-
 -- the tests that are counted, by threads and operations
 pub is_of_true : (u : ℕ) (e : Event) → e.thread ≡ u → is_of u e ≡ true
 unfolding is_of

@@ -1,0 +1,60 @@
+-- What is found in a line after some events, where the names are owned.
+use Rattle.std.specs.Prelude.{◌≡◌, ◌+◌, ◌<◌, ◌≤◌, ◌^◌, ℕ, List, [], ◌∷◌, ◌++◌, length, Option, None, Some, Result, Ok, Err}
+use Rattle.std.specs.Str.Lines.{strip_carriage_return}
+use Rattle.shb_lines.specs.declared.fault.Fault.{Fault}
+use Rattle.shb_lines.specs.declared.limits.Limits.{Limits}
+use Rattle.shb_lines.specs.declared.numbering.Numbering.{Numbering}
+use Rattle.shb_lines.specs.declared.numbering.Step.{Step}
+use Rattle.shb_lines.specs.text.Faults.{HasLineFault, number_of}
+use Rattle.shb_lines.specs.text.Grammar.{NamedEvent}
+use Rattle.shb_lines.specs.text.Limits.{most_line}
+use Rattle.shb_lines.specs.text.Meaning.{meaning}
+use Rattle.shb_lines.specs.text.Numbers.{IsNumber, IsOperation, Tables, tables_of_events}
+use Rattle.shb_lines.specs.text.OwnedNames.{names_of}
+use Rattle.shb_lines.specs.Lowest.{IsLowest}
+
+-- the greatest limits of a text that isn't kept: the limit of its bytes says nothing
+pub record AreWide (limits : Limits) : Type 0 where
+  pub line : limits.line ≤ most_line
+  pub events : limits.events + 1 < 2 ^ 32
+  pub threads : limits.threads < 2 ^ 16
+
+abbrev pub tables_of : Numbering → Tables
+tables_of numbering = record { threads = names_of numbering.threads; locks = names_of numbering.locks; variables = names_of numbering.variables }
+
+-- the numbers of a step are those of the event's names
+pub record IsStepOf (tables : Tables) (step : Step) (named : NamedEvent) : Type 0 where
+  pub thread : IsNumber tables.threads step.thread named.thread
+  pub operation : IsOperation tables step.op named.kind named.operand
+
+-- the names are those of these events
+pub record HasNumbered (before : List NamedEvent) (numbering : Numbering) : Type 0 where
+  pub tables_are : tables_of numbering ≡ tables_of_events before
+  pub count_is : numbering.events ≡ length before
+
+-- there are no more events and threads than the limits, and no more locks and variables than events
+pub record IsWithin (limits : Limits) (numbering : Numbering) : Type 0 where
+  pub few : numbering.events ≤ limits.events
+  pub threads : length (names_of numbering.threads) ≤ limits.threads
+  pub locks : length (names_of numbering.locks) ≤ numbering.events
+  pub variables : length (names_of numbering.variables) ≤ numbering.events
+
+-- the line has no fault, and what it gives is numbered
+pub record GivesStep (limits : Limits) (before : List NamedEvent) (line : List ℕ) (new : Numbering) (step : Step) : Type 0 where
+  pub named : NamedEvent
+  pub meaning_is : meaning (strip_carriage_return line) ≡ Ok (Some named)
+  pub faultless : IsLowest number_of (HasLineFault limits ⊥ before line) None
+  pub step_is : IsStepOf (tables_of new) step named
+  pub numbered : HasNumbered (before ++ named ∷ []) new
+
+-- the line has no fault, and gives nothing
+pub record GivesNothing (limits : Limits) (before : List NamedEvent) (line : List ℕ) (new : Numbering) : Type 0 where
+  pub meaning_is : meaning (strip_carriage_return line) ≡ Ok None
+  pub faultless : IsLowest number_of (HasLineFault limits ⊥ before line) None
+  pub numbered : HasNumbered before new
+
+-- what is found in a line
+abbrev pub IsFound : Limits → List NamedEvent → List ℕ → Numbering → Result (Option Step) Fault → Type 0
+IsFound limits before line new (Ok (Some step)) = GivesStep limits before line new step
+IsFound limits before line new (Ok None) = GivesNothing limits before line new
+IsFound limits before line new (Err fault) = IsLowest number_of (HasLineFault limits ⊥ before line) (Some fault)

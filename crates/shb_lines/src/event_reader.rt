@@ -1,0 +1,157 @@
+//! The events of a source, one after the other, up to its first line fault. The text is not kept.
+ghost use Rattle.std.specs.Prelude.{◌≡◌, ◌+◌, ◌-◌, ◌^◌, ◌<◌, ◌≤◌, ◌++◌, ℕ, List, [], length, IfOk, OnOk, Option};
+ghost use Rattle.shb_io.specs.Devices.{CountsFailure};
+ghost use Rattle.shb_lines.specs.text.Grammar.{NamedEvent};
+ghost use Rattle.shb_lines.specs.text.Numbering.{AreWide, HasNumbered, IsWithin};
+ghost use Rattle.shb_lines.specs.declared.event_reader.Taken.TheVariants.{Nothing};
+ghost use Rattle.shb_lines.specs.text.Lines.{Moves};
+ghost use Rattle.shb_lines.specs.text.Text.{trace_of};
+ghost use Rattle.shb_lines.specs.text.Taken.{HasTaken, IsTaken, IsTakenLine, IsTakenNext, IsWithinAfter};
+ghost use Rattle.shb_lines.specs.text.Taking.{read_failed};
+
+use crate::fault::Fault;
+use crate::limits::Limits;
+use crate::lines::{Lines, Next};
+use crate::numbering::{Numbering, Step};
+use crate::read::ReadError;
+use shb_io::{Failed, NoMemory, Source};
+use std::alloc::Global;
+use std::random::RandomSource;
+
+/// What was taken of a source.
+#[derive(Clone, Copy, Debug, PartialEq, Eq)]
+pub enum Taken {
+    /// A line that gives nothing.
+    Nothing,
+    /// A line that gives an event.
+    Step(Step),
+    /// A line with a fault, the first of the text.
+    Fault(Fault),
+    /// Nothing, since all lines were taken.
+    End,
+}
+
+/// The events of a source.
+pub struct EventReader {
+    lines: Lines,
+    numbering: Numbering,
+    /// How many lines were taken.
+    line: u64,
+    /// Whether the last line was taken.
+    ended: bool,
+}
+
+impl Drop for EventReader {
+    fn drop(self) {
+        let EventReader {
+            lines: _,
+            numbering: _,
+            line: _,
+            ended: _,
+        } = self;
+    }
+}
+
+impl EventReader {
+    /// Nothing read yet.
+    pub fn new<R: RandomSource>(rt: &R, alloc: Global) -> Result<EventReader, NoMemory>
+        ensures taken { (limits : Limits) (left : Option (List ℕ)) → IfOk result (HasTaken limits [] [] left) }
+        ensures within { (limits : Limits) → IfOk result (λ reader. IsWithin limits reader.numbering) }
+        ensures line { IfOk result (λ reader. reader.line ≡ 0) }
+    {
+        Ok(EventReader {
+            lines: Lines::new(alloc)?,
+            numbering: Numbering::new(rt, alloc)?,
+            line: 0,
+            ended: false,
+        })
+    }
+
+    /// Takes the line that was given last.
+    fn take_given(&mut self, alloc: Global, limits: &Limits, ended: bool) -> Result<Taken, NoMemory>
+        requires wide { AreWide limits.now }
+        requires few { self.old.line < 2 ^ 64 - 1 }
+        requires within { IsWithin limits.now self.old.numbering }
+        ensures within { IfOk result (IsWithinAfter limits.now self.new.numbering) }
+        ensures lines { OnOk result (self.new.lines ≡ self.old.lines) }
+        ensures line { self.new.line ≡ self.old.line + 1 }
+        ensures ended { OnOk result (self.new.ended ≡ ended) }
+        ensures taken { (before : List NamedEvent) → HasNumbered before self.old.numbering
+            → length self.old.lines.line ≤ limits.now.line
+            → IfOk result (IsTakenLine limits.now before self.old.lines.line self.new.numbering) }
+    {
+        self.ended = ended;
+        self.line += 1;
+        match self.numbering.take_line(alloc, limits, self.lines.line())? {
+            Ok(None) => Ok(Taken::Nothing),
+            Ok(Some(step)) => Ok(Taken::Step(step)),
+            Err(fault) => Ok(Taken::Fault(fault)),
+        }
+    }
+
+    /// Takes the next line of the source. After a fault, and after an error of memory, nothing can be asked.
+    ///
+    /// # Errors
+    ///
+    /// `Source` where the source fails, at once, and only there. `Memory` where a growth is refused.
+    pub fn take_next<S: Source>(
+        &mut self,
+        alloc: Global,
+        source: &mut S,
+        limits: &Limits,
+    ) -> Result<Taken, ReadError>
+        requires wide { AreWide limits.now }
+        requires few { self.old.line < 2 ^ 64 - 1 }
+        requires within { IsWithin limits.now self.old.numbering }
+        requires countable { S.failure_count source.old < 2 ^ 64 - 1 }
+        ensures within { IfOk result (IsWithinAfter limits.now self.new.numbering) }
+        ensures line { IfOk result (λ taken. taken ≡ Nothing → self.new.line ≡ self.old.line + 1) }
+        ensures taken { (read : List ℕ) (lines : List (List ℕ)) → HasTaken limits.now read lines (S.remaining source.old) self.old
+            → IfOk result (λ taken. (more : List ℕ)
+            × Moves (S.remaining source.old) (S.remaining source.new) (S.given_count source.old) (S.given_count source.new) more
+            × IsTaken limits.now (read ++ more) lines (S.remaining source.new) self.new taken) }
+        ensures counted { CountsFailure read_failed (S.failure_count source.old) (S.failure_count source.new) result }
+    {
+        if self.ended {
+            return Ok(Taken::End);
+        }
+        match self.lines.next(source, limits.line) {
+            Ok(Next::Line) => Ok(self.take_given(alloc, limits, false)?),
+            Ok(Next::Last) => Ok(self.take_given(alloc, limits, true)?),
+            Ok(Next::TooLong) => Ok(Taken::Fault(Fault::LineTooLong)),
+            Err(Failed) => Err(ReadError::Source),
+        }
+    }
+    /// Takes lines up to the next one that gives an event or has a fault. It answers `Nothing` only where the
+    /// greatest `u64` of lines were taken.
+    ///
+    /// # Errors
+    ///
+    /// `Source` where the source fails, at once, and only there. `Memory` where a growth is refused.
+    pub fn next_event<S: Source>(
+        &mut self,
+        alloc: Global,
+        source: &mut S,
+        limits: &Limits,
+    ) -> Result<Taken, ReadError>
+        requires wide { AreWide limits.now }
+        requires within { IsWithin limits.now self.old.numbering }
+        requires countable { S.failure_count source.old < 2 ^ 64 - 1 }
+        ensures within { IfOk result (IsWithinAfter limits.now self.new.numbering) }
+        ensures nothing { IfOk result (λ taken. taken ≡ Nothing → 2 ^ 64 - 1 ≤ self.new.line) }
+        ensures taken { (read : List ℕ) (lines : List (List ℕ)) → HasTaken limits.now read lines (S.remaining source.old) self.old
+            → IfOk result (λ taken. (more : List ℕ) × (empty : List (List ℕ))
+            × Moves (S.remaining source.old) (S.remaining source.new) (S.given_count source.old) (S.given_count source.new) more
+            × (trace_of (lines ++ empty) ≡ trace_of lines)
+            × IsTakenNext limits.now (read ++ more) (lines ++ empty) (S.remaining source.new) self.new taken) }
+        ensures counted { CountsFailure read_failed (S.failure_count source.old) (S.failure_count source.new) result }
+    {
+        while self.line < u64::MAX {
+            match self.take_next(alloc, source, limits)? {
+                Taken::Nothing => {}
+                taken => return Ok(taken),
+            }
+        }
+        Ok(Taken::Nothing)
+    }
+}

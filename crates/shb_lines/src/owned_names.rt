@@ -1,0 +1,158 @@
+//! Names that a table owns, numbered in order of first appearance.
+ghost use Rattle.std.specs.Prelude.{◌≡◌, ◌+◌, ◌<◌, ◌≤◌, ◌^◌, ℕ, List, [], ◌∷◌, true, Some, length, slice_get, IfOk, OnOk};
+ghost use Rattle.std.specs.Cmp.{on_equiv, on_per, partial_equiv_from_equiv};
+ghost use Rattle.std.specs.Cmp.Lexicographic.{nat_list_eq_equiv};
+ghost use Rattle.std.specs.Hash.{same_Alike};
+ghost use Rattle.std.specs.Str.{bytes_eq};
+ghost use Rattle.std.proofs.lemmas.Slice.Eq.{bytes_eq-Decides};
+ghost use Rattle.indexmap.specs.IndexSet.{index_set_len};
+ghost use Rattle.shb_lines.specs.text.Names.{with_name};
+ghost use Rattle.shb_lines.specs.text.OwnedNames.{names_of};
+
+use crate::following::Following;
+use crate::hashing::{HashKeys, MOST_AT_ONCE, TextKey};
+use indexmap::{Equivalent, IndexSet};
+use shb_io::NoMemory;
+use std::alloc::Global;
+use std::hash::{Hash, Hasher};
+use std::random::RandomSource;
+
+/// A text that is a key of a table, which owns it. It is written to a hasher whole.
+#[derive(Drop)]
+pub struct OwnedText {
+    pub bytes: Vec<u8>,
+}
+
+impl PartialEq for OwnedText {
+    ghost eq = { λ x y. bytes_eq x.bytes.items y.bytes.items };
+
+    ghost laws = { on_per (λ x. x.bytes.items) (partial_equiv_from_equiv nat_list_eq_equiv) };
+
+    fn eq(&self, other: &Self) -> bool {
+        self.bytes.as_slice() == other.bytes.as_slice()
+    }
+}
+
+impl Eq for OwnedText {
+    ghost laws = { on_equiv (λ x. x.bytes.items) nat_list_eq_equiv };
+}
+
+impl Hash for OwnedText {
+    ghost hash_input = { λ key. key.bytes.items ∷ [] };
+
+    ghost respects_eq = { λ x y. (same_Alike (λ bytes. bytes ∷ []) bytes_eq-Decides).fed x.bytes.items y.bytes.items };
+
+    fn hash<H: Hasher>(&self, state: &mut H) {
+        state.write(self.bytes.as_slice());
+    }
+}
+
+/// A name is looked up as it stands in the line, so that only a new one is copied.
+impl Equivalent<OwnedText> for TextKey<'_> {
+    ghost equivalent = { λ name key. bytes_eq name.bytes.now key.bytes.items };
+
+    ghost respects_hash = { λ name key. (same_Alike (λ bytes. bytes ∷ []) bytes_eq-Decides).fed name.bytes.now key.bytes.items };
+
+    ghost respects_eq = { λ name x y. nat_list_eq_equiv.congr name.bytes.now x.bytes.items y.bytes.items };
+
+    fn equivalent(&self, key: &OwnedText) -> bool {
+        self.bytes == key.bytes.as_slice()
+    }
+}
+
+impl OwnedText {
+    /// A copy of some bytes.
+    fn copied(alloc: Global, bytes: &[u8]) -> Result<OwnedText, NoMemory>
+        ensures { IfOk result (λ text. text.bytes.items ≡ bytes.now) }
+    {
+        let mut copy = Vec::new(alloc);
+        copy.extend_from_slice(bytes)?;
+        Ok(OwnedText { bytes: copy })
+    }
+}
+
+/// The names of one name space, in order of first appearance.
+#[derive(Drop)]
+pub struct OwnedNames {
+    table: IndexSet<OwnedText, HashKeys>,
+    following: Following,
+}
+
+impl OwnedNames {
+    /// No names yet.
+    pub fn new<R: RandomSource>(rt: &R, alloc: Global) -> Result<OwnedNames, NoMemory>
+        ensures { IfOk result (λ names. names_of names ≡ []) }
+    {
+        Ok(OwnedNames {
+            table: IndexSet::with_hasher(alloc, HashKeys::new(rt)?),
+            following: Following::new(alloc),
+        })
+    }
+
+    /// How many names there are.
+    pub fn len(&self) -> usize
+        ensures len { result ≡ length (names_of self.now) }
+        ensures small { result < 2 ^ 63 }
+    {
+        self.table.len()
+    }
+
+    /// Whether this number is the name's.
+    fn is_named(&self, number: u32, name: &[u8]) -> bool
+        ensures { result ≡ true → slice_get (names_of self.now) number ≡ Some name.now }
+    {
+        match self.table.get_index(number as usize) {
+            Some(known) => known.bytes.as_slice() == name,
+            None => false,
+        }
+    }
+
+    /// The number of a name. A name that is new is put last, and copied. A long name may be guessed.
+    pub fn number_of(&mut self, alloc: Global, name: &[u8]) -> Result<u32, NoMemory>
+        requires room { length (names_of self.old) < 2 ^ 32 }
+        ensures names { OnOk result (names_of self.new ≡ with_name (names_of self.old) name.now) }
+        ensures number { IfOk result (λ number. slice_get (names_of self.new) number ≡ Some name.now) }
+    {
+        if name.len() <= MOST_AT_ONCE {
+            return self.looked_up(alloc, name);
+        }
+        let guess = self.following.guess();
+        if self.is_named(guess, name) {
+            self.following.pass(guess);
+            return Ok(guess);
+        }
+        let number = self.looked_up(alloc, name)?;
+        self.following.learn(number)?;
+        Ok(number)
+    }
+
+    /// The number of a name, which may be this one.
+    pub fn guessed_or_number_of(
+        &mut self,
+        alloc: Global,
+        likely: u32,
+        name: &[u8],
+    ) -> Result<u32, NoMemory>
+        requires room { length (names_of self.old) < 2 ^ 32 }
+        ensures names { OnOk result (names_of self.new ≡ with_name (names_of self.old) name.now) }
+        ensures number { IfOk result (λ number. slice_get (names_of self.new) number ≡ Some name.now) }
+    {
+        if self.is_named(likely, name) {
+            return Ok(likely);
+        }
+        self.number_of(alloc, name)
+    }
+
+    /// The number of a name, by a look-up.
+    fn looked_up(&mut self, alloc: Global, name: &[u8]) -> Result<u32, NoMemory>
+        requires room { length (names_of self.old) < 2 ^ 32 }
+        ensures names { OnOk result (names_of self.new ≡ with_name (names_of self.old) name.now) }
+        ensures number { IfOk result (λ number. slice_get (names_of self.new) number ≡ Some name.now) }
+    {
+        if let Some(number) = self.table.get_index_of(TextKey { bytes: name }) {
+            return Ok(number as u32);
+        }
+        let (number, _) = self.table.insert_full(OwnedText::copied(alloc, name)?)?;
+        Ok(number as u32)
+    }
+}
