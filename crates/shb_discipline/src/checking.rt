@@ -1,14 +1,13 @@
 //! The check of the discipline, by one pass over the events.
 ghost use Rattle.std.specs.Prelude.{◌≡◌, ◌≤◌, IfErr, IfOk, OnOk, length};
 ghost use Rattle.shb_lines.specs.events.Discipline.{IsDisciplined};
-ghost use Rattle.shb_lines.specs.events.Sizes.{IsWithin};
 ghost use Rattle.shb_lines.specs.text.Limits.{most_events};
 ghost use Rattle.shb_discipline.specs.Faults.{IsFirstIfAny, IsRefusal};
 
 use crate::disciplined::Disciplined;
 use crate::state::State;
 use shb_io::NoMemory;
-use shb_lines::{Events, Fault, LineFault, Sizes, Trace};
+use shb_lines::{Events, Fault, LineFault, Trace};
 use std::alloc::Global;
 
 /// Why a trace is not known to meet the discipline.
@@ -33,18 +32,19 @@ impl From<NoMemory> for CheckError {
 
 /// The first event that may not come after those before it: its line and its fault of lowest
 /// number.
-fn first_fault(alloc: Global, events: &Events, sizes: Sizes) -> Result<Option<LineFault>, NoMemory>
+fn first_fault(alloc: Global, events: &Events) -> Result<Option<LineFault>, NoMemory>
     requires few { length events.now ≤ most_events }
-    requires within { IsWithin events.now sizes }
     ensures { IfOk result (IsFirstIfAny events.now) }
 {
-    let mut state = State::new(alloc, sizes)?;
+    let mut state = State::new(alloc);
     for e in 0..events.len() as u32 {
-        if let Some(fault) = state.fault(events.thread(e), events.op(e)) {
+        let thread = events.thread(e);
+        let op = events.op(e);
+        if let Some(fault) = state.fault(thread, op) {
             let line = events.event(e).line;
             return Ok(Some(LineFault { line, fault }));
         }
-        state.note(events, e);
+        state.note(thread, op)?;
     }
     Ok(None)
 }
@@ -66,7 +66,7 @@ pub fn check<'a>(alloc: Global, trace: &'a Trace) -> Result<Disciplined<'a>, Che
 {
     let events = trace.events();
     let sizes = trace.sizes();
-    match first_fault(alloc, events, sizes)? {
+    match first_fault(alloc, events)? {
         None => Ok(Disciplined {
             trace,
             events,

@@ -1,16 +1,15 @@
 //! What the events so far did to each lock and each thread.
-ghost use Rattle.std.specs.Prelude.{◌≡◌, ◌<◌, ◌↔◌, ◌^◌, ◌+◌, ℕ, List, IsTrue, IfOk, Some, slice_get, take, length, count_by, vec_len, All, false, replicate, []};
+ghost use Rattle.std.specs.Prelude.{◌≡◌, ◌<◌, ◌↔◌, ◌^◌, ◌+◌, ◌++◌, ℕ, List, IsTrue, OnOk, length, count_by, slice_index_or, [], ◌∷◌};
 ghost use Rattle.shb_lines.specs.declared.event.Event.{Event};
 ghost use Rattle.shb_lines.specs.declared.event.Op.TheVariants.{Acquire, Release, Fork, Join};
 ghost use Rattle.shb_lines.specs.events.Discipline.{MayCome, acquires, is_fork, is_join, is_of, only, other_than, releases};
-ghost use Rattle.shb_lines.specs.events.Sizes.{IsWithin};
 ghost use Rattle.shb_discipline.specs.Faults.{HasDisciplineFault};
-ghost use Rattle.shb_discipline.specs.State.{Covers, CoversOp, IsLockAfter, IsStateAfter, Tells};
+ghost use Rattle.shb_discipline.specs.State.{IsLockAfter, IsStateAfter, Tells, free_lock};
 ghost use Rattle.shb_lines.specs.Lowest.{IsLowest};
 ghost use Rattle.shb_lines.specs.text.Faults.{number_of};
 
 use shb_io::NoMemory;
-use shb_lines::{Events, Fault, Op, Sizes};
+use shb_lines::{Fault, Op, item_or, put};
 use std::alloc::Global;
 
 /// A lock after some events: its holder, and how many of the holder's acquires are not yet
@@ -21,9 +20,10 @@ pub(crate) struct LockState {
     pub(crate) depth: u32,
 }
 
-/// All locks and threads after some events, by their numbers.
+/// The discipline event by event: all locks and threads after some events, by their numbers. It grows as
+/// events name more of them.
 #[derive(Drop)]
-pub(crate) struct State {
+pub struct State {
     pub(crate) locks: Vec<LockState>,
     /// Whether a thread had an event.
     pub(crate) started: Vec<bool>,
@@ -33,22 +33,14 @@ pub(crate) struct State {
     pub(crate) joined: Vec<bool>,
 }
 
-/// As many locks that are free.
-fn free_locks(alloc: Global, size: u32) -> Result<Vec<LockState>, NoMemory>
-    ensures { IfOk result (λ locks. locks.items ≡ replicate size record { holder = 0; depth = 0 }) }
+/// A lock that no event names.
+fn free_lock() -> LockState
+    ensures { result ≡ free_lock }
 {
-    let free = LockState {
+    LockState {
         holder: 0,
         depth: 0,
-    };
-    Ok(vec![in alloc; free; size as usize]?)
-}
-
-/// As many flags that are false.
-fn unset_flags(alloc: Global, size: u32) -> Result<Vec<bool>, NoMemory>
-    ensures { IfOk result (λ flags. flags.items ≡ replicate size false) }
-{
-    Ok(vec![in alloc; false; size as usize]?)
+    }
 }
 
 impl LockState {
@@ -109,55 +101,47 @@ fn join_fault(thread: u32, child: u32) -> Option<Fault>
 
 impl State {
     /// Before all events: each lock is free, and no thread has begun.
-    pub(crate) fn new(alloc: Global, sizes: Sizes) -> Result<State, NoMemory>
-        ensures covers { (trace : List Event) → IsWithin trace sizes → IfOk result (λ state. All (Covers state) trace) }
-        ensures state { IfOk result (IsStateAfter []) }
+    pub fn new(alloc: Global) -> State
+        ensures { IsStateAfter [] result }
     {
-        Ok(State {
-            locks: free_locks(alloc, sizes.locks)?,
-            started: unset_flags(alloc, sizes.threads)?,
-            forked: unset_flags(alloc, sizes.threads)?,
-            joined: unset_flags(alloc, sizes.threads)?,
-        })
+        State {
+            locks: Vec::new(alloc),
+            started: Vec::new(alloc),
+            forked: Vec::new(alloc),
+            joined: Vec::new(alloc),
+        }
     }
 
     /// Whether the thread had an event.
     fn is_started(&self, thread: u32) -> bool
-        requires { thread < vec_len self.now.started }
         ensures { (past : List Event) → IsStateAfter past self.now → Tells result (count_by (is_of thread) past) }
     {
-        self.started[thread as usize]
+        item_or(self.started.as_slice(), thread, false)
     }
 
     /// Whether the thread was forked.
     fn is_forked(&self, thread: u32) -> bool
-        requires { thread < vec_len self.now.forked }
         ensures { (past : List Event) → IsStateAfter past self.now → Tells result (count_by (is_fork thread) past) }
     {
-        self.forked[thread as usize]
+        item_or(self.forked.as_slice(), thread, false)
     }
 
     /// Whether the thread was joined.
     fn is_joined(&self, thread: u32) -> bool
-        requires { thread < vec_len self.now.joined }
         ensures { (past : List Event) → IsStateAfter past self.now → Tells result (count_by (is_join thread) past) }
     {
-        self.joined[thread as usize]
+        item_or(self.joined.as_slice(), thread, false)
     }
 
     /// What is known of the lock.
     fn lock(&self, lock: u32) -> LockState
-        requires { lock < vec_len self.now.locks }
-        ensures { (past : List Event) → IsStateAfter past self.now → IsLockAfter past lock result }
+        ensures { result ≡ slice_index_or self.now.locks.items lock free_lock }
     {
-        self.locks[lock as usize]
+        item_or(self.locks.as_slice(), lock, free_lock())
     }
 
     /// The fault of a fork by this thread, if it has one.
     fn fork_fault(&self, thread: u32, child: u32) -> Option<Fault>
-        requires started { child < vec_len self.now.started }
-        requires forked { child < vec_len self.now.forked }
-        requires joined { child < vec_len self.now.joined }
         ensures { (past : List Event) (e : Event) → e.thread ≡ thread → e.op ≡ Fork child
             → count_by (is_join thread) past ≡ 0 → IsStateAfter past self.now
             → IsLowest number_of (HasDisciplineFault past e) result }
@@ -177,7 +161,6 @@ impl State {
 
     /// The fault of lowest number of an operation by this thread, which was not joined, if it has one.
     fn operation_fault(&self, thread: u32, op: Op) -> Option<Fault>
-        requires covers { CoversOp self.now op }
         ensures { (past : List Event) (e : Event) → e.thread ≡ thread → e.op ≡ op → count_by (is_join thread) past ≡ 0
             → IsStateAfter past self.now → IsLowest number_of (HasDisciplineFault past e) result }
     {
@@ -191,9 +174,7 @@ impl State {
     }
 
     /// The fault of lowest number of an operation by this thread, if it has one.
-    pub(crate) fn fault(&self, thread: u32, op: Op) -> Option<Fault>
-        requires thread { thread < vec_len self.now.joined }
-        requires operation { CoversOp self.now op }
+    pub fn fault(&self, thread: u32, op: Op) -> Option<Fault>
         ensures { (past : List Event) (e : Event) → e.thread ≡ thread → e.op ≡ op → IsStateAfter past self.now
             → IsLowest number_of (HasDisciplineFault past e) result }
     {
@@ -204,28 +185,44 @@ impl State {
         }
     }
 
-    /// Takes note of the event at `e`, which has no fault.
-    pub(crate) fn note(&mut self, events: &Events, e: u32)
-        requires in_range { e < length events.now }
-        requires few { length events.now < 2 ^ 32 }
-        requires covers { All (Covers self.old) events.now }
-        requires state { IsStateAfter (take e events.now) self.old }
-        requires may_come { (event : Event) → slice_get events.now e ≡ Some event → MayCome (take e events.now) event }
-        ensures covers { All (Covers self.new) events.now }
-        ensures state { IsStateAfter (take (e + 1) events.now) self.new }
+    /// Takes note of an event, which has no fault, after fewer than 4,294,967,295 others.
+    ///
+    /// # Errors
+    ///
+    /// `NoMemory` where a growth is refused. Nothing can be asked then.
+    pub fn note(&mut self, thread: u32, op: Op) -> Result<(), NoMemory>
+        ensures { (past : List Event) (e : Event) → e.thread ≡ thread → e.op ≡ op → length past + 1 < 2 ^ 32 → MayCome past e
+            → IsStateAfter past self.old → OnOk result (IsStateAfter (past ++ e ∷ []) self.new) }
     {
-        let thread = events.thread(e);
-        self.started[thread as usize] = true;
-        match events.op(e) {
+        put(&mut self.started, thread, true, false)?;
+        match op {
             Op::Acquire(lock) => {
-                let known = &mut self.locks[lock as usize];
-                known.holder = thread;
-                known.depth += 1;
+                let depth = self.lock(lock).depth.saturating_add(1);
+                let taken = LockState {
+                    holder: thread,
+                    depth,
+                };
+                put(&mut self.locks, lock, taken, free_lock())?;
+                Ok(())
             }
-            Op::Release(lock) => self.locks[lock as usize].depth -= 1,
-            Op::Fork(child) => self.forked[child as usize] = true,
-            Op::Join(child) => self.joined[child as usize] = true,
-            _ => {}
+            Op::Release(lock) => {
+                let held = self.lock(lock);
+                let left = LockState {
+                    holder: held.holder,
+                    depth: held.depth.saturating_sub(1),
+                };
+                put(&mut self.locks, lock, left, free_lock())?;
+                Ok(())
+            }
+            Op::Fork(child) => {
+                put(&mut self.forked, child, true, false)?;
+                Ok(())
+            }
+            Op::Join(child) => {
+                put(&mut self.joined, child, true, false)?;
+                Ok(())
+            }
+            _ => Ok(()),
         }
     }
 }

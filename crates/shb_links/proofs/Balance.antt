@@ -1,6 +1,6 @@
 -- A lock after disciplined events has at most one holder, and what follows from that between two positions.
 use Rattle.std.proofs.lemmas.Grind.{common_steps}
-use Rattle.std.proofs.Common.{◌≡◌, ◌≢◌, ℕ, zero, suc, ◌+◌, ◌-◌, ◌<◌, ◌≤◌, ◌⊎◌, inl, inr, Bool, true, false, List, Some, take, refl, sym, ◌∙◌, ap, arith, subst, add-one}
+use Rattle.std.proofs.Common.{◌≡◌, ◌≢◌, ℕ, zero, suc, ◌+◌, ◌-◌, ◌<◌, ◌≤◌, ◌⊎◌, inl, inr, Bool, true, false, List, [], ◌∷◌, ◌++◌, Some, take, refl, sym, ◌∙◌, ap, arith, subst, add-one}
 use Rattle.std.specs.Prelude.{slice_get, count_by, cond, ◌==◌}
 use Rattle.std.proofs.Math.Bool.{and-false, and-true}
 use Rattle.std.proofs.lemmas.Bool.{cases_Bool, cases_eq, cases_lt, eqb-true, ne_eqb}
@@ -12,7 +12,9 @@ use Rattle.shb_lines.specs.events.Discipline.{IsDisciplined, MayCome, MayDo, acq
 use Rattle.shb_lines.proofs.events.Counts.{count_more_no, count_mono, count_gap, take_more_past}
 use Rattle.shb_lines.proofs.events.Listed.{Decided, some_below}
 use Rattle.shb_lines.proofs.events.Locks.{DisciplinedBelow}
-use Rattle.shb_discipline.proofs.Steps.{acquire_test, acquired_lock, count_more, other_lock, release_test, released_lock}
+use Rattle.shb_discipline.proofs.Steps.{acquire_test, acquired_lock, count_more, front_more, other_lock, release_test, released_lock}
+use Rattle.shb_discipline.specs.State.{IsLockAfter}
+use Rattle.shb_discipline.specs.declared.state.LockState.{LockState}
 
 -- every set of threads acquired the lock as often as it released it, and depth times more where the holder is of the set
 pub record HasHolder (past : List Event) (l : ℕ) : Type 0 where
@@ -26,32 +28,35 @@ cond_zero b = grind (arith, common_steps)
 module _ (trace : List Event) (k : ℕ) (e : Event) (at : slice_get trace k ≡ Some e) where
   -- how the counts of a lock's acquires and releases go on
   pub acquires_yes : (who : ℕ → Bool) (l : ℕ) → op_is_acquire l e.op ≡ true → acquires who l (take (k + 1) trace) ≡ acquires who l (take k trace) + cond (who e.thread) 1 0
-  acquires_yes who l is = count_more trace k e at (is_acquire who l) ∙ ap (λ (b : Bool). acquires who l (take k trace) + cond b 1 0) (acquire_test who l e true is ∙ and-true (who e.thread))
+  acquires_yes who l is = ap (λ (past : List Event). acquires who l past) (front_more trace k e at) ∙ count_more (take k trace) e (is_acquire who l) ∙ ap (λ (b : Bool). acquires who l (take k trace) + cond b 1 0) (acquire_test who l e true is ∙ and-true (who e.thread))
 
   pub releases_no : (who : ℕ → Bool) (l : ℕ) → op_is_release l e.op ≡ false → releases who l (take (k + 1) trace) ≡ releases who l (take k trace)
   releases_no who l is = count_more_no (is_release who l) trace k e at (release_test who l e false is ∙ and-false (who e.thread))
 
   module _ (l : ℕ) (held : HasHolder (take k trace) l) where
+    after : (lock : LockState) → IsLockAfter (take k trace ++ e ∷ []) l lock → IsLockAfter (take (k + 1) trace) l lock
+    after lock h = subst (λ (past : List Event). IsLockAfter past l lock) (sym (front_more trace k e at)) h
+
     -- an event that doesn't name the lock
     passed_by : op_is_acquire l e.op ≡ false → op_is_release l e.op ≡ false → HasHolder (take (k + 1) trace) l
     passed_by no_acquire no_release = record {
       holder = held.holder;
       depth = held.depth;
-      balance = other_lock trace k e at l record { holder = held.holder; depth = held.depth } no_acquire no_release held.balance;
+      balance = after record { holder = held.holder; depth = held.depth } (other_lock (take k trace) e l record { holder = held.holder; depth = held.depth } no_acquire no_release held.balance);
     }
 
     acquired : e.op ≡ Acquire l → MayCome (take k trace) e → HasHolder (take (k + 1) trace) l
     acquired is may = record {
       holder = e.thread;
       depth = held.depth + 1;
-      balance = acquired_lock trace k e at l record { holder = held.holder; depth = held.depth } is (subst (MayDo (take k trace) e.thread) is may.may_do) held.balance;
+      balance = after record { holder = e.thread; depth = held.depth + 1 } (acquired_lock (take k trace) e l record { holder = held.holder; depth = held.depth } is (subst (MayDo (take k trace) e.thread) is may.may_do) held.balance);
     }
 
     released : e.op ≡ Release l → MayCome (take k trace) e → HasHolder (take (k + 1) trace) l
     released is may = record {
       holder = held.holder;
       depth = held.depth - 1;
-      balance = released_lock trace k e at l record { holder = held.holder; depth = held.depth } is (subst (MayDo (take k trace) e.thread) is may.may_do) held.balance;
+      balance = after record { holder = held.holder; depth = held.depth - 1 } (released_lock (take k trace) e l record { holder = held.holder; depth = held.depth } is (subst (MayDo (take k trace) e.thread) is may.may_do) held.balance);
     }
 
     pub holder_more : MayCome (take k trace) e → HasHolder (take (k + 1) trace) l

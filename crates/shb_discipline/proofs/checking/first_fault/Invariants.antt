@@ -1,11 +1,10 @@
-use Rattle.std.proofs.Common.{All, take}
+use Rattle.std.proofs.Common.{take}
 use Rattle.shb_lines.proofs.events.Locks.{DisciplinedBelow}
-use Rattle.shb_discipline.specs.State.{Covers, IsStateAfter}
+use Rattle.shb_discipline.specs.State.{IsStateAfter}
 use Rattle.shb_discipline.proofs.checking.first_fault.Given as goal
 
 abbrev pub invariant-loop-e : goal.invariant-loop-e
 invariant-loop-e l = record {
-  covers : All (Covers l.state) l.events;
   state : IsStateAfter (take l.e l.events) l.state;
   disciplined : DisciplinedBelow l.events l.e;
 }
