@@ -10,3 +10,5 @@ pub mod CopiesLemmas
 pub mod Counting
 pub mod StampItems
 pub mod Stamping
+pub mod Streams
+pub mod StreamSteps

@@ -71,7 +71,7 @@ module _ (trace : List Event) (disciplined : IsDisciplined trace) (e : ℕ) wher
   learns_acquire l k acquires (by_join u h from) = absurd (let f : ⊥ = cc in f)
   learns_acquire l k acquires (by_read from) = let h = from.last.reads in absurd (let f : ⊥ = cc in f)
 
-  learns_join : (u k : ℕ) → op_at trace e ≡ Some (Join u) → Learns trace e k → BelowThread trace u e k
+  pub learns_join : (u k : ℕ) → op_at trace e ≡ Some (Join u) → Learns trace e k → BelowThread trace u e k
   learns_join u k joins (by_acquire m h from) = absurd (let f : ⊥ = cc in f)
   learns_join u k joins (by_join v h from) = let s : Some (Join v) ≡ Some (Join u) = sym h ∙ joins in subst (λ (x : ℕ). BelowThread trace x e k) (let g : v ≡ u = cc in g) from
   learns_join u k joins (by_read from) = let h = from.last.reads in absurd (let f : ⊥ = cc in f)

@@ -69,7 +69,7 @@ module _ (trace : List Event) where
   pub stamp_more : (rows more : List (List ℕ)) (e : ℕ) (stamp : Stamp) → AreMore rows more → IsStampOf trace rows e stamp → IsStampOf trace more e stamp
   stamp_more rows more e stamp grown h = record { of_thread = h.of_thread; time_is = h.time_is; row_is = row_more rows more stamp.thread stamp.row _ grown h.row_is }
 
-  latest_more : (rows more : List (List ℕ)) (P : ℕ → Type 0) (n : ℕ) (stamp : Stamp) → AreMore rows more → IsLatestStamp trace rows P n stamp → IsLatestStamp trace more P n stamp
+  pub latest_more : (rows more : List (List ℕ)) (P : ℕ → Type 0) (n : ℕ) (stamp : Stamp) → AreMore rows more → IsLatestStamp trace rows P n stamp → IsLatestStamp trace more P n stamp
   latest_more rows more P n stamp grown (of_event e latest is) = of_event e latest (stamp_more rows more e stamp grown is)
   latest_more rows more P n stamp grown (of_none absent zero) = of_none absent zero
 
@@ -77,7 +77,7 @@ module _ (trace : List Event) where
   stamps_more rows more P n size stamps grown h = record { as_many = h.as_many; each = λ x lt. latest_more rows more (P x) n _ grown (h.each x lt) }
 
   -- the stamp of event n is that of the latest of x, and of no other number
-  latest_skip : (rows : List (List ℕ)) (P : ℕ → Type 0) (n : ℕ) (stamp : Stamp) → (P n → ⊥) → IsLatestStamp trace rows P n stamp → IsLatestStamp trace rows P (n + 1) stamp
+  pub latest_skip : (rows : List (List ℕ)) (P : ℕ → Type 0) (n : ℕ) (stamp : Stamp) → (P n → ⊥) → IsLatestStamp trace rows P n stamp → IsLatestStamp trace rows P (n + 1) stamp
   latest_skip rows P n stamp fails (of_event e latest is) = of_event e (record {
     earlier = (let lt = latest.earlier in omega (arith, lt));
     holds = latest.holds;
@@ -198,7 +198,7 @@ module _ (trace : List Event) (disciplined : IsDisciplined trace) where
       omega (arith, some, none)
 
   -- what a forked thread knows at first is what is below its fork
-  known_forked : (n t : ℕ) → op_at trace n ≡ Some (Fork t) → (k : ℕ) → ShbBelow trace k n ↔ IsKnown trace t (n + 1) k
+  pub known_forked : (n t : ℕ) → op_at trace n ≡ Some (Fork t) → (k : ℕ) → ShbBelow trace k n ↔ IsKnown trace t (n + 1) k
   known_forked n t forks k = (
     (λ path. record { event = n; earlier = omega arith; of_or_forks = inr forks; below = path }),
     (λ h. subst (λ (x : ℕ). ShbBelow trace k x) (only_fork h.event h.earlier h.of_or_forks) h.below),
@@ -209,7 +209,7 @@ module _ (trace : List Event) (disciplined : IsDisciplined trace) where
       only_fork c lt (inr again) = elim (cases_lt c n) [ inl low ↦ absurd (fork_unique t c n again forks low) | inr le ↦ omega (arith, lt, le) ]
 
   -- what another thread knows stays
-  known_other : (n t : ℕ) → thread_at trace n ≢ Some t → op_at trace n ≢ Some (Fork t) → (k : ℕ) → IsKnown trace t n k ↔ IsKnown trace t (n + 1) k
+  pub known_other : (n t : ℕ) → thread_at trace n ≢ Some t → op_at trace n ≢ Some (Fork t) → (k : ℕ) → IsKnown trace t n k ↔ IsKnown trace t (n + 1) k
   known_other n t other no_fork k = (
     (λ h. record { event = h.event; earlier = (let lt = h.earlier in omega (arith, lt)); of_or_forks = h.of_or_forks; below = h.below }),
     (λ h. record { event = h.event; earlier = low h.event h.earlier h.of_or_forks (cases_lt h.event n); of_or_forks = h.of_or_forks; below = h.below }),

@@ -5,4 +5,6 @@ pub mod Moved
 pub mod Open
 pub mod Rows
 pub mod Stamps
+pub mod StreamClocks
+pub mod Streamed
 pub mod SweepData

@@ -37,9 +37,11 @@ mod listed_rows;
 mod open;
 mod order;
 mod ordered;
+mod row_list;
 mod rows;
 mod stamp;
 mod stamps;
+mod stream_clocks;
 mod sweep;
 
 pub use event_rows::{EventRows, by_event};
@@ -47,4 +49,5 @@ pub use listed_rows::{ListedRows, at_events};
 pub use open::is_open;
 pub use order::Order;
 pub use ordered::Ordered;
+pub use stream_clocks::StreamClocks;
 pub use sweep::Sweep;

@@ -1,0 +1,204 @@
+//! The order of a stream, event by event: rows and stamps by the names so far, and no trace.
+
+ghost use Rattle.std.specs.Prelude.{◌≡◌, ◌+◌, ◌*◌, ◌<◌, ◌++◌, ◌^◌, ℕ, List, [], ◌∷◌, IfOk, OnOk, length, max, slice_index_or};
+ghost use Rattle.shb_lines.specs.Growing.{IsPut};
+ghost use Rattle.shb_lines.specs.declared.event.Event.{Event};
+ghost use Rattle.shb_lines.specs.events.Discipline.{IsDisciplined};
+ghost use Rattle.shb_lines.specs.events.Order.{IsBelowPredCount};
+ghost use Rattle.shb_stamps.specs.StreamClocks.{IsStreamed};
+ghost use Rattle.shb_stamps.specs.Stamps.{IsSource, empty_stamp};
+ghost use Rattle.shb_stamps.specs.Streamed.{HasRowAfter};
+
+use crate::clock::entry;
+use crate::row_list::RowList;
+use crate::stamp::Stamp;
+use shb_io::NoMemory;
+use shb_lines::{Op, item_or, put};
+use std::alloc::Global;
+
+/// What is known of the order after some events of a stream. Threads, locks and variables are told by their
+/// numbers, and each event may name new ones. A row has an entry for each thread up to the last one that it
+/// knows; rows never change, and are kept to the end.
+#[derive(Drop)]
+pub struct StreamClocks {
+    pub rows: RowList,
+    /// For each thread the number of the row of what it knows, 0 for nothing.
+    pub current: Vec<u32>,
+    /// For each thread how many events it had.
+    pub times: Vec<u32>,
+    /// For each lock the stamp of its last release.
+    pub locks: Vec<Stamp>,
+    /// For each variable the stamp of its last write.
+    pub variables: Vec<Stamp>,
+}
+
+/// A row, with a time put at a thread.
+fn clock_of(alloc: Global, row: &[u32], thread: u32, time: u32) -> Result<Vec<u32>, NoMemory>
+    ensures { IfOk result (λ clock. IsPut 0 thread time row.now clock.items) }
+{
+    let mut clock = Vec::new(alloc);
+    clock.extend_from_slice(row)?;
+    put(&mut clock, thread, time, 0)?;
+    Ok(clock)
+}
+
+/// The entry at an index, 0 past the end.
+fn entry_at(clock: &[u32], t: usize) -> u32
+    ensures { result ≡ slice_index_or clock.now t 0 }
+{
+    match clock.get(t) {
+        Some(number) => *number,
+        None => 0,
+    }
+}
+
+/// The greater of the entries of two clocks, for each thread.
+#[tactic(auto, using(crate::proofs::StreamSteps::joined_push, crate::proofs::StreamSteps::joined_whole))]
+fn joined(alloc: Global, one: &[u32], other: &[u32]) -> Result<Vec<u32>, NoMemory>
+    ensures { IfOk result (λ joined. (t : ℕ) → slice_index_or joined.items t 0 ≡ max (slice_index_or one.now t 0) (slice_index_or other.now t 0)) }
+{
+    let mut joined = Vec::new(alloc);
+    for t in 0..one.len().max(other.len()) {
+        let own = entry_at(one, t);
+        let entry = entry_at(other, t);
+        joined.push(own.max(entry))?;
+    }
+    Ok(joined)
+}
+
+/// The number of the row of what a thread knows after an event that learns of the source: the one before
+/// it where it knows the source, and no row is made then; else a new one.
+fn row_after(
+    alloc: Global,
+    rows: &mut RowList,
+    thread: u32,
+    before: u32,
+    source: Stamp,
+) -> Result<u32, NoMemory>
+    ensures { IfOk result (HasRowAfter rows.old rows.new thread before source) }
+{
+    let known = rows.row(before);
+    let told = source.is_known(thread, known);
+    if told {
+        return Ok(before);
+    }
+    let given = rows.row(source.row);
+    let clock = clock_of(alloc, given, source.thread, source.time)?;
+    let row = joined(alloc, clock.as_slice(), known)?;
+    let number = rows.push(row)?;
+    Ok(number)
+}
+
+impl StreamClocks {
+    /// What is known before the first event.
+    pub fn new(alloc: Global) -> Result<StreamClocks, NoMemory>
+        ensures { IfOk result (IsStreamed []) }
+    {
+        Ok(StreamClocks {
+            rows: RowList::new(alloc)?,
+            current: Vec::new(alloc),
+            times: Vec::new(alloc),
+            locks: Vec::new(alloc),
+            variables: Vec::new(alloc),
+        })
+    }
+
+    /// The number of the row of what a thread knows.
+    fn row_number(&self, thread: u32) -> u32
+        ensures { result ≡ slice_index_or self.now.current.items thread 0 }
+    {
+        item_or(self.current.as_slice(), thread, 0)
+    }
+
+    /// How many events a thread had.
+    fn time(&self, thread: u32) -> u32
+        ensures { result ≡ slice_index_or self.now.times.items thread 0 }
+    {
+        item_or(self.times.as_slice(), thread, 0)
+    }
+
+    /// The stamp of a lock's last release.
+    fn lock_stamp(&self, lock: u32) -> Stamp
+        ensures { result ≡ slice_index_or self.now.locks.items lock empty_stamp }
+    {
+        item_or(self.locks.as_slice(), lock, Stamp::empty())
+    }
+
+    /// The stamp of a variable's last write.
+    fn write_stamp(&self, variable: u32) -> Stamp
+        ensures { result ≡ slice_index_or self.now.variables.items variable empty_stamp }
+    {
+        item_or(self.variables.as_slice(), variable, Stamp::empty())
+    }
+
+    /// The stamp of what the next event learns of other threads: by an acquire that of the lock's last
+    /// release, by a read that of the variable's last write, and by a join that of the thread's last event.
+    fn source(&self, op: Op) -> Stamp
+        ensures { (past : List Event) (e : Event) → e.op ≡ op → IsDisciplined (past ++ e ∷ []) → IsStreamed past self.now
+            → IsSource (past ++ e ∷ []) self.now.rows (length past) result }
+    {
+        match op {
+            Op::Acquire(lock) => self.lock_stamp(lock),
+            Op::Read(variable) => self.write_stamp(variable),
+            Op::Join(child) => {
+                let row = self.row_number(child);
+                let time = self.time(child);
+                Stamp {
+                    row,
+                    thread: child,
+                    time,
+                }
+            }
+            _ => Stamp::empty(),
+        }
+    }
+
+    /// How many events of a thread are SHB-below the predecessor of the next event, which is of this thread.
+    pub fn below_next(&self, thread: u32, other: u32) -> u32
+        ensures { (past : List Event) (e : Event) → e.thread ≡ thread → IsDisciplined (past ++ e ∷ []) → IsStreamed past self.now
+            → IsBelowPredCount (past ++ e ∷ []) other (length past) result }
+    {
+        if other == thread {
+            return self.time(thread);
+        }
+        let number = self.row_number(thread);
+        let row = self.rows.row(number);
+        entry(row, other)
+    }
+
+    /// Takes the next event.
+    ///
+    /// # Errors
+    ///
+    /// `NoMemory` where memory is refused. Nothing can be asked then.
+    pub fn take(&mut self, alloc: Global, thread: u32, op: Op) -> Result<(), NoMemory>
+        ensures { (past : List Event) (e : Event) → e.thread ≡ thread → e.op ≡ op → 2 * length past + 3 < 2 ^ 32
+            → IsDisciplined (past ++ e ∷ []) → IsStreamed past self.old → OnOk result (IsStreamed (past ++ e ∷ []) self.new) }
+    {
+        let source = self.source(op);
+        let before = self.row_number(thread);
+        let time = self.time(thread).saturating_add(1);
+        let row = row_after(alloc, &mut self.rows, thread, before, source)?;
+        put(&mut self.current, thread, row, 0)?;
+        put(&mut self.times, thread, time, 0)?;
+        let stamp = Stamp { row, thread, time };
+        match op {
+            Op::Release(lock) => {
+                put(&mut self.locks, lock, stamp, Stamp::empty())?;
+                Ok(())
+            }
+            Op::Write(variable) => {
+                put(&mut self.variables, variable, stamp, Stamp::empty())?;
+                Ok(())
+            }
+            Op::Fork(child) => {
+                let own = self.rows.row(row);
+                let clock = clock_of(alloc, own, thread, time)?;
+                let forked = self.rows.push(clock)?;
+                put(&mut self.current, child, forked, 0)?;
+                Ok(())
+            }
+            _ => Ok(()),
+        }
+    }
+}
