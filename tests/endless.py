@@ -9,7 +9,8 @@ an end is `rt.forever()`. So these are refused but in the files below, where the
 ring, the loop of a worker, the wait for a refusal that was told, the sleep in a wait, and the start of threads, which waits
 for their end. A loop needs no bound to go round 2^64 times: so the end of a range and what a `while` asks may have no greatest
 number of a type of 64 bits, no turned or shifted one, none in hexadecimal, none of six digits and more, and no constant that is greater
-than 65,536 or isn't a number as it stands. A number that is computed or handed on isn't seen, nor are ranges in one another.
+than 65,536 or isn't a number as it stands; a loop that ends with its source is listed. A number that is computed or handed on
+isn't seen, nor are ranges in one another.
 
 Looked for in the crates of the program, and not in those of tests.
 """
@@ -49,6 +50,8 @@ LONG = re.compile(r"(?:u64|u128|usize|i64|i128|isize)::MAX\b|![0-9]\w*|[\w)]+\s*
 NAME = re.compile(r"(?<!::)\b[A-Z][A-Z0-9_]+\b")
 CONSTANT = re.compile(r"\bconst (\w+): \w+ = ([0-9_]+);")
 MOST_ROUNDS = 65_536
+# Loops that may: of each file what ends them, and why they end.
+LOOPS = {("shb_lines/src/event_reader.rt", "while self.line < u64::MAX"): "each round reads a line, so it ends where the source does"}
 
 
 def constants_in(code):
@@ -75,7 +78,7 @@ def long_loops(code):
 def wrong_in(name, text):
     """Where a file of this name below crates/ has what it may not have, or not so often as it must."""
     code = COMMENT.sub("", text)
-    wrong = [f"{name}:{code.count(chr(10), 0, place) + 1}: {what}" for place, what in long_loops(code)]
+    wrong = [f"{name}:{code.count(chr(10), 0, place) + 1}: {what}" for place, what in long_loops(code) if (name, what) not in LOOPS]
     for word, files in NAMED.items():
         found = list(re.finditer(word, code))
         wanted = files.get(name, 0)
