@@ -60,13 +60,15 @@ Exit status:
   6  a file of call stacks is damaged
   0  none of these
   Several may be true. A script asks for one by its line in OUT/facts.tsv, a name,
-  a tab and a number: traces, reports, refused, missing, damaged, places, unknown,
-  known, stale, and with --since new, gone, same. For example
+  a tab and a number: traces, reports, refused, missing, damaged (call stacks),
+  places, unknown, known, stale (lines of known places), unreported (places whose
+  full report is missing), and with --since new, gone, same. For example
       awk '$1 == "refused" && $2 > 0 { bad = 1 } END { exit bad }' out/facts.tsv
 
 Environment:
   SHB          the program to run, if not the one that came with this command
   SHB_WINDOWS  the same of shb-windows, which cuts traces that are too long
+  SHB_VIEW     the same of shb-view, which says what is known of a place
 """
 class Farm(typing.NamedTuple):
     engine: str

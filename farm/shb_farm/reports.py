@@ -2,6 +2,7 @@
 
 import os
 import pathlib
+import sys
 import tempfile
 
 from shb_common import analyser, refused
@@ -99,6 +100,13 @@ def put_found(work, trace, report, name):
     stacks = calls.file_of(work.traces, name)
     path = passes.found_path(work.out, name)
     path.parent.mkdir(parents=True, exist_ok=True)
-    words = [work.view, "--shb", work.shb, "--json", str(path), *(["--stacks", stacks] if stacks else []), f"/dev/fd/{trace.fileno()}", report]
+    words = [*started_by(work.view), "--shb", work.shb, "--json", str(path), *(["--stacks", stacks] if stacks else []), f"/dev/fd/{trace.fileno()}", report]
     with open(os.devnull, "wb") as out:
         running.run(work, words, trace, out, pass_fds=[trace.fileno()])
+
+
+def started_by(command):
+    """The words that start a command: this Python for one that is written in it, since there may be no other one."""
+    with open(command, "rb") as file:
+        is_ours = b"python" in file.readline(64)
+    return [sys.executable, command] if is_ours and sys.executable else [command]

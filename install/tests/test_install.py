@@ -102,7 +102,7 @@ class Tree(installing.Case):
         call("gcc", "-fsanitize=thread", "-g", TOP / "examples" / "account.c", "-o", program)
         results = self.folder / "results"
         call(self.links() / "shb-record", "-o", results, program, status=66, env={"PATH": os.environ["PATH"]})
-        self.assertEqual((results / "unknown.places").read_text(), "# account.c:10\taccount.c:8\naccount.c:pay()\taccount.c:pay()\n")
+        self.assertEqual((results / "unknown.places").read_text(), "# account.c:10\taccount.c:8\naccount.c:pay()\taccount.c:pay()\tbalance\n")
 
     def test_an_older_python_is_said(self):
         """Whatever it doesn't know comes later in a command than the sentence, or in another file."""
@@ -124,8 +124,8 @@ class Tree(installing.Case):
                 file.write(part)
         out = self.folder / "out"
         call(self.prefix / "bin" / "shb-farm", trace.parent, out, env={}, status=1)
-        self.assertEqual((out / "unknown.places").read_text(), "a.c:1\tb.c:2\nk.c:1\tk.c:2\n")
-        self.assertIn("\nlong.std\treport\t2\t2 windows\n", (out / "traces.tsv").read_text())
+        self.assertEqual((out / "unknown.places").read_text(), "a.c:1\tb.c:2\tx\nk.c:1\tk.c:2\ty\n")
+        self.assertIn("\nlong.std\treport\t2\t2 windows\t", (out / "traces.tsv").read_text())
 
     def test_nothing_names_the_checkout_or_a_folder_that_is_gone(self):
         for name, content in contents(self.prefix).items():
