@@ -49,9 +49,9 @@ class Packed(farm.Case):
 
     def test_a_text_that_needs_more_memory_goes_on_unread(self):
         """It is analysed once, by the pass that has room for it."""
-        self.trace("a.std.gz", gzip.compress(RACE + b"\n" * (200 << 20)))
+        self.trace("a.std.gz", gzip.compress(RACE + b"\n" * (8 << 20)))
         shb = self.counting()
-        self.assertEqual(self.farm("--memory", "100,2000", shb=shb).status, 1)
+        self.assertEqual(self.farm("--memory", "70,2000", shb=shb).status, 1)
         self.assertEqual(self.ends()["a.std.gz"][0], "report")
         self.assertEqual(self.runs(), 4)    # a list, one by variable, a full report, the view's
 
