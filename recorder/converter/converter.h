@@ -79,6 +79,7 @@ typedef struct inlined_frame {
     uint8_t has_line, in_system_file;                        /* as a header of the C++ library is */
     uint8_t in_system, is_hidden;      /* the module is the system's; the recorder's own */
 } inlined_frame;
+int may_have_lines(const char *module);    /* lines.c: or is it a module of the system without debug information? */
 inlined_frame *frames_of(u64 caller);  /* null where it wasn't noted */
 inlined_frame *outermost(inlined_frame *f);
 int in_one_function(u64 caller, u64 other);

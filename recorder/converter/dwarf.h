@@ -58,4 +58,6 @@ enum form { FORM_ADDRESS = 1, FORM_BLOCK2 = 3, FORM_BLOCK4, FORM_DATA2, FORM_DAT
 /* lines.c */
 bytes map_module(const char *path);    /* none where it can't be read */
 void unmap_module(bytes file);
-bytes section_of(bytes file, const char *name);              /* none where there is none, or where it is compressed */
+bytes map_debug_file(const char *module);                    /* the file of its own that its debug information is in, or the module */
+int has_section(bytes file, const char *name);
+bytes section_of(bytes file, const char *name);              /* none where there is none, or it is compressed and can't be read */

@@ -38,6 +38,8 @@ struct members {
     map by_address, by_begin;          /* the numbers of variables, and of functions */
     typed *variables, *functions;      /* of a function the type is its entry */
     u64 variable_count, variable_capacity, function_count, function_capacity;
+    const char *unread;                /* what of it isn't read, or null */
+    int has_code, has_types;           /* does it tell of code, and of what a function gives? */
 };
 
 /* ---- entries ---- */
@@ -239,28 +241,46 @@ static void note_function(struct members *m, const unit *u, const entry *e, u64 
     m->functions[m->function_count++] = (typed){u - m->units, at};
 }
 
-static void note_variable(struct members *m, const unit *u, const entry *e) {
-    u64 type = e->type ? e->type : e->specification ? read_entry(m, u, e->specification).type : 0;
-    if (!type || map_number(&m->by_address, e->address, 0) <= m->variable_count) return;
+static unit *unit_with(struct members *m, u64 offset) {
+    u64 low = 0, high = m->unit_count;
+    while (low < high) {
+        u64 middle = (low + high) / 2;
+        if (m->units[middle].end <= offset) low = middle + 1;
+        else high = middle;
+    }
+    return low < m->unit_count && offset >= m->units[low].first ? &m->units[low] : 0;
+}
+
+/* Its type may stand in another entry, which by link-time optimisation may be another unit's. */
+static void note_variable(struct members *m, unit *u, entry e) {
+    u64 address = e.address, other = e.specification ? e.specification : e.origin;
+    if (!e.type && other && (u = unit_with(m, other))) {
+        read_abbreviations(m, u);
+        e = read_entry(m, u, other);
+    }
+    if (!e.type || map_number(&m->by_address, address, 0) <= m->variable_count) return;
     GROW(m->variables, m->variable_count, m->variable_capacity);
-    m->variables[m->variable_count++] = (typed){u - m->units, type};
+    m->variables[m->variable_count++] = (typed){u - m->units, e.type};
 }
 
 /* Functions are passed over, and with them the variables inside. */
-static void find_variables(struct members *m, const unit *u) {
+static void find_variables(struct members *m, unit *u) {
     for (u64 at = u->first; at < u->end;) {
         entry e = read_entry(m, u, at);
-        if (e.tag == TAG_VARIABLE && e.address) note_variable(m, u, &e);
+        if (e.tag == TAG_VARIABLE && e.address) note_variable(m, u, e);
         if (e.tag == TAG_FUNCTION) note_function(m, u, &e, at);
+        m->has_code |= e.tag == TAG_FUNCTION && (e.high || e.has_ranges);
+        m->has_types |= e.tag == TAG_FUNCTION && e.type;
         at = e.has_children && e.sibling > at && e.tag != TAG_NAMESPACE ? e.sibling : e.next;
     }
 }
 
 static int read_unit(struct members *m, bytes *b) {
-    enum { OF_CODE = 1, LONGEST = 0xfffffff0 };
+    enum { OF_CODE = 1, OF_TYPES, WITH_OTHER_FILE = 4, LONGEST = 0xfffffff0 };
     unit u = {.begin = b->at - m->info.at};
     u64 length = fixed(b, 4);
     bytes head = taken(b, length);
+    if (length >= LONGEST) m->unread = "is in the 64-bit form (-gdwarf64)";
     if (b->is_bad || length >= LONGEST) return 0;
     u.end = b->at - m->info.at;
     u64 version = fixed(&head, 2), kind = version == DWARF5 ? fixed(&head, 1) : OF_CODE;
@@ -269,6 +289,9 @@ static int read_unit(struct members *m, bytes *b) {
     if (version == DWARF4) skip(&head, 1);
     u.first = head.at - m->info.at;
     u.version = version;
+    if (version != DWARF4 && version != DWARF5) m->unread = "is older than DWARF 4 or newer than 5";
+    else if (kind == OF_TYPES) m->unread = "has types apart (-fdebug-types-section)";
+    else if (kind == WITH_OTHER_FILE) m->unread = "is in other files (-gsplit-dwarf)";
     if (head.is_bad || kind != OF_CODE || (version != DWARF4 && version != DWARF5)) return 1;
     GROW(m->units, m->unit_count, m->unit_capacity);
     m->units[m->unit_count++] = u;
@@ -285,9 +308,21 @@ static void read_bases(const struct members *m, unit *u) {
     u->low = read_entry(m, u, u->first).low;
 }
 
+/* Says what isn't read of a module of the program's own, once for each. */
+static void say_unread(const struct members *m, bytes file, const char *path) {
+    const char *why = m->unread;
+    if (!m->info.at && (has_section(file, ".debug_info") || has_section(file, ".zdebug_info"))) why = "is compressed in a form that can't be read here (-gz)";
+    else if (!m->info.at) why = has_section(file, ".gnu_debuglink") ? "is in a file that isn't there (.gnu_debuglink)" : "isn't there (no -g)";
+    else if (!why && has_section(file, ".debug_types")) why = "has types apart (-fdebug-types-section)";
+    else if (!why && !m->has_code) why = "isn't there (no -g, or -gsplit-dwarf)";
+    else if (!why && !m->has_types) why = "has no types (-g1)";
+    if (why && file.at && !in_system(path))
+        fprintf(stderr, "shb-std: %s: members of variables, and locals, may have no names, for its debug information %s\n", path, why);
+}
+
 struct members *read_members(const char *path) {
     struct members *m = zeroed(1, sizeof *m);
-    bytes file = map_module(path);     /* for good: names are looked up in it */
+    bytes file = map_debug_file(path); /* for good: names are looked up in it */
     m->info = section_of(file, ".debug_info");
     m->abbreviations = section_of(file, ".debug_abbrev");
     m->strings = section_of(file, ".debug_str");
@@ -306,6 +341,7 @@ struct members *read_members(const char *path) {
         u->codes = 0;
         u->code_count = u->code_capacity = 0;
     }
+    say_unread(m, file, path);
     return m;
 }
 

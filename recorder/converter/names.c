@@ -378,7 +378,7 @@ static void ask_for_lines(module *m) {
     if (!bytes) return;
     FILE *addresses = tmpfile();
     if (!addresses) die("cannot write to " P_tmpdir ": %s", strerror(errno));
-    if (write_addresses(addresses, m)) {
+    if (write_addresses(addresses, m) && (!in_system(m->path) || may_have_lines(m->path))) {
         if (fflush(addresses) || ferror(addresses)) die("cannot write to " P_tmpdir ": %s", strerror(errno));
         rewind(addresses);
         tool t = run_tool(words, fileno(addresses), bytes);
@@ -413,7 +413,10 @@ static void find_place(u64 caller, u32 number) {
     places[number].text = chosen ? copy(chosen->location) : address_place(caller);
     places[number].length = strlen(places[number].text);
     places[number].is_own = m && !is_recorder(m) && !(chosen ? chosen->in_system_file : in_system(m->path));
-    if (!places[number].frames) places[number].frames = new_frame("", places[number].text, 0);
+    if (places[number].frames) return;
+    places[number].frames = new_frame("", places[number].text, 0);
+    places[number].frames->is_hidden = m && is_recorder(m);
+    places[number].frames->in_system = places[number].frames->in_system_file = m && in_system(m->path);
 }
 
 void find_places(void) {

@@ -3,7 +3,8 @@
    A stack is a node of a tree: the innermost call with its stack further out.  The file begins with STACKS_BEGIN and the
    number of events, then has a node's number of 4 bytes for each event (0: not known), then lines:
        frame FUNCTION TAB LOCATION                   numbered from 1; the function or the location may be empty. The function
-                                                     __tsan_create_fiber made the fiber that those further in are of
+                                                     __tsan_create_fiber made the fiber that those further in are of, and
+                                                     "signal handler" interrupted what is further out
        system-frame FUNCTION TAB LOCATION            the same, numbered on, of code in /usr or /lib
        stack NODE OUTER FRAME FRAME..                the frames of a node's innermost call, the innermost first (of inlined
                                                      code there are several), and the node of the stack further out, or 0
@@ -363,6 +364,13 @@ static int is_shown(const node *n, u32 outer, const inlined_frame *f) {
    last frame is the function that called it. */
 typedef struct { inlined_frame *at[MOST_FRAMES_OF_A_CALL], between; int count; u32 outer; } shown_call;
 
+/* Does the recorder call a handler of a signal there? */
+static int calls_handler(u64 caller) {
+    char name[20];
+    inlined_frame *f = frames_of(caller);
+    return f && f->is_hidden && !strcmp(function_name(caller - 1, name, sizeof name), "call_in_frame");
+}
+
 static void find_call(u32 k, shown_call *call) {
     u32 outer = called_in(k);
     const node *n = &nodes[k];
@@ -373,6 +381,11 @@ static void find_call(u32 k, shown_call *call) {
     if (last && *last->function) {     /* of the recorder's own only __tsan_create_fiber was entered */
         call->between = (inlined_frame){.function = last->function, .location = "", .in_system_file = last->in_system_file};
         call->at[call->count++] = &call->between;
+    }
+    if (calls_handler(n->caller)) {
+        call->between = (inlined_frame){.function = "signal handler", .location = ""};
+        call->at[0] = &call->between;
+        call->count = 1;
     }
     call->outer = outer ? outer : n->outer;
 }

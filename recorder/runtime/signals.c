@@ -16,7 +16,7 @@ static int from_the_code_itself(int signal) {
 }
 
 /* It is called, as it were, from the instruction that it comes before. */
-static void call_in_frame(thread *t, int signal, siginfo_t *info, void *context) {
+static __attribute__((noinline)) void call_in_frame(thread *t, int signal, siginfo_t *info, void *context) {
     uint64_t next = ((ucontext_t *)context)->uc_mcontext.gregs[REG_RIP];
     uint32_t depth = t->depth;
     frame old = push_frame(t, next + 1, (uint64_t)call_in_frame + 1);

@@ -26,6 +26,7 @@ class Crash(recorder.Case):
         for way, number, said in (
                 ("store", signal.SIGSEGV, rf"SIGSEGV at address 0x40 in T1\.work: fail {LINES['STORE']}{called}"),
                 ("library", signal.SIGSEGV, rf"SIGSEGV at address 0x0 in T1\.work: .*fail {LINES['LIBRARY']}{called}"),
+                ("handled", signal.SIGSEGV, rf"SIGSEGV at address 0x40 in T1\.work: meet {LINES['HANDLED']}, from signal handler, .*from work crash\.c:\d+"),
                 ("divide", signal.SIGFPE, rf"SIGFPE in T1\.work: fail crash\.c:\d+{called}"),
                 ("abort", signal.SIGABRT, rf"SIGABRT in T1\.work: .*fail crash\.c:\d+{called}"),
                 ("resign", signal.SIGSEGV, rf"SIGSEGV in T1\.work: fail {LINES['STORE']}{called}")):

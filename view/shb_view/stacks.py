@@ -12,7 +12,8 @@ from shb_view.words import Code, lock_parts, place
 BLOCK_PART = re.compile(rb"\+[0-9]+$")  # behind the name of a block
 WITH = {b"relaxed": "relaxed", b"acquire": "with acquire", b"release": "with release", b"both": "with acquire and release"}
 MOST_ATOMICS = 3  # that are named of a group
-MAKES_FIBER = b"__tsan_create_fiber"
+MAKES_FIBER, HANDLER = b"__tsan_create_fiber", b"signal handler"
+WITHOUT_LINE = {MAKES_FIBER: " (which made the fiber)", HANDLER: ""}
 
 
 def stacks_of(path, shift, events):
@@ -95,6 +96,6 @@ def caller_lines(frames, most):
 
 
 def frame_parts(frame):
-    unknown = " (which made the fiber)" if frame.function == MAKES_FIBER else " (no line is known: it called code without hooks)"
+    unknown = WITHOUT_LINE.get(frame.function, " (no line is known: it called code without hooks)")
     where = [" ", Code(frame.location)] if frame.location else [unknown]
     return [Code(bare(frame.function)), *where] if frame.function else where[-1:]

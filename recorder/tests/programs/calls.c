@@ -104,7 +104,7 @@ APART static void parent(void) {
     a++;                               /* IN parent run */
 }
 APART static void note(int n) {
-    a -= n;                            /* IN note on_signal poke run, note poke */
+    a -= n;                            /* IN note on_signal handler? poke run, note poke */
 }
 static void on_signal(int n) { note(n); }
 APART static void poke(void) {

@@ -20,6 +20,7 @@ static void resign(int number) {
     signal(number, SIG_DFL);
     raise(number);
 }
+static void meet(int number) { *nowhere = 1; /* HANDLED */ }
 static void recover(int number) { siglongjmp(back, 1); }
 
 static int fail(void) {
@@ -33,6 +34,7 @@ static int fail(void) {
 static void *work(void *p) {
     shared++; /* RACE */
     if (is("recover") && sigsetjmp(back, 1)) return p;
+    if (is("handled")) raise(SIGUSR1);
     return fail() ? p : 0; /* CALL */
 }
 
@@ -45,6 +47,7 @@ int main(int count, char **words) {
     if (is("resign")) signal(SIGSEGV, resign);
     if (is("recover")) signal(SIGSEGV, recover);
     if (sigaction(SIGSEGV, 0, &before) || (before.sa_handler == SIG_DFL) != (!is("resign") && !is("recover"))) return 3;
+    signal(SIGUSR1, meet);
     pthread_create(&t, 0, work, 0);
     shared++; /* RACE */
     pthread_join(t, 0);
