@@ -91,7 +91,7 @@ def costs():
     }
     for name, parts in ours.items():
         yield Cost(name, PLACES, parts, 20_000)
-    for name in ("8 threads write under a lock", "256 threads write under a lock", "256 threads read under a lock", "a chain of 250 threads"):
+    for name in ("8 threads write under a lock", "256 threads write under a lock", "256 threads read under a lock"):
         yield Cost(name, RACES, ours[name], 20_000)
     yield Cost("few and many races by turns", RACES, shapes.few_and_many_races, 40_000, reads=FIRST)
     yield Cost("a counter of 2 threads", RACES, hot("counter", 2, 4), 20_000, reads=FIRST)
