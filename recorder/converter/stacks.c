@@ -408,7 +408,7 @@ void note_crash(u64 i) {
     crash.signal = size_of(i) % HAS_ADDRESS;
     crash.has_address = size_of(i) / HAS_ADDRESS;
     crash.address = address_of(i);
-    crash.caller = caller_of(i);
+    crash.caller = own_place(thread_of(i), caller_of(i));
     crash.thread = thread_of(i);
     crash.is_met = 1;
     crash.node = stack_at(thread_of(i), caller_of(i));

@@ -135,9 +135,9 @@ class Failures(recorder.Case):
             with self.subTest(way):
                 recorder.must(recorder.call(program, way, env=recorder.settings(path)))
                 answer = recorder.must(recorder.convert(path))
-                self.assertEqual(recorder.places(answer.stdout), {("ways_out.c:9", "ways_out.c:9")})
+                self.assertEqual(recorder.places(answer.stdout), {("ways_out.c:10", "ways_out.c:10")})
 
     def test_a_program_that_is_killed_after_an_exec_in_vain(self):
         program, path = self.program("ways_out.c"), self.folder / "app.rec"
-        recorder.call(program, "abort", env=recorder.settings(path))
+        recorder.call(program, "kill", env=recorder.settings(path))
         self.assertIn(b"the program was killed", recorder.part(recorder.convert(path)).stderr)
