@@ -1,18 +1,16 @@
 -- Asking, by the tables.
-use Rattle.std.proofs.Common.{◌≡◌, ◌≢◌, ◌+◌, ◌<◌, ◌≤◌, ◌⊎◌, inl, inr, ℕ, Bool, true, false, cond, List, [], ◌∷◌, ◌++◌, Option, None, Some, length, map, slice_get, option_map, nat_eq, eqb-true, eq-eqb, arith, refl, subst, ap, sym, ◌∙◌}
+use Rattle.std.proofs.Common.{◌≡◌, ◌≢◌, ◌+◌, ◌<◌, ◌≤◌, ◌⊎◌, inl, inr, ℕ, Bool, true, false, List, [], ◌∷◌, ◌++◌, Option, None, Some, length, map, slice_get, option_map, nat_eq, eqb-true, eq-eqb, arith, refl, subst, ap, sym, ◌∙◌}
 use Rattle.std.specs.Prelude.{Contains, if◌then◌else◌}
-use Rattle.std.proofs.lemmas.Bool.{cases_eq}
 use Rattle.std.proofs.lemmas.List.Elements.{Contains-append_left, Contains-push, Contains-push_cases}
 use Rattle.std.proofs.lemmas.Option.{slice_get-map, slice_get_within}
 use Rattle.std.specs.FinSet as fin
 use Rattle.shb_lines.specs.text.TraceData.{TraceData}
 use Rattle.shb_lines.proofs.events.Increasing.{contains_cases, contains_head, contains_none, contains_tail}
-use Rattle.shb_numbers.specs.Numbers.{HasNone, Numbers}
-use Rattle.shb_search.specs.Asked.{AskData, HasAsked, HasAskedEach, IsAnswered, IsEarliestIfAny, IsEarliestUpTo, IsOnlyNew, IsPair, IsPlaceOf, cleans, done, finds, knew, next}
-use Rattle.shb_search.specs.Asking.{AreAllClasses, AreNumbered, ArePairedWith, HasAskedAll, HasAskedSome, IsAsking, IsScene, IsToldOf}
+use Rattle.shb_numbers.specs.Numbers.{Numbers}
+use Rattle.shb_search.specs.Asked.{AskData, HasAsked, HasAskedEach, IsAnswered, IsEarliestIfAny, IsEarliestUpTo, IsOnlyNew, IsPlaceOf, cleans, done, finds, knew, next}
+use Rattle.shb_search.specs.Asking.{HasAskedAll, HasAskedSome, IsAsking, IsScene, IsToldOf}
 use Rattle.shb_search.specs.Found.{AreFound, FoundRace, IsKnown}
-use Rattle.shb_search.specs.Kept.{ClassData, IsNotedAt, SiteData}
-use Rattle.shb_search.specs.Members.{members}
+use Rattle.shb_search.specs.Kept.{ClassData, SiteData}
 use Rattle.shb_search.specs.Tables.{data_of, list_at}
 use Rattle.shb_search.specs.declared.kept.Classes.{Classes}
 use Rattle.shb_search.specs.declared.look.Access.{Access}
@@ -21,7 +19,7 @@ use Rattle.shb_search.specs.declared.sites.Sites.{Sites}
 use Rattle.shb_search.proofs.AskLemmas.{answer_asked}
 use Rattle.shb_search.proofs.JoinLemmas.{earliest_all}
 use Rattle.shb_search.proofs.Lists.{contains_get, same_entry}
-use Rattle.shb_search.proofs.MemberLemmas.{gone_own, had_before, has_from, members_have, members_index, still_has}
+use Rattle.shb_search.proofs.MemberLemmas.{has_from, members_have, members_index, still_has}
 
 -- what a site of the table stands for
 pub data_at : (all : List Site) (s : ℕ) (site : Site) → slice_get all s ≡ Some site → slice_get (map data_of all) s ≡ Some (data_of site)

@@ -1,17 +1,16 @@
 -- The classes, where an access is added to one.
-use Rattle.std.proofs.Common.{◌≡◌, ◌≢◌, ◌+◌, ◌<◌, ◌≤◌, ◌⊎◌, inl, inr, ℕ, zero, suc, Bool, true, false, List, [], ◌∷◌, ◌++◌, Option, None, Some, length, map, slice_get, get_or, set, arith, refl, subst, ap, sym, ◌∙◌}
+use Rattle.std.proofs.Common.{◌≡◌, ◌≢◌, ◌+◌, ◌<◌, ◌⊎◌, inl, inr, ℕ, zero, suc, Bool, true, false, List, [], ◌∷◌, ◌++◌, Option, Some, length, map, slice_get, get_or, set, arith, refl, subst, ap, sym, ◌∙◌}
 use Rattle.std.specs.Prelude.{Contains}
 use Rattle.std.proofs.lemmas.Bool.{cases_eq}
 use Rattle.std.proofs.lemmas.List.{length-append, length-set, map-append}
-use Rattle.std.proofs.lemmas.List.Elements.{Contains-append_left, Contains-push, Contains-push_cases}
+use Rattle.std.proofs.lemmas.List.Elements.{Contains-push, Contains-push_cases}
 use Rattle.std.proofs.lemmas.Option.{slice_get-get_or, slice_get_past, slice_get_within}
 use Rattle.std.specs.FinSet as fin
 use Rattle.shb_lines.specs.events.Discipline.{local_time}
 use Rattle.shb_lines.specs.text.TraceData.{TraceData}
 use Rattle.shb_lines.proofs.events.Increasing.{contains_cases, contains_head, contains_none}
-use Rattle.shb_search.specs.Asking.{AreOfSites}
-use Rattle.shb_search.specs.Classes.{HasKind, HasPut, IsNoted, begins, class_key, class_of, extends, kind, of_kind}
-use Rattle.shb_search.specs.Kept.{ClassData, IsAdded, IsExtended, IsNewest}
+use Rattle.shb_search.specs.Classes.{HasPut, IsNoted, begins, class_key, class_of, extends, kind, of_kind}
+use Rattle.shb_search.specs.Kept.{ClassData, IsAdded, IsExtended}
 use Rattle.shb_search.specs.Looks.{StandsFor}
 use Rattle.shb_search.specs.State.{AreClassed}
 use Rattle.shb_search.specs.Tables.{HasPushed, list_at}

@@ -1,5 +1,5 @@
 -- Kinds of accesses at the sites of a variable.
-use Rattle.std.proofs.Common.{◌≡◌, ◌+◌, ◌*◌, ℕ, Bool, true, false, refl, subst, arith, sym}
+use Rattle.std.proofs.Common.{◌≡◌, ℕ, Bool, true, false, refl, subst, arith, sym}
 use Rattle.std.specs.FinSet as fin
 use Rattle.shb_numbers.specs.Numbers.{Numbers}
 use Rattle.shb_search.specs.Classes.{HasKind, kind, of_kind}

@@ -1,30 +1,28 @@
 -- An access that is kept.
-use Rattle.std.proofs.Common.{◌≡◌, ◌≢◌, ◌+◌, ◌*◌, ◌<◌, ◌≤◌, ◌⊎◌, inl, inr, ℕ, Bool, true, false, List, [], ◌∷◌, ◌++◌, Option, None, Some, length, map, slice_get, nat_lt, option_map, arith, refl, subst, ap, sym, ◌∙◌}
-use Rattle.std.specs.Prelude.{Contains, if◌then◌else◌}
-use Rattle.std.proofs.lemmas.Bool.{cases_eq, cases_lt, lt-ltb, ltb-true}
+use Rattle.std.proofs.Common.{◌≡◌, ◌≢◌, ◌+◌, ◌<◌, ◌≤◌, ◌⊎◌, inl, inr, ℕ, Bool, true, false, List, [], ◌∷◌, Option, Some, length, map, slice_get, nat_lt, option_map, arith, refl, subst, ap, sym, ◌∙◌}
+use Rattle.std.specs.Prelude.{if◌then◌else◌}
+use Rattle.std.proofs.lemmas.Bool.{cases_eq, lt-ltb, ltb-true}
 use Rattle.std.proofs.lemmas.List.{length-append}
-use Rattle.std.proofs.lemmas.Option.{slice_get-map, slice_get_within}
+use Rattle.std.proofs.lemmas.Option.{slice_get-map}
 use Rattle.shb_lines.specs.events.Discipline.{IsDisciplined, local_time}
 use Rattle.shb_lines.specs.declared.event.Event.{Event}
 use Rattle.shb_lines.specs.events.Events.{thread_at}
-use Rattle.shb_lines.specs.events.Race.{variable_at}
 use Rattle.shb_lines.specs.text.TraceData.{TraceData}
 use Rattle.shb_search.specs.Classes.{IsNoted}
-use Rattle.shb_search.specs.Kept.{ClassData, HasEntry, IsLogged, Logs, SiteData, comes, was_last}
+use Rattle.shb_search.specs.Kept.{HasEntry, Logs, SiteData, comes, was_last}
 use Rattle.shb_search.specs.Looks.{side_of}
-use Rattle.shb_search.specs.Searched.{AreSearched, HasSearched, IsAccessAt, IsKept, SearchData, searches, wants_none}
+use Rattle.shb_search.specs.Searched.{HasSearched, IsAccessAt, SearchData, searches, wants_none}
 use Rattle.shb_search.specs.Sides.{Side}
-use Rattle.shb_search.specs.State.{ArePaired, AreClassed, AreLogged, AreSided, HasFound, IsSearching, Stands}
-use Rattle.shb_search.specs.Tables.{AreSites, data_of, list_at, log_at}
+use Rattle.shb_search.specs.State.{AreLogged, HasFound, IsSearching}
+use Rattle.shb_search.specs.Tables.{data_of, list_at, log_at}
 use Rattle.shb_search.specs.declared.kept.Classes.{Classes}
 use Rattle.shb_search.specs.declared.look.Access.{Access}
 use Rattle.shb_search.specs.declared.look.Class.{Class}
 use Rattle.shb_search.specs.declared.search.Search.{Search}
 use Rattle.shb_search.specs.declared.sites.Site.{Site}
 use Rattle.shb_search.specs.declared.sites.Sites.{Sites}
-use Rattle.shb_search.proofs.AskingLemmas.{data_at}
-use Rattle.shb_search.proofs.KeptLemmas.{AreStill, IsKeptIn, kept_in, noted_kinds, noted_of}
-use Rattle.shb_search.proofs.Lists.{get_cases, same_entry}
+use Rattle.shb_search.proofs.KeptLemmas.{AreStill, kept_in, noted_kinds, noted_of}
+use Rattle.shb_search.proofs.Lists.{get_cases}
 use Rattle.shb_search.proofs.SearchLemmas.{access_searched, access_taken}
 
 -- the numbers of logs are apart

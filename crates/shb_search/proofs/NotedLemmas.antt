@@ -1,8 +1,7 @@
 -- An access that is added to its class.
-use Rattle.std.proofs.Common.{◌≡◌, ◌+◌, ◌<◌, ◌≤◌, ℕ, Bool, true, false, List, [], ◌∷◌, ◌++◌, Option, Some, length, get_or, set, slice_get, option_map, map, arith, refl, subst, ap, sym, ◌∙◌}
-use Rattle.std.proofs.lemmas.Option.{slice_get-map, slice_get_within}
-use Rattle.shb_search.specs.Classes.{HasKind, class_key, kind}
-use Rattle.shb_search.specs.Tables.{IsNumbered}
+use Rattle.std.proofs.Common.{◌≡◌, ◌<◌, ℕ, Bool, List, Option, Some, length, get_or, slice_get, option_map, map, refl, subst, sym, ◌∙◌}
+use Rattle.std.proofs.lemmas.Option.{slice_get-map}
+use Rattle.shb_search.specs.Classes.{HasKind, class_key}
 use Rattle.shb_search.specs.declared.kept.Kinds.{Kinds}
 use Rattle.shb_search.specs.declared.look.Class.{Class}
 use Rattle.shb_search.proofs.Lists.{read_same, same_entry}

@@ -1,41 +1,33 @@
 -- The search before an access: at first, where sites came, and where nothing is wanted.
-use Rattle.std.proofs.Common.{◌≡◌, ◌≢◌, ◌+◌, ◌*◌, ◌<◌, ◌≤◌, ◌⊎◌, inl, inr, ℕ, Bool, true, false, List, [], ◌∷◌, ◌++◌, Option, None, Some, length, map, slice_get, get_or, arith, refl, subst, ap, sym, ◌∙◌}
+use Rattle.std.proofs.Common.{◌≡◌, ◌+◌, ◌*◌, ◌<◌, ◌≤◌, ℕ, Bool, true, false, List, [], Some, length, map, slice_get, arith, refl, subst, ap, sym, ◌∙◌}
 use Rattle.std.specs.Prelude.{Contains}
-use Rattle.std.proofs.lemmas.Bool.{cases_lt}
-use Rattle.std.proofs.lemmas.Option.{slice_get-get_or, slice_get_within}
 use Rattle.std.specs.FinSet as fin
 use Rattle.shb_stamps.specs.Open.{is_open}
-use Rattle.shb_lines.specs.events.Events.{thread_at}
 use Rattle.shb_lines.specs.events.Race.{variable_at}
 use Rattle.shb_lines.specs.text.TraceData.{TraceData}
-use Rattle.shb_lines.proofs.events.Increasing.{contains_none}
 use Rattle.shb_format.specs.Places.{location_at}
 use Rattle.shb_numbers.specs.Numbers.{Numbers}
 use Rattle.shb_search.specs.Accesses.{IsAccessOf}
 use Rattle.shb_search.specs.Classes.{class_key, of_kind}
-use Rattle.shb_search.specs.Kept.{ClassData, IsNotedAt, Logs, SideData, SiteData}
-use Rattle.shb_search.specs.Looks.{AllStay, StandsFor, side_of}
-use Rattle.shb_search.specs.Members.{members}
-use Rattle.shb_search.specs.Searched.{AreSearched, HasSearched, IsAccessAt, SearchData, wants_none}
+use Rattle.shb_search.specs.Kept.{IsNotedAt, SiteData}
+use Rattle.shb_search.specs.Looks.{side_of}
+use Rattle.shb_search.specs.Searched.{SearchData, wants_none}
 use Rattle.shb_search.specs.Sides.{IsOfKind, Meets}
-use Rattle.shb_search.specs.State.{ArePaired, AreClassed, AreLogged, AreSided, HasFound, HasRoom, IsLookedBy, IsReady, IsSearching, IsWantingNone, Stands}
+use Rattle.shb_search.specs.State.{HasFound, HasRoom, IsReady, IsSearching, IsWantingNone, Stands}
 use Rattle.shb_search.specs.Tables.{AreSites, HasMore, IsSite, data_of, list_at, log_at}
-use Rattle.shb_search.specs.declared.kept.Classes.{Classes}
 use Rattle.shb_search.specs.declared.kept.Kinds.{Kinds}
 use Rattle.shb_search.specs.declared.look.Access.{Access}
 use Rattle.shb_search.specs.declared.look.Class.{Class}
-use Rattle.shb_search.specs.declared.look.Seen.{Seen}
 use Rattle.shb_search.specs.declared.search.Search.{Search}
 use Rattle.shb_search.specs.declared.sites.Site.{Site}
 use Rattle.shb_search.specs.declared.sites.Sites.{Sites}
 use Rattle.shb_search.proofs.AskingLemmas.{data_at}
 use Rattle.shb_search.proofs.ClassLemmas.{kind_of_access}
 use Rattle.shb_search.proofs.KeepLemmas.{one_kind}
-use Rattle.shb_search.proofs.Lists.{contains_get, get_contains, same_entry}
+use Rattle.shb_search.proofs.Lists.{same_entry}
 use Rattle.shb_search.proofs.LoggedLemmas.{site_at}
 use Rattle.shb_search.proofs.MemberLemmas.{members_grow}
 use Rattle.shb_format.specs.Leading.{place_at}
-use Rattle.shb_lines.specs.events.Race.{Race}
 use Rattle.shb_pairs.specs.Open.{AreOpen}
 use Rattle.shb_search.specs.Found.{AreFound, Covers, FoundRace}
 use Rattle.shb_search.proofs.SearchLemmas.{all_searched, event_passed, nothing_searched, sites_come}

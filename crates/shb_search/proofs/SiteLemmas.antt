@@ -1,15 +1,12 @@
 -- A site more.
-use Rattle.std.proofs.Common.{◌≡◌, ◌≢◌, ◌+◌, ◌<◌, ◌≤◌, ◌⊎◌, inl, inr, ℕ, Bool, true, false, List, [], ◌∷◌, ◌++◌, Option, Some, length, slice_get, option_map, map, arith, refl, subst, ap, sym, ◌∙◌}
+use Rattle.std.proofs.Common.{◌≡◌, ◌+◌, ◌⊎◌, inl, inr, ℕ, List, [], ◌∷◌, ◌++◌, Option, Some, length, slice_get, option_map, map, arith, refl, subst, ap, sym, ◌∙◌}
 use Rattle.std.proofs.lemmas.Bool.{cases_eq}
-use Rattle.std.proofs.lemmas.List.{length-append, map-append, length-map}
-use Rattle.std.proofs.lemmas.Option.{slice_get-map, slice_get_within}
-use Rattle.std.specs.Ordering.{nat_cmp}
-use Rattle.std.specs.FinSet as fin
-use Rattle.shb_numbers.specs.Numbers.{Numbers}
-use Rattle.shb_search.specs.Tables.{AreSites, HasCome, HasMore, IsNumbered, IsSite, key_of, list_at}
+use Rattle.std.proofs.lemmas.List.{length-append, map-append}
+use Rattle.std.proofs.lemmas.Option.{slice_get-map}
+use Rattle.shb_search.specs.Tables.{AreSites, HasCome, HasMore, IsSite, key_of, list_at}
 use Rattle.shb_search.specs.declared.sites.Site.{Site}
 use Rattle.shb_search.specs.declared.sites.Sites.{Sites}
-use Rattle.shb_search.proofs.Lists.{get_cases, get_last, get_more, same_entry}
+use Rattle.shb_search.proofs.Lists.{get_cases, get_last, get_more}
 use Rattle.shb_search.proofs.TableLemmas.{list_more, pushed_short, pushed_stay}
 
 abbrev new_site : Sites → ℕ → ℕ → Site

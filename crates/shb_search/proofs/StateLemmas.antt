@@ -1,5 +1,5 @@
 -- The state of the search, where an access looks and asks.
-use Rattle.std.proofs.Common.{◌≡◌, ◌≢◌, ◌+◌, ◌<◌, ◌≤◌, ◌⊎◌, inl, inr, ℕ, Bool, true, false, List, [], ◌∷◌, ◌++◌, Option, None, Some, length, map, slice_get, get_or, set, All, arith, refl, subst, ap, sym, ◌∙◌}
+use Rattle.std.proofs.Common.{◌≡◌, ◌+◌, ◌<◌, ◌≤◌, inl, inr, ℕ, Bool, true, false, List, [], ◌∷◌, ◌++◌, Some, length, map, slice_get, get_or, set, arith, refl, subst, ap, sym, ◌∙◌}
 use Rattle.std.specs.Prelude.{Contains}
 use Rattle.std.proofs.lemmas.Bool.{cases_eq, cases_lt}
 use Rattle.std.proofs.lemmas.List.{length-append, length-map, length-set}
@@ -11,13 +11,12 @@ use Rattle.shb_numbers.specs.Numbers.{Numbers}
 use Rattle.shb_lines.proofs.events.Increasing.{contains_none}
 use Rattle.shb_lines.specs.events.Race.{variable_at}
 use Rattle.shb_search.specs.Asked.{AskData, HasAskedEach}
-use Rattle.shb_search.specs.Asking.{AreAllClasses, ArePairedWith, HasAskedAll, HasAskedSome, IsAsking, IsScene}
+use Rattle.shb_search.specs.Asking.{ArePairedWith, HasAskedAll, IsAsking, IsScene}
 use Rattle.shb_search.specs.Classes.{kind}
-use Rattle.shb_search.specs.Found.{AreFound, FoundRace}
 use Rattle.shb_search.specs.Kept.{AreClasses, ClassData, HasLooked, Logs, Looked, SideData, SiteData}
-use Rattle.shb_search.specs.Looks.{AllStay, AreIndexed, AreTable, looked_of, read_of, side_of}
+use Rattle.shb_search.specs.Looks.{AreIndexed, AreTable, looked_of, read_of, side_of}
 use Rattle.shb_search.specs.Members.{members}
-use Rattle.shb_search.specs.Searched.{AreKept, AreSearched, HasSearched, IsAccessAt, IsSearch, SearchData, searches, wants_none}
+use Rattle.shb_search.specs.Searched.{AreSearched, IsAccessAt, SearchData, searches}
 use Rattle.shb_search.specs.Sides.{Side}
 use Rattle.shb_search.specs.State.{ArePaired, AreClassed, AreLogged, AreSided, HasFound, HasSide, IsLookedBy, IsReady, Stands, comes, is_known, nothing_seen}
 use Rattle.shb_search.specs.Tables.{AreSites, data_of, list_at, log_at}

@@ -1,16 +1,14 @@
 -- Numbers of pairs, and lists that grow.
-use Rattle.std.proofs.Common.{◌≡◌, ◌≢◌, ◌+◌, ◌<◌, ◌≤◌, ◌⊎◌, inl, inr, ℕ, zero, suc, Bool, true, false, not, cond, List, [], ◌∷◌, ◌++◌, Option, Some, length, get_or, set, slice_get, option_map, map, arith, refl, subst, ap, sym, ◌∙◌}
-use Rattle.std.specs.Prelude.{Contains}
+use Rattle.std.proofs.Common.{◌≡◌, ◌+◌, ◌<◌, ◌≤◌, inl, inr, ℕ, zero, suc, Bool, true, false, not, cond, List, [], ◌∷◌, ◌++◌, Some, length, get_or, set, slice_get, arith, refl, subst, ap, sym, ◌∙◌}
 use Rattle.std.specs.List.{list_any}
-use Rattle.std.proofs.lemmas.Bool.{cases_eq, cases_lt}
+use Rattle.std.proofs.lemmas.Bool.{cases_eq}
 use Rattle.std.proofs.lemmas.List.{get_or-set_other, get_or-set_same, length-append}
 use Rattle.std.proofs.lemmas.List.Folds.{list_any_at}
-use Rattle.std.proofs.lemmas.Option.{get_or_from_slice_get, slice_get-map, slice_get_past, slice_get_within, unwrap_or-slice_get}
-use Rattle.std.specs.Prelude.{unwrap_or}
+use Rattle.std.proofs.lemmas.Option.{get_or_from_slice_get, slice_get_within}
 use Rattle.shb_search.specs.Found.{same_key}
 use Rattle.shb_search.specs.Tables.{HasPushed, IsNumbered, list_at}
 use Rattle.shb_search.proofs.FoundLemmas.{key_same, one_key}
-use Rattle.shb_search.proofs.Lists.{get_cases, get_last, get_more}
+use Rattle.shb_search.proofs.Lists.{get_cases, get_more}
 
 -- the number of a pair in a set
 pub numbered_pair : (old new : List (ℕ × ℕ)) (pair stored : ℕ × ℕ) (number : ℕ) (is_new : Bool) → new ≡ cond (list_any (same_key pair) old) old (old ++ pair ∷ []) → is_new ≡ not (list_any (same_key pair) old) → slice_get new number ≡ Some stored → same_key pair stored ≡ true → IsNumbered old new pair number is_new

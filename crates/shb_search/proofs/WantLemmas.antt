@@ -1,9 +1,8 @@
 -- What an access wants.
-use Rattle.std.proofs.Common.{◌≡◌, ◌⊎◌, inl, inr, ℕ, Bool, true, false, List, [], ◌∷◌, ◌++◌, Some, slice_get, subst, ap, sym, ◌∙◌}
+use Rattle.std.proofs.Common.{◌≡◌, inl, inr, ℕ, Bool, true, false, List, [], ◌∷◌, ◌++◌, Some, slice_get, ap, sym, ◌∙◌}
 use Rattle.std.specs.Ordering.{nat_cmp}
 use Rattle.std.specs.FinSet as fin
 use Rattle.shb_numbers.specs.Numbers.{Numbers}
-use Rattle.shb_search.specs.Classes.{of_kind}
 use Rattle.shb_search.specs.Sides.{OneWrites}
 use Rattle.shb_search.specs.State.{IsWantingNone}
 use Rattle.shb_search.specs.declared.kept.Kinds.{Kinds}

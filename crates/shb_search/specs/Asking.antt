@@ -1,5 +1,5 @@
 -- What an access asks, by the tables.
-use Rattle.std.specs.Prelude.{◌≡◌, ◌⊎◌, ◌+◌, ◌<◌, ◌≤◌, ℕ, Bool, true, false, List, Some, Contains, length, map, slice_get}
+use Rattle.std.specs.Prelude.{◌≡◌, ◌⊎◌, ◌+◌, ℕ, Bool, true, false, List, Some, Contains, map, slice_get}
 use Rattle.std.specs.FinSet as set
 use Rattle.shb_lines.specs.text.TraceData.{TraceData}
 use Rattle.shb_numbers.specs.Numbers.{Numbers}

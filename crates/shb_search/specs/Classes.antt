@@ -1,17 +1,12 @@
 -- The tables of classes, and what they stand for.
-use Rattle.std.specs.Prelude.{◌≡◌, ◌≢◌, ◌⊎◌, ◌+◌, ◌*◌, ◌<◌, ◌≤◌, ℕ, Bool, true, false, List, [], ◌∷◌, ◌++◌, Some, Contains, length, map, slice_get, slice_set}
+use Rattle.std.specs.Prelude.{◌≡◌, ◌+◌, ◌*◌, ℕ, Bool, true, false, List, [], ◌∷◌, ◌++◌, Some, length, slice_get, slice_set}
 use Rattle.std.specs.FinSet as set
-use Rattle.shb_lines.specs.declared.event.Event.{Event}
 use Rattle.shb_numbers.specs.Numbers.{Numbers}
-use Rattle.shb_search.specs.Kept.{ClassData}
-use Rattle.shb_search.specs.Looks.{StandsFor}
-use Rattle.shb_search.specs.Tables.{HasPushed, list_at}
+use Rattle.shb_search.specs.Tables.{HasPushed}
 use Rattle.shb_search.specs.declared.kept.Classes.{Classes}
 use Rattle.shb_search.specs.declared.kept.Kinds.{Kinds}
 use Rattle.shb_search.specs.declared.look.Access.{Access}
 use Rattle.shb_search.specs.declared.look.Class.{Class}
-use Rattle.shb_search.specs.declared.sites.Site.{Site}
-use Rattle.shb_search.specs.declared.sites.Sites.{Sites}
 
 -- a thread and a kind of access as a number
 abbrev pub kind : ℕ → Bool → ℕ

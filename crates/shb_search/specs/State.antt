@@ -1,13 +1,13 @@
 -- The state of the search, and what it stands for.
-use Rattle.std.specs.Prelude.{◌≡◌, ◌≢◌, ◌⊎◌, ◌+◌, ◌*◌, ◌<◌, ◌≤◌, ℕ, Bool, true, false, List, [], ◌∷◌, ◌++◌, Some, Contains, length, map, slice_get}
+use Rattle.std.specs.Prelude.{◌≡◌, ◌+◌, ◌*◌, ◌<◌, ◌≤◌, ℕ, Bool, true, List, [], ◌∷◌, ◌++◌, Some, Contains, length, map, slice_get}
 use Rattle.std.specs.FinSet as set
 use Rattle.shb_lines.specs.events.Race.{variable_at}
 use Rattle.shb_lines.specs.text.TraceData.{TraceData}
 use Rattle.shb_numbers.specs.Numbers.{Numbers}
 use Rattle.shb_stamps.specs.Open.{is_open}
-use Rattle.shb_search.specs.Asking.{AreAllClasses, AreOfSites}
+use Rattle.shb_search.specs.Asking.{AreOfSites}
 use Rattle.shb_search.specs.Classes.{class_key, kind, of_kind}
-use Rattle.shb_search.specs.Kept.{ClassData, Logs, Looked, SideData, SiteData}
+use Rattle.shb_search.specs.Kept.{ClassData, Logs, Looked, SideData}
 use Rattle.shb_search.specs.Looks.{AllStay, StandsFor, read_of, side_of}
 use Rattle.shb_search.specs.Members.{members}
 use Rattle.shb_search.specs.Searched.{AreSearched, HasSearched, IsAccessAt, SearchData}

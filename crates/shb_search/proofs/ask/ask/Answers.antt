@@ -1,12 +1,6 @@
-use Rattle.std.proofs.Common.{◌≡◌, ◌+◌, ◌<◌, ◌≤◌, ℕ, true, false, inl, inr, List, length, subst, ap, arith, sym, ◌∙◌}
+use Rattle.std.proofs.Common.{◌≡◌, ℕ, true, inl, inr, length, subst, ap, arith, sym}
 use Rattle.std.proofs.lemmas.Bool.{cases_eq, cases_lt}
 use Rattle.std.specs.FinSet as fin
-use Rattle.shb_lines.specs.text.Limits.{most_events}
-use Rattle.shb_search.specs.Asked.{AskData}
-use Rattle.shb_search.specs.Asking.{IsAsking, IsScene}
-use Rattle.shb_search.specs.Found.{FoundRace}
-use Rattle.shb_search.specs.Kept.{ClassData}
-use Rattle.shb_search.specs.Tables.{list_at}
 use Rattle.shb_search.proofs.AskingLemmas.{all_asked, none_asked, some_then}
 use Rattle.shb_search.proofs.MemberLemmas.{in_second}
 use Rattle.shb_search.proofs.ask.ask.Goals as goal

@@ -1,10 +1,9 @@
 use Rattle.std.proofs.lemmas.List.{length-map}
 use Rattle.shb_search.specs.Tables.{data_of}
-use Rattle.std.proofs.Common.{◌≡◌, ◌+◌, map, ℕ, List, Some, length, slice_get, arith, refl, subst, ap, sym, ◌∙◌}
+use Rattle.std.proofs.Common.{◌≡◌, ◌+◌, map, ℕ, List, Some, length, slice_get, arith, subst, ap}
 use Rattle.std.proofs.lemmas.Option.{slice_get_within}
 use Rattle.shb_search.proofs.AskingLemmas.{answered_told, earliest_if_any, knew_told, listed_variable, place_is}
 use Rattle.shb_search.proofs.Lists.{read_same}
-use Rattle.shb_search.specs.Asking.{AreNumbered}
 use Rattle.shb_search.proofs.ask.ask_place.Goals as goal
 
 pub returns-in_default-clause-told : goal.returns-in_default-clause-told

@@ -1,5 +1,5 @@
 use Rattle.shb_search.specs.Found.{AreFound}
-use Rattle.std.proofs.Common.{◌≡◌, ◌+◌, map, ℕ, Bool, true, false, List, None, Some, length, slice_get, arith, refl, subst, ap, sym, ◌∙◌}
+use Rattle.std.proofs.Common.{◌≡◌, ◌+◌, map, Bool, true, length, arith, subst, ap, sym}
 use Rattle.std.proofs.lemmas.Option.{slice_get_past}
 use Rattle.std.specs.FinSet as fin
 use Rattle.shb_numbers.specs.Numbers.{Numbers}

@@ -1,7 +1,6 @@
-use Rattle.std.proofs.Common.{◌≡◌, ◌<◌, ℕ, List, Some, length, get_or, slice_get, arith, refl, subst, ap, sym, ◌∙◌}
+use Rattle.std.proofs.Common.{◌≡◌, ◌<◌, ℕ, Some, length, get_or, slice_get, arith, subst}
 use Rattle.std.proofs.lemmas.Option.{slice_get-get_or}
 use Rattle.shb_search.specs.Asked.{IsEarliestUpTo}
-use Rattle.shb_search.specs.Kept.{ClassData, SiteData}
 use Rattle.shb_search.proofs.JoinLemmas.{earliest_next}
 use Rattle.shb_search.proofs.ask.earliest_among.Goals as goal
 

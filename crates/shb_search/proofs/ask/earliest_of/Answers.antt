@@ -1,7 +1,5 @@
-use Rattle.std.proofs.Common.{◌≡◌, ◌<◌, ℕ, List, Some, All, length, slice_get, arith, refl, subst, ap, sym, ◌∙◌}
+use Rattle.std.proofs.Common.{length, arith, ap, sym, ◌∙◌}
 use Rattle.std.proofs.lemmas.Option.{slice_get_within}
-use Rattle.shb_search.specs.Kept.{ClassData, SiteData}
-use Rattle.shb_search.specs.Tables.{list_at}
 use Rattle.shb_search.proofs.Lists.{read_same}
 use Rattle.shb_search.proofs.LookLemmas.{stands_for}
 use Rattle.shb_search.proofs.ask.earliest_of.Goals as goal

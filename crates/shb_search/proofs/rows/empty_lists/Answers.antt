@@ -1,4 +1,4 @@
-use Rattle.std.proofs.Common.{ℕ, arith, refl, ap, subst, sym, ◌∙◌, [], ◌∷◌, length}
+use Rattle.std.proofs.Common.{arith, ap, ◌∙◌, [], ◌∷◌, length}
 use Rattle.std.proofs.lemmas.List.{length-append}
 use Rattle.shb_search.specs.Tables.{list_at}
 use Rattle.shb_search.proofs.TableLemmas.{list_more}

@@ -1,4 +1,4 @@
-use Rattle.std.proofs.Common.{ℕ, Some, List, slice_get, ◌≡◌, arith, refl, ◌∙◌, ap, length, subst, sym}
+use Rattle.std.proofs.Common.{Some, List, slice_get, ◌≡◌, arith, subst}
 use Rattle.shb_numbers.specs.Numbers.{Numbers}
 use Rattle.shb_search.proofs.WantLemmas.{room_more}
 use Rattle.shb_search.proofs.search.make_room.Goals as goal

@@ -1,10 +1,9 @@
-use Rattle.std.proofs.Common.{◌≡◌, ◌+◌, ◌<◌, ℕ, Bool, true, false, List, [], ◌∷◌, ◌++◌, Some, length, slice_get, refl, subst, sym, ap, arith, ◌∙◌}
+use Rattle.std.proofs.Common.{◌≡◌, ℕ, Bool, true, false, [], ◌∷◌, ◌++◌, length, refl, subst, sym, ap, arith, ◌∙◌}
 use Rattle.std.proofs.lemmas.List.{length-append, length-map, length-set}
 use Rattle.std.proofs.lemmas.Option.{slice_get_within}
-use Rattle.shb_search.specs.Classes.{HasPut, begins, class_key, extends, kind}
+use Rattle.shb_search.specs.Classes.{HasPut, begins, class_key, extends}
 use Rattle.shb_search.specs.Tables.{IsNumbered}
 use Rattle.shb_search.specs.declared.look.Class.{Class}
-use Rattle.shb_search.specs.declared.kept.Classes.{Classes}
 use Rattle.shb_search.proofs.NotedLemmas.{known_class}
 use Rattle.shb_search.proofs.Lists.{read_same, same_entry}
 use Rattle.shb_search.proofs.TableLemmas.{pushed}

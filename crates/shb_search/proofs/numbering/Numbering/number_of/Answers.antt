@@ -1,4 +1,4 @@
-use Rattle.std.proofs.Common.{ℕ, List, subst, sym}
+use Rattle.std.proofs.Common.{ℕ, List, subst}
 use Rattle.shb_search.specs.Tables.{IsNumbered}
 use Rattle.shb_search.proofs.TableLemmas.{numbered_pair}
 use Rattle.shb_search.proofs.numbering.Numbering.number_of.Goals as goal

@@ -1,4 +1,4 @@
-use Rattle.std.proofs.Common.{◌≡◌, ◌<◌, List, Some, length, slice_get, arith, refl, subst, ap, sym, ◌∙◌}
+use Rattle.std.proofs.Common.{arith, refl}
 use Rattle.shb_search.proofs.Lists.{read_same}
 use Rattle.shb_search.proofs.ReadyLemmas.{found_none, ready_room}
 use Rattle.shb_search.proofs.search.Search.find.Goals as goal

@@ -1,4 +1,4 @@
-use Rattle.std.proofs.Common.{◌≡◌, List, Some, slice_get, refl, subst, ap, arith, sym, ◌∙◌}
+use Rattle.std.proofs.Common.{List, refl, subst, ap, ◌∙◌}
 use Rattle.shb_lines.specs.declared.event.Event.{Event}
 use Rattle.shb_lines.specs.events.Discipline.{IsDisciplined}
 use Rattle.std.proofs.lemmas.Option.{slice_get_within}

@@ -1,4 +1,4 @@
-use Rattle.std.proofs.Common.{◌≡◌, ◌+◌, ◌≤◌, ◌<◌, ℕ, true, false, List, Some, length, slice_get, arith, refl, subst, ap, sym, ◌∙◌}
+use Rattle.std.proofs.Common.{◌≡◌, ◌+◌, ℕ, true, false, List, arith, refl, subst, ap, sym, ◌∙◌}
 use Rattle.shb_search.specs.Looks.{AreIndexed, AreTable}
 use Rattle.shb_search.specs.Tables.{list_at, log_at}
 use Rattle.shb_search.specs.declared.look.Class.{Class}

@@ -1,4 +1,4 @@
-use Rattle.std.proofs.Common.{◌≡◌, ◌++◌, ◌∷◌, [], ℕ, Bool, true, false, Some, slice_get, refl, subst, ap, sym, ◌∙◌}
+use Rattle.std.proofs.Common.{◌++◌, ◌∷◌, [], ℕ, Bool, true, false, Some, refl, subst, ap, ◌∙◌}
 use Rattle.shb_search.specs.State.{comes, is_known}
 use Rattle.shb_search.specs.Tables.{IsNumbered}
 use Rattle.shb_search.proofs.sides.Sides.number_of.Goals as goal
