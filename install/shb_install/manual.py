@@ -11,7 +11,7 @@ def page(help_, version, date, others):
     """The page of a command; `others` are the names of the pages that it points to."""
     name = name_of(help_.command)
     lines = [f'.TH {name.upper()} 1 "{date}" "shb {version}" "shb"', ".SH NAME", rf"{roff(name)} \- {roff(help_.about)}",
-             ".SH SYNOPSIS", roff(help_.usage), ".SH DESCRIPTION"]
+             ".SH SYNOPSIS", ".nh", roff(help_.usage).replace("\\-", "-").replace("-", "\\-"), ".hy", ".SH DESCRIPTION"]
     for head, body in help_.parts:
         if not head:
             lines += [*as_it_is(body), ".PP"]
