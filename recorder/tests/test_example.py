@@ -25,7 +25,7 @@ class Example(recorder.Case):
         answer = recorder.call("sh", "-e", "-c", self.commands(), cwd=self.folder, env=how)
         self.assertEqual(answer.returncode, 66, answer.stderr)
         self.assertEqual((self.folder / "account.shb" / "unknown.places").read_text(),
-                         "# account.c:10\taccount.c:8\naccount.c:pay()\taccount.c:pay()\n")
+                         "# account.c:10\taccount.c:8\naccount.c:pay()\taccount.c:pay()\tbalance\n")
         self.assertIn(self.shown(), answer.stderr.decode())
 
     def test_the_stored_trace(self):
