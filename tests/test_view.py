@@ -52,9 +52,9 @@ FORK_JOIN_ALL = FORK_JOIN + """
 UNLOCKED_READ = """\
 unlocked-read.std: 3 races at 3 places, in 2 groups (18 events, 3 threads, 1 lock, 3 variables)
 
-1. items: main.c:11 is without lock (1 race, 1 place)
+1. items: main.c:11 doesn't hold lock (1 race, 1 place)
    In this trace lock is held at queue.c:22, and not at main.c:11.
-   main.c:11 read what queue.c:22 wrote: races behind this one are listed only once it is mended.
+   main.c:11 read what queue.c:22 wrote: a racy read may hide other races: fix it and run again.
    queue.c:22: 1 write by producer
      holds lock
      races with main.c:11 (1 race)
@@ -68,7 +68,7 @@ unlocked-read.std: 3 races at 3 places, in 2 groups (18 events, 3 threads, 1 loc
 
 2. closed: one thread writes (2 races, 2 places)
    In this trace only main writes, at main.c:12, and no lock is held at any access.
-   queue.c:29 read what main.c:12 wrote: races behind this one are listed only once it is mended.
+   queue.c:29 read what main.c:12 wrote: a racy read may hide other races: fix it and run again.
    main.c:12: 1 write by main
      no lock held
      races with queue.c:29 (2 races)
@@ -80,9 +80,9 @@ unlocked-read.std: 3 races at 3 places, in 2 groups (18 events, 3 threads, 1 loc
 ACCOUNT = """\
 account.std: 1 race at 1 place, in 1 group (12 events, 2 threads, 1 lock, 1 variable)
 
-1. balance: account.c:8 is without door (1 race, 1 place)
+1. balance: account.c:8 doesn't hold door (1 race, 1 place)
    In this trace every write holds door, and account.c:8 reads without it.
-   account.c:8 read what account.c:10 wrote: races behind this one are listed only once it is mended.
+   account.c:8 read what account.c:10 wrote: a racy read may hide other races: fix it and run again.
    account.c:10: 2 reads and 2 writes by T1.pay and main
      holds door
      races with account.c:8 (1 race)
@@ -97,7 +97,7 @@ places.std: 6 races at 3 places, in 1 group (4 events, 4 threads, 0 locks, 1 var
 
 1. total: 3 threads write (6 races, 3 places)
    In this trace 3 threads write, and no lock is held at any access.
-   Report.java:30 read what Counter.java:12 wrote: races behind this one are listed only once it is mended.
+   Report.java:30 read what Counter.java:12 wrote: a racy read may hide other races: fix it and run again.
    Counter.java:12: 3 writes by T1, T2 and T4
      no lock held
      races with Counter.java:12 (3 races) and Report.java:30 (3 races)
@@ -232,7 +232,7 @@ class Facts(program.Case):
         self.assertEqual(self.said(*lines), ["In this trace f.c:2 holds l and f.c:10 holds m, and no lock is common to them."])
         out = run_here([self.file(trace_of(*lines))])[1]
         self.assertIn("\n1. x: f.c:2 and f.c:10 hold different locks (1 race, 1 place)\n", out)
-        self.assertNotIn("without", out)
+        self.assertNotIn("n't hold", out)
 
     def test_a_write_under_a_read_lock(self):
         """The recorder names what reader T of rw holds `rw@reader.T`; the writer holds `rw`."""
@@ -245,7 +245,7 @@ class Facts(program.Case):
         self.assertEqual(self.said(*lines), ["In this trace every write holds rw, and f.c:7 reads without it."])
         out = run_here([self.file(trace_of(*lines))])[1]
         self.assertIn("   f.c:5: 2 reads by A and B\n     holds rw for reading\n", out)
-        self.assertEqual(re.findall(r"(.*) without rw", out), ["1. x: f.c:7 is"])
+        self.assertEqual(re.findall(r"(.*) hold rw", out), ["1. x: f.c:7 doesn't"])
 
     def test_an_atomic_and_a_plain_access(self):
         """As the recorder writes them: T's atomic write of n is `r(n)` and `w(n!T)` under a lock that the program doesn't have; a plain
@@ -273,12 +273,12 @@ class Facts(program.Case):
 
     def test_one_thread_writes(self):
         self.assertEqual(self.said("A w x 1", "B acq l 2", "B r x 3"),
-                         ["In this trace only A writes, at f.c:1, and no lock is held at every access."])
+                         ["In this trace only A writes, at f.c:1, and no single lock is held at all accesses."])
 
     def test_a_lock_that_readers_alone_hold_is_no_rule(self):
         """The writer never holds it; so nothing says that it belongs to the variable."""
         self.assertEqual(self.said("A w x 1", "B acq l 2", "B r x 3", "B rel l 4", "C r x 5"),
-                         ["In this trace only A writes, at f.c:1, and no lock is held at every access."])
+                         ["In this trace only A writes, at f.c:1, and no single lock is held at all accesses."])
 
     def test_many_lines_are_not_all_named(self):
         reads = [f"R{line} r x {line}" for line in range(11, 16)]
@@ -308,7 +308,7 @@ class Sites(program.Case):
     def lines(self, *events):
         """What is said, but for reads of what the other access wrote."""
         said = run_here([self.file(trace_of(*events))])[1].splitlines()
-        return [line for line in said if "this one" not in line]
+        return [line for line in said if "hide other races" not in line]
 
     def test_locks_held_not_held_and_sometimes(self):
         said = self.lines("A acq l 1", "A acq m 1", "A w x 2", "A rel m 3", "A rel l 3", "B r x 4", "B acq l 5", "B r x 4", "B acq n 6",
@@ -316,7 +316,7 @@ class Sites(program.Case):
         self.assertEqual(said[4:14], [
             "   f.c:2: 1 write by A", "     holds l; holds m", "     races with f.c:4 (1 race) and f.c:9 (1 race)",
             "   f.c:4: 2 reads by B", "     holds l at 1 of 2; no lock held at 1 of 2", "     races with f.c:2 (1 race)",
-            "   f.c:9: 1 read by C", "     holds n2; without l", "     races with f.c:2 (1 race)",
+            "   f.c:9: 1 read by C", "     holds n2; doesn't hold l", "     races with f.c:2 (1 race)",
             "   f.c:7: 1 read by B"])
         self.assertEqual(said[14:], ["     holds l; holds n"])
 
@@ -451,10 +451,10 @@ class Groups(program.Case):
         """A read that took the value of the write it races with; of two writes it took the later one's."""
         lines = ["A w x 1", "B r x 2", "A w y 3", "C w y 5", "B r y 4"]
         out = run_here([self.file(trace_of(*lines))])[1]
-        hides = "   f.c:{} read what f.c:{} wrote: races behind this one are listed only once it is mended.\n"
+        hides = "   f.c:{} read what f.c:{} wrote: a racy read may hide other races: fix it and run again.\n"
         self.assertIn(hides.format(2, 1), out)
         self.assertIn(hides.format(4, 5), out)
-        self.assertEqual(out.count("behind this one"), 2)  # f.c:3 wrote before f.c:5 did
+        self.assertEqual(out.count("hide other races"), 2)  # f.c:3 wrote before f.c:5 did
 
     def test_a_pair_has_no_order(self):
         text = trace_of("A w x 1", "B w x 2", "A w x 1")

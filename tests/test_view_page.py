@@ -66,11 +66,11 @@ class Pages(program.Case):
     def test_a_row_and_a_section_for_each_group(self):
         page = self.page(self.example("unlocked-read"))
         self.assertEqual([text for _, text in page.all("li")], [
-            "1. items main.c:11 is without lock 1 race, 1 placeIn this trace lock is held at queue.c:22, and not at main.c:11.",
+            "1. items main.c:11 doesn't hold lock 1 race, 1 placeIn this trace lock is held at queue.c:22, and not at main.c:11.",
             "2. closed one thread writes 2 races, 2 placesIn this trace only main writes, at main.c:12, and no lock is held at any access."])
         self.assertEqual([attributes["id"] for attributes, _ in page.all("section")], ["g1", "g2"])
         self.assertEqual([attributes["class"] for attributes, _ in page.all("li")], ["rank2", "rank4"])
-        self.assertEqual([text for _, text in page.all("h2")], ["1 items: main.c:11 is without lock", "2 closed: one thread writes"])
+        self.assertEqual([text for _, text in page.all("h2")], ["1 items: main.c:11 doesn't hold lock", "2 closed: one thread writes"])
         self.assertEqual([attributes["aria-label"] for attributes, _ in page.all("svg")[1:]],
                          ["What comes before events 12 and 13", "What comes before events 15 and 16"])
 

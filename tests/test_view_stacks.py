@@ -168,7 +168,7 @@ class Stacks(program.Case):
         """In the trace a free is a write, and orders what follows such a read; but it wrote nothing."""
         trace = b"main|fork(T1)|a.c:1\nmain|w(a.c:9#2)|a.c:7\nT1|r(a.c:9#2)|a.c:5\n"
         _, out, _ = self.shown(stacks(tables=TABLES + b"free 2 2\n"), trace=trace)
-        self.assertIn("   a.c:5 read what a.c:7 freed: races behind this one are listed only once it is mended.\n", out)
+        self.assertIn("   a.c:5 read what a.c:7 freed: a racy read may hide other races: fix it and run again.\n", out)
 
     def test_an_atomic_that_hands_on_without_order(self):
         """The trace need not have it. With release and acquire it orders, and is no reason; nor is one that one of the threads alone uses."""

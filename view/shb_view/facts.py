@@ -196,9 +196,9 @@ def lines_of(sites):
 
 def tag_of(without, lock):
     """Which lines lack a lock."""
-    verb = " is " if len(without) == 1 else " are "
-    some = "not always under " if any(site.guarded(lock) for site in without) else "without "
-    return [*lines_of(without), verb, some, Code(lock)]
+    verb = " doesn't " if len(without) == 1 else " don't "
+    holds = "always hold " if any(site.guarded(lock) for site in without) else "hold "
+    return [*lines_of(without), verb, holds, Code(lock)]
 
 
 def fact_of_writers(sites, whole):
@@ -208,7 +208,7 @@ def fact_of_writers(sites, whole):
     if unknown:
         locks = f"the locks held at {counted(unknown, 'access', 'accesses')} aren't counted"
     elif any(site.locks or site.reading for site in sites):
-        locks = "no lock is held at every access"
+        locks = "no single lock is held at all accesses"
     else:
         locks = "no lock is held at any access"
     if len(writers) > 1:

@@ -65,7 +65,7 @@ def lock_words(site, lock):
     if site.bare:
         found.append(("none", [NO_LOCK]) if site.bare == total else ("some", [NO_LOCK, f" at {site.bare:,} of {total:,}"]))
     if lock and site.bare < total and not site.locks[lock] and not site.reading[lock] and not site.unknown:
-        found.append(("none", ["without ", Code(lock)]))
+        found.append(("none", ["doesn't hold ", Code(lock)]))
     if site.unknown:
         found.append(("some", [f"locks not counted at {site.unknown:,} of {total:,}"]))
     return found
@@ -122,7 +122,7 @@ def seen_parts(section):
     for writer, reader in section.seen:
         readers.setdefault((reader, "freed" if writer in frees else "wrote"), []).append([place(writer)])
     for (reader, verb), writers in [*readers.items()][:MOST_SOME]:
-        yield [place(reader), " read what ", *listed(writers, MOST_SOME), f" {verb}: races behind this one are listed only once it is mended."]
+        yield [place(reader), " read what ", *listed(writers, MOST_SOME), f" {verb}: a racy read may hide other races: fix it and run again."]
 
 
 def races_text(group):
