@@ -58,8 +58,13 @@ class Fix(program.Case):
         self.assertRegex(ran.stderr, rb"\Aline 2: the lock was held when the log began.*\nshb-fix: 1 repair\n\Z")
         self.assertEqual(fixed(lines("T0|w(x) T0|rel(l)"), "--quiet").stderr, b"shb-fix: 1 repair\n")
 
+    def test_a_file_that_is_no_trace(self):
+        ran = fixed(b"comment\n" * 3)
+        self.assertEqual((ran.returncode, ran.stdout, ran.stderr), (2, b"", b"shb-fix: no line is an event: this is no trace\n"))
+        self.assertEqual(fixed(b"").returncode, 0)
+
     def test_many_repairs_are_counted(self):
-        ran = fixed(b"comment\n" * 50)
+        ran = fixed(b"comment\n" * 50 + b"T|w(x)\n")
         self.assertEqual(len(ran.stderr.splitlines()), 22)
         self.assertIn(b"30 more lines", ran.stderr)
 

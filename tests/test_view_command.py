@@ -168,7 +168,10 @@ exec REAL "$@"
             (b"\n\nA|W(x)\n", "line 3: the operation is not known", "A|W(x)", "operations are written in small letters, as `w`"),
             (b"\xef\xbb\xbf# a comment\n", "line 1: the line has no operation field", "\\ufeff# a comment",
              "the file begins with a byte order mark: save it without one"),
-            (b"A|rel(l)\n", "line 1: the lock is not held by this thread", "A|rel(l)", None),
+            (b"A|rel(l)\n", "line 1: the lock is not held by this thread", "A|rel(l)",
+             "the log may begin while the lock is held, or miss an acquire; `shb-fix` repairs such logs"),
+            (b"A|w(x)\nB|fork(A)\n", "line 2: the forked thread has started already", "B|fork(A)",
+             "the fork may be logged late; `shb-fix` repairs such logs"),
         ):
             with self.subTest(text):
                 status, out, err = run_here([self.file(text)])

@@ -23,6 +23,14 @@ BEGINNINGS = {      # of files that are something else
     b"shb-report": "the file is a report of `shb`, not a trace",
     b"shb-record": "the file is a record: `shb-std` makes a trace of it",
 }
+REPAIRS = {         # of faults between lines
+    "the lock is not held by this thread": "the log may begin while the lock is held, or miss an acquire",
+    "the lock is held by another thread": "the log may miss a release",
+    "the thread was joined before": "a join may have timed out, or the thread's name is used again",
+    "the forked thread has started already": "the fork may be logged late",
+    "the thread was forked before": "the thread's name may be used again",
+    "the forked thread was joined before": "the thread's name may be used again",
+}
 CARRIAGE_RETURNS = "a carriage return stands alone: lines end with a line feed, or with both"
 
 
@@ -45,7 +53,14 @@ def line_and_hint(words, file):
     file.seek(0)
     start = file.read(max(map(len, BEGINNINGS)))
     line = line_in(file, int(found[1])).rstrip(b"\r\n")
-    return line, next((hint for beginning, hint in BEGINNINGS.items() if start.startswith(beginning)), None) or hint_of(line)
+    other = next((hint for beginning, hint in BEGINNINGS.items() if start.startswith(beginning)), None)
+    return line, other or hint_of(line) or repair_of(words)
+
+
+def repair_of(words):
+    """What `shb-fix` may repair of a fault between lines."""
+    repair = next((repair for fault, repair in REPAIRS.items() if words.endswith(fault)), None)
+    return f"{repair}; `shb-fix` repairs such logs" if repair else ""
 
 
 def line_in(file, number):

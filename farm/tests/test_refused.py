@@ -25,6 +25,10 @@ LINES = (
     (b"T1,w(x),1\n", "the line has no operation field", "T1,w(x),1", "a line is THREAD|OPERATION|LOCATION, with bars between, not commas; there are no comments"),
     (b"# a comment\n", "the line has no operation field", "# a comment", "a line is THREAD|OPERATION|LOCATION, with bars between; there are no comments"),
     (b"T1|rel(l)| | x\n", "the thread does not hold the lock", "T1|rel(l)| | x", ""),
+    (b"T1|rel(l)\n", "the lock is not held by this thread", "T1|rel(l)", "the log may begin while the lock is held, or miss an acquire; `shb-fix` repairs such logs"),
+    (b"T1|acq(l)\n", "the lock is held by another thread", "T1|acq(l)", "the log may miss a release; `shb-fix` repairs such logs"),
+    (b"T1|r(x)\n", "the thread was joined before", "T1|r(x)", "a join may have timed out, or the thread's name is used again; `shb-fix` repairs such logs"),
+    (b"T1|fork(T2)\n", "the thread was forked before", "T1|fork(T2)", "the thread's name may be used again; `shb-fix` repairs such logs"),
     (b"T1|rel(l)|" + b"x" * 5000 + b"\n", "the thread does not hold the lock", "T1|rel(l)|" + "x" * 48 + "..", ""),
 )
 

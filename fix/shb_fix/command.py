@@ -15,8 +15,8 @@ Repairs a trace of another tool so that `shb` reads it, writes it to standard ou
 lists each repair on standard error. A repair is a guess about the program: read the list.
 Some add order (a lock that is given up, a fork that is moved), which can hide a race."""
 STATUS = """\
-Exit status: 0 nothing had to be repaired; 1 the trace was repaired; 3 wrong command line;
-4 a file can't be read or written."""
+Exit status: 0 nothing had to be repaired; 1 the trace was repaired; 2 no line is an event, so
+nothing was written; 3 wrong command line; 4 a file can't be read or written."""
 
 
 class Parser(argparse.ArgumentParser):
@@ -32,10 +32,9 @@ def arguments(words):
     return parser.parse_args(words)
 
 
-def repaired(file, repairs):
-    """The events of a file, repaired."""
-    events = threads.repaired(lines.events_of(file, repairs), repairs)
-    return locks.repaired(events, repairs)
+def repaired(read, repairs):
+    """The events that were read, repaired."""
+    return locks.repaired(threads.repaired(read, repairs), repairs)
 
 
 def say(repairs, quiet):
@@ -52,12 +51,15 @@ def main(words):
     repairs = Repairs()
     try:
         with open(options.trace, "rb") if options.trace else open(0, "rb", closefd=False) as file:
-            events = repaired(file, repairs)
+            read = list(lines.events_of(file, repairs))
     except OSError as fault:
         print(f"shb-fix: {words_of(fault)}", file=sys.stderr)
         return 4
+    if repairs.counts and not read:
+        print("shb-fix: no line is an event: this is no trace", file=sys.stderr)
+        return 2
     try:
-        sys.stdout.buffer.writelines(event.text() for event in events)
+        sys.stdout.buffer.writelines(event.text() for event in repaired(read, repairs))
         sys.stdout.buffer.flush()
     except OSError as fault:
         leave_standard_output()
