@@ -16,7 +16,7 @@ import time
 from shb_common.progress import Progress
 from shb_common.words import counted
 from shb_farm import limits, passes
-from shb_farm.children import end_with_parent
+from shb_farm.children import end_with
 
 # Without a PATH Python doesn't know its own name. A job needs nothing of this machine's packages, whose start costs time.
 JOB = [sys.executable or "python3", "-I", "-S", str(pathlib.Path(__file__).resolve().with_name("job.py"))]
@@ -137,11 +137,12 @@ class Watch:
 
 def run_group(words, given, watch):
     """Runs a command with all that it starts in a process group of its own, which ends with this process, however that ends."""
+    parent = os.getpid()
     with tempfile.TemporaryFile("w+") as numbers:
         numbers.write(given)
         numbers.seek(0)
         try:
-            started = subprocess.Popen(words, stdin=numbers, stdout=sys.stderr, start_new_session=True, preexec_fn=end_with_parent)
+            started = subprocess.Popen(words, stdin=numbers, stdout=sys.stderr, start_new_session=True, preexec_fn=lambda: end_with(parent))
         except FileNotFoundError:
             raise NotInstalled(f"{words[0]} isn't installed")
     try:

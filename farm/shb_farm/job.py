@@ -55,7 +55,8 @@ def note_done(work):
 
 
 def main(words):
-    end_with(os.getppid())
+    if len(words) > 2:
+        end_with(os.getsid(0))      # xargs, which leads a session of its own; where it has ended already the parent is another one
     sys.stderr.reconfigure(errors="backslashreplace")
     work, every = passes.read(words[0]), int(words[1])
     first = int(words[2] if len(words) > 2 else os.environ["SLURM_ARRAY_TASK_ID"])

@@ -7,7 +7,7 @@ import subprocess
 import typing
 
 from shb_common import analyser
-from shb_farm.children import end_with_parent
+from shb_farm.children import end_with
 from shb_farm.limits import MIB
 
 WORDS = {"list": [*analyser.LIST, "--workers", "1"], "full": [*analyser.FULL, "--workers", "1"]}
@@ -54,9 +54,9 @@ def check_machine(work):
             raise NotHere(f"the machine's limit of {what} is lower than that of the pass")
 
 
-def set_limits(work):
-    """What a child process does first."""
-    end_with_parent()
+def set_limits(work, parent):
+    """What a child process of this parent does first."""
+    end_with(parent)
     resource.setrlimit(resource.RLIMIT_CORE, (0, 0))
     for name, limit, _ in limits_of(work):
         resource.setrlimit(name, (limit, resource.getrlimit(name)[1]))
@@ -65,7 +65,8 @@ def set_limits(work):
 def run(work, words, given, out, **how):
     """Runs a command to its end, with open files as its input, from its beginning, and its output; gives its `Answer`."""
     check_machine(work)
-    answer = analyser.call(words, given, out, preexec=lambda: set_limits(work), **how)
+    parent = os.getpid()
+    answer = analyser.call(words, given, out, preexec=lambda: set_limits(work, parent), **how)
     METER.add(answer.seconds, answer.kib)
     return answer
 
@@ -73,8 +74,9 @@ def run(work, words, given, out, **how):
 def start(work, words, given):
     """Starts a command that gets an open file beside three pipes."""
     check_machine(work)
+    parent = os.getpid()
     return subprocess.Popen(words, bufsize=0, stdin=subprocess.PIPE, stdout=subprocess.PIPE, stderr=subprocess.PIPE,
-                            pass_fds=[given.fileno()], preexec_fn=lambda: set_limits(work))
+                            pass_fds=[given.fileno()], preexec_fn=lambda: set_limits(work, parent))
 
 
 def end_of(work, status, said, written):
