@@ -104,23 +104,24 @@ class Refusals(Refusing):
         return next(k for k in range(1000) if not self.run_refused(words, text, REFUSE_THREADS=k + 1)[1])
 
     def test_numbers_of_workers(self):
-        """Each worker is a thread in the search, and one when schedules are made; 4 where no number is named. A list of
-        more races than events is searched for by workers twice, and `places` searches without workers."""
+        """Each worker is a thread where pairs are made of the races that were kept, and one when schedules are made; 4 where no
+        number is named. A list of more races than events is searched for by workers when it is written. `places` finds its
+        races without workers."""
         trace, few = self.file(racing(64)), self.file(LOCKED, "few.std")
         for words, wanted in (
             (["races", "--list", few], 4),
-            (["races", "--list", trace], 8),
+            (["races", "--list", trace], 4),
             (["races", trace], 8),
             (["races", "--workers", "1", trace], 2),
             (["races", "--workers", "3", trace], 6),
-            (["races", "--workers", "64", "--list", trace], 128),
+            (["races", "--workers", "64", "--list", trace], 64),
             (["places", "--list", trace], 0),
             (["places", trace], 4),
             (["places", "--workers", "1", trace], 1),
             (["places", "--workers", "3", trace], 3),
         ):
             self.assertEqual(self.threads_started(words, b""), wanted)
-        self.assertEqual(self.threads_started([], racing(64)), 8)
+        self.assertEqual(self.threads_started([], racing(64)), 4)
 
     def test_nothing_is_read_after_the_end(self):
         trace, report = self.file(LOCKED), program.run(["races"], LOCKED).out

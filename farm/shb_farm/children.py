@@ -14,3 +14,11 @@ def end_with(parent):
     LIBRARY.prctl(SET_PARENT_DEATH_SIGNAL, signal.SIGKILL, 0, 0, 0)
     if os.getppid() != parent:
         os._exit(1)
+
+
+def has_parent_in_session():
+    """Whether the parent is of the same session, as what started this process was. Who has lost its parent has another one."""
+    try:
+        return os.getsid(os.getppid()) == os.getsid(0)
+    except ProcessLookupError:
+        return False

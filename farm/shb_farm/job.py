@@ -18,7 +18,7 @@ sys.path[:0] = [str(HOME), str(HOME.parent / "common")]     # installed, all pac
 from shb_common.files import open_regular, put
 from shb_common.standard import words_of
 from shb_farm import files, outcomes, passes, reports, running, traces
-from shb_farm.children import end_with
+from shb_farm.children import end_with, has_parent_in_session
 from shb_farm.outcomes import Cost
 from shb_farm.running import METER
 
@@ -55,8 +55,9 @@ def note_done(work):
 
 
 def main(words):
-    if len(words) > 2:
-        end_with(os.getsid(0))      # xargs, which leads a session of its own; where it has ended already the parent is another one
+    end_with(os.getppid())
+    if len(words) > 2 and not has_parent_in_session():     # what started it is of its session, and has ended already
+        return 1
     sys.stderr.reconfigure(errors="backslashreplace")
     work, every = passes.read(words[0]), int(words[1])
     first = int(words[2] if len(words) > 2 else os.environ["SLURM_ARRAY_TASK_ID"])
