@@ -117,3 +117,11 @@ def few_and_many_races(n):
     yield "A|w(x)|a\n" * 1024 + "A|acq(l)\nA|rel(l)\nC|acq(l)\nC|rel(l)\n"
     for _ in range(n // 132):
         yield "B|w(x)|b\n" * 64 + "B|acq(m)\nB|rel(m)\nC|acq(m)\nC|rel(m)\n" + "C|w(x)|c\n" * 64
+
+
+def late_races(n):
+    """200 threads take turns under a lock, and then two of them race on 20 variables: schedules are as long as the trace, and how
+    far each thread had come is noted now and then."""
+    for k in range(n // 3):
+        yield "T{0}|acq(l)\nT{0}|w(x)\nT{0}|rel(l)\n".format(k % 200)
+    yield from (f"T1|w(v{k})\nT2|w(v{k})\n" for k in range(20))
