@@ -10,7 +10,7 @@ use Rattle.shb_lines.specs.declared.event.Op.{Op}
 use Rattle.shb_lines.specs.declared.event.Op.TheVariants.{Acquire, Fork, Join, Read, Release, Write}
 use Rattle.shb_lines.specs.events.Discipline.{IsDisciplined, is_of, local_time}
 use Rattle.shb_lines.specs.events.Events.{thread_at, op_at}
-use Rattle.shb_lines.specs.events.Order.{BelowPred, IsBelowPredCount, ShbBelow}
+use Rattle.shb_lines.specs.events.Order.{BelowPred, IsBelowPredCount, ShbBelow, here}
 use Rattle.shb_lines.specs.events.Reach.{of_thread}
 use Rattle.shb_lines.proofs.events.Counts.{count_gap, counted_before}
 use Rattle.shb_lines.proofs.events.Events.{event_of_thread, is_of_true, op_is, thread_is}
@@ -183,6 +183,18 @@ module _ (past : List Event) (e : Event) (disciplined : IsDisciplined (past ++ e
   pub no_source : ((l : ℕ) → e.op ≡ Acquire l → ⊥) → ((u : ℕ) → e.op ≡ Join u → ⊥) → ((x : ℕ) → e.op ≡ Read x → ⊥) → IsSource now rows n empty_stamp
   no_source no_acquire no_join no_read = nothing_new (λ k learned. absurd (learns_nothing now disciplined n e.op k op_last no_acquire no_join no_read learned)) refl
 
+  -- a fork learns nothing, so it makes no row for its own thread
+  pub fork_source : (child : ℕ) → e.op ≡ Fork child → (stamp : Stamp) → IsSource now rows n stamp → stamp.time ≡ 0
+  fork_source child is stamp (nothing_new known none) = none
+  fork_source child is stamp (from_event r lt stamps same) = absurd (learns_nothing now disciplined n e.op r op_last
+      (λ l takes. (let one : Fork child ≡ Acquire l = sym is ∙ takes in (let f : ⊥ = cc in f)))
+      (λ u joins. (let one : Fork child ≡ Join u = sym is ∙ joins in (let f : ⊥ = cc in f)))
+      (λ x reads. (let one : Fork child ≡ Read x = sym is ∙ reads in (let f : ⊥ = cc in f))) ((same r).0 here))
+
+  pub fork_rows : (child : ℕ) → e.op ≡ Fork child → (more : List (List ℕ)) (thread before row : ℕ) (source : Stamp) → IsSource now rows n source → HasRowAfter rows more thread before source row → more ≡ rows
+  fork_rows child is more thread before row source is_source (knows known same_rows same_row) = same_rows
+  fork_rows child is more thread before row source is_source (learns unknown clock joined put each pushed number) = absurd (unknown (inr (let none = fork_source child is source is_source in omega (arith, none))))
+
   -- the row after the event
   pub own_row : (more : List (List ℕ)) (thread before row : ℕ) (source : Stamp) → e.thread ≡ thread → before ≡ get_or current thread 0 → IsSource now rows n source → length rows < 2 ^ 32 → HasRowAfter rows more thread before source row
       → AreMore rows more × (length more ≤ length rows + 1) × IsRowFor now more e.thread (λ k. ShbBelow now k n) row
@@ -269,13 +281,13 @@ module _ (past : List Event) (e : Event) (disciplined : IsDisciplined (past ++ e
 
     -- all that is kept, one event more
     module _ (wide : length more ≤ length rows + 1) (after times_after : List ℕ) (put_row : IsPut 0 e.thread row current after) (put_time : IsPut 0 e.thread stamp.time times times_after) where
-      built : (rows_after : List (List ℕ)) (current_after : List ℕ) (locks_after variables_after : List Stamp) → length more ≤ length rows_after → length rows_after ≤ length more + 1
+      built : (rows_after : List (List ℕ)) (current_after : List ℕ) (locks_after variables_after : List Stamp) → length more ≤ length rows_after → length rows_after ≤ length rows + 1
           → ((t : ℕ) → IsRowFor now rows_after t (IsKnown now t (n + 1)) (get_or current_after t 0))
           → ((l : ℕ) → IsLatestStamp now rows_after (ReleasesLock now l) (n + 1) (get_or locks_after l empty_stamp)) → ((x : ℕ) → IsLatestStamp now rows_after (WritesVariable now x) (n + 1) (get_or variables_after x empty_stamp))
           → AreStreamed now rows_after current_after times_after locks_after variables_after
       built rows_after current_after locks_after variables_after low high rows_are locks_are variables_are = record {
         some = (let s = old.some in let g = grown.as_long in omega (arith, s, g, low));
-        few = (let f = old.few in let l = long past e in omega (arith, f, l, wide, high));
+        few = (let f = old.few in let l = long past e in omega (arith, f, l, high));
         current_are = λ t. subst (λ (m : ℕ). IsRowFor now rows_after t (IsKnown now t m) (get_or current_after t 0)) (sym (long past e)) (rows_are t);
         times_are = times_put times_after put_time;
         locks_are = λ l. subst (λ (m : ℕ). IsLatestStamp now rows_after (ReleasesLock now l) m (get_or locks_after l empty_stamp)) (sym (long past e)) (locks_are l);
@@ -292,23 +304,23 @@ module _ (past : List Event) (e : Event) (disciplined : IsDisciplined (past ++ e
       variables_same none = latest_same (λ x k. WritesVariable now x k) variables (λ x writes. none x (let one : Some e.op ≡ Some (Write x) = sym op_last ∙ writes in cc)) (λ x. variable_longer past e rows x (get_or variables x empty_stamp) (old.variables_are x))
 
       pub after_release : (l : ℕ) → e.op ≡ Release l → (locks_after : List Stamp) → IsPut empty_stamp l stamp locks locks_after → AreStreamed now more after times_after locks_after variables
-      after_release l is locks_after put = built more after locks_after variables (omega arith) (omega arith)
+      after_release l is locks_after put = built more after locks_after variables (omega arith) wide
           (λ t. row_of after put_row t (no_fork_at (λ u forks. (let one : Release l ≡ Fork u = sym is ∙ forks in (let f : ⊥ = cc in f))) t))
           (latest_put (λ m k. ReleasesLock now m k) locks locks_after l put (op_last ∙ ap (λ (o : Op). Some o) is) (λ m releases. (let one : Some (Release m) ≡ Some (Release l) = sym releases ∙ (op_last ∙ ap (λ (o : Op). Some o) is) in cc)) (λ m. lock_longer past e rows m (get_or locks m empty_stamp) (old.locks_are m)))
           (variables_same (λ x writes. (let one : Release l ≡ Write x = sym is ∙ writes in (let f : ⊥ = cc in f))))
 
       pub after_write : (x : ℕ) → e.op ≡ Write x → (variables_after : List Stamp) → IsPut empty_stamp x stamp variables variables_after → AreStreamed now more after times_after locks variables_after
-      after_write x is variables_after put = built more after locks variables_after (omega arith) (omega arith)
+      after_write x is variables_after put = built more after locks variables_after (omega arith) wide
           (λ t. row_of after put_row t (no_fork_at (λ u forks. (let one : Write x ≡ Fork u = sym is ∙ forks in (let f : ⊥ = cc in f))) t))
           (locks_same (λ l releases. (let one : Write x ≡ Release l = sym is ∙ releases in (let f : ⊥ = cc in f))))
           (latest_put (λ y k. WritesVariable now y k) variables variables_after x put (op_last ∙ ap (λ (o : Op). Some o) is) (λ y writes. (let one : Some (Write y) ≡ Some (Write x) = sym writes ∙ (op_last ∙ ap (λ (o : Op). Some o) is) in cc)) (λ y. variable_longer past e rows y (get_or variables y empty_stamp) (old.variables_are y)))
 
       pub after_other : ((u : ℕ) → e.op ≡ Fork u → ⊥) → ((l : ℕ) → e.op ≡ Release l → ⊥) → ((x : ℕ) → e.op ≡ Write x → ⊥) → AreStreamed now more after times_after locks variables
-      after_other no_fork no_release no_write = built more after locks variables (omega arith) (omega arith) (λ t. row_of after put_row t (no_fork_at no_fork t)) (locks_same no_release) (variables_same no_write)
+      after_other no_fork no_release no_write = built more after locks variables (omega arith) wide (λ t. row_of after put_row t (no_fork_at no_fork t)) (locks_same no_release) (variables_same no_write)
 
-      pub after_fork : (child : ℕ) → e.op ≡ Fork child → (clock : List ℕ) → IsPut 0 e.thread stamp.time (get_or more row []) clock → (rows_after : List (List ℕ)) → rows_after ≡ more ++ clock ∷ [] → (current_after : List ℕ) → IsPut 0 child (length more) after current_after
+      pub after_fork : (child : ℕ) → e.op ≡ Fork child → more ≡ rows → (clock : List ℕ) → IsPut 0 e.thread stamp.time (get_or more row []) clock → (rows_after : List (List ℕ)) → rows_after ≡ more ++ clock ∷ [] → (current_after : List ℕ) → IsPut 0 child (length more) after current_after
           → AreStreamed now rows_after current_after times_after locks variables
-      after_fork child is clock put_clock rows_after rows_are current_after put_child = built rows_after current_after locks variables (omega (arith, size)) (omega (arith, size)) (λ t. go t (cases_eq t child))
+      after_fork child is same_rows clock put_clock rows_after rows_are current_after put_child = built rows_after current_after locks variables (omega (arith, size)) (omega (arith, size, ap length same_rows)) (λ t. go t (cases_eq t child))
           (λ l. latest_more now more rows_after (ReleasesLock now l) (n + 1) (get_or locks l empty_stamp) grown_again (locks_same (λ m releases. (let one : Fork child ≡ Release m = sym is ∙ releases in (let f : ⊥ = cc in f))) l))
           (λ x. latest_more now more rows_after (WritesVariable now x) (n + 1) (get_or variables x empty_stamp) grown_again (variables_same (λ y writes. (let one : Fork child ≡ Write y = sym is ∙ writes in (let f : ⊥ = cc in f))) x))
         where
@@ -342,7 +354,7 @@ module _ (past : List Event) (e : Event) (disciplined : IsDisciplined (past ++ e
 
 -- the event was taken, as the code names what it did
 module _ (past : List Event) (e : Event) (disciplined : IsDisciplined (past ++ e ∷ [])) (rows : List (List ℕ)) (current times : List ℕ) (locks variables : List Stamp) (old : AreStreamed past rows current times locks variables)
-    (few : 2 * length past + 3 < 2 ^ 32) (thread before time row : ℕ) (source : Stamp) (more : List (List ℕ)) (after times_after : List ℕ) (same : e.thread ≡ thread) (before_is : before ≡ get_or current thread 0) (time_is : time ≡ get_or times thread 0 + 1)
+    (few : length past + 1 < 2 ^ 32) (thread before time row : ℕ) (source : Stamp) (more : List (List ℕ)) (after times_after : List ℕ) (same : e.thread ≡ thread) (before_is : before ≡ get_or current thread 0) (time_is : time ≡ get_or times thread 0 + 1)
     (is_source : IsSource (past ++ e ∷ []) rows (length past) source) (has_row : HasRowAfter rows more thread before source row) (put_row : IsPut 0 thread row current after) (put_time : IsPut 0 thread time times times_after) where
   own : AreMore rows more × (length more ≤ length rows + 1) × IsRowFor (past ++ e ∷ []) more e.thread (λ k. ShbBelow (past ++ e ∷ []) k (length past)) row
   own = own_row past e disciplined rows current times locks variables old more thread before row source same before_is is_source (let f = old.few in omega (arith, f, few)) has_row
@@ -365,11 +377,14 @@ module _ (past : List Event) (e : Event) (disciplined : IsDisciplined (past ++ e
   pub taken_write : (x : ℕ) → e.op ≡ Write x → (default : Stamp) → default ≡ empty_stamp → (variables_after : List Stamp) → IsPut default x stamp variables variables_after → AreStreamed (past ++ e ∷ []) more after times_after locks variables_after
   taken_write x is default none variables_after put = after_write past e disciplined rows current times locks variables old more own.0 row own.2 stamp refl (sym same) counted own.1 after times_after row_put time_put x is variables_after (subst (λ (d : Stamp). IsPut d x stamp variables variables_after) none put)
 
+  no_row : (child : ℕ) → e.op ≡ Fork child → more ≡ rows
+  no_row child is = fork_rows past e disciplined rows current times locks variables old child is more thread before row source is_source has_row
+
   pub taken_fork : (child : ℕ) → e.op ≡ Fork child → (given clock : List ℕ) → given ≡ get_or more row [] → IsPut 0 thread time given clock → (rows_after : List (List ℕ)) → rows_after ≡ more ++ clock ∷ [] → (forked : ℕ) → (length more < 2 ^ 32 → forked ≡ length more) → (current_after : List ℕ) → IsPut 0 child forked after current_after
       → AreStreamed (past ++ e ∷ []) rows_after current_after times_after locks variables
-  taken_fork child is given clock given_is put rows_after rows_are forked number current_after put_child = after_fork past e disciplined rows current times locks variables old more own.0 row own.2 stamp refl (sym same) counted own.1 after times_after row_put time_put child is clock
+  taken_fork child is given clock given_is put rows_after rows_are forked number current_after put_child = after_fork past e disciplined rows current times locks variables old more own.0 row own.2 stamp refl (sym same) counted own.1 after times_after row_put time_put child is (no_row child is) clock
       (subst (λ (t : ℕ). IsPut 0 t time (get_or more row []) clock) (sym same) (subst (λ (xs : List ℕ). IsPut 0 thread time xs clock) given_is put)) rows_after rows_are current_after
-      (subst (λ (r : ℕ). IsPut 0 child r after current_after) (number (let f = old.few in let w = own.1 in omega (arith, f, few, w))) put_child)
+      (subst (λ (r : ℕ). IsPut 0 child r after current_after) (number (let f = old.few in let w = ap length (no_row child is) in omega (arith, f, few, w))) put_child)
 
   pub taken_other : ((u : ℕ) → e.op ≡ Fork u → ⊥) → ((l : ℕ) → e.op ≡ Release l → ⊥) → ((x : ℕ) → e.op ≡ Write x → ⊥) → AreStreamed (past ++ e ∷ []) more after times_after locks variables
   taken_other no_fork no_release no_write = after_other past e disciplined rows current times locks variables old more own.0 row own.2 stamp refl (sym same) counted own.1 after times_after row_put time_put no_fork no_release no_write

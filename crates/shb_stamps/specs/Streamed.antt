@@ -1,5 +1,5 @@
 -- What is kept of a stream's order after the events so far.
-use Rattle.std.specs.Prelude.{◌≡◌, ℕ, ◌+◌, ◌*◌, ◌<◌, ◌≤◌, ◌++◌, ◌∷◌, ◌^◌, List, [], length, max, slice_index_or, count_by}
+use Rattle.std.specs.Prelude.{◌≡◌, ℕ, ◌+◌, ◌<◌, ◌≤◌, ◌++◌, ◌∷◌, ◌^◌, List, [], length, max, slice_index_or, count_by}
 use Rattle.shb_lines.specs.Growing.{IsPut}
 use Rattle.shb_lines.specs.declared.event.Event.{Event}
 use Rattle.shb_lines.specs.events.Discipline.{is_of}
@@ -10,7 +10,7 @@ use Rattle.shb_stamps.specs.declared.stamp.Stamp.{Stamp}
 -- for each thread the row of what it knows and how many events it had, for each lock and variable the stamp of its last release and its last write; past the end of a table the row that knows nothing, 0, and a stamp of no event
 pub record AreStreamed (past : List Event) (rows : List (List ℕ)) (current times : List ℕ) (locks variables : List Stamp) : Type 0 where
   pub some : 0 < length rows
-  pub few : length rows ≤ 2 * length past + 1
+  pub few : length rows ≤ length past + 1
   pub current_are : (t : ℕ) → IsRowFor past rows t (IsKnown past t (length past)) (slice_index_or current t 0)
   pub times_are : (t : ℕ) → slice_index_or times t 0 ≡ count_by (is_of t) past
   pub locks_are : (l : ℕ) → IsLatestStamp past rows (ReleasesLock past l) (length past) (slice_index_or locks l empty_stamp)

@@ -1,6 +1,6 @@
 //! The order of a stream, event by event: rows and stamps by the names so far, and no trace.
 
-ghost use Rattle.std.specs.Prelude.{◌≡◌, ◌+◌, ◌*◌, ◌<◌, ◌++◌, ◌^◌, ℕ, List, [], ◌∷◌, IfOk, OnOk, length, max, slice_index_or};
+ghost use Rattle.std.specs.Prelude.{◌≡◌, ◌+◌, ◌<◌, ◌++◌, ◌^◌, ℕ, List, [], ◌∷◌, IfOk, OnOk, length, max, slice_index_or};
 ghost use Rattle.shb_lines.specs.Growing.{IsPut};
 ghost use Rattle.shb_lines.specs.declared.event.Event.{Event};
 ghost use Rattle.shb_lines.specs.events.Discipline.{IsDisciplined};
@@ -172,7 +172,7 @@ impl StreamClocks {
     ///
     /// `NoMemory` where memory is refused. Nothing can be asked then.
     pub fn take(&mut self, alloc: Global, thread: u32, op: Op) -> Result<(), NoMemory>
-        ensures { (past : List Event) (e : Event) → e.thread ≡ thread → e.op ≡ op → 2 * length past + 3 < 2 ^ 32
+        ensures { (past : List Event) (e : Event) → e.thread ≡ thread → e.op ≡ op → length past + 1 < 2 ^ 32
             → IsDisciplined (past ++ e ∷ []) → IsStreamed past self.old → OnOk result (IsStreamed (past ++ e ∷ []) self.new) }
     {
         let source = self.source(op);
