@@ -1,5 +1,5 @@
 -- What is kept of a stream's order, an event more.
-use Rattle.std.proofs.Common.{◌≡◌, ◌≢◌, ℕ, zero, suc, ◌+◌, ◌*◌, ◌<◌, ◌≤◌, ◌^◌, ◌⊎◌, inl, inr, Bool, true, false, List, [], ◌∷◌, ◌++◌, Some, length, get_or, take, arith, refl, sym, subst, ◌∙◌, ap, get_or-set_same, get_or-set_other}
+use Rattle.std.proofs.Common.{◌≡◌, ◌≢◌, ℕ, zero, suc, ◌+◌, ◌<◌, ◌≤◌, ◌^◌, ◌⊎◌, inl, inr, Bool, true, false, List, [], ◌∷◌, ◌++◌, Some, length, get_or, take, arith, refl, sym, subst, ◌∙◌, ap, get_or-set_same, get_or-set_other}
 use Rattle.std.specs.Prelude.{◌↔◌, cond, count_by, max, slice_get, replicate}
 use Rattle.std.proofs.Math.ListN.{set, length-replicate}
 use Rattle.std.proofs.lemmas.Bool.{cases_Bool, cases_eq, cases_lt}
@@ -24,8 +24,10 @@ use Rattle.shb_stamps.specs.declared.stamp.Stamp.{Stamp}
 use Rattle.shb_stamps.proofs.Fronts.{front_whole, thread_in_range, zero_entry}
 use Rattle.shb_stamps.proofs.Counting.{count_other, count_own}
 use Rattle.std.proofs.lemmas.List.Sums.{count_by-le-length}
+use Rattle.shb_stamps.specs.Moved.{AreAlike, HasMoved, IsMovedRow, IsMovedStamp, MovesRow}
 use Rattle.shb_stamps.specs.Rows.{AreMore}
 use Rattle.shb_stamps.specs.Streamed.{AreStreamed, HasRowAfter, knows, learns}
+use Rattle.shb_stamps.proofs.MovedLemmas.{latest_moved, row_moved}
 use Rattle.shb_stamps.proofs.Sources.{join_learns, learns_join, learns_nothing, learns_read, read_learns, strictly_below_below, below_cases}
 use Rattle.shb_stamps.proofs.Stamping.{known_forked, known_latest, known_other, known_pred, latest_more, latest_skip, more_push, more_same, row_known, row_more, row_same, source_acquire, source_new}
 use Rattle.shb_stamps.proofs.Streams.{count_more, current_longer, last_time, lock_longer, long, variable_longer}
@@ -421,3 +423,25 @@ joined_whole one other joined t long most each k = elim (cases_lt k t) [
   | inl low ↦ each k low
   | inr ge ↦ (let a = get_or_past joined k 0 (omega (arith, long, ge)) in let b = get_or_past one k 0 (omega (arith, most, ge)) in let c = get_or_past other k 0 (omega (arith, most, ge)) in omega (arith, a, b, c))
 ]
+
+-- the rows were moved, and the first stayed the first
+pub streamed_moved : (past : List Event) (rows new : List (List ℕ)) (current times after : List ℕ) (locks locks_after variables variables_after : List Stamp) → HasMoved rows new current after locks locks_after variables variables_after → IsMovedRow rows new 0 0 → AreStreamed past rows current times locks variables
+    → AreStreamed past new after times locks_after variables_after
+streamed_moved past rows new current times after locks locks_after variables variables_after moved first old = record {
+  some = first.in_range;
+  few = (let fewer = moved.few in let few = old.few in omega (arith, fewer, few));
+  current_are = λ t. (let row = old.current_are t in row_moved past rows new t (get_or current t 0) (get_or after t 0) (IsKnown past t (length past)) (elim (cases_lt t (length current)) [
+    | inl low ↦ moved.numbers.each t low row.in_range
+    | inr ge ↦ subst (λ (m : ℕ). IsMovedRow rows new m (get_or after t 0)) (sym (get_or_past current t 0 ge)) (subst (IsMovedRow rows new 0) (sym (get_or_past after t 0 (let many = moved.numbers.as_many in omega (arith, many, ge)))) first)
+  ]) row);
+  times_are = old.times_are;
+  locks_are = λ l. latest_moved past rows new (ReleasesLock past l) (length past) (get_or locks l empty_stamp) (get_or locks_after l empty_stamp) (stamp locks locks_after moved.releases l) (old.locks_are l);
+  variables_are = λ x. latest_moved past rows new (WritesVariable past x) (length past) (get_or variables x empty_stamp) (get_or variables_after x empty_stamp) (stamp variables variables_after moved.writes x) (old.variables_are x);
+}
+  where
+    stamp : (before stamps : List Stamp) → AreAlike empty_stamp (IsMovedStamp (MovesRow rows new)) before stamps → (x : ℕ) → IsMovedStamp (MovesRow rows new) (get_or before x empty_stamp) (get_or stamps x empty_stamp)
+    stamp before stamps alike x = elim (cases_lt x (length before)) [
+      | inl low ↦ alike.each x low
+      | inr ge ↦ subst (λ (s : Stamp). IsMovedStamp (MovesRow rows new) s (get_or stamps x empty_stamp)) (sym (get_or_past before x empty_stamp ge)) (subst (IsMovedStamp (MovesRow rows new) empty_stamp) (sym (get_or_past stamps x empty_stamp (let many = alike.as_many in omega (arith, many, ge))))
+          (record { thread = refl; time = refl; row = λ low. first }))
+    ]

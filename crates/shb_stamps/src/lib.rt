@@ -20,7 +20,8 @@
 //! forked thread's first row. Where all that a thread knew is below a write that it reads, its new row is
 //! the write's clock. The stamp of the write names that row from then on, so other readers take over its
 //! number, and no row is made for them. Rows are never changed. When there are many, `compact` moves those
-//! that these tables name to new ones, and the memory of the old ones is used the next time. `kept_rows`
+//! that these tables name to new ones, and the memory of the old ones is used the next time; `moving` says
+//! which these are and what numbers they get, here and for a stream. `kept_rows`
 //! copies the row before each access of an open variable to rows that stay. A table of copies has the
 //! number of each row's copy, so a row is copied once, whichever threads share it. When rows were moved
 //! the table is emptied.
@@ -34,6 +35,7 @@ mod event_rows;
 mod kept_rows;
 pub mod laws;
 mod listed_rows;
+mod moving;
 mod open;
 mod order;
 mod ordered;

@@ -1,6 +1,7 @@
 //! Rows of any length, which never change.
 
 ghost use Rattle.std.specs.Prelude.{◌≡◌, ◌<◌, ◌++◌, ◌^◌, [], ◌∷◌, IfOk, OnOk, length, slice_index_or};
+ghost use Rattle.shb_stamps.specs.Moved.{AreKept};
 
 use shb_io::NoMemory;
 use std::alloc::Global;
@@ -10,6 +11,13 @@ use std::marker::Model;
 #[derive(Drop)]
 pub struct RowList {
     rows: Vec<Vec<u32>>,
+    /// About how many bytes they take.
+    size: usize,
+}
+
+/// About how many bytes a row takes that has so many entries: four for each, and 40 for the row itself.
+fn row_size(entries: usize) -> usize {
+    entries.saturating_mul(4).saturating_add(40)
 }
 
 impl Model for RowList {
@@ -27,7 +35,22 @@ impl RowList {
     {
         let mut rows = Vec::new(alloc);
         rows.push(Vec::new(alloc))?;
-        Ok(RowList { rows })
+        Ok(RowList {
+            rows,
+            size: row_size(0),
+        })
+    }
+
+    /// How many rows there are.
+    pub fn count(&self) -> u32
+        ensures { length self.now < 2 ^ 32 → result ≡ length self.now }
+    {
+        self.rows.len().min(u32::MAX as usize) as u32
+    }
+
+    /// About how many bytes the rows take.
+    pub fn size(&self) -> usize {
+        self.size
     }
 
     /// The row of a number, and no entries past the end.
@@ -45,8 +68,25 @@ impl RowList {
         ensures rows { OnOk result (self.new ≡ self.old ++ row.items ∷ []) }
         ensures number { length self.old < 2 ^ 32 → IfOk result (λ number. number ≡ length self.old) }
     {
-        let number = self.rows.len().min(u32::MAX as usize) as u32;
+        let number = self.count();
+        self.size = self.size.saturating_add(row_size(row.len()));
         self.rows.push(row)?;
         Ok(number)
+    }
+
+    /// The rows with these numbers, in this order.
+    pub fn kept(&self, alloc: Global, kept: &[u32]) -> Result<RowList, NoMemory>
+        ensures { IfOk result (AreKept self.now kept.now (length kept.now)) }
+    {
+        let mut list = RowList {
+            rows: Vec::new(alloc),
+            size: 0,
+        };
+        for b in 0..kept.len() {
+            let mut row = Vec::new(alloc);
+            row.extend_from_slice(self.row(kept[b]))?;
+            list.push(row)?;
+        }
+        Ok(list)
     }
 }

@@ -10,6 +10,7 @@ ghost use Rattle.shb_stamps.specs.Stamps.{IsSource, empty_stamp};
 ghost use Rattle.shb_stamps.specs.Streamed.{HasRowAfter};
 
 use crate::clock::entry;
+use crate::compact::compacted_list;
 use crate::row_list::RowList;
 use crate::stamp::Stamp;
 use shb_io::NoMemory;
@@ -18,7 +19,8 @@ use std::alloc::Global;
 
 /// What is known of the order after some events of a stream. Threads, locks and variables are told by their
 /// numbers, and each event may name new ones. A row has an entry for each thread up to the last one that it
-/// knows; rows never change, and are kept to the end.
+/// knows, and never changes. Where the rows have grown to twice what those in use took, the ones that a thread,
+/// a lock or a variable names are moved to new ones, and the others are freed.
 #[derive(Drop)]
 pub struct StreamClocks {
     pub rows: RowList,
@@ -30,6 +32,16 @@ pub struct StreamClocks {
     pub locks: Vec<Stamp>,
     /// For each variable the stamp of its last write.
     pub variables: Vec<Stamp>,
+    /// The size of the rows at which those that nothing names are freed.
+    pub limit: usize,
+}
+
+/// The size of the rows at which the next compaction is due: twice that of those in use, at least 1 MiB, and at
+/// least the bytes of all stamps, which a compaction looks at.
+fn size_limit(used: usize, stamps: usize) -> usize {
+    used.saturating_mul(2)
+        .max(stamps.saturating_mul(12))
+        .max(1_048_576)
 }
 
 /// A row, with a time put at a thread.
@@ -100,6 +112,7 @@ impl StreamClocks {
             times: Vec::new(alloc),
             locks: Vec::new(alloc),
             variables: Vec::new(alloc),
+            limit: size_limit(0, 0),
         })
     }
 
@@ -166,12 +179,8 @@ impl StreamClocks {
         entry(row, other)
     }
 
-    /// Takes the next event.
-    ///
-    /// # Errors
-    ///
-    /// `NoMemory` where memory is refused. Nothing can be asked then.
-    pub fn take(&mut self, alloc: Global, thread: u32, op: Op) -> Result<(), NoMemory>
+    /// Takes the next event. No row is freed.
+    fn take_event(&mut self, alloc: Global, thread: u32, op: Op) -> Result<(), NoMemory>
         ensures { (past : List Event) (e : Event) → e.thread ≡ thread → e.op ≡ op → length past + 1 < 2 ^ 32
             → IsDisciplined (past ++ e ∷ []) → IsStreamed past self.old → OnOk result (IsStreamed (past ++ e ∷ []) self.new) }
     {
@@ -200,5 +209,38 @@ impl StreamClocks {
             }
             _ => Ok(()),
         }
+    }
+
+    /// Frees the rows that nothing names.
+    fn compact(&mut self, alloc: Global) -> Result<(), NoMemory>
+        ensures { (past : List Event) → length past + 1 < 2 ^ 32 → IsStreamed past self.old → OnOk result (IsStreamed past self.new) }
+    {
+        let rows = compacted_list(
+            alloc,
+            &self.rows,
+            &mut self.current,
+            &mut self.locks,
+            &mut self.variables,
+        )?;
+        let stamps = self.locks.len().saturating_add(self.variables.len());
+        self.limit = size_limit(rows.size(), stamps);
+        self.rows = rows;
+        Ok(())
+    }
+
+    /// Takes the next event. Where the rows had grown to their limit, those that nothing names are freed first.
+    ///
+    /// # Errors
+    ///
+    /// `NoMemory` where memory is refused. Nothing can be asked then.
+    pub fn take(&mut self, alloc: Global, thread: u32, op: Op) -> Result<(), NoMemory>
+        ensures { (past : List Event) (e : Event) → e.thread ≡ thread → e.op ≡ op → length past + 1 < 2 ^ 32
+            → IsDisciplined (past ++ e ∷ []) → IsStreamed past self.old → OnOk result (IsStreamed (past ++ e ∷ []) self.new) }
+    {
+        if self.rows.size() < self.limit {
+            return self.take_event(alloc, thread, op);
+        }
+        self.compact(alloc)?;
+        self.take_event(alloc, thread, op)
     }
 }

@@ -1,7 +1,7 @@
 -- The event was taken.
 use Rattle.std.proofs.Common.{arith, sym, ◌∙◌}
 use Rattle.shb_stamps.proofs.StreamSteps.{few_times, taken_fork, taken_other, taken_release, taken_write}
-use Rattle.shb_stamps.proofs.stream_clocks.StreamClocks.take.Goals as goal
+use Rattle.shb_stamps.proofs.stream_clocks.StreamClocks.take_event.Goals as goal
 
 pub returns-in_ok-put-in-Release : goal.returns-in_ok-put-in-Release
 returns-in_ok-put-in-Release c = λ past e same of_op few disciplined old. taken_release past e disciplined c.args.self.now.rows c.args.self.now.current.items c.args.self.now.times.items c.args.self.now.locks.items c.args.self.now.variables.items old few c.args.thread c.row_number-before.result c.saturating_add-time.result c.in_ok-row.row c.source-source.result c.row_after.new.rows c.put.new.items.items c.put-2.new.items.items same c.row_number-before.ensures (let low = few_times past e disciplined c.args.self.now.rows c.args.self.now.current.items c.args.self.now.times.items c.args.self.now.locks.items c.args.self.now.variables.items old c.args.thread in omega (arith, low, few, c.time.ensures, c.saturating_add-time.ensures)) (c.source-source.ensures past e of_op disciplined old) c.in_ok-row.ensures c.in_ok-put.ensures c.in_ok-put-2.ensures c.in-Release.lock (of_op ∙ c.in-Release.is) _ c.empty.ensures _ c.in_ok-put-in-Release.ensures

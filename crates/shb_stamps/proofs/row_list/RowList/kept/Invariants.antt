@@ -1,0 +1,5 @@
+use Rattle.shb_stamps.specs.Moved.{AreKept}
+use Rattle.shb_stamps.proofs.row_list.RowList.kept.Given as goal
+
+abbrev pub invariant-loop-b : goal.invariant-loop-b
+invariant-loop-b l = AreKept l.fn.self l.kept l.b l.list
