@@ -1,5 +1,6 @@
 """Whose a location is. A trace names a source file by the shortest end of its path that no other file of its program has, so two
-programs may both have a `w.c`. Here a location belongs to a file by its whole path, and over all traces each file has one name.
+programs may both have a `w.c`. Here a location belongs to a file by its whole path and to the text that its line had, and over all
+traces each file has one name.
 """
 
 import posixpath
@@ -14,16 +15,18 @@ MOST_PARTS = 12     # folders of a path that a name may have
 
 
 class Location(typing.NamedTuple):
-    """A location of a program: the path of its file, what follows it (the line, or an offset), and the functions that it lies in."""
+    """A location of a program: the path of its file, what follows it (the line, or an offset), the functions that it lies in, and
+    a sum of the line's text, nothing where it isn't known."""
 
     path: bytes
     rest: bytes
     functions: typing.FrozenSet[bytes] = frozenset()
+    sum: bytes = b""
 
 
 def sorting(location):
     """What locations are sorted by."""
-    return location.path, location.rest, sorted(location.functions)
+    return location.path, location.rest, sorted(location.functions), location.sum
 
 
 def pair_of(order):
@@ -54,8 +57,7 @@ class Origin:
         if not is_end(name, path):
             path = self.program + b"/" + name if self.program else name
         self.called[normal(path)] = name
-        return Location(normal(path), rest,
-                        frozenset(self.tables.functions.get(text, ())))
+        return Location(normal(path), rest, frozenset(self.tables.functions.get(text, ())), self.tables.sums.get(text, b""))
 
 
 def normal(path):

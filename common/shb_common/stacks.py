@@ -26,6 +26,7 @@ MOST_DEEP = 200  # calls of a stack that are looked at
 MOST_FRAMES = 2_000  # of these calls, of which inlined code has several each
 MOST_LINE = 1 << 20  # bytes of a line
 NUMBER = re.compile(rb"[0-9]{1,18}")
+SUM = re.compile(rb"[0-9a-f]{16}")  # of a line's text
 
 
 class BadStacks(Exception):
@@ -74,7 +75,8 @@ class Stacks:
             takers = {"frame": self.take_frame, "stack": self.take_stack, "thread": self.take_thread, "block": self.take_block,
                       "atomic": self.add_use, "source": self.take_source, "local": self.take_local, "free": self.take_free}
             for kind, fields in entries_in(file, count):
-                takers[kind](*fields)
+                if kind in takers:
+                    takers[kind](*fields)
         sort_locals(self.locals)
 
     def take_frame(self, function, location, in_system):
@@ -171,10 +173,11 @@ class NoStacks:
 
 class Tables:
     """Of a file of stacks what names places: by location the functions that it lies in, without parameters and arguments of
-    templates; the path of each source file by its name in locations; and the locals, as `Stacks` has them."""
+    templates, and a sum of its line's text; the path of each source file by its name in locations; and the locals, as `Stacks` has
+    them."""
 
     def __init__(self, path=None):
-        self.functions, self.sources, self.locals = {}, {}, {}
+        self.functions, self.sums, self.sources, self.locals = {}, {}, {}, {}
         if path:
             self.read(path)
             sort_locals(self.locals)
@@ -186,6 +189,8 @@ class Tables:
                     add_function(self.functions, *fields[:2])
                 elif kind == "source":
                     self.sources[fields[0]] = fields[1]
+                elif kind == "line":
+                    self.sums[fields[0]] = fields[1]
                 elif kind == "local":
                     self.locals.setdefault(fields[1], []).append((fields[0], fields[2]))
 
@@ -285,6 +290,13 @@ def source_fields(rest):
     return "source", tuple(fields_of(rest, 2))
 
 
+def line_fields(rest):
+    location, text = fields_of(rest, 2)
+    if not SUM.fullmatch(text):
+        raise ValueError
+    return "line", (location, text)
+
+
 def local_fields(rest):
     event, variable, name = fields_of(rest, 3)
     return "local", (whole(event), variable, name)
@@ -292,7 +304,7 @@ def local_fields(rest):
 
 FIELDS = {b"frame": frame_fields(False), b"system-frame": frame_fields(True), b"stack": stack_fields, b"thread": thread_fields,
           b"block": numbers_fields("block"), b"free": numbers_fields("free"), b"atomic": atomic_fields, b"source": source_fields,
-          b"local": local_fields}
+          b"local": local_fields, b"line": line_fields}
 
 
 def numbers_of(file, first, count):

@@ -50,3 +50,13 @@ class Locations(side_by_side.Case):
         old, new = (origin({b"u.c": b"/x/u.c"}, functions={b"u.c:20": {name}}).location(b"u.c:20") for name in (b"f", b"g"))
         self.assertNotEqual(old, new)
         self.assertEqual(pair_of((old, new)), pair_of((new, old)))
+
+    def test_two_texts_of_a_line_are_two(self):
+        """At the same path, in the same function. Where the text isn't known it is another one."""
+        found = []
+        for sum in (b"0" * 16, b"0" * 15 + b"1", None):
+            one = origin({b"u.c": b"/x/u.c"}, functions={b"u.c:20": {b"f"}})
+            one.tables.sums = {b"u.c:20": sum} if sum else {}
+            found.append(one.location(b"u.c:20"))
+        self.assertEqual(len({*found, *found[:1]}), 3)
+        self.assertEqual(pair_of(found[:2]), pair_of(found[1::-1]))

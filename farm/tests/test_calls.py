@@ -76,6 +76,17 @@ class Calls(Base):
         self.assertEqual(answer.out.splitlines()[1], "places 2 unknown 2 known 0")
         self.assertIn("w.c is the end of 2 source files' paths: one/w.c, two/w.c", answer.err)
 
+    def test_a_line_of_two_texts_is_two(self):
+        """One path, one function, one line; what stood there when the traces were made differs."""
+        for name, sum in (("one", b"0" * 16), ("two", b"1" * 16), ("three", b"1" * 16)):
+            self.trace(f"{name}.std", b"T1|w(v)|w.c:5\nT2|w(v)|w.c:5\n")
+            self.trace(f"{name}.stacks", stacks((0, 0), b"frame f\tw.c:5\nsource w.c\t/x/w.c\nline w.c:5\t" + sum + b"\n"))
+        answer = self.farm()
+        self.assertEqual((answer.status, answer.out.splitlines()[1]), (1, "places 2 unknown 2 known 0"), answer.out)
+        self.assertEqual(sorted(row[0] for row in self.table("places.tsv")), ["1", "2"])
+        known = self.known(b"w.c:f()\tw.c:f()\tv\n")
+        self.assertEqual(self.farm("--known", known).status, 0)     # a name of a line or function is of all its texts
+
     def test_a_damaged_file_stops_nothing(self):
         """It is said with its line, and has a status of its own; all tables are written."""
         for lines in (b"stack 1 0 0\n", b"free 99999999999999999999999 1\n", b"frame x\n", b"frame x\ty"):

@@ -60,6 +60,10 @@ void strip_folder(const char *folder); /* names of files below it are paths from
 void note_sources_of(const char *module);
 void note_source(const char *path);
 void write_sources(FILE *file);        /* a line "source NAME TAB PATH" for each file of the program's own, before any is added */
+
+/* texts.c: the text of the lines that frames are at. */
+void note_line(const char *location);
+void write_sums(FILE *file, const char *name, const char *path);     /* of a source file; after all lines were noted */
 const char *source_name(const char *path);                   /* of one that was noted; it stands for good */
 int in_system(const char *path);       /* is it the system's or the compiler's? */
 

@@ -113,8 +113,11 @@ const char *source_name(const char *path) {
 }
 
 void write_sources(FILE *file) {
-    for (u64 k = 0; k < source_count; k++)
-        if (!in_system(sources[k]) && !strpbrk(sources[k], "\t\n")) fprintf(file, "source %s\t%s\n", source_name(sources[k]), sources[k]);
+    for (u64 k = 0; k < source_count; k++) {
+        if (in_system(sources[k]) || strpbrk(sources[k], "\t\n")) continue;
+        fprintf(file, "source %s\t%s\n", source_name(sources[k]), sources[k]);
+        write_sums(file, source_name(sources[k]), sources[k]);
+    }
 }
 
 void strip_folder(const char *folder) {

@@ -18,7 +18,9 @@
                                                      the order relaxed, acquire, release or both, whether or not it is an event
        crash THREAD TAB SIGNAL TAB ADDRESS TAB NODE  how the program ended, where a signal ended it that a thread's own code made; the
                                                      address, hexadecimal, is what it had no access to, or empty
-       source NAME TAB PATH                          a source file, as locations name it, and where it was when it was compiled */
+       source NAME TAB PATH                          a source file, as locations name it, and where it was when it was compiled
+       line LOCATION TAB SUM                         of the text that a frame's line has now, without the blanks at its ends: 16
+                                                     hexadecimal digits. Not where the file can't be read */
 #define _GNU_SOURCE
 #include <errno.h>
 #include <stdio.h>
@@ -336,6 +338,7 @@ static u32 frame_number(inlined_frame *f) {
     static u32 frame_count;
     if (f->number) return f->number;
     fprintf(file, "%s %s\t%s\n", f->in_system_file ? "system-frame" : "frame", f->function, f->location);
+    if (!f->in_system_file && f->has_line) note_line(f->location);
     return f->number = ++frame_count;
 }
 

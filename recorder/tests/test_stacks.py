@@ -10,7 +10,7 @@ import recorder
 from test_record import BLOCK, HEADER, entry
 
 sys.path.insert(0, str(recorder.SOURCES.parent / "common"))
-from shb_common.stacks import Stacks  # noqa: E402
+from shb_common.stacks import Stacks, Tables  # noqa: E402
 
 
 def plain(thread, operation, address, caller, depth):
@@ -85,6 +85,54 @@ class MadeByHand(recorder.Case):
     def test_the_trace_is_the_same(self):
         _, trace = self.stacks()
         self.assertEqual(recorder.must(recorder.convert(self.record())).stdout, trace)
+
+
+class Texts(recorder.Case):
+    """The sums of lines: of a program whose sources are changed after it was built."""
+
+    def setUp(self):
+        super().setUp()
+        self.sources = recorder.two_of_one_name(self.folder / "sources")
+        self.program, self.path = self.folder / "program", self.folder / "app.rec"
+        recorder.must(recorder.call("gcc", "-w", "-g", "-O1", "-fsanitize=thread", "-pthread", f"-B{recorder.BUILT}/lib/", *self.sources, "-o", self.program))
+        recorder.call(self.program, env=recorder.settings(self.path))
+
+    def sums(self):
+        stacks = self.folder / "app.stacks"
+        recorder.must(recorder.convert(self.path, "--stacks", stacks))
+        return {place.decode(): text for place, text in Tables(stacks).sums.items()}
+
+    def change(self, old, new):
+        source = self.sources[1]
+        source.write_text(source.read_text().replace(old, new))
+
+    def test_each_line_of_a_frame(self):
+        found = self.sums()
+        self.assertEqual({place for place in found if not place.startswith("main.c:")}, {"a/util.c:3", "b/util.c:3"})
+        self.assertIn("main.c:8", found)
+        self.assertNotEqual(found["a/util.c:3"], found["b/util.c:3"])
+        self.assertEqual(self.sums(), found)
+
+    def test_a_changed_line(self):
+        """Its own sum changes alone; blanks at the ends don't count, those inside do."""
+        before = self.sums()
+        self.change("one = 2; return 0; }\n", "one = 2; return 0; } \r\n")
+        self.change("void *a", "\tvoid *a")
+        self.assertEqual(self.sums(), before)
+        self.change("one = 2", "one = 3")
+        after = self.sums()
+        self.assertEqual({place for place in before if after[place] != before[place]}, {"a/util.c:3"})
+        self.change("one = 3", "one =  3")
+        self.assertNotEqual(self.sums()["a/util.c:3"], after["a/util.c:3"])
+
+    def test_a_file_that_cannot_be_read(self):
+        """A FIFO, a folder, a shorter file, none."""
+        source = self.sources[1]
+        for make in (lambda: source.write_text("\n\n"), lambda: source.write_text(""), lambda: (source.unlink(), os.mkfifo(source)),
+                     lambda: (source.unlink(), source.mkdir()), source.rmdir):
+            make()
+            found = self.sums()
+            self.assertEqual(("a/util.c:3" in found, "b/util.c:3" in found), (False, True))
 
 
 class Programs(recorder.Case):

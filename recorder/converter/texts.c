@@ -1,0 +1,78 @@
+/* What the lines of code that frames are at have as text, as sums: a line that was changed is known as another one by whoever sees
+   traces of both, and nothing that stands in a file is told. */
+#include <stdlib.h>
+#include <string.h>
+#include "dwarf.h"
+
+enum { MOST_SOURCE = 64 << 20 };       /* bytes of a source file */
+typedef struct { const char *location; u64 line; } wanted;
+static wanted *locations;
+static u64 location_count, location_capacity;
+static int is_sorted;
+
+/* Of a frame: "NAME:LINE". */
+void note_line(const char *location) {
+    const char *colon = strrchr(location, ':');
+    u64 line = colon ? strtoull(colon + 1, 0, 10) : 0;
+    if (!line) return;
+    GROW(locations, location_count, location_capacity);
+    locations[location_count++] = (wanted){location, line};
+    is_sorted = 0;
+}
+
+/* By name, then by line. */
+static int by_place(const void *a, const void *b) {
+    const wanted *one = a, *other = b;
+    u64 length = strrchr(one->location, ':') - one->location, other_length = strrchr(other->location, ':') - other->location;
+    int order = memcmp(one->location, other->location, length < other_length ? length : other_length);
+    if (order || length != other_length) return order ? order : length < other_length ? -1 : 1;
+    return one->line < other->line ? -1 : one->line > other->line;
+}
+
+static int is_of(const wanted *w, const char *name) {
+    size_t length = strlen(name);
+    return !strncmp(w->location, name, length) && w->location + length == strrchr(w->location, ':');
+}
+
+/* The first wanted line of a file. */
+static u64 first_of(const char *name) {
+    char *text = zeroed(strlen(name) + 3, 1);
+    wanted key = {strcat(strcpy(text, name), ":0"), 0};
+    u64 low = 0, end = location_count;
+    while (low < end) {
+        u64 middle = low + (end - low) / 2;
+        if (by_place(&locations[middle], &key) < 0) low = middle + 1;
+        else end = middle;
+    }
+    free(text);
+    return low;
+}
+
+static int is_blank(uint8_t byte) { return byte == ' ' || (byte >= '\t' && byte <= '\r'); }
+
+/* Blanks at the ends don't count. */
+static u64 sum_of_line(const uint8_t *from, const uint8_t *end) {
+    u64 sum = 0;
+    while (from < end && is_blank(*from)) from++;
+    while (end > from && is_blank(end[-1])) end--;
+    while (from < end) sum = mix(sum, *from++ + 1);
+    return sum;
+}
+
+/* Of a source file, by its name in locations: a line "line LOCATION TAB SUM" for each of its lines that a frame is at. */
+void write_sums(FILE *file, const char *name, const char *path) {
+    if (!is_sorted) qsort(locations, location_count, sizeof *locations, by_place);
+    is_sorted = 1;
+    u64 k = first_of(name), line = 1;
+    if (k == location_count || !is_of(&locations[k], name)) return;
+    bytes text = map_module(path);
+    const uint8_t *at = text.at;
+    for (; at && text.end - text.at <= MOST_SOURCE && at < text.end && k < location_count && is_of(&locations[k], name); line++) {
+        const uint8_t *end = memchr(at, '\n', text.end - at);
+        if (!end) end = text.end;
+        for (; k < location_count && is_of(&locations[k], name) && locations[k].line <= line; k++)
+            if (locations[k].line == line) fprintf(file, "line %s\t%016lx\n", locations[k].location, sum_of_line(at, end));
+        at = end + (end < text.end);
+    }
+    unmap_module(text);
+}
