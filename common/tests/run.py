@@ -13,7 +13,7 @@ import sys
 HERE = pathlib.Path(__file__).resolve().parent
 TOP = HERE.parents[1]
 sys.dont_write_bytecode = True
-sys.path[:0] = [str(HERE), str(TOP / "common")]
+sys.path[:0] = [str(HERE), str(TOP / "common"), str(TOP / "fix")]
 sys.path.append(str(TOP / "tests"))
 
 import side_by_side

@@ -16,6 +16,9 @@ from shb_common.known import BadLine, Known
 from shb_common.refused import explained
 from shb_common.report import BadReport, Report, in_order
 from shb_common.stacks import BadStacks, Stacks, Tables
+from shb_fix import lines
+from shb_fix.command import repaired
+from shb_fix.events import Repairs
 
 HERE = pathlib.Path(__file__).resolve().parent
 LINES = b"""\
@@ -30,6 +33,7 @@ free 1 2
 local 1\tstack.main-0x20\tq of main
 atomic x\tT1\ta.c:5\tstore release
 source a.c\t/x/a.c
+line a.c:5\t0123456789abcdef
 """
 STACKS = b"shb-stacks 1 %020d\n" % 3 + struct.pack("<3I", 1, 2, 0) + LINES
 REPORT = b"""\
@@ -94,7 +98,29 @@ def read_trace(text):
     explained("line 2: the operation is not known", io.BytesIO(text))
 
 
-READERS = {"stacks": (read_stacks, STACKS), "report": (read_report, REPORT), "known": (read_known, KNOWN), "trace": (read_trace, b"T1|w(x)|1\nT2 | w(x)|2\n")}
+def read_trace_to_fix(text):
+    """What shb-fix makes of a trace needs no further repair of a line."""
+    fixed = b"".join(event.text() for event in repaired(list(lines.events_of(io.BytesIO(text), Repairs())), Repairs()))
+    again = Repairs()
+    list(lines.events_of(io.BytesIO(fixed), again))
+    assert not again.counts, again.kept
+
+
+FIX = b"""\
+# a log
+T1|rel(l)|a.c:1
+T1|fork(T2)|a.c:2
+T2|begin|a.c:3
+T2|rdlock(m)|a.c:4
+T2|r(x)|a.c:5
+T2|rdunlock(m)|a.c:6
+T1|join(T2)|a.c:7
+T2|vw(y)|a.c:8
+T1|wait(l)|a.c:9
+T1|acquire(l)
+"""
+READERS = {"stacks": (read_stacks, STACKS), "report": (read_report, REPORT), "known": (read_known, KNOWN),
+           "trace": (read_trace, b"T1|w(x)|1\nT2 | w(x)|2\n"), "fix": (read_trace_to_fix, FIX)}
 
 
 def mutated(pick, text):

@@ -1,0 +1,115 @@
+/* libFuzzer's side of fuzz.py: each input is given to shb-std as a record, or to shb-windows as a trace, in a process of its own, for
+   both commands are written to run once.  What the process counted of the ways that it went is added to the counts here. */
+#define _GNU_SOURCE
+#include <fcntl.h>
+#include <signal.h>
+#include <stdint.h>
+#include <stdio.h>
+#include <stdlib.h>
+#include <string.h>
+#include <sys/mman.h>
+#include <sys/wait.h>
+#include <unistd.h>
+#include "../record.h"
+
+enum { SECONDS = 120, LONGEST = 1 << 16 };
+int command(int count, char **words);  /* main of the command that is tried */
+extern uint8_t __start___sancov_cntrs, __stop___sancov_cntrs;
+void __sanitizer_cov_8bit_counters_init(uint8_t *start, uint8_t *stop);      /* linkers drop clang's own call of it */
+static uint8_t *counted;               /* shared with the process */
+static char folder[] = "/tmp/shb-fuzz-XXXXXX", windows[64], stacks[64], input[64], said[64];
+static int file, words_file;
+
+static size_t count_bytes(void) { return &__stop___sancov_cntrs - &__start___sancov_cntrs; }
+
+/* Each way out of the command comes by here: what libFuzzer would do at an end isn't done. */
+static void end_process(void) {
+    memcpy(counted, &__start___sancov_cntrs, count_bytes());
+    fflush(0);
+    _exit(0);
+}
+
+int LLVMFuzzerInitialize(int *count, char ***words) {
+    counted = mmap(0, count_bytes(), PROT_READ | PROT_WRITE, MAP_SHARED | MAP_ANONYMOUS, -1, 0);
+    if (counted == MAP_FAILED || !mkdtemp(folder)) abort();
+    snprintf(windows, sizeof windows, "%s/windows", folder);
+    snprintf(stacks, sizeof stacks, "%s/stacks", folder);
+    snprintf(input, sizeof input, "%s/input", folder);
+    snprintf(said, sizeof said, "%s/said", folder);
+    file = open(input, O_RDWR | O_CREAT | O_TRUNC, 0600);
+    words_file = open(said, O_RDWR | O_CREAT | O_TRUNC | O_APPEND, 0600);
+    if (file < 0 || words_file < 0) abort();
+    __sanitizer_cov_8bit_counters_init(&__start___sancov_cntrs, &__stop___sancov_cntrs);
+    return 0;
+}
+
+static void put(const void *bytes, size_t count, off_t at) {
+    if (pwrite(file, bytes, count, at) != (ssize_t)count) abort();
+}
+
+#ifdef FUZZ_TRACES
+/* The first byte says how many events a window has. */
+static int prepare(const uint8_t *data, size_t size, char **words) {
+    static char most[8];
+    snprintf(most, sizeof most, "%d", 2 + data[0]);
+    put(data + 1, size - 1, 0);
+    char *all[] = {"shb-windows", "-n", most, "-o", windows, input};
+    memcpy(words, all, sizeof all);
+    return 6;
+}
+#else
+/* The first byte says which options there are, the second how many bytes of the header come before the records. */
+static int prepare(const uint8_t *data, size_t size, char **words) {
+    static char header[HEADER_BYTES];
+    size_t head = size > 1 ? data[1] : 0, from = size < 2 ? size : 2;
+    if (head > size - from) head = size - from;
+    memset(header, 0, sizeof header);
+    strcpy(header, RECORD_MAGIC);
+    memcpy(header + strlen(RECORD_MAGIC), data + from, head);
+    strcpy(header + ENDED_AT, ENDED_WHOLE);
+    put(header, sizeof header, 0);
+    put(data + from + head, size - from - head, HEADER_BYTES);
+    int count = 0;
+    words[count++] = "shb-std";
+    if (data[0] & 1) words[count++] = "-r";
+    if (data[0] & 2) words[count++] = "-a";
+    if (data[0] & 4) { words[count++] = "--stacks"; words[count++] = stacks; }
+    if (data[0] & 8) { words[count++] = "--windows"; words[count++] = windows; words[count++] = "-n"; words[count++] = "8"; }
+    words[count++] = input;
+    return count;
+}
+#endif
+
+static void run(const uint8_t *data, size_t size) {
+    char *words[16] = {0};
+    int null = open("/dev/null", O_RDWR);
+    dup2(null, 0), dup2(null, 1), dup2(words_file, 2);
+    alarm(SECONDS);
+    atexit(end_process);
+    int count = prepare(data, size, words);
+    exit(command(count, words));
+}
+
+/* Shows what the process said, and ends so that libFuzzer keeps the input. */
+static void report(int status) {
+    char text[1 << 14];
+    ssize_t length = pread(words_file, text, sizeof text - 1, 0);
+    fprintf(stderr, "%.*s\nthe process ended by %s %d\n", (int)(length > 0 ? length : 0), text,
+            WIFSIGNALED(status) ? "signal" : "status", WIFSIGNALED(status) ? WTERMSIG(status) : WEXITSTATUS(status));
+    abort();
+}
+
+int LLVMFuzzerTestOneInput(const uint8_t *data, size_t size) {
+    if (!size || size > LONGEST) return 0;
+    int status = 0;
+    if (ftruncate(file, 0) || ftruncate(words_file, 0)) abort();
+    memset(counted, 0, count_bytes());
+    pid_t process = fork();
+    if (process < 0) return 0;
+    if (!process) run(data, size);
+    while (waitpid(process, &status, 0) < 0) ;
+    if (status) report(status);
+    uint8_t *own = &__start___sancov_cntrs;
+    for (size_t k = 0; k < count_bytes(); k++) own[k] = counted[k] > own[k] ? counted[k] : own[k];
+    return 0;
+}
