@@ -13,7 +13,7 @@ import typing
 from shb_common.files import read_at_most
 from shb_common.known import MOST_BYTES, BadLine, Known, words_of_old, words_of_stale
 from shb_common.standard import leave_standard_output, open_standard_files, words_of
-from shb_common.version import with_version
+from shb_common.version import version_of, with_version
 from shb_farm import engines, files, limits, merging, passes, since, tables, traces
 from shb_farm.calls import Calls
 from shb_farm.sources import Sources
@@ -108,6 +108,7 @@ def arguments(words):
     parser.add_argument("--size", metavar="MIB", type=number, default=1024,
                         help="most of a report, and of the text of a packed trace (%(default)s)")
     parser.add_argument("--sbatch", metavar="WORDS", type=shell_words, default=[], help="with slurm: further words for sbatch")
+    parser.add_argument("--version", action="version", version=version_of("shb-farm"), help="say of which package this is")
     parser.add_argument("traces", metavar="TRACES", help="the folder of the traces")
     parser.add_argument("out", metavar="OUT", help="the folder for outcomes and tables")
     return parser.parse_args(joined(words))

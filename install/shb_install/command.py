@@ -26,10 +26,13 @@ def arguments(words):
 
 
 def prefix_of(options):
-    """The absolute path of the prefix."""
-    if not options.prefix:
+    """The absolute path of the prefix. A relative one would depend on the folder that `make` is called in."""
+    prefix = os.path.expanduser(options.prefix)
+    if not prefix:
         raise Refused("the prefix is empty; PREFIX=/ installs in /bin, /lib and /share")
-    return os.path.abspath(os.path.expanduser(options.prefix))
+    if not os.path.isabs(prefix):
+        raise Refused(f"the prefix {prefix} is relative; PREFIX={os.path.abspath(prefix)} is the one in this folder")
+    return os.path.abspath(prefix)
 
 
 def place_of(options):

@@ -53,6 +53,7 @@ class Tree(installing.Case):
         for command in COMMANDS:
             if command != "shb":
                 self.assertTrue(call(self.prefix / "bin" / command, "--help").endswith(f"\n\nshb {version}"), command)
+                self.assertEqual(call(self.prefix / "bin" / command, "--version"), f"{command} {version}")
 
     def test_a_bin_that_is_a_link_to_a_folder_elsewhere(self):
         """Each command finds its parts by both paths, as where ~/.local/bin leads to ~/bin."""
@@ -199,6 +200,8 @@ class Uninstalled(installing.Case):
         before = sorted(TOP.iterdir())
         shb = f"SHB={installing.SHB}"
         self.assertEqual(self.refused("install", shb, "PREFIX="), "install: the prefix is empty; PREFIX=/ installs in /bin, /lib and /share")
+        for what, relative in (("install", "none/of it"), ("uninstall", "none"), ("install", ".")):
+            self.assertIn(f"install: the prefix {relative} is relative; PREFIX={TOP}", self.refused(what, shb, f"PREFIX={relative}"))
         self.assertEqual(sorted(TOP.iterdir()), before)
         (self.folder / "file").touch()
         self.assertIn("Not a directory", self.refused("install", shb, f"PREFIX={self.folder}/file/prefix"))

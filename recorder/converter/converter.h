@@ -9,11 +9,13 @@ typedef uint64_t u64;
 typedef uint32_t u32;
 enum { THREADS = 1 << 20 };            /* of a record, whose numbers may be used again */
 
-/* The last line of a help text, after an empty one: what is installed. The installation defines it. */
+/* The last line of a help text, after an empty one, and what --version says: what is installed. The installation defines it. */
 #ifdef SHB_VERSION
 #define VERSION_LINE "\nshb " SHB_VERSION "\n"
+#define VERSION SHB_VERSION
 #else
 #define VERSION_LINE ""
+#define VERSION "of a checkout"
 #endif
 
 /* tables.c: arrays that grow, and maps from two words to a number from 1, in the order of asking. */

@@ -166,6 +166,7 @@ static const char help[] =
     "  --strip DIR    files below this folder are named by their paths from it; else a file is named by the\n"
     "                 end of its path that no other file of the program has\n"
     "  -p             whole paths\n"
+    "  --version      say of which package this is\n"
     "  -h, --help     this text\n"
     "\n"
     "Exit status: 0; 1 the trace was written, and isn't the whole run; 2 nothing can be said; 3 wrong\n"
@@ -176,11 +177,14 @@ static const char *windows_folder, *stacks_path;
 static void read_words(int count, char **words) {
     static const struct option options[] = {{"windows", required_argument, 0, 'w'}, {"stacks", required_argument, 0, 's'},
                                             {"strip", required_argument, 0, 'd'}, {"one-by-one", no_argument, &one_by_one, 1},
-                                            {"help", no_argument, 0, 'h'}, {0, 0, 0, 0}};
+                                            {"version", no_argument, 0, 'v'}, {"help", no_argument, 0, 'h'}, {0, 0, 0, 0}};
     opterr = 0;
     for (int c; (c = getopt_long(count, words, "ahn:pr", options, 0)) >= 0;)
         if (c == 'h') {
             fputs(help, stdout);
+            exit(0);
+        } else if (c == 'v') {
+            puts("shb-std " VERSION);
             exit(0);
         } else if (c == 'w') windows_folder = optarg;
         else if (c == 's') stacks_path = optarg;

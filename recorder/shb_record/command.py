@@ -11,7 +11,7 @@ import signal
 from shb_common import known
 from shb_common.files import read_at_most
 from shb_common.stops import Stops
-from shb_common.version import with_version
+from shb_common.version import version_of, with_version
 from shb_common.words import counted
 from shb_record.looking import Look, reason
 from shb_record.parts import LIBRARY, Failed, check_parts, say
@@ -21,8 +21,8 @@ from shb_record.tables import tables_of
 
 RACES, CUT, FAILED, CANNOT_RUN, NOT_THERE = 66, 124, 125, 126, 127
 BECOME_PARENT_OF_ORPHANS = 36  # of prctl
-FLAGS = "help", "keep", "fail-on-stale"
-VALUES = "runs=", "known=", "source=", "strip=", "window=", "wait="
+FLAGS = "help", "version", "keep", "fail-on-stale"
+VALUES = "runs=", "until-found=", "known=", "source=", "strip=", "window=", "wait="
 
 
 class Options:
@@ -30,14 +30,17 @@ class Options:
         pairs, rest = getopt.getopt(words, "ho:", [*FLAGS, *VALUES])
         given = dict(pairs)
         self.source = [folder for option, folder in pairs if option == "--source"]
-        self.help = "-h" in given or "--help" in given
-        self.runs, self.wait = self.number(given, "--runs", "1"), self.number(given, "--wait", "10")
+        self.help, self.version = "-h" in given or "--help" in given, "--version" in given
+        self.until_found, self.wait = "--until-found" in given, self.number(given, "--wait", "10")
+        self.runs = self.number(given, "--until-found" if self.until_found else "--runs", "1")
         self.window = self.number(given, "--window", "4194304")
         self.keep, self.strip, self.fail_on_stale = "--keep" in given, given.get("--strip"), "--fail-on-stale" in given
-        if not rest and not self.help:
+        if not rest and not self.help and not self.version:
             raise getopt.GetoptError("no program is named")
+        if self.until_found and "--runs" in given:
+            raise getopt.GetoptError("--runs and --until-found both say how often the program is run")
         if self.runs < 1:
-            raise getopt.GetoptError("--runs takes a number from 1")
+            raise getopt.GetoptError("--runs and --until-found take a number from 1")
         self.program, self.arguments = (rest[0], rest[1:]) if rest else ("", [])
         self.seed = self.number(os.environ, "SHB_SEED", "1")
         self.folder = pathlib.Path(given.get("-o") or os.path.basename(self.program) + ".shb").absolute()
@@ -76,6 +79,10 @@ def record(options):
             look.run(number)
             if stops.first:
                 say(f"stopped by {signal.Signals(stops.first).name}")
+                break
+            if options.until_found and look.places.unknown():
+                say(f"run {number:,} of at most {options.runs:,} is the first with {'an unknown place' if options.known_path else 'a place'} with races; "
+                    f"its seed is {options.seed + number - 1}")
                 break
     except (Failed, OSError) as fault:
         look.fail(fault)
@@ -123,6 +130,9 @@ def conclude(look, own):
 def main(words, about):
     try:
         options = Options(words)
+        if options.version:
+            print(version_of("shb-record"))
+            return 0
         if options.help:
             print(with_version(about.replace("{library}", str(LIBRARY))), end="")
             return 0

@@ -374,6 +374,20 @@ class Command(recorder.Case):
         self.assertNotRegex(said, "(?m)^.*race .run [23]")
         self.assertIn("shb-record: 1 place with races;", said)
 
+    def test_until_a_race_is_found(self):
+        """A known one isn't; where there is none all runs are made."""
+        program, log = self.program(), self.folder / "log"
+        script = f'echo >> {log}; [ $(wc -l < {log}) -lt 3 ] && exec {program} 0; exec {program} 0 race'
+        status, _, said = self.record("--until-found", "5", "-o", "out", "sh", "-c", script)
+        self.assertEqual((status, len(text_of(log))), (66, 3), said)
+        self.assertIn("shb-record: run 3 of at most 5 is the first with a place with races; its seed is 3\n", said)
+        known = self.known(text_of(self.folder / "out" / "unknown.places"))
+        log.unlink()
+        status, _, said = self.record("--until-found", "5", "--known", known, "-o", "out", "sh", "-c", script)
+        self.assertEqual((status, len(text_of(log)), "is the first" in said), (0, 5, False), said)
+        for words in (("--until-found", "0"), ("--until-found", "2", "--runs", "2"), ("--until-found", "x")):
+            self.assertEqual(self.record(*words, program)[:2], (125, ""))
+
     def test_runs_say_how_many_interleavings_they_gave(self):
         for name, counts in ("in_turn.c", [1]), ("short_threads.c", [2, 3]):  # in each run the addresses differ
             _, _, said = self.record("--runs", "3", self.program(name))
@@ -544,6 +558,14 @@ class Command(recorder.Case):
             answer = recorder.call(command, "--nonsense", cwd=self.folder)
             self.assertEqual((answer.returncode, answer.stdout), (wanted, b""), command)
             self.assertTrue(answer.stderr, command)
+
+    def test_versions(self):
+        """Of every command but shb, whose words are fixed."""
+        top = recorder.SOURCES.parent
+        for command in (recorder.BUILT / "shb-record", top / "view" / "shb-view", top / "farm" / "shb-farm", top / "fix" / "shb-fix",
+                        recorder.BUILT / "shb-std", recorder.BUILT / "shb-windows"):
+            answer = recorder.call(command, "--version", cwd=self.folder)
+            self.assertEqual((answer.returncode, answer.stdout.decode(), answer.stderr), (0, f"{command.name} of a checkout\n", b""))
 
     def test_an_analyser_that_fails(self):
         status, _, said = self.record(self.program(), "0", "race", SHB=shutil.which("false"))

@@ -23,6 +23,7 @@ static const char help[] =
     "  --one-by-one  after each window write its row of windows.tsv to standard output, and go on after a\n"
     "                line on standard input or its end, so that it can be deleted before the next one is\n"
     "                whole; it needs TRACE\n"
+    "  --version     say of which package this is\n"
     "  -h, --help    this text\n"
     "\n"
     "Exit status: 0; 2 the trace is refused, as shb would refuse it; 3 wrong command line;\n"
@@ -33,10 +34,14 @@ static u64 most_events = SHB_EVENTS;
 
 /* Gives the trace's path, or null for standard input. */
 static const char *read_words(int count, char **words) {
-    static const struct option options[] = {{"one-by-one", no_argument, &one_by_one, 1}, {"help", no_argument, 0, 'h'}, {0, 0, 0, 0}};
+    static const struct option options[] = {{"one-by-one", no_argument, &one_by_one, 1}, {"version", no_argument, 0, 'v'},
+                                            {"help", no_argument, 0, 'h'}, {0, 0, 0, 0}};
     for (int c; (c = getopt_long(count, words, "hn:o:", options, 0)) >= 0;)
         if (c == 'h') {
             fputs(help, stdout);
+            exit(0);
+        } else if (c == 'v') {
+            puts("shb-windows " VERSION);
             exit(0);
         } else if (c == 'o') folder = optarg;
         else if (c && (c != 'n' || (most_events = strtoull(optarg, 0, 10)) < 2 || most_events > SHB_EVENTS)) bad_words();

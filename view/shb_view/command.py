@@ -9,7 +9,7 @@ import traceback
 from shb_common.progress import Progress
 from shb_common.report import BadReport
 from shb_common.standard import leave_standard_output, open_standard_files, words_of
-from shb_common.version import with_version
+from shb_common.version import version_of, with_version
 from shb_view import result, text
 from shb_view.faults import Damaged, Refused
 from shb_view.names import shown
@@ -56,6 +56,7 @@ def arguments(words, program):
     parser.add_argument("--window", action="store_true", help="the trace is a window of a longer one: say so in each fact")
     parser.add_argument("--check", action="store_true", help="run `shb check` on the REPORT that is given")
     parser.add_argument("--shb", metavar="PROGRAM", default=os.environ.get("SHB") or program, help="the `shb` to run")
+    parser.add_argument("--version", action="version", version=version_of("shb-view"), help="say of which package this is")
     parser.add_argument("trace", metavar="TRACE", help="a trace, as `shb` reads it")
     parser.add_argument("report", metavar="REPORT", nargs="?",
                         help="a report of it (- is standard input), if `shb` isn't to make one")
