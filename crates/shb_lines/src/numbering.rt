@@ -1,16 +1,16 @@
 //! The event of a line, with names that are owned.
-ghost use Rattle.std.specs.Prelude.{◌≡◌, ◌+◌, ◌<◌, ◌≤◌, ◌^◌, ◌∷◌, [], ℕ, List, length, slice_get, Some, IfOk, OnOk};
+ghost use Rattle.std.specs.Prelude.{◌≡◌, ◌+◌, ◌<◌, ◌≤◌, ◌^◌, ◌∷◌, [], ℕ, List, length, slice_get, Some, IfOk, IfSome, OnOk};
 ghost use Rattle.std.specs.Str.Lines.{strip_carriage_return};
 ghost use Rattle.shb_lines.specs.text.Grammar.{NamedEvent};
-ghost use Rattle.shb_lines.specs.text.Numbering.{AreWide, HasNumbered, IsFound, IsStepOf, IsWithin, tables_of};
+ghost use Rattle.shb_lines.specs.text.Numbering.{AreWide, HasLastThread, HasNumbered, IsFound, IsStepOf, IsWithin, tables_of};
 ghost use Rattle.shb_lines.specs.text.Numbers.{IsOperation, op_for};
 ghost use Rattle.shb_lines.specs.text.OwnedNames.{names_of};
 ghost use Rattle.shb_lines.specs.text.Reader.{with_operand, with_thread};
-ghost use Rattle.shb_lines.specs.text.Reading.{named};
+ghost use Rattle.shb_lines.specs.text.Reading.{HasNoBar, HasNumberIn, IsNumberedIn, named};
 
 use crate::event::{Kind, Op};
 use crate::fault::Fault;
-use crate::grammar::{LineEvent, read_line};
+use crate::grammar::{KnownThread, LineEvent, read_line};
 use crate::limits::Limits;
 use crate::owned_names::OwnedNames;
 use shb_io::NoMemory;
@@ -101,19 +101,37 @@ impl Numbering {
         requires threads { length (names_of self.old.threads) + 1 < 2 ^ 32 }
         requires locks { length (names_of self.old.locks) < 2 ^ 32 }
         requires variables { length (names_of self.old.variables) < 2 ^ 32 }
+        requires no_bar { HasNoBar found.now.thread.now }
+        requires number { HasNumberIn (names_of self.old.threads) found.now }
         ensures events { self.new.events ≡ self.old.events }
+        ensures last { OnOk result (HasLastThread self.new) }
         ensures tables { OnOk result (tables_of self.new ≡ with_operand (with_thread (tables_of self.old) found.now.thread.now) found.now.kind found.now.operand.now) }
         ensures step { IfOk result (λ step. IsStepOf (tables_of self.new) step (named found.now)) }
     {
         let thread = self
             .threads
-            .guessed_or_number_of(alloc, self.last, found.thread)?;
-        self.last = thread;
+            .known_or_number_of(alloc, found.number, found.thread)?;
         let number = self.operand_number(alloc, found.kind, found.operand)?;
+        self.last = thread;
         Ok(Step {
             thread,
             op: op_of(found.kind, number),
         })
+    }
+
+    /// The thread of the last event, which a line is first compared with.
+    fn last_thread(&self) -> Option<KnownThread<'_>>
+        requires { HasLastThread self.now }
+        ensures no_bar { IfSome result (λ known. HasNoBar known.name.now) }
+        ensures number { IfSome result (IsNumberedIn (names_of self.now.threads)) }
+    {
+        match self.threads.known(self.last) {
+            Some(name) => Some(KnownThread {
+                name,
+                number: self.last,
+            }),
+            None => None,
+        }
     }
 
     /// What a line gives after the events so far: nothing, an event or a fault. The line is within its limit,
@@ -131,7 +149,7 @@ impl Numbering {
             → line.now ≡ strip_carriage_return raw → length raw ≤ limits.now.line
             → IfOk result (IsFound limits.now before raw self.new) }
     {
-        let found = match read_line(line, None) {
+        let found = match read_line(line, self.last_thread()) {
             Ok(None) => return Ok(Ok(None)),
             Ok(Some(found)) => found,
             Err(fault) => return Ok(Err(fault)),

@@ -1,5 +1,6 @@
 //! Names that a table owns, numbered in order of first appearance.
-ghost use Rattle.std.specs.Prelude.{◌≡◌, ◌+◌, ◌<◌, ◌≤◌, ◌^◌, ℕ, List, [], ◌∷◌, true, Some, length, slice_get, IfOk, OnOk};
+ghost use Rattle.std.specs.Prelude.{◌≡◌, ◌+◌, ◌<◌, ◌≤◌, ◌^◌, ℕ, List, [], ◌∷◌, true, Some, length, slice_get, IfOk, IfSome, OnOk};
+ghost use Rattle.std.specs.Option.{option_copied};
 ghost use Rattle.std.specs.Cmp.{on_equiv, on_per, partial_equiv_from_equiv};
 ghost use Rattle.std.specs.Cmp.Lexicographic.{nat_list_eq_equiv};
 ghost use Rattle.std.specs.Hash.{same_Alike};
@@ -126,21 +127,32 @@ impl OwnedNames {
         Ok(number)
     }
 
-    /// The number of a name, which may be this one.
-    pub fn guessed_or_number_of(
+    /// The number of a name, which may be known.
+    pub fn known_or_number_of(
         &mut self,
         alloc: Global,
-        likely: u32,
+        known: Option<u32>,
         name: &[u8],
     ) -> Result<u32, NoMemory>
         requires room { length (names_of self.old) < 2 ^ 32 }
+        requires known { IfSome known (λ number. slice_get (names_of self.old) number ≡ Some name.now) }
         ensures names { OnOk result (names_of self.new ≡ with_name (names_of self.old) name.now) }
         ensures number { IfOk result (λ number. slice_get (names_of self.new) number ≡ Some name.now) }
     {
-        if self.is_named(likely, name) {
-            return Ok(likely);
+        match known {
+            Some(number) => Ok(number),
+            None => self.number_of(alloc, name),
         }
-        self.number_of(alloc, name)
+    }
+
+    /// The name of a number, if there is one.
+    pub fn known(&self, number: u32) -> Option<&[u8]>
+        ensures { option_copied result ≡ slice_get (names_of self.now) number }
+    {
+        match self.table.get_index(number as usize) {
+            Some(known) => Some(known.bytes.as_slice()),
+            None => None,
+        }
     }
 
     /// The number of a name, by a look-up.

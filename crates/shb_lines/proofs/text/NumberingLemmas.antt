@@ -5,7 +5,7 @@ use Rattle.shb_lines.specs.declared.event.Kind.TheVariants as kinds
 use Rattle.shb_lines.specs.declared.limits.Limits.{Limits}
 use Rattle.shb_lines.specs.declared.numbering.Numbering.{Numbering}
 use Rattle.shb_lines.specs.text.Grammar.{NamedEvent}
-use Rattle.shb_lines.specs.text.Numbering.{HasNumbered, IsWithin, tables_of}
+use Rattle.shb_lines.specs.text.Numbering.{HasLastThread, HasNumbered, IsWithin, tables_of}
 use Rattle.shb_lines.specs.text.Numbers.{Tables, tables_of_events}
 use Rattle.shb_lines.specs.text.OwnedNames.{names_of}
 use Rattle.shb_lines.specs.text.Reader.{with_operand, with_thread}
@@ -32,10 +32,11 @@ module _ (before : List NamedEvent) (old new : Numbering) (e : NamedEvent) (h : 
   numbered_after count = record { tables_are = tables_after; count_is = omega (arith, count, h.count_is, length-append before (e ∷ [])) }
 
 module _ (limits : Limits) (old new : Numbering) (e : NamedEvent) (h : IsWithin limits old) (grown : tables_of new ≡ with_operand (with_thread (tables_of old) e.thread) e.kind e.operand) where
-  pub within_after : new.events ≡ old.events + 1 → new.events ≤ limits.events → length (names_of new.threads) ≤ limits.threads → IsWithin limits new
-  within_after count few threads = record {
+  pub within_after : new.events ≡ old.events + 1 → new.events ≤ limits.events → length (names_of new.threads) ≤ limits.threads → HasLastThread new → IsWithin limits new
+  within_after count few threads last = record {
     few = few;
     threads = threads;
     locks = omega (arith, count, h.locks, ap (λ (t : Tables). length t.locks) grown, length-with_names_le (locks_among e.kind e.operand) (names_of old.locks), few_locks e.kind e.operand);
     variables = omega (arith, count, h.variables, ap (λ (t : Tables). length t.variables) grown, length-with_names_le (variables_among e.kind e.operand) (names_of old.variables), few_variables e.kind e.operand);
+    last = last;
   }

@@ -1,11 +1,12 @@
 -- What is found in a line after some events, where the names are owned.
-use Rattle.std.specs.Prelude.{◌≡◌, ◌+◌, ◌<◌, ◌≤◌, ◌^◌, ℕ, List, [], ◌∷◌, ◌++◌, length, Option, None, Some, Result, Ok, Err}
+use Rattle.std.specs.Prelude.{◌≡◌, ◌+◌, ◌<◌, ◌≤◌, ◌^◌, ℕ, List, [], ◌∷◌, ◌++◌, length, slice_get, Option, None, Some, Result, Ok, Err, IfSome}
 use Rattle.std.specs.Str.Lines.{strip_carriage_return}
 use Rattle.shb_lines.specs.declared.fault.Fault.{Fault}
 use Rattle.shb_lines.specs.declared.limits.Limits.{Limits}
 use Rattle.shb_lines.specs.declared.numbering.Numbering.{Numbering}
 use Rattle.shb_lines.specs.declared.numbering.Step.{Step}
 use Rattle.shb_lines.specs.text.Faults.{HasLineFault, number_of}
+use Rattle.shb_lines.specs.text.Reading.{HasNoBar}
 use Rattle.shb_lines.specs.text.Grammar.{NamedEvent}
 use Rattle.shb_lines.specs.text.Limits.{most_line}
 use Rattle.shb_lines.specs.text.Meaning.{meaning}
@@ -32,12 +33,17 @@ pub record HasNumbered (before : List NamedEvent) (numbering : Numbering) : Type
   pub tables_are : tables_of numbering ≡ tables_of_events before
   pub count_is : numbering.events ≡ length before
 
+-- the name of the thread of the last event, if there is one, is that of a thread: it has no bar
+abbrev pub HasLastThread : Numbering → Type 0
+HasLastThread numbering = IfSome (slice_get (names_of numbering.threads) numbering.last) HasNoBar
+
 -- there are no more events and threads than the limits, and no more locks and variables than events
 pub record IsWithin (limits : Limits) (numbering : Numbering) : Type 0 where
   pub few : numbering.events ≤ limits.events
   pub threads : length (names_of numbering.threads) ≤ limits.threads
   pub locks : length (names_of numbering.locks) ≤ numbering.events
   pub variables : length (names_of numbering.variables) ≤ numbering.events
+  pub last : HasLastThread numbering
 
 -- the line has no fault, and what it gives is numbered
 pub record GivesStep (limits : Limits) (before : List NamedEvent) (line : List ℕ) (new : Numbering) (step : Step) : Type 0 where

@@ -43,4 +43,4 @@ returns-clause-found c = λ before raw h line short.
 pub returns-clause-within : goal.returns-clause-within
 returns-clause-within c =
     within_after c.args.limits.now c.args.self.now _ (named c.in-Ok-Some.found) c.requires.within c.in_ok-step.ensures.tables (omega (arith, c.in_ok-step.ensures.events))
-    (omega (arith, c.in_ok-step.ensures.events, c.if-self-limits.false)) (omega (arith, c.len.ensures.len, c.if-len-limits.false))
+    (omega (arith, c.in_ok-step.ensures.events, c.if-self-limits.false)) (omega (arith, c.len.ensures.len, c.if-len-limits.false)) c.in_ok-step.ensures.last
