@@ -14,14 +14,18 @@ use crate::following::Following;
 use crate::hashing::{HashKeys, MOST_AT_ONCE, TextKey};
 use indexmap::{Equivalent, IndexSet};
 use shb_io::NoMemory;
+use smallvec::SmallVec;
 use std::alloc::Global;
 use std::hash::{Hash, Hasher};
 use std::random::RandomSource;
 
+/// How many bytes a name may have that stands in the table itself. A longer one has a block of memory of its own.
+const INLINE: usize = 32;
+
 /// A text that is a key of a table, which owns it. It is written to a hasher whole.
 #[derive(Drop)]
 pub struct OwnedText {
-    pub bytes: Vec<u8>,
+    pub bytes: SmallVec<u8, INLINE>,
 }
 
 impl PartialEq for OwnedText {
@@ -66,9 +70,8 @@ impl OwnedText {
     fn copied(alloc: Global, bytes: &[u8]) -> Result<OwnedText, NoMemory>
         ensures { IfOk result (λ text. text.bytes.items ≡ bytes.now) }
     {
-        let mut copy = Vec::new(alloc);
-        copy.extend_from_slice(bytes)?;
-        Ok(OwnedText { bytes: copy })
+        let bytes = SmallVec::from_slice(alloc, bytes)?;
+        Ok(OwnedText { bytes })
     }
 }
 
