@@ -1,0 +1,98 @@
+-- What is known of the accesses of a stream stays so when an event comes.
+use Rattle.std.proofs.Common.{◌≡◌, ℕ, zero, suc, ◌<◌, Bool, List, [], ◌∷◌, ◌++◌, Some, length, arith, refl, sym, ap, ◌∙◌}
+use Rattle.std.specs.Prelude.{option_and_then, slice_get}
+use Rattle.std.proofs.lemmas.List.Elements.{All-weaker}
+use Rattle.shb_lines.specs.declared.event.Event.{Event}
+use Rattle.shb_lines.specs.events.Discipline.{IsDisciplined}
+use Rattle.shb_lines.specs.events.Events.{op_at, thread_at}
+use Rattle.shb_lines.specs.events.Race.{Race}
+use Rattle.shb_lines.proofs.events.Longer.{op_longer, race_longer, thread_longer, time_longer}
+use Rattle.shb_nearest.specs.declared.access.FoundAccess.{FoundAccess}
+use Rattle.shb_nearest.specs.declared.access.FoundRace.{FoundRace}
+use Rattle.shb_nearest.specs.declared.access.Spot.{Spot}
+use Rattle.shb_nearest.specs.declared.classes.Class.{Class}
+use Rattle.shb_nearest.specs.declared.groups.Group.{Group}
+use Rattle.shb_nearest.specs.declared.groups.Kept.{Kept}
+use Rattle.shb_nearest.specs.declared.tables.Tables.{Tables}
+use Rattle.shb_nearest.specs.Classes.{IsOfClass}
+use Rattle.shb_nearest.specs.Found.{IsFoundAccess, location_in}
+use Rattle.shb_nearest.specs.Groups.{IsGroup, IsKept, access_of}
+use Rattle.shb_nearest.specs.Places.{IsNearestAt}
+use Rattle.shb_nearest.specs.Searched.{AreTables}
+
+spot_longer : (spots more : List Spot) (k : ℕ) → k < length spots → slice_get (spots ++ more) k ≡ slice_get spots k
+spot_longer [] more k lt = absurd (omega arith)
+spot_longer (s ∷ spots) more zero lt = refl
+spot_longer (s ∷ spots) more (suc k) lt = spot_longer spots more k (omega arith)
+
+module _ (past : List Event) (e : Event) (spots : List Spot) (s : Spot) (as_many : length spots ≡ length past) (whole : IsDisciplined (past ++ e ∷ [])) where
+  same_place : (k : ℕ) → k < length past → location_in (spots ++ s ∷ []) k ≡ location_in spots k
+  same_place k lt = ap (option_and_then (λ (t : Spot). Some t.location)) (spot_longer spots (s ∷ []) k (omega (arith, lt, as_many)))
+
+  same_thread_at : (k : ℕ) → k < length past → thread_at (past ++ e ∷ []) k ≡ thread_at past k
+  same_thread_at k lt = thread_longer past (e ∷ []) k lt
+
+  same_op_at : (k : ℕ) → k < length past → op_at (past ++ e ∷ []) k ≡ op_at past k
+  same_op_at k lt = op_longer past (e ∷ []) k lt
+
+  access_longer : (x : ℕ) (a : FoundAccess) → a.event < length past → IsFoundAccess past spots x a → IsFoundAccess (past ++ e ∷ []) (spots ++ s ∷ []) x a
+  access_longer x a lt h = record {
+    thread_is = same_thread_at a.event lt ∙ h.thread_is;
+    op_is = same_op_at a.event lt ∙ h.op_is;
+    spot_is = spot_longer spots (s ∷ []) a.event (omega (arith, lt, as_many)) ∙ h.spot_is;
+  }
+
+  class_longer : (c : Class) (k : ℕ) → k < length past → IsOfClass past spots c k → IsOfClass (past ++ e ∷ []) (spots ++ s ∷ []) c k
+  class_longer c k lt h = record { thread_is = same_thread_at k lt ∙ h.thread_is; op_is = same_op_at k lt ∙ h.op_is; location_is = same_place k lt ∙ h.location_is }
+
+  class_back : (c : Class) (k : ℕ) → k < length past → IsOfClass (past ++ e ∷ []) (spots ++ s ∷ []) c k → IsOfClass past spots c k
+  class_back c k lt h = record { thread_is = sym (same_thread_at k lt) ∙ h.thread_is; op_is = sym (same_op_at k lt) ∙ h.op_is; location_is = sym (same_place k lt) ∙ h.location_is }
+
+  kept_longer : (x t : ℕ) (w : Bool) (a : Kept) → IsKept past spots x (length past) t w a → IsKept (past ++ e ∷ []) (spots ++ s ∷ []) x (length past) t w a
+  kept_longer x t w a h = record {
+    own = access_longer x (access_of t w a) h.past h.own;
+    time_is = h.time_is ∙ sym (time_longer past (e ∷ []) t a.event h.past);
+    past = h.past;
+  }
+
+  group_longer : (x : ℕ) (g : Group) → IsGroup past spots x (length past) g → IsGroup (past ++ e ∷ []) (spots ++ s ∷ []) x (length past) g
+  group_longer x g h = record {
+    each = All-weaker (IsKept past spots x (length past) g.thread g.writes) (IsKept (past ++ e ∷ []) (spots ++ s ∷ []) x (length past) g.thread g.writes) (kept_longer x g.thread g.writes) g.kept.items h.each;
+    rising = h.rising;
+  }
+
+  race_back : (i j : ℕ) → j < length past → Race (past ++ e ∷ []) i j → Race past i j
+  race_back i j lt race = (race_longer past (e ∷ []) whole i j lt).0 race
+
+  nearest_longer : (p : ℕ × ℕ) (r : FoundRace) → IsNearestAt past spots (length past) p r → IsNearestAt (past ++ e ∷ []) (spots ++ s ∷ []) (length past) p r
+  nearest_longer p r h = record {
+    accesses = record {
+      first_is = access_longer r.variable r.first (let before = h.is_race.earlier in let lt = h.past in omega (arith, before, lt)) h.accesses.first_is;
+      second_is = access_longer r.variable r.second h.past h.accesses.second_is;
+    };
+    place_is = h.place_is;
+    is_race = (race_longer past (e ∷ []) whole r.first.event r.second.event h.past).1 h.is_race;
+    past = h.past;
+    nearest = λ k l lt race at_k at_l. (let own = race_back k l lt race in
+        h.nearest k l lt own (sym (same_place k (let before = own.earlier in omega (arith, before, lt))) ∙ at_k) (sym (same_place l lt) ∙ at_l));
+  }
+
+  pub tables_longer : (tables : Tables) → AreTables past spots (length past) tables → AreTables (past ++ e ∷ []) (spots ++ s ∷ []) (length past) tables
+  tables_longer tables are = record {
+    classes = record {
+      own = λ c k at. (let h = are.classes.own c k at in (class_longer c k h.1 h.0, h.1));
+      newest = λ c i lt h. are.classes.newest c i lt (class_back c i lt h);
+    };
+    groups = record {
+      each = λ x groups at. (let h = are.groups.each x groups at in record {
+        each = All-weaker (IsGroup past spots x (length past)) (IsGroup (past ++ e ∷ []) (spots ++ s ∷ []) x (length past)) (group_longer x) groups.each.items h.each;
+        covers = h.covers;
+      });
+      wide = are.groups.wide;
+    };
+    places = record {
+      each = λ p r at. nearest_longer p r (are.places.each p r at);
+      known = λ i j l m lt race at_i at_j. (let own = race_back i j lt race in
+          are.places.known i j l m lt own (sym (same_place i (let before = own.earlier in omega (arith, before, lt))) ∙ at_i) (sym (same_place j lt) ∙ at_j));
+    };
+  }

@@ -1,0 +1,191 @@
+-- The races of the places, in order.
+use Rattle.std.proofs.Common.{◌≡◌, ℕ, ◌<◌, ◌≤◌, ◌⊎◌, inl, inr, Bool, true, false, List, [], ◌∷◌, Some, length, map, get_or, arith, sym, ap, subst, ◌∙◌}
+use Rattle.std.specs.Prelude.{AllPairs, Contains, option_and_then}
+use Rattle.std.specs.Cmp.{IsEquivalence, IsTotalOrder, decided}
+use Rattle.std.specs.List.{IsDistinct}
+use Rattle.std.specs.List.Sorted.{IsPermutation, IsSortedByKey}
+use Rattle.std.specs.Map.{keys_of}
+use Rattle.std.specs.Ordering.{is_lt, nat_cmp, ordering_then}
+use Rattle.std.specs.declared.cmp.Ordering.{Ordering}
+use Rattle.std.proofs.lemmas.Bool.{cases_Bool, cases_eq}
+use Rattle.std.proofs.lemmas.Cmp.{nat_cmp_total, on_total, then_total}
+use Rattle.std.proofs.lemmas.Grind.{common_steps}
+use Rattle.std.proofs.lemmas.List.{get_or-map, length-map}
+use Rattle.std.proofs.lemmas.List.Elements.{Contains-get_or}
+use Rattle.std.proofs.lemmas.List.Sorted.{Contains-permutation, IsPermutation-sym, ranks_by, sorted_far}
+use Rattle.std.proofs.lemmas.Map.Keys.{IsDistinct-IsPermutation, IsDistinct-from_apart, apart_from_distinct}
+use Rattle.std.proofs.lemmas.Map.Views.{Contains-from_lookup, lookup-from_Contains}
+use Rattle.std.proofs.lemmas.Option.{slice_get-get_or, slice_get_within}
+use Rattle.shb_lines.specs.declared.event.Event.{Event}
+use Rattle.shb_lines.specs.events.Race.{Race}
+use Rattle.shb_lines.proofs.events.Reach.{event_at_access}
+use Rattle.shb_nearest.specs.declared.access.FoundRace.{FoundRace}
+use Rattle.shb_nearest.specs.declared.access.Spot.{Spot}
+use Rattle.shb_nearest.specs.Found.{ends_of, location_in}
+use Rattle.shb_nearest.specs.Nearest.{IsNearest, ListedBefore}
+use Rattle.shb_nearest.specs.Places.{ArePlaces, IsNearestAt, PlaceEntry, same_place}
+use Rattle.shb_nearest.specs.Searched.{AreNearestRaces}
+use Rattle.shb_nearest.specs.Sorted.{IsInOrder, NotAfter}
+use Rattle.shb_nearest.proofs.Members.{member_map, member_of_map}
+use Rattle.shb_nearest.proofs.PlaceLemmas.{location_of_access}
+use Rattle.shb_nearest.proofs.PlaceTable.{one_place, place_same}
+
+-- races are compared by their later events, then by their earlier ones
+abbrev pub key_of : FoundRace → ℕ × ℕ
+key_of race = (race.second.event, race.first.event)
+
+abbrev pub key_cmp : ℕ × ℕ → ℕ × ℕ → Ordering
+key_cmp a b = ordering_then (nat_cmp a.0 b.0) (nat_cmp a.1 b.1)
+
+key_total : IsTotalOrder key_cmp
+key_total = then_total (on_total (λ (k : ℕ × ℕ). k.0) nat_cmp_total) (on_total (λ (k : ℕ × ℕ). k.1) nat_cmp_total)
+
+key_not_less : (a b : FoundRace) → is_lt (key_cmp (key_of b) (key_of a)) ≡ false → NotAfter a b
+key_not_less a b not_less = grind (arith, common_steps)
+
+pub sorted_order : (races sorted : List FoundRace) → IsPermutation races sorted → IsSortedByKey key_of key_cmp sorted → IsInOrder races sorted
+sorted_order races sorted moved up = record {
+  permutation = moved;
+  in_order = λ i j d low within. key_not_less (get_or sorted i d) (get_or sorted j d) (sorted_far (λ p q. is_lt (key_cmp (key_of p) (key_of q))) (ranks_by key_total key_of) sorted up i j d (omega (arith, low)) within);
+}
+
+place_equivalence : IsEquivalence same_place
+place_equivalence = decided same_place (λ x y. (one_place x y, place_same x y))
+
+-- pairs of a mapped list
+pairs_map : {X Y : Type 0} (R : Y → Y → Type 0) (f : X → Y) (xs : List X) → AllPairs (λ a b. R (f a) (f b)) xs → AllPairs R (map f xs)
+pairs_map R f [] h i j d lt within = absurd (omega arith)
+pairs_map {X} {Y} R f (x ∷ xs) h i j d lt within =
+    let long = length-map (x ∷ xs) f in
+    let a = get_or-map f (x ∷ xs) i x d (omega (arith, lt, within, long)) in
+    let b = get_or-map f (x ∷ xs) j x d (omega (arith, within, long)) in
+    subst (λ (y : Y). R y (get_or (map f (x ∷ xs)) j d)) (sym a) (subst (λ (y : Y). R (f (get_or (x ∷ xs) i x)) y) (sym b) (h i j x lt (omega (arith, within, long))))
+
+-- two races are of the same events
+abbrev same_ends : FoundRace → FoundRace → Bool
+same_ends a b = same_place (ends_of a) (ends_of b)
+
+module _ (past : List Event) (spots : List Spot) (as_many : length spots ≡ length past) (entries : List PlaceEntry) (are : ArePlaces past spots (length past) entries) (distinct : IsDistinct same_place (keys_of entries))
+    (races sorted : List FoundRace) (races_are : races ≡ map (λ e. e.1) entries) (order : IsInOrder races sorted) where
+  entry_of : (r : FoundRace) → Contains sorted r → (p : ℕ × ℕ) × Contains entries (p, r)
+  entry_of r there =
+      let in_races = Contains-permutation sorted races r (IsPermutation-sym races sorted order.permutation) there in
+      let e = member_of_map (λ (e : PlaceEntry). e.1) entries r (subst (λ (l : List FoundRace). Contains l r) races_are in_races) in
+      (e.0.0, subst (λ (q : FoundRace). Contains entries (e.0.0, q)) e.2 e.1)
+
+  near : (p : ℕ × ℕ) (r : FoundRace) → Contains entries (p, r) → IsNearestAt past spots (length past) p r
+  near p r there = are.each p r (lookup-from_Contains place_equivalence p r entries distinct there)
+
+  race_within : (i j : ℕ) → Race past i j → j < length past
+  race_within i j race = let e = event_at_access past j race.conflict.variable race.conflict.second_accesses in slice_get_within past j e.0 e.1
+
+  location_there : (k : ℕ) → k < length past → (l : ℕ) × (location_in spots k ≡ Some l)
+  location_there k lt = let some = (let low : k < length spots = omega (arith, lt, as_many) in low) in go spots k some
+    where
+      go : (l : List Spot) (m : ℕ) → m < length l → (n : ℕ) × (location_in l m ≡ Some n)
+      go [] m low = absurd (omega arith)
+      go (s ∷ l) m low = let at = slice_get-get_or (s ∷ l) m s low in ((get_or (s ∷ l) m s).location, ap (option_and_then (λ (t : Spot). Some t.location)) at)
+
+  first_place : (p : ℕ × ℕ) (r : FoundRace) → IsNearestAt past spots (length past) p r → location_in spots r.first.event ≡ Some p.0
+  first_place p r h = location_of_access past spots r.variable r.first h.accesses.first_is ∙ ap (λ (q : ℕ × ℕ). Some q.0) (sym h.place_is)
+
+  second_place : (p : ℕ × ℕ) (r : FoundRace) → IsNearestAt past spots (length past) p r → location_in spots r.second.event ≡ Some p.1
+  second_place p r h = location_of_access past spots r.variable r.second h.accesses.second_is ∙ ap (λ (q : ℕ × ℕ). Some q.1) (sym h.place_is)
+
+  nearest_of : (p : ℕ × ℕ) (r : FoundRace) → IsNearestAt past spots (length past) p r → IsNearest past (location_in spots) r.first.event r.second.event
+  nearest_of p r h = record {
+    race = h.is_race;
+    nearest = λ k l race at_k at_l. h.nearest k l (race_within k l race) race (at_k ∙ first_place p r h) (at_l ∙ second_place p r h);
+  }
+
+  listed_is : (i j : ℕ) → Contains (map ends_of sorted) (i, j) → IsNearest past (location_in spots) i j
+  listed_is i j there =
+      let r = member_of_map ends_of sorted (i, j) there in
+      let e = entry_of r.0 r.1 in
+      subst (λ (q : ℕ × ℕ). IsNearest past (location_in spots) q.0 q.1) r.2 (nearest_of e.0 r.0 (near e.0 r.0 e.1))
+
+  is_listed : (i j : ℕ) → IsNearest past (location_in spots) i j → Contains (map ends_of sorted) (i, j)
+  is_listed i j own =
+      let within = race_within i j own.race in
+      let before = own.race.earlier in
+      let l = location_there i (omega (arith, within, before)) in
+      let m = location_there j within in
+      let known = are.known i j l.0 m.0 within own.race l.1 m.1 in
+      let r = known.0 in
+      let h = are.each (l.0, m.0) r known.1 in
+      let there = Contains-from_lookup one_place (l.0, m.0) r entries known.1 in
+      let in_races = subst (λ (s : List FoundRace). Contains s r) (sym races_are) (member_map (λ (e : PlaceEntry). e.1) entries ((l.0, m.0), r) there) in
+      let in_sorted = Contains-permutation races sorted r order.permutation in_races in
+      let one = h.nearest i j within own.race l.1 m.1 in
+      let other = own.nearest r.first.event r.second.event h.is_race (first_place (l.0, m.0) r h ∙ sym l.1) (second_place (l.0, m.0) r h ∙ sym m.1) in
+      subst (λ (q : ℕ × ℕ). Contains (map ends_of sorted) q) (same_pair r.first.event r.second.event one other) (member_map ends_of sorted r in_sorted)
+    where
+      same_pair : (a b : ℕ) → (b < j) ⊎ ((b ≡ j) × (i ≤ a)) → (j < b) ⊎ ((j ≡ b) × (a ≤ i)) → ◌≡◌ {A = ℕ × ℕ} (a, b) (i, j)
+      same_pair a b (inl lt) (inl gt) = absurd (omega (arith, lt, gt))
+      same_pair a b (inl lt) (inr h) = absurd (let e = h.0 in omega (arith, lt, e))
+      same_pair a b (inr h) (inl gt) = absurd (let e = h.0 in omega (arith, gt, e))
+      same_pair a b (inr h) (inr g) = (let le = h.1 in let ge = g.1 in let f : a ≡ i = omega (arith, le, ge) in λ k. (f k, h.0 k))
+
+  races_apart : IsDistinct same_ends races
+  races_apart = IsDistinct-from_apart same_ends races (λ i j d low within. elim (cases_Bool (same_ends (get_or races i d) (get_or races j d))) [
+    | inl alike ↦ absurd (apart i j d low within (one_place (ends_of (get_or races i d)) (ends_of (get_or races j d)) (same_alike (get_or races i d) (get_or races j d) alike)))
+    | inr differ ↦ differ
+  ])
+    where
+      same_alike : (a b : FoundRace) → same_ends a b ≡ true → same_place (ends_of a) (ends_of b) ≡ true
+      same_alike a b is = is
+
+      long : length races ≡ length entries
+      long = ap length races_are ∙ length-map entries (λ (e : PlaceEntry). e.1)
+
+      entry_at : (k : ℕ) (d : FoundRace) → k < length races → (e : PlaceEntry) × Contains entries e × (e.1 ≡ get_or races k d) × (get_or (keys_of entries) k e.0 ≡ e.0)
+      entry_at k d lt =
+          let e : PlaceEntry = get_or entries k ((0, 0), d) in
+          let low : k < length entries = omega (arith, lt, long) in (
+            e,
+            Contains-get_or entries k ((0, 0), d) low,
+            sym (ap (λ (l : List FoundRace). get_or l k d) races_are ∙ get_or-map (λ (f : PlaceEntry). f.1) entries k ((0, 0), d) d low),
+            get_or-map (λ (f : PlaceEntry). f.0) entries k ((0, 0), d) e.0 low,
+          )
+
+      place_at_ends : (e f : PlaceEntry) → Contains entries e → Contains entries f → ends_of e.1 ≡ ends_of f.1 → e.0 ≡ f.0
+      place_at_ends e f in_e in_f same =
+          let h = near e.0 e.1 in_e in
+          let g = near f.0 f.1 in_f in
+          let l : e.0.0 ≡ f.0.0 = (let s : Some e.0.0 ≡ Some f.0.0 = sym (first_place e.0 e.1 h) ∙ (ap (λ (q : ℕ × ℕ). location_in spots q.0) same ∙ first_place f.0 f.1 g) in cc) in
+          let m : e.0.1 ≡ f.0.1 = (let s : Some e.0.1 ≡ Some f.0.1 = sym (second_place e.0 e.1 h) ∙ (ap (λ (q : ℕ × ℕ). location_in spots q.1) same ∙ second_place f.0 f.1 g) in cc) in
+          λ k. (l k, m k)
+
+      apart : (i j : ℕ) (d : FoundRace) → i < j → j < length races → ends_of (get_or races i d) ≡ ends_of (get_or races j d) → ⊥
+      apart i j d low within same =
+          let e = entry_at i d (omega (arith, low, within)) in
+          let f = entry_at j d within in
+          let one = place_at_ends e.0 f.0 e.1 f.1 (ap ends_of e.2 ∙ (same ∙ ap ends_of (sym f.2))) in
+          let no = apart_from_distinct same_place (keys_of entries) i j e.0.0 distinct low (let n = length-map entries (λ (g : PlaceEntry). g.0) in omega (arith, n, long, within)) in
+          let at_j : get_or (keys_of entries) j e.0.0 ≡ f.0.0 = get_or-map (λ (g : PlaceEntry). g.0) entries j ((0, 0), d) e.0.0 (omega (arith, long, within)) in
+          let yes = place_same (get_or (keys_of entries) i e.0.0) (get_or (keys_of entries) j e.0.0) (e.3 ∙ (one ∙ sym at_j)) in
+          let f : ⊥ = cc in f
+
+  flips : (a b : FoundRace) → same_ends a b ≡ same_ends b a
+  flips a b = place_equivalence.symm (ends_of a) (ends_of b)
+
+  sorted_before : AllPairs (λ (a b : FoundRace). ListedBefore (ends_of a) (ends_of b)) sorted
+  sorted_before = λ i j d low within. elim (order.in_order i j d low within) [
+    | inl less ↦ inl less
+    | inr same ↦ by (get_or sorted i d) (get_or sorted j d) same (apart_from_distinct same_ends sorted i j d (IsDistinct-IsPermutation same_ends flips races sorted order.permutation races_apart) low within)
+  ]
+    where
+      by : (a b : FoundRace) → (a.second.event ≡ b.second.event) × (a.first.event ≤ b.first.event) → same_ends a b ≡ false → ListedBefore (ends_of a) (ends_of b)
+      by a b h differ = elim (cases_eq a.first.event b.first.event) [
+        | inl same ↦ absurd (let yes = place_same (ends_of a) (ends_of b) (λ k. (same k, h.0 k)) in (let f : ⊥ = cc in f))
+        | inr other ↦ inr (h.0, (let le = h.1 in omega (arith, le, other)))
+      ]
+
+  pub races_final : AreNearestRaces past spots sorted
+  races_final = record {
+    nearest = record {
+      all = λ i j. (listed_is i j, is_listed i j);
+      in_order = pairs_map ListedBefore ends_of sorted sorted_before;
+    };
+    accesses = λ k d lt. (let e = entry_of (get_or sorted k d) (Contains-get_or sorted k d lt) in (near e.0 (get_or sorted k d) e.1).accesses);
+  }

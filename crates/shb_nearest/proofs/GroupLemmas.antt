@@ -1,0 +1,215 @@
+-- The groups of a variable, an access more.
+use Rattle.std.proofs.Common.{◌≡◌, ℕ, ◌+◌, inl, inr, Bool, true, false, cond, ◌&&◌, List, [], ◌∷◌, ◌++◌, None, Option, Some, length, get_or, arith, refl, sym, ap, subst, ◌∙◌}
+use Rattle.std.specs.Bool.{beq}
+use Rattle.std.specs.Prelude.{All, AllPairs, Contains, nat_eq, slice_get}
+use Rattle.std.proofs.Math.ListN.{set}
+use Rattle.std.proofs.lemmas.Bool.{cases_Bool, eq-eqb, eqb-true}
+use Rattle.std.proofs.lemmas.List.Elements.{All-contains, All-filter, All-nil, All-push, All-set, All-weaker, Contains-append_left, Contains-get_or, Contains-push, Contains-push_cases}
+use Rattle.std.proofs.lemmas.List.Kept.{AllPairs-filter}
+use Rattle.std.proofs.lemmas.List.Quantifiers.{all_pairs_push}
+use Rattle.std.proofs.lemmas.List.{get_or_push, length_push}
+use Rattle.std.proofs.lemmas.Option.{slice_get_read, slice_get_within}
+use Rattle.shb_lines.specs.declared.event.Event.{Event}
+use Rattle.shb_lines.specs.events.Discipline.{local_time}
+use Rattle.shb_nearest.specs.declared.access.FoundAccess.{FoundAccess}
+use Rattle.shb_nearest.specs.declared.access.Spot.{Spot}
+use Rattle.shb_nearest.specs.declared.classes.Class.{Class}
+use Rattle.shb_nearest.specs.declared.groups.Group.{Group}
+use Rattle.shb_nearest.specs.declared.groups.Kept.{Kept}
+use Rattle.shb_nearest.specs.Classes.{HasPut, is_newest_in, newest_in, same_class}
+use Rattle.shb_nearest.specs.Found.{IsFoundAccess}
+use Rattle.shb_nearest.specs.Groups.{AreGroups, HasGroupAt, HasKept, IsEarlier, IsGroup, IsKept, IsOfGroup, KeepsAccess, access_of, class_of, is_newest_kept}
+use Rattle.shb_nearest.proofs.Members.{member_at, member_filter, member_set, stays_or_is}
+
+-- equal classes are the same
+same_kind_is : (a b : Bool) → beq a b ≡ true → a ≡ b
+same_kind_is true true is = refl
+same_kind_is true false is = absurd (let f : ⊥ = cc in f)
+same_kind_is false true is = absurd (let f : ⊥ = cc in f)
+same_kind_is false false is = refl
+
+and_left : (a b : Bool) → (a && b) ≡ true → a ≡ true
+and_left true b is = refl
+and_left false b is = absurd (let f : ⊥ = cc in f)
+
+and_right : (a b : Bool) → (a && b) ≡ true → b ≡ true
+and_right true b is = is
+and_right false b is = absurd (let f : ⊥ = cc in f)
+
+abbrev class_made : ℕ → ℕ → ℕ → Bool → Class
+class_made x l t w = record { variable = x; location = l; thread = t; writes = w }
+
+pub one_class : (a b : Class) → same_class a b ≡ true → a ≡ b
+one_class a b is =
+    let x = and_left (nat_eq a.variable b.variable) _ is in
+    let rest = and_right (nat_eq a.variable b.variable) _ is in
+    let l = and_left (nat_eq a.location b.location) _ rest in
+    let more = and_right (nat_eq a.location b.location) _ rest in
+    let t = and_left (nat_eq a.thread b.thread) _ more in
+    let w = same_kind_is a.writes b.writes (and_right (nat_eq a.thread b.thread) _ more) in
+    λ i. class_made (eqb-true a.variable b.variable x i) (eqb-true a.location b.location l i) (eqb-true a.thread b.thread t i) (w i)
+
+same_kind_self : (a : Bool) → beq a a ≡ true
+same_kind_self true = refl
+same_kind_self false = refl
+
+and_both : (a b : Bool) → a ≡ true → b ≡ true → (a && b) ≡ true
+and_both true b is rest = rest
+and_both false b is rest = is
+
+pub class_self : (a : Class) → same_class a a ≡ true
+class_self a = and_both (nat_eq a.variable a.variable) _ (eq-eqb a.variable a.variable refl) (and_both (nat_eq a.location a.location) _ (eq-eqb a.location a.location refl) (and_both (nat_eq a.thread a.thread) _ (eq-eqb a.thread a.thread refl) (same_kind_self a.writes)))
+
+-- the newest of a class is so by the test
+pub newest_passes : (newest : List (Class × ℕ)) (class : Class) (k event : ℕ) → newest_in newest class ≡ Some k → event ≡ k → is_newest_in newest class event ≡ true
+newest_passes newest class k event is same = ap (λ (o : Option ℕ). elim o [ Some m ↦ nat_eq m event | None ↦ false ]) is ∙ eq-eqb k event (sym same)
+
+module _ (trace : List Event) (spots : List Spot) (x n : ℕ) where
+  kept_later : (t : ℕ) (w : Bool) (a : Kept) → IsKept trace spots x n t w a → IsKept trace spots x (n + 1) t w a
+  kept_later t w a h = record { own = h.own; time_is = h.time_is; past = (let lt = h.past in omega (arith, lt)) }
+
+  pub group_later : (g : Group) → IsGroup trace spots x n g → IsGroup trace spots x (n + 1) g
+  group_later g h = record { each = All-weaker (IsKept trace spots x n g.thread g.writes) (IsKept trace spots x (n + 1) g.thread g.writes) (kept_later g.thread g.writes) g.kept.items h.each; rising = h.rising }
+
+  group_empty : (m : ℕ) (g : Group) → g.kept.items ≡ [] → IsGroup trace spots x m g
+  group_empty m g none = record {
+    each = subst (λ (l : List Kept). All (IsKept trace spots x m g.thread g.writes) l) (sym none) (All-nil (IsKept trace spots x m g.thread g.writes));
+    rising = subst (λ (l : List Kept). AllPairs IsEarlier l) (sym none) (λ i j d lt within. absurd (omega (arith, lt, within)));
+  }
+
+  -- no class of the variable changes
+  pub groups_later : (before newest : List (Class × ℕ)) (groups : List Group) → ((c : Class) → c.variable ≡ x → newest_in newest c ≡ newest_in before c) → AreGroups trace spots x n before groups → AreGroups trace spots x (n + 1) newest groups
+  groups_later before newest groups same are = record {
+    each = All-weaker (IsGroup trace spots x n) (IsGroup trace spots x (n + 1)) group_later groups are.each;
+    covers = λ c k of_x is. are.covers c k of_x (sym (same c of_x) ∙ is);
+  }
+
+  module _ (access : FoundAccess) (here : access.event ≡ n) (own : IsFoundAccess trace spots x access) (kept : Kept) (at_event : kept.event ≡ access.event) (at_spot : kept.spot ≡ access.spot) (time_is : kept.time ≡ local_time trace access.thread access.event)
+      (before newest : List (Class × ℕ)) (put : HasPut before newest (class_of x access) access.event) where
+    own_kept : IsKept trace spots x (n + 1) access.thread access.writes kept
+    own_kept = record {
+      own = subst (λ (a : FoundAccess). IsFoundAccess trace spots x a) (sym (λ i. made (at_event i) (at_spot i))) own;
+      time_is = time_is ∙ ap (local_time trace access.thread) (sym at_event);
+      past = omega (arith, at_event, here);
+    }
+      where
+        made : ℕ → Spot → FoundAccess
+        made e s = record { event = e; thread = access.thread; writes = access.writes; spot = s }
+
+    abbrev pub class_in : Group → Kept → Class
+    class_in g a = class_of x (access_of g.thread g.writes a)
+
+    module _ (old new : Group) (is_of : IsOfGroup old access.thread access.writes) (h : HasKept newest x kept old new) (was : IsGroup trace spots x n old) where
+      abbrev pub pushed : List Kept
+      pushed = old.kept.items ++ kept ∷ []
+
+      pushed_each : All (IsKept trace spots x (n + 1) new.thread new.writes) pushed
+      pushed_each = All-push (IsKept trace spots x (n + 1) new.thread new.writes) old.kept.items kept
+          (subst (λ (t : ℕ). All (IsKept trace spots x (n + 1) t new.writes) old.kept.items) (sym h.own.thread_is) (subst (λ (w : Bool). All (IsKept trace spots x (n + 1) old.thread w) old.kept.items) (sym h.own.writes_is) (group_later old was).each))
+          (subst (λ (t : ℕ). IsKept trace spots x (n + 1) t new.writes kept) (sym (h.own.thread_is ∙ is_of.thread_is)) (subst (λ (w : Bool). IsKept trace spots x (n + 1) access.thread w kept) (sym (h.own.writes_is ∙ is_of.writes_is)) own_kept))
+
+      pushed_rising : AllPairs IsEarlier pushed
+      pushed_rising = all_pairs_push IsEarlier old.kept.items kept was.rising (λ k d lt. let past = (was.each k d lt).past in omega (arith, past, at_event, here))
+
+      pub group_kept : IsGroup trace spots x (n + 1) new
+      group_kept = elim h.items [
+        | inl all ↦ record {
+          each = subst (λ (l : List Kept). All (IsKept trace spots x (n + 1) new.thread new.writes) l) (sym all) pushed_each;
+          rising = subst (λ (l : List Kept). AllPairs IsEarlier l) (sym all) pushed_rising;
+        }
+        | inr some ↦ record {
+          each = subst (λ (l : List Kept). All (IsKept trace spots x (n + 1) new.thread new.writes) l) (sym some) (All-filter test (IsKept trace spots x (n + 1) new.thread new.writes) pushed pushed_each);
+          rising = subst (λ (l : List Kept). AllPairs IsEarlier l) (sym some) (AllPairs-filter IsEarlier test pushed pushed_rising);
+        }
+      ]
+        where
+          test : Kept → Bool
+          test = is_newest_kept newest x old.thread old.writes
+
+      -- the newest of a class is kept
+      pub newest_kept : (a : Kept) (k : ℕ) → Contains pushed a → newest_in newest (class_in old a) ≡ Some k → a.event ≡ k → Contains new.kept.items a
+      newest_kept a k there is same = elim h.items [
+        | inl all ↦ subst (λ (l : List Kept). Contains l a) (sym all) there
+        | inr some ↦ subst (λ (l : List Kept). Contains l a) (sym some) (member_filter (is_newest_kept newest x old.thread old.writes) pushed a there (newest_passes newest (class_in old a) k a.event is same))
+      ]
+
+    pub noted : (groups mid : List Group) (at : ℕ) (old new : Group) → AreGroups trace spots x n before groups → HasGroupAt groups mid access.thread access.writes at → slice_get mid at ≡ Some old → HasKept newest x kept old new → AreGroups trace spots x (n + 1) newest (set mid at new)
+    noted groups mid at old new are found at_old h = record { each = All-set (IsGroup trace spots x (n + 1)) mid at new (group_kept old new is_of h was) mid_each; covers = covers }
+      where
+        is_of : IsOfGroup old access.thread access.writes
+        is_of = subst (λ (g : Group). IsOfGroup g access.thread access.writes) (let s : Some found.group ≡ Some old = sym found.there ∙ at_old in let e : found.group ≡ old = cc in e) found.own
+
+        mid_group : (m : ℕ) → (g : Group) → Contains mid g → (Contains groups g → IsGroup trace spots x m g) → IsGroup trace spots x m g
+        mid_group m g there old_one = elim (found.from g there) [ inl stays ↦ old_one stays | inr none ↦ group_empty m g none ]
+
+        was : IsGroup trace spots x n old
+        was = mid_group n old (member_at mid at old at_old) (λ there. All-contains (IsGroup trace spots x n) groups old are.each there)
+
+        mid_each : All (IsGroup trace spots x (n + 1)) mid
+        mid_each = λ k d lt. mid_group (n + 1) (get_or mid k d) (Contains-get_or mid k d lt) (λ there. group_later (get_or mid k d) (All-contains (IsGroup trace spots x n) groups (get_or mid k d) are.each there))
+
+        in_new : Contains (set mid at new) new
+        in_new = member_set mid at new (slice_get_within mid at old at_old)
+
+        class_is : (c : Class) → class_of x access ≡ c → newest_in newest c ≡ Some access.event
+        class_is c same = put c ∙ ap (λ (b : Bool). cond b (Some access.event) (newest_in before c)) (subst (λ (d : Class). same_class (class_of x access) d ≡ true) same (class_self (class_of x access)))
+
+        -- the access itself
+        own_class : (c : Class) (k : ℕ) → class_of x access ≡ c → newest_in newest c ≡ Some k → KeepsAccess (set mid at new) c k
+        own_class c k same is =
+            let e : access.event ≡ k = (let s : Some access.event ≡ Some k = sym (class_is c same) ∙ is in cc) in
+            record {
+              group = new;
+              there = in_new;
+              thread_is = h.own.thread_is ∙ (is_of.thread_is ∙ ap (λ (d : Class). d.thread) same);
+              writes_is = h.own.writes_is ∙ (is_of.writes_is ∙ ap (λ (d : Class). d.writes) same);
+              kept = kept;
+              among = newest_kept old new is_of h was kept k (Contains-push old.kept.items kept) (subst (λ (d : Class). newest_in newest d ≡ Some k) (sym (class_in_is ∙ same)) is) (at_event ∙ e);
+              event_is = at_event ∙ e;
+              location_is = ap (λ (s : Spot). s.location) at_spot ∙ ap (λ (d : Class). d.location) same;
+            }
+          where
+            class_in_is : class_in old kept ≡ class_of x access
+            class_in_is = λ i. class_made x (ap (λ (s : Spot). s.location) at_spot i) (is_of.thread_is i) (is_of.writes_is i)
+
+        -- another class
+        other_class : (c : Class) (k : ℕ) → c.variable ≡ x → newest_in newest c ≡ Some k → KeepsAccess groups c k → KeepsAccess (set mid at new) c k
+        other_class c k of_x is keeps = elim (stays_or_is mid at old new at_old keeps.group (found.stay keeps.group keeps.there)) [
+          | inr stays ↦ record { group = keeps.group; there = stays; thread_is = keeps.thread_is; writes_is = keeps.writes_is; kept = keeps.kept; among = keeps.among; event_is = keeps.event_is; location_is = keeps.location_is }
+          | inl same ↦ record {
+            group = new;
+            there = in_new;
+            thread_is = h.own.thread_is ∙ (sym (ap (λ (g : Group). g.thread) same) ∙ keeps.thread_is);
+            writes_is = h.own.writes_is ∙ (sym (ap (λ (g : Group). g.writes) same) ∙ keeps.writes_is);
+            kept = keeps.kept;
+            among = newest_kept old new is_of h was keeps.kept k (Contains-append_left old.kept.items (kept ∷ []) keeps.kept (subst (λ (g : Group). Contains g.kept.items keeps.kept) same keeps.among))
+                (subst (λ (d : Class). newest_in newest d ≡ Some k) (sym (class_in_is same)) is) keeps.event_is;
+            event_is = keeps.event_is;
+            location_is = keeps.location_is;
+          }
+        ]
+          where
+            class_in_is : keeps.group ≡ old → class_in old keeps.kept ≡ c
+            class_in_is same = λ i. class_made (sym of_x i) (keeps.location_is i) ((sym (ap (λ (g : Group). g.thread) same) ∙ keeps.thread_is) i) ((sym (ap (λ (g : Group). g.writes) same) ∙ keeps.writes_is) i)
+
+        covers : (c : Class) (k : ℕ) → c.variable ≡ x → newest_in newest c ≡ Some k → KeepsAccess (set mid at new) c k
+        covers c k of_x is = elim (cases_Bool (same_class (class_of x access) c)) [
+          | inl same ↦ own_class c k (one_class (class_of x access) c same) is
+          | inr other ↦ other_class c k of_x is (are.covers c k of_x (sym (put c ∙ ap (λ (b : Bool). cond b (Some access.event) (newest_in before c)) other) ∙ is))
+        ]
+
+-- a group that is there, and one that is made
+pub group_found : (groups : List Group) (t : ℕ) (w : Bool) (at : ℕ) (g : Group) → slice_get groups at ≡ Some g → IsOfGroup g t w → HasGroupAt groups groups t w at
+group_found groups t w at g there own = record { group = g; there = there; own = own; stay = λ h in_old. in_old; from = λ h in_new. inl in_new }
+
+pub group_made : (old new : List Group) (t : ℕ) (w : Bool) (at : ℕ) (g : Group) → at ≡ length old → new ≡ old ++ g ∷ [] → g.thread ≡ t → g.writes ≡ w → g.kept.items ≡ [] → HasGroupAt old new t w at
+group_made old new t w at g at_end more of_t of_w empty = record {
+  group = g;
+  there = subst (λ (l : List Group). slice_get l at ≡ Some g) (sym more) (slice_get_read (old ++ g ∷ []) (length (old ++ g ∷ [])) at g refl (let long = length_push old g in omega (arith, long, at_end)) (sym (get_or_push old g g at (sym at_end))));
+  own = record { thread_is = of_t; writes_is = of_w };
+  stay = λ h in_old. subst (λ (l : List Group). Contains l h) (sym more) (Contains-append_left old (g ∷ []) h in_old);
+  from = λ h in_new. elim (Contains-push_cases old g h (subst (λ (l : List Group). Contains l h) more in_new)) [
+    | inl before ↦ inl before
+    | inr same ↦ inr (subst (λ (k : Group). k.kept.items ≡ []) same empty)
+  ];
+}

@@ -1,0 +1,10 @@
+pub mod Carry
+pub mod FinalLemmas
+pub mod GroupLemmas
+pub mod Members
+pub mod NearestLaws
+pub mod PlaceLemmas
+pub mod PlaceTable
+pub mod RivalLemmas
+pub mod StepLemmas
+pub mod TableLemmas

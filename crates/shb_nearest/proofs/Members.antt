@@ -1,0 +1,66 @@
+-- Members of lists.
+use Rattle.std.proofs.Common.{◌≡◌, ℕ, ◌+◌, ◌-◌, ◌<◌, ◌≤◌, ◌⊎◌, inl, inr, Bool, true, false, cond, List, [], ◌∷◌, Some, length, map, filter, drop, get_or, arith, refl, sym, ap, subst, ◌∙◌, get_or-set_same, get_or-set_other}
+use Rattle.std.specs.Prelude.{Contains, slice_get}
+use Rattle.std.proofs.Math.ListN.{set, length-set}
+use Rattle.std.proofs.lemmas.Bool.{cases_eq}
+use Rattle.std.proofs.lemmas.List.{get_or-drop, length-drop}
+use Rattle.std.proofs.lemmas.Option.{get_or_from_slice_get, slice_get-get_or, slice_get_within}
+use Rattle.shb_lines.proofs.events.Increasing.{contains_cases, contains_head, contains_none, contains_tail}
+
+module _ {X : Type 0} where
+  pub member_at : (xs : List X) (k : ℕ) (x : X) → slice_get xs k ≡ Some x → Contains xs x
+  member_at xs k x at = (k, slice_get_within xs k x at, get_or_from_slice_get xs k x x at)
+
+  pub index_of : (xs : List X) (x : X) → Contains xs x → (k : ℕ) × (slice_get xs k ≡ Some x)
+  index_of xs x h = (h.0, slice_get-get_or xs h.0 x h.1 ∙ ap (λ (y : X). Some y) h.2)
+
+  pub member_drop : (n k : ℕ) (xs : List X) (x : X) → n ≤ k → slice_get xs k ≡ Some x → Contains (drop n xs) x
+  member_drop n k xs x le at =
+      let within = slice_get_within xs k x at in
+      let long = length-drop n xs in
+      let item = get_or-drop n xs (k - n) x in
+      let same : n + (k - n) ≡ k = omega (arith, le) in
+      (k - n, omega (arith, within, long, le), item ∙ (ap (λ (m : ℕ). get_or xs m x) same ∙ get_or_from_slice_get xs k x x at))
+
+  pub member_of_drop : (n : ℕ) (xs : List X) (x : X) → Contains (drop n xs) x → (k : ℕ) × (n ≤ k) × (slice_get xs k ≡ Some x)
+  member_of_drop n xs x h =
+      let long = length-drop n xs in
+      let low = h.1 in
+      let within : n + h.0 < length xs = omega (arith, long, low) in
+      (n + h.0, omega arith, slice_get-get_or xs (n + h.0) x within ∙ ap (λ (y : X). Some y) (sym (get_or-drop n xs h.0 x) ∙ h.2))
+
+  pub member_filter : (p : X → Bool) (xs : List X) (x : X) → Contains xs x → p x ≡ true → Contains (filter p xs) x
+  member_filter p [] x there passes = absurd (contains_none x there)
+  member_filter p (y ∷ xs) x there passes = by (p y) refl (contains_cases y x xs there) (λ rest. member_filter p xs x rest passes)
+    where
+      by : (b : Bool) → p y ≡ b → (y ≡ x) ⊎ Contains xs x → (Contains xs x → Contains (filter p xs) x) → Contains (cond b (y ∷ filter p xs) (filter p xs)) x
+      by true is (inl same) more = subst (λ (z : X). Contains (y ∷ filter p xs) z) same (contains_head y (filter p xs))
+      by true is (inr rest) more = contains_tail y x (filter p xs) (more rest)
+      by false is (inl same) more = absurd (let t = ap p same ∙ passes in (let f : ⊥ = cc in f))
+      by false is (inr rest) more = more rest
+
+  -- at an index that is written
+  pub member_set : (xs : List X) (i : ℕ) (y : X) → i < length xs → Contains (set xs i y) y
+  member_set xs i y low = (i, (let long = length-set xs i y in omega (arith, long, low)), get_or-set_same xs i y y low)
+
+  -- a member is at the index that is written, or stays
+  pub stays_or_is : (xs : List X) (i : ℕ) (x y : X) → slice_get xs i ≡ Some x → (z : X) → Contains xs z → (z ≡ x) ⊎ Contains (set xs i y) z
+  stays_or_is xs i x y at z there = elim (cases_eq there.0 i) [
+    | inl same ↦ inl (sym there.2 ∙ (ap (λ (m : ℕ). get_or xs m z) same ∙ get_or_from_slice_get xs i x z at))
+    | inr other ↦ inr (there.0, (let long = length-set xs i y in let low = there.1 in omega (arith, long, low)), get_or-set_other xs i there.0 y z other ∙ there.2)
+  ]
+
+module _ {X Y : Type 0} (f : X → Y) where
+  pub member_map : (xs : List X) (x : X) → Contains xs x → Contains (map f xs) (f x)
+  member_map [] x there = absurd (contains_none x there)
+  member_map (y ∷ xs) x there = elim (contains_cases y x xs there) [
+    | inl same ↦ subst (λ (z : X). Contains (f y ∷ map f xs) (f z)) same (contains_head (f y) (map f xs))
+    | inr rest ↦ contains_tail (f y) (f x) (map f xs) (member_map xs x rest)
+  ]
+
+  pub member_of_map : (xs : List X) (y : Y) → Contains (map f xs) y → (x : X) × Contains xs x × (f x ≡ y)
+  member_of_map [] y there = absurd (contains_none y there)
+  member_of_map (x ∷ xs) y there = elim (contains_cases (f x) y (map f xs) there) [
+    | inl same ↦ (x, contains_head x xs, same)
+    | inr rest ↦ (let h = member_of_map xs y rest in (h.0, contains_tail x h.0 xs h.1, h.2))
+  ]

@@ -1,0 +1,223 @@
+-- The accesses that race with the next one, from what the groups keep.
+use Rattle.std.proofs.Common.{◌≡◌, ◌≢◌, ℕ, suc, ◌+◌, ◌-◌, ◌<◌, ◌≤◌, ◌⊎◌, inl, inr, Bool, true, false, List, [], ◌∷◌, ◌++◌, None, Option, Some, map, drop, take, get_or, arith, refl, sym, ap, subst, ◌∙◌}
+use Rattle.std.specs.Prelude.{Contains, option_and_then, slice_get}
+use Rattle.std.proofs.Math.Seq.{take-suc}
+use Rattle.std.proofs.lemmas.Bool.{cases_eq, cases_lt}
+use Rattle.std.proofs.lemmas.List.Elements.{All-contains, Contains-append_cases, Contains-append_left, Contains-append_right, Contains-push_cases}
+use Rattle.std.proofs.lemmas.Option.{get_or_from_slice_get, slice_get-get_or, slice_get_within}
+use Rattle.shb_lines.specs.declared.event.Event.{Event}
+use Rattle.shb_lines.specs.declared.event.Op.{Op}
+use Rattle.shb_lines.specs.declared.event.Op.TheVariants.{Read, Write}
+use Rattle.shb_lines.specs.events.Events.{op_at, thread_at, variable_of}
+use Rattle.shb_lines.specs.events.Order.{BelowPred, IsBelowPredCount, happens_before, same_thread}
+use Rattle.shb_lines.specs.events.Race.{Race, variable_at}
+use Rattle.shb_lines.proofs.events.Events.{thread_is}
+use Rattle.shb_lines.proofs.events.Increasing.{contains_none}
+use Rattle.shb_lines.proofs.events.Reach.{event_at_access}
+use Rattle.shb_lines.proofs.events.Longer.{later_same_races}
+use Rattle.shb_lines.proofs.events.Prefix.{below_from_local, local_from_below}
+use Rattle.shb_lines.proofs.events.Schedulable.{below_pred_closed}
+use Rattle.shb_nearest.specs.declared.access.FoundAccess.{FoundAccess}
+use Rattle.shb_nearest.specs.declared.access.Spot.{Spot}
+use Rattle.shb_nearest.specs.declared.classes.Class.{Class}
+use Rattle.shb_nearest.specs.declared.groups.Group.{Group}
+use Rattle.shb_nearest.specs.declared.groups.Kept.{Kept}
+use Rattle.shb_nearest.specs.Classes.{AreClasses}
+use Rattle.shb_nearest.specs.Found.{IsFoundAccess, access_op, location_in}
+use Rattle.shb_nearest.specs.Groups.{AreGroups, IsGroup, IsKept, access_of}
+use Rattle.shb_nearest.specs.Rivals.{AreMet, AreRivals, CanRace, HasMet, HasMetGroup, IsOver}
+use Rattle.shb_nearest.proofs.Members.{index_of, member_drop, member_map, member_of_drop, member_of_map}
+
+-- the variable of an access, and whether it writes
+pub op_variable : (writes : Bool) (x : ℕ) → variable_of (access_op writes x) ≡ Some x
+op_variable true x = refl
+op_variable false x = refl
+
+pub access_kind : (op : Op) (x : ℕ) → variable_of op ≡ Some x → (writes : Bool) × (op ≡ access_op writes x)
+access_kind (Read y) x is = (false, ap (λ (z : ℕ). Read z) (let e : y ≡ x = cc in e))
+access_kind (Write y) x is = (true, ap (λ (z : ℕ). Write z) (let e : y ≡ x = cc in e))
+access_kind _ x is = absurd (let f : ⊥ = cc in f)
+
+pub kind_at : (trace : List Event) (i x : ℕ) → variable_at trace i ≡ Some x → (writes : Bool) × (op_at trace i ≡ Some (access_op writes x))
+kind_at trace i x is = go (op_at trace i) refl is
+  where
+    go : (o : Option Op) → op_at trace i ≡ o → option_and_then variable_of o ≡ Some x → (writes : Bool) × (op_at trace i ≡ Some (access_op writes x))
+    go (Some op) at h = let k = access_kind op x h in (k.0, at ∙ ap (λ (p : Op). Some p) k.1)
+    go None at h = absurd (let f : ⊥ = cc in f)
+
+write_is : (writes : Bool) (x y : ℕ) → access_op writes x ≡ Write y → writes ≡ true
+write_is true x y is = refl
+write_is false x y is = absurd (let f : ⊥ = cc in f)
+
+writes_where : (trace : List Event) (i x y : ℕ) (writes : Bool) → op_at trace i ≡ Some (access_op writes x) → op_at trace i ≡ Some (Write y) → writes ≡ true
+writes_where trace i x y writes own is = write_is writes x y (let s : Some (access_op writes x) ≡ Some (Write y) = sym own ∙ is in cc)
+
+write_at : (trace : List Event) (i x : ℕ) (writes : Bool) → op_at trace i ≡ Some (access_op writes x) → writes ≡ true → op_at trace i ≡ Some (Write x)
+write_at trace i x writes own is = own ∙ ap (λ (w : Bool). Some (access_op w x)) is
+
+module _ (trace : List Event) (spots : List Spot) (x : ℕ) where
+  pub variable_is : (a : FoundAccess) → IsFoundAccess trace spots x a → variable_at trace a.event ≡ Some x
+  variable_is a own = ap (option_and_then variable_of) own.op_is ∙ op_variable a.writes x
+
+  module _ (access : FoundAccess) (own : IsFoundAccess trace spots x access) where
+    thread_other : (a : FoundAccess) → IsFoundAccess trace spots x a → a.thread ≢ access.thread → thread_at trace a.event ≢ thread_at trace access.event
+    thread_other a is other same = other (let s : Some a.thread ≡ Some access.thread = sym is.thread_is ∙ (same ∙ own.thread_is) in cc)
+
+    -- an earlier access of another thread that isn't below races, where one of both writes
+    races_where : (a : FoundAccess) → IsFoundAccess trace spots x a → a.event < access.event → a.thread ≢ access.thread → (a.writes ≡ true) ⊎ (access.writes ≡ true) → (BelowPred trace a.event access.event → ⊥) → Race trace a.event access.event
+    races_where a is lt other one unordered = record {
+      conflict = record {
+        variable = x;
+        first_accesses = variable_is a is;
+        second_accesses = variable_is access own;
+        one_writes = elim one [ inl w ↦ inl (write_at trace a.event x a.writes is.op_is w) | inr w ↦ inr (write_at trace access.event x access.writes own.op_is w) ];
+        other_thread = thread_other a is other;
+      };
+      earlier = lt;
+      unordered = unordered;
+    }
+
+    -- and what races is so
+    can_where : (group : Group) (a : FoundAccess) → IsFoundAccess trace spots x a → a.thread ≡ group.thread → a.writes ≡ group.writes → Race trace a.event access.event → CanRace group access
+    can_where group a is thread writes race = record {
+      other = λ same. race.conflict.other_thread (is.thread_is ∙ (ap (λ (t : ℕ). Some t) (thread ∙ same) ∙ sym own.thread_is));
+      one_writes = elim race.conflict.one_writes [
+        | inl w ↦ inl (sym writes ∙ writes_where trace a.event x race.conflict.variable a.writes is.op_is w)
+        | inr w ↦ inr (writes_where trace access.event x race.conflict.variable access.writes own.op_is w)
+      ];
+    }
+
+    module _ (group : Group) (kept : IsGroup trace spots x access.event group) where
+      is_kept : (a : Kept) → Contains group.kept.items a → IsKept trace spots x access.event group.thread group.writes a
+      is_kept a there = All-contains (IsKept trace spots x access.event group.thread group.writes) group.kept.items a kept.each there
+
+      -- nothing is met where nothing can race
+      pub met_none : (since : ℕ) (old : List FoundAccess) → (CanRace group access → ⊥) → HasMetGroup trace spots x access since group old old
+      met_none since old cannot = record {
+        stay = λ a there. there;
+        from = λ a there. inl there;
+        met = λ a there from race. absurd (cannot (can_where group (access_of group.thread group.writes a) (is_kept a there).own refl refl race));
+      }
+
+      module _ (below : ℕ) (count : IsBelowPredCount trace group.thread access.event below) where
+        looked_races : CanRace group access → (a : Kept) → Contains group.kept.items a → below < a.time → Race trace a.event access.event
+        looked_races can a there above =
+            let h = is_kept a there in
+            races_where (access_of group.thread group.writes a) h.own h.past can.other can.one_writes
+            (λ is_below. let le = local_from_below trace group.thread access.event below count a.event h.own.thread_is is_below in let time = h.time_is in omega (arith, le, time, above))
+
+        over_none : (since k m : ℕ) (a b : Kept) → slice_get group.kept.items k ≡ Some a → slice_get group.kept.items m ≡ Some b → k ≤ m → IsOver b below since → since ≤ a.event → Race trace a.event access.event → ⊥
+        over_none since k m a b at_a at_b le over from race = elim over [
+          | inl low ↦ race.unordered (elim order [
+            | inl same ↦ subst (λ (e : ℕ). BelowPred trace e access.event) (sym same) (below_b low)
+            | inr lt ↦ below_pred_closed trace a.event b.event access.event (happens_before (record { earlier = lt; rule = same_thread group.thread (is_kept a (member a k at_a)).own.thread_is of_b })) (below_b low)
+          ])
+          | inr early ↦ elim order [
+            | inl same ↦ absurd (omega (arith, same, early, from))
+            | inr lt ↦ absurd (omega (arith, lt, early, from))
+          ]
+        ]
+          where
+            member : (c : Kept) (i : ℕ) → slice_get group.kept.items i ≡ Some c → Contains group.kept.items c
+            member c i at = (i, slice_get_within group.kept.items i c at, get_or_from_slice_get group.kept.items i c c at)
+
+            of_b : thread_at trace b.event ≡ Some group.thread
+            of_b = (is_kept b (member b m at_b)).own.thread_is
+
+            below_b : b.time ≤ below → BelowPred trace b.event access.event
+            below_b low = below_from_local trace group.thread access.event below count b.event of_b (let time = (is_kept b (member b m at_b)).time_is in omega (arith, time, low))
+
+            order : (a.event ≡ b.event) ⊎ (a.event < b.event)
+            order = elim (cases_eq k m) [
+              | inl same ↦ inl (let s : Some a ≡ Some b = sym at_a ∙ (ap (slice_get group.kept.items) same ∙ at_b) in let e : a ≡ b = cc in ap (λ (c : Kept). c.event) e)
+              | inr ne ↦ inr (
+                  let rise = kept.rising k m a (omega (arith, le, ne)) (slice_get_within group.kept.items m b at_b) in
+                  let at_k = get_or_from_slice_get group.kept.items k a a at_a in
+                  let at_m = get_or_from_slice_get group.kept.items m b a at_b in
+                  let ek = ap (λ (c : Kept). c.event) at_k in
+                  let em = ap (λ (c : Kept). c.event) at_m in
+                  omega (arith, rise, ek, em))
+            ]
+
+        -- what was looked at is what races
+        pub met_some : (since : ℕ) (old new : List FoundAccess) → CanRace group access → HasMet group below since old new → HasMetGroup trace spots x access since group old new
+        met_some since old new can h = record {
+          stay = λ a there. subst (λ (l : List FoundAccess). Contains l a) (sym h.more) (Contains-append_left old added a there);
+          from = λ a there. elim (Contains-append_cases old added a (subst (λ (l : List FoundAccess). Contains l a) h.more there)) [
+            | inl before ↦ inl before
+            | inr new_one ↦ inr (found a new_one)
+          ];
+          met = λ a there from race. subst (λ (l : List FoundAccess). Contains l (access_of group.thread group.writes a)) (sym h.more) (Contains-append_right old added (access_of group.thread group.writes a) (looked a there from race));
+        }
+          where
+            added : List FoundAccess
+            added = map (access_of group.thread group.writes) (drop h.from group.kept.items)
+
+            found : (a : FoundAccess) → Contains added a → IsFoundAccess trace spots x a × Race trace a.event access.event
+            found a there =
+                let m = member_of_map (access_of group.thread group.writes) (drop h.from group.kept.items) a there in
+                let k = member_of_drop h.from group.kept.items m.0 m.1 in
+                let in_group : Contains group.kept.items m.0 = (k.0, slice_get_within group.kept.items k.0 m.0 k.2, get_or_from_slice_get group.kept.items k.0 m.0 m.0 k.2) in
+                let race = looked_races can m.0 in_group (h.from_is.need.after k.0 m.0 k.1 k.2).0 in
+                subst (λ (b : FoundAccess). IsFoundAccess trace spots x b × Race trace b.event access.event) m.2 ((is_kept m.0 in_group).own, race)
+
+            looked : (a : Kept) → Contains group.kept.items a → since ≤ a.event → Race trace a.event access.event → Contains added (access_of group.thread group.writes a)
+            looked a there from race =
+                let k = index_of group.kept.items a there in
+                elim (cases_lt k.0 h.from) [
+                  | inr high ↦ member_map (access_of group.thread group.writes) (drop h.from group.kept.items) a (member_drop h.from k.0 group.kept.items a high k.1)
+                  | inl low ↦ (
+                      let within = h.from_is.need.within in
+                      let m = h.from - 1 in
+                      let last = get_or group.kept.items m a in
+                      let at_m = slice_get-get_or group.kept.items m a (omega (arith, within, low)) in
+                      absurd (over_none since k.0 m a last k.1 at_m (omega (arith, low)) (h.from_is.stop m last (omega (arith, low)) at_m) from race))
+                ]
+
+    -- no group so far
+    pub met_start : (since : ℕ) → AreMet trace spots x access since [] []
+    met_start since = record {
+      races = λ a there. absurd (contains_none a there);
+      met = λ g a there. absurd (contains_none g there);
+    }
+
+    -- a group more
+    pub met_more : (since n : ℕ) (groups : List Group) (group : Group) (old new : List FoundAccess) → slice_get groups n ≡ Some group → AreMet trace spots x access since (take n groups) old → HasMetGroup trace spots x access since group old new → AreMet trace spots x access since (take (n + 1) groups) new
+    met_more since n groups group old new at are h = record {
+      races = λ a there. elim (h.from a there) [ inl before ↦ are.races a before | inr found ↦ found ];
+      met = λ g a there in_group from race. elim (Contains-push_cases (take n groups) group g (subst (λ (l : List Group). Contains l g) more there)) [
+        | inl before ↦ h.stay (access_of g.thread g.writes a) (are.met g a before in_group from race)
+        | inr same ↦ subst (λ (b : Group). Contains new (access_of b.thread b.writes a)) same (h.met a (subst (λ (b : Group). Contains b.kept.items a) (sym same) in_group) from race)
+      ];
+    }
+      where
+        more : take (n + 1) groups ≡ take n groups ++ group ∷ []
+        more = (let e : n + 1 ≡ suc n = omega arith in ap (λ (m : ℕ). take m groups) e) ∙ (take-suc groups n group (slice_get_within groups n group at) ∙ ap (λ (b : Group). take n groups ++ b ∷ []) (get_or_from_slice_get groups n group group at))
+
+    -- all groups: each access that races has a rival at its location that isn't before it
+    pub rivals_are : (since : ℕ) (newest : List (Class × ℕ)) (groups : List Group) (rivals : List FoundAccess) → AreClasses trace spots access.event newest → AreGroups trace spots x access.event newest groups → AreMet trace spots x access since groups rivals → AreRivals trace spots x access since rivals
+    rivals_are since newest groups rivals classes are met = record { races = met.races; each = each }
+      where
+        each : (i l : ℕ) → Race trace i access.event → location_in spots i ≡ Some l → since ≤ i → (a : FoundAccess) × Contains rivals a × (a.spot.location ≡ l) × (i ≤ a.event)
+        each i l race at from =
+            let c = race.conflict in
+            let one : c.variable ≡ x = (let s : Some c.variable ≡ Some x = sym c.second_accesses ∙ variable_is access own in cc) in
+            let e = event_at_access trace i c.variable c.first_accesses in
+            let of_i = thread_is trace i e.0 e.1 in
+            let kind = kind_at trace i x (c.first_accesses ∙ ap (λ (y : ℕ). Some y) one) in
+            let class : Class = record { variable = x; location = l; thread = e.0.thread; writes = kind.0 } in
+            let new = classes.newest class i race.earlier (record { thread_is = of_i; op_is = kind.1; location_is = at }) in
+            let k = new.0 in
+            let is = classes.own class k new.1 in
+            let keeps = are.covers class k refl new.1 in
+            let newer : Race trace k access.event = elim (cases_eq k i) [
+              | inl same ↦ subst (λ (m : ℕ). Race trace m access.event) (sym same) race
+              | inr ne ↦ later_same_races trace i k access.event race (is.0.thread_is ∙ sym of_i) (is.0.op_is ∙ sym kind.1) (let le = new.2 in omega (arith, le, ne)) is.1
+            ] in
+            let le = new.2 in
+            let at_k = keeps.event_is in (
+              access_of keeps.group.thread keeps.group.writes keeps.kept,
+              met.met keeps.group keeps.kept keeps.there keeps.among (omega (arith, from, le, at_k)) (subst (λ (m : ℕ). Race trace m access.event) (sym at_k) newer),
+              keeps.location_is,
+              omega (arith, le, at_k),
+            )

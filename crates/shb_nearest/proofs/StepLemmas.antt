@@ -1,0 +1,48 @@
+-- The next event of a stream, and what is known after it.
+use Rattle.std.proofs.Common.{◌≡◌, ℕ, Bool, true, false, List, [], ◌∷◌, ◌++◌, Some, length, refl, sym, ap, subst, ◌∙◌}
+use Rattle.std.specs.Prelude.{slice_get}
+use Rattle.shb_lines.specs.declared.event.Event.{Event}
+use Rattle.shb_lines.specs.declared.event.Op.{Op}
+use Rattle.shb_lines.specs.declared.numbering.Step.{Step}
+use Rattle.shb_lines.specs.events.Events.{op_at, variable_of}
+use Rattle.shb_lines.specs.events.Tests.{is_write}
+use Rattle.shb_lines.proofs.events.Events.{op_is, thread_is}
+use Rattle.shb_stamps.specs.declared.stream_clocks.StreamClocks.{StreamClocks}
+use Rattle.shb_nearest.specs.declared.access.Spot.{Spot}
+use Rattle.shb_nearest.specs.Found.{access_op}
+use Rattle.shb_nearest.specs.Rivals.{IsNextAccess}
+use Rattle.shb_nearest.specs.Searched.{IsNextEvent}
+use Rattle.shb_nearest.proofs.RivalLemmas.{access_kind}
+
+pub last_at : {X : Type 0} (xs : List X) (x : X) (n : ℕ) → length xs ≡ n → slice_get (xs ++ x ∷ []) n ≡ Some x
+last_at {X} xs x n is = subst (λ (m : ℕ). slice_get (xs ++ x ∷ []) m ≡ Some x) is (go xs)
+  where
+    go : (ys : List X) → slice_get (ys ++ x ∷ []) (length ys) ≡ Some x
+    go [] = refl
+    go (y ∷ ys) = go ys
+
+write_of : (writes : Bool) (x : ℕ) → is_write (access_op writes x) ≡ writes
+write_of true x = refl
+write_of false x = refl
+
+module _ (past : List Event) (e : Event) (spots : List Spot) (clocks : StreamClocks) (step : Step) (event : ℕ) (spot : Spot) (next : IsNextEvent past e spots clocks step event spot) where
+  event_here : slice_get (past ++ e ∷ []) event ≡ Some e
+  event_here = last_at past e event (sym next.event_is)
+
+  pub next_op : op_at (past ++ e ∷ []) event ≡ Some step.op
+  next_op = op_is (past ++ e ∷ []) event e event_here ∙ ap (λ (o : Op). Some o) next.same_op
+
+  pub next_access : (x : ℕ) (writes : Bool) → variable_of step.op ≡ Some x → writes ≡ is_write step.op → IsNextAccess past e spots x clocks (record { event = event; thread = step.thread; writes = writes; spot = spot })
+  next_access x writes of_x is = record {
+    disciplined = next.disciplined;
+    streamed = next.streamed;
+    event_is = next.event_is;
+    thread_is = next.same_thread;
+    own = record {
+      thread_is = thread_is (past ++ e ∷ []) event e event_here ∙ ap (λ (t : ℕ). Some t) next.same_thread;
+      op_is = (let k = access_kind step.op x of_x in
+          let w : writes ≡ k.0 = is ∙ (ap is_write k.1 ∙ write_of k.0 x) in
+          next_op ∙ (ap (λ (o : Op). Some o) k.1 ∙ ap (λ (v : Bool). Some (access_op v x)) (sym w)));
+      spot_is = next.spot_is;
+    };
+  }

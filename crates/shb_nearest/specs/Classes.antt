@@ -1,0 +1,35 @@
+-- Classes of accesses, and the newest access of each.
+use Rattle.std.specs.Prelude.{◌≡◌, ◌==◌, ◌&&◌, ◌<◌, ◌≤◌, nat_eq, ℕ, Bool, false, cond, List, Option, None, Some}
+use Rattle.std.specs.Bool.{beq}
+use Rattle.std.specs.Map.{lookup}
+use Rattle.shb_lines.specs.declared.event.Event.{Event}
+use Rattle.shb_lines.specs.events.Events.{thread_at, op_at}
+use Rattle.shb_nearest.specs.Found.{access_op, location_in}
+use Rattle.shb_nearest.specs.declared.access.Spot.{Spot}
+use Rattle.shb_nearest.specs.declared.classes.Class.{Class}
+
+abbrev pub same_class : Class → Class → Bool
+same_class a b = nat_eq a.variable b.variable && (nat_eq a.location b.location && (nat_eq a.thread b.thread && beq a.writes b.writes))
+
+-- the newest access of a class, in a table
+abbrev pub newest_in : List (Class × ℕ) → Class → Option ℕ
+newest_in entries class = lookup (same_class class) entries
+
+-- whether the access is the newest of its class
+abbrev pub is_newest_in : List (Class × ℕ) → Class → ℕ → Bool
+is_newest_in entries class event = elim (newest_in entries class) [ Some k ↦ k == event | None ↦ false ]
+
+-- an access became the newest of its class
+abbrev pub HasPut : List (Class × ℕ) → List (Class × ℕ) → Class → ℕ → Type 0
+HasPut old new class event = (c : Class) → newest_in new c ≡ cond (same_class class c) (Some event) (newest_in old c)
+
+-- an access of the class
+pub record IsOfClass (trace : List Event) (spots : List Spot) (class : Class) (i : ℕ) : Type 0 where
+  pub thread_is : thread_at trace i ≡ Some class.thread
+  pub op_is : op_at trace i ≡ Some (access_op class.writes class.variable)
+  pub location_is : location_in spots i ≡ Some class.location
+
+-- the table has the newest access of each class before n
+pub record AreClasses (trace : List Event) (spots : List Spot) (n : ℕ) (entries : List (Class × ℕ)) : Type 0 where
+  pub own : (c : Class) (k : ℕ) → newest_in entries c ≡ Some k → IsOfClass trace spots c k × (k < n)
+  pub newest : (c : Class) (i : ℕ) → i < n → IsOfClass trace spots c i → (k : ℕ) × (newest_in entries c ≡ Some k) × (i ≤ k)

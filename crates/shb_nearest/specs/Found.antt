@@ -1,0 +1,33 @@
+-- Accesses and races that are found in a stream.
+use Rattle.std.specs.Prelude.{◌≡◌, ℕ, Bool, true, false, List, Option, Some, option_and_then, slice_get}
+use Rattle.shb_lines.specs.declared.event.Event.{Event}
+use Rattle.shb_lines.specs.declared.event.Op.{Op}
+use Rattle.shb_lines.specs.declared.event.Op.TheVariants.{Read, Write}
+use Rattle.shb_lines.specs.events.Events.{thread_at, op_at}
+use Rattle.shb_nearest.specs.declared.access.Spot.{Spot}
+use Rattle.shb_nearest.specs.declared.access.FoundAccess.{FoundAccess}
+use Rattle.shb_nearest.specs.declared.access.FoundRace.{FoundRace}
+
+-- the location of the event at a position, by its number
+abbrev pub location_in : List Spot → ℕ → Option ℕ
+location_in spots k = option_and_then (λ (s : Spot). Some s.location) (slice_get spots k)
+
+-- an access of a variable, which writes or reads
+abbrev pub access_op : Bool → ℕ → Op
+access_op true x = Write x
+access_op false x = Read x
+
+-- the access is one of the variable, with its thread and its spot
+pub record IsFoundAccess (trace : List Event) (spots : List Spot) (x : ℕ) (access : FoundAccess) : Type 0 where
+  pub thread_is : thread_at trace access.event ≡ Some access.thread
+  pub op_is : op_at trace access.event ≡ Some (access_op access.writes x)
+  pub spot_is : slice_get spots access.event ≡ Some access.spot
+
+-- both accesses of the race are
+pub record IsFoundRace (trace : List Event) (spots : List Spot) (race : FoundRace) : Type 0 where
+  pub first_is : IsFoundAccess trace spots race.variable race.first
+  pub second_is : IsFoundAccess trace spots race.variable race.second
+
+-- the two positions of a race
+abbrev pub ends_of : FoundRace → ℕ × ℕ
+ends_of race = (race.first.event, race.second.event)

@@ -1,0 +1,72 @@
+-- The accesses that are kept of a variable, by thread and kind.
+use Rattle.std.specs.Prelude.{◌≡◌, ◌⊎◌, ◌<◌, ◌++◌, ◌∷◌, ℕ, Bool, List, [], Some, All, AllPairs, Contains, filter, slice_get}
+use Rattle.shb_lines.specs.declared.event.Event.{Event}
+use Rattle.shb_lines.specs.events.Discipline.{local_time}
+use Rattle.shb_nearest.specs.Classes.{is_newest_in, newest_in}
+use Rattle.shb_nearest.specs.Found.{IsFoundAccess}
+use Rattle.shb_nearest.specs.declared.access.FoundAccess.{FoundAccess}
+use Rattle.shb_nearest.specs.declared.access.Spot.{Spot}
+use Rattle.shb_nearest.specs.declared.classes.Class.{Class}
+use Rattle.shb_nearest.specs.declared.groups.Group.{Group}
+use Rattle.shb_nearest.specs.declared.groups.Kept.{Kept}
+
+-- a kept access with what its group tells
+abbrev pub access_of : ℕ → Bool → Kept → FoundAccess
+access_of thread writes kept = record { event = kept.event; thread = thread; writes = writes; spot = kept.spot }
+
+-- the class of an access of a variable
+abbrev pub class_of : ℕ → FoundAccess → Class
+class_of x access = record { variable = x; location = access.spot.location; thread = access.thread; writes = access.writes }
+
+-- the kept access is one before n, and has its local time
+pub record IsKept (trace : List Event) (spots : List Spot) (x n thread : ℕ) (writes : Bool) (kept : Kept) : Type 0 where
+  pub own : IsFoundAccess trace spots x (access_of thread writes kept)
+  pub time_is : kept.time ≡ local_time trace thread kept.event
+  pub past : kept.event < n
+
+-- one access is before another
+abbrev pub IsEarlier : Kept → Kept → Type 0
+IsEarlier a b = a.event < b.event
+
+-- what a group keeps are accesses before n of its thread and kind, rising
+pub record IsGroup (trace : List Event) (spots : List Spot) (x n : ℕ) (group : Group) : Type 0 where
+  pub each : All (IsKept trace spots x n group.thread group.writes) group.kept.items
+  pub rising : AllPairs IsEarlier group.kept.items
+
+-- one of the groups keeps the access k of the class
+pub record KeepsAccess (groups : List Group) (class : Class) (k : ℕ) : Type 0 where
+  pub group : Group
+  pub there : Contains groups group
+  pub thread_is : group.thread ≡ class.thread
+  pub writes_is : group.writes ≡ class.writes
+  pub kept : Kept
+  pub among : Contains group.kept.items kept
+  pub event_is : kept.event ≡ k
+  pub location_is : kept.spot.location ≡ class.location
+
+-- the groups of a variable, which keep the newest access of each of its classes
+pub record AreGroups (trace : List Event) (spots : List Spot) (x n : ℕ) (newest : List (Class × ℕ)) (groups : List Group) : Type 0 where
+  pub each : All (IsGroup trace spots x n) groups
+  pub covers : (c : Class) (k : ℕ) → c.variable ≡ x → newest_in newest c ≡ Some k → KeepsAccess groups c k
+
+-- the group has the accesses by a thread of a kind
+pub record IsOfGroup (group : Group) (thread : ℕ) (writes : Bool) : Type 0 where
+  pub thread_is : group.thread ≡ thread
+  pub writes_is : group.writes ≡ writes
+
+-- a group of the thread and the kind is there, the others stay, and one that is new keeps nothing
+pub record HasGroupAt (old new : List Group) (thread : ℕ) (writes : Bool) (at : ℕ) : Type 0 where
+  pub group : Group
+  pub there : slice_get new at ≡ Some group
+  pub own : IsOfGroup group thread writes
+  pub stay : (g : Group) → Contains old g → Contains new g
+  pub from : (g : Group) → Contains new g → Contains old g ⊎ (g.kept.items ≡ [])
+
+-- whether a kept access is the newest of its class
+abbrev pub is_newest_kept : List (Class × ℕ) → ℕ → ℕ → Bool → Kept → Bool
+is_newest_kept newest x thread writes kept = is_newest_in newest (class_of x (access_of thread writes kept)) kept.event
+
+-- the group keeps one access more, and perhaps only those that are the newest of their class
+pub record HasKept (newest : List (Class × ℕ)) (x : ℕ) (access : Kept) (old new : Group) : Type 0 where
+  pub own : IsOfGroup new old.thread old.writes
+  pub items : (new.kept.items ≡ old.kept.items ++ access ∷ []) ⊎ (new.kept.items ≡ filter (is_newest_kept newest x old.thread old.writes) (old.kept.items ++ access ∷ []))

@@ -1,0 +1,9 @@
+pub mod Nearest
+pub mod Found
+pub mod Classes
+pub mod Groups
+pub mod Rivals
+pub mod Places
+pub mod Searched
+pub mod Wide
+pub mod Sorted

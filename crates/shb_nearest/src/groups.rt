@@ -1,0 +1,148 @@
+//! The accesses that are kept of a variable, by thread and kind.
+
+ghost use Rattle.std.specs.Prelude.{◌≡◌, ◌+◌, ◌++◌, ◌∷◌, [], ℕ, true, List, IfOk, IfSome, OnOk, Some, filter, slice_get};
+ghost use Rattle.shb_lines.specs.declared.event.Event.{Event};
+ghost use Rattle.shb_lines.specs.events.Discipline.{local_time};
+ghost use Rattle.shb_nearest.specs.Classes.{HasPut};
+ghost use Rattle.shb_nearest.specs.Found.{IsFoundAccess};
+ghost use Rattle.shb_nearest.specs.Groups.{AreGroups, HasGroupAt, HasKept, IsOfGroup, class_of, is_newest_kept};
+ghost use Rattle.shb_nearest.specs.declared.access.Spot.{Spot as SpotData};
+ghost use Rattle.shb_nearest.specs.declared.classes.Class.{Class as ClassData};
+
+use crate::access::{FoundAccess, Spot};
+use crate::classes::{Class, Classes};
+use shb_io::NoMemory;
+use std::alloc::Global;
+
+/// An access that a group keeps.
+#[derive(Clone, Copy)]
+pub struct Kept {
+    pub event: u32,
+    /// How many events its thread had, with this one.
+    pub time: u32,
+    pub spot: Spot,
+}
+
+/// Accesses of a variable by one thread, writes or reads, in the order of the stream. The newest one at each location
+/// is among them.
+#[derive(Drop)]
+pub struct Group {
+    pub thread: u32,
+    pub writes: bool,
+    pub kept: Vec<Kept>,
+    /// With more than so many it forgets those that aren't the newest of their class.
+    pub most: usize,
+}
+
+/// The groups of a variable.
+#[derive(Drop)]
+pub struct Groups {
+    pub each: Vec<Group>,
+}
+
+/// How many accesses a group keeps before it forgets any.
+const FEW: usize = 16;
+
+/// Forgets those that aren't the newest of their class.
+fn forget(kept: &mut Vec<Kept>, classes: &Classes, variable: u32, thread: u32, writes: bool)
+    ensures { kept.new.items ≡ filter (is_newest_kept classes.now.newest.entries variable thread writes) kept.old.items }
+{
+    kept.retain(|access| {
+        let class = Class {
+            variable,
+            location: access.spot.location,
+            thread,
+            writes,
+        };
+        classes.is_newest(class, access.event)
+    });
+}
+
+impl Group {
+    /// Whether it has the accesses by a thread of a kind.
+    fn is_of(&self, thread: u32, writes: bool) -> bool
+        ensures { result ≡ true → IsOfGroup self.now thread writes }
+    {
+        self.thread == thread && self.writes == writes
+    }
+
+    /// Keeps an access, and forgets others where there are too many.
+    ///
+    /// # Errors
+    ///
+    /// `NoMemory` where a growth was refused.
+    fn keep(&mut self, classes: &Classes, variable: u32, access: Kept) -> Result<(), NoMemory>
+        ensures { OnOk result (HasKept classes.now.newest.entries variable access self.old self.new) }
+    {
+        self.kept.push(access)?;
+        if self.kept.len() <= self.most {
+            return Ok(());
+        }
+        forget(&mut self.kept, classes, variable, self.thread, self.writes);
+        self.most = self.kept.len().saturating_mul(2).max(FEW);
+        Ok(())
+    }
+}
+
+impl Groups {
+    /// The index of the group of a thread and a kind, if there is one.
+    fn index_of(&self, thread: u32, writes: bool) -> Option<usize>
+        ensures { IfSome result (λ at. (group : Group) × (slice_get self.now.each.items at ≡ Some group) × IsOfGroup group thread writes) }
+    {
+        for at in 0..self.each.len() {
+            let is_it = self.each[at].is_of(thread, writes);
+            if is_it {
+                return Some(at);
+            }
+        }
+        None
+    }
+
+    /// The index of the group of a thread and a kind, which is made where there is none.
+    ///
+    /// # Errors
+    ///
+    /// `NoMemory` where a growth was refused.
+    fn group_at(&mut self, alloc: Global, thread: u32, writes: bool) -> Result<usize, NoMemory>
+        ensures { IfOk result (HasGroupAt self.old.each.items self.new.each.items thread writes) }
+    {
+        if let Some(at) = self.index_of(thread, writes) {
+            return Ok(at);
+        }
+        let at = self.each.len();
+        self.each.push(Group {
+            thread,
+            writes,
+            kept: Vec::new(alloc),
+            most: FEW,
+        })?;
+        Ok(at)
+    }
+
+    /// Takes an access in, which is the newest of its class already, with how many events its thread had.
+    ///
+    /// # Errors
+    ///
+    /// `NoMemory` where a growth was refused.
+    pub fn note(
+        &mut self,
+        alloc: Global,
+        classes: &Classes,
+        variable: u32,
+        access: FoundAccess,
+        time: u32,
+    ) -> Result<(), NoMemory>
+        ensures { (trace : List Event) (spots : List SpotData) (before : List (ClassData × ℕ)) → AreGroups trace spots variable access.event before self.old.each.items
+            → HasPut before classes.now.newest.entries (class_of variable access) access.event → IsFoundAccess trace spots variable access
+            → time ≡ local_time trace access.thread access.event → OnOk result (AreGroups trace spots variable (access.event + 1) classes.now.newest.entries self.new.each.items) }
+    {
+        let at = self.group_at(alloc, access.thread, access.writes)?;
+        let kept = Kept {
+            event: access.event,
+            time,
+            spot: access.spot,
+        };
+        self.each[at].keep(classes, variable, kept)?;
+        Ok(())
+    }
+}

@@ -1,0 +1,30 @@
+//! The nearest race of each place of a stream, event by event, with no list of events.
+//!
+//! A place is an ordered pair of locations. Its nearest race is that whose later event is the least that has a race at
+//! the place, and whose earlier event is the greatest with which that one races there (`specs/Nearest.antt`).
+//!
+//! A *class* is the accesses of a variable at one location by one thread, all writes or all reads; `classes` has the
+//! newest access of each. A *group* is the classes of a variable by one thread, of one kind; `groups` keeps of each
+//! group some accesses, the newest one of each class among them. An access looks at the groups of its variable by
+//! other threads, and at the accesses that a group keeps from the newest one back. It stops at the first that is below
+//! its predecessor, since those behind it are too, and at the first that is before the last access of its own class,
+//! since what is behind that and races with this access raced with that one, and its place is known. All that it went
+//! over race with it, and are offered to the table of places.
+//!
+//! So an access costs a step for each group of its variable, and one for each kept access that races with it and came
+//! after the last access of its own class. A group forgets those that aren't the newest of their class when it keeps
+//! more than twice as many as were left the last time, and more than a few. Memory grows with names, classes, groups
+//! and places, and with no events.
+#![tactic(auto)]
+
+mod access;
+mod classes;
+mod groups;
+pub mod laws;
+mod places;
+mod rivals;
+mod search;
+mod tables;
+
+pub use access::{FoundAccess, FoundRace, Spot};
+pub use search::NearestRaces;

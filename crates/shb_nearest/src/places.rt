@@ -1,0 +1,117 @@
+//! The places that are found, with the nearest race of each.
+
+ghost use Rattle.std.specs.Prelude.{◌≡◌, [], IfOk, OnOk, map};
+ghost use Rattle.std.specs.List.{IsDistinct};
+ghost use Rattle.std.specs.Map.{keys_of, lookup};
+ghost use Rattle.shb_nearest.specs.Places.{is_nearer, offered, offered_all, same_place};
+
+use crate::access::{FoundAccess, FoundRace};
+use indexmap::IndexMap;
+use shb_io::NoMemory;
+use shb_lines::HashKeys;
+use std::alloc::Global;
+use std::random::RandomSource;
+
+/// Of each place that is known its race, by the numbers of the place's two locations. The table is hashed under two
+/// random keys.
+pub struct Places {
+    pub races: IndexMap<(u32, u32), FoundRace, HashKeys>,
+}
+
+// By hand: a derived one stands in each function that drops it, with a step for each part of the table.
+impl Drop for Places {
+    fn drop(self) {
+        let Places { races: _ } = self;
+    }
+}
+
+impl Places {
+    /// No place.
+    ///
+    /// # Errors
+    ///
+    /// `NoMemory` where there were no random numbers for the table.
+    pub fn new<R: RandomSource>(rt: &R, alloc: Global) -> Result<Places, NoMemory>
+        ensures { IfOk result (λ places. places.races.entries ≡ []) }
+    {
+        Ok(Places {
+            races: IndexMap::with_hasher(alloc, HashKeys::new(rt)?),
+        })
+    }
+
+    /// Whether a race is nearer than what is known of its place: the place isn't known, or by a race with the same later
+    /// access and a lesser earlier one.
+    fn is_nearer(&self, place: (u32, u32), race: FoundRace) -> bool
+        ensures { result ≡ is_nearer (lookup (same_place place) self.now.races.entries) race }
+    {
+        match self.races.get(&place) {
+            Some(known) => {
+                known.second.event == race.second.event && known.first.event < race.first.event
+            }
+            None => true,
+        }
+    }
+
+    /// Takes a race where it is nearer than what is known of its place.
+    ///
+    /// # Errors
+    ///
+    /// `NoMemory` where a growth was refused.
+    fn offer(&mut self, race: FoundRace) -> Result<(), NoMemory>
+        ensures { OnOk result (self.new.races.entries ≡ offered self.old.races.entries race) }
+    {
+        let place = (race.first.spot.location, race.second.spot.location);
+        let nearer = self.is_nearer(place, race);
+        if !nearer {
+            return Ok(());
+        }
+        self.races.insert(place, race)?;
+        Ok(())
+    }
+
+    /// Takes the races of an access of a variable with earlier ones, where they are nearer than what is known of their
+    /// places.
+    ///
+    /// # Errors
+    ///
+    /// `NoMemory` where a growth was refused.
+    pub fn offer_all(
+        &mut self,
+        variable: u32,
+        second: FoundAccess,
+        rivals: &[FoundAccess],
+    ) -> Result<(), NoMemory>
+        ensures { OnOk result (self.new.races.entries ≡ offered_all variable second self.old.races.entries rivals.now) }
+    {
+        for first in rivals {
+            self.offer(FoundRace {
+                variable,
+                first: *first,
+                second,
+            })?;
+        }
+        Ok(())
+    }
+
+    /// No two races have one place.
+    pub fn are_different(&self)
+        ensures { IsDistinct same_place (keys_of self.now.races.entries) }
+    {
+        let _ = self.races.len();
+    }
+
+    /// The races, one of each place.
+    ///
+    /// # Errors
+    ///
+    /// `NoMemory` where memory was refused.
+    pub fn to_races(&self, alloc: Global) -> Result<Vec<FoundRace>, NoMemory>
+        ensures { IfOk result (λ races. races.items ≡ map (λ e. e.1) self.now.races.entries) }
+    {
+        let mut races = Vec::with_capacity(alloc, self.races.len())?;
+        for race in self.races.values() {
+            races.push(*race)?;
+        }
+        Ok(races)
+    }
+}

@@ -1,0 +1,119 @@
+//! The nearest race of each place, event by event.
+
+ghost use Rattle.std.specs.Prelude.{◌≡◌, ◌+◌, ◌++◌, ◌∷◌, [], List, IfOk, OnOk};
+ghost use Rattle.shb_lines.specs.declared.event.Event.{Event};
+ghost use Rattle.shb_lines.specs.events.Discipline.{IsDisciplined};
+ghost use Rattle.shb_nearest.specs.Searched.{AreNearestRaces, AreTables, HasRoom, HasSearched, IsNextEvent};
+ghost use Rattle.shb_nearest.specs.Sorted.{IsInOrder};
+ghost use Rattle.shb_nearest.specs.declared.access.Spot.{Spot as SpotData};
+
+use crate::access::{FoundAccess, FoundRace, Spot};
+use crate::tables::Tables;
+use shb_io::NoMemory;
+use shb_lines::Step;
+use shb_stamps::StreamClocks;
+use std::alloc::Global;
+use std::random::RandomSource;
+
+/// What is known of the races of a stream after some events.
+#[derive(Drop)]
+pub struct NearestRaces {
+    pub clocks: StreamClocks,
+    /// How many events were taken.
+    pub events: u32,
+    pub tables: Tables,
+}
+
+/// Takes an event into the tables, if it is an access.
+fn take_event(
+    tables: &mut Tables,
+    alloc: Global,
+    clocks: &StreamClocks,
+    step: Step,
+    event: u32,
+    spot: Spot,
+) -> Result<(), NoMemory>
+    ensures { (past : List Event) (e : Event) (spots : List SpotData) → IsNextEvent past e spots clocks.now step event spot
+        → AreTables (past ++ e ∷ []) spots event tables.old → OnOk result (AreTables (past ++ e ∷ []) spots (event + 1) tables.new) }
+{
+    match step.op.variable() {
+        Some(variable) => {
+            let access = FoundAccess {
+                event,
+                thread: step.thread,
+                writes: step.op.is_write(),
+                spot,
+            };
+            tables.take(alloc, clocks, variable, access)?;
+            Ok(())
+        }
+        None => Ok(()),
+    }
+}
+
+/// Some races by their later events, then by their earlier ones.
+fn in_order(races: Vec<FoundRace>) -> Vec<FoundRace>
+    ensures { IsInOrder races.items result.items }
+{
+    let mut sorted = races;
+    sorted.sort_unstable_by_key(|race| (race.second.event, race.first.event));
+    sorted
+}
+
+impl NearestRaces {
+    /// What is known before the first event.
+    ///
+    /// # Errors
+    ///
+    /// `NoMemory` where memory was refused, or where there were no random numbers for the tables.
+    pub fn new<R: RandomSource>(rt: &R, alloc: Global) -> Result<NearestRaces, NoMemory>
+        ensures { IfOk result (HasSearched [] []) }
+    {
+        let clocks = StreamClocks::new(alloc)?;
+        let tables = Tables::new(rt, alloc)?;
+        Ok(NearestRaces {
+            clocks,
+            events: 0,
+            tables,
+        })
+    }
+
+    /// Takes the next event of the stream. The spot of an event that is no access says nothing.
+    ///
+    /// # Errors
+    ///
+    /// `NoMemory` where a growth was refused. Nothing can be asked then.
+    pub fn take(&mut self, alloc: Global, step: Step, spot: Spot) -> Result<(), NoMemory>
+        ensures { (past : List Event) (spots : List SpotData) (e : Event) → e.thread ≡ step.thread → e.op ≡ step.op → HasRoom past
+            → IsDisciplined (past ++ e ∷ []) → HasSearched past spots self.old
+            → OnOk result (HasSearched (past ++ e ∷ []) (spots ++ spot ∷ []) self.new) }
+    {
+        take_event(
+            &mut self.tables,
+            alloc,
+            &self.clocks,
+            step,
+            self.events,
+            spot,
+        )?;
+        self.clocks.take(alloc, step.thread, step.op)?;
+        self.events = self.events.saturating_add(1);
+        Ok(())
+    }
+
+    /// The nearest race of each place, by its later event, then by its earlier one. The search stays as it is, so
+    /// more events can be taken.
+    ///
+    /// # Errors
+    ///
+    /// `NoMemory` where memory was refused.
+    pub fn races(&self, alloc: Global) -> Result<Vec<FoundRace>, NoMemory>
+        ensures { (past : List Event) (spots : List SpotData) → HasSearched past spots self.now
+            → IfOk result (λ races. AreNearestRaces past spots races.items) }
+    {
+        self.tables.places.are_different();
+        let races = self.tables.places.to_races(alloc)?;
+        let sorted = in_order(races);
+        Ok(sorted)
+    }
+}

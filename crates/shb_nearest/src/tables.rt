@@ -1,0 +1,90 @@
+//! What is known of the accesses of a stream: classes, groups and places.
+
+ghost use Rattle.std.specs.Prelude.{◌+◌, ◌++◌, ◌∷◌, [], List, IfOk, OnOk};
+ghost use Rattle.shb_lines.specs.declared.event.Event.{Event};
+ghost use Rattle.shb_nearest.specs.Rivals.{IsNextAccess};
+ghost use Rattle.shb_nearest.specs.Searched.{AreTables, HasRoom};
+ghost use Rattle.shb_nearest.specs.Wide.{HasSpace};
+ghost use Rattle.shb_nearest.specs.declared.access.Spot.{Spot as SpotData};
+
+use crate::access::FoundAccess;
+use crate::classes::{Class, Classes};
+use crate::groups::Groups;
+use crate::places::Places;
+use crate::rivals::rivals_of;
+use shb_io::NoMemory;
+use shb_stamps::StreamClocks;
+use std::alloc::Global;
+use std::random::RandomSource;
+
+/// The newest access of each class, the groups of each variable, and the places that are found.
+#[derive(Drop)]
+pub struct Tables {
+    pub classes: Classes,
+    pub groups: Vec<Groups>,
+    pub places: Places,
+}
+
+/// Makes groups, so that a variable has some.
+fn make_space(groups: &mut Vec<Groups>, alloc: Global, variable: u32) -> Result<(), NoMemory>
+    ensures { OnOk result (HasSpace groups.old.items groups.new.items variable) }
+{
+    while groups.len() <= variable as usize {
+        groups.push(Groups {
+            each: Vec::new(alloc),
+        })?;
+    }
+    Ok(())
+}
+
+impl Tables {
+    /// No access.
+    ///
+    /// # Errors
+    ///
+    /// `NoMemory` where memory was refused, or where there were no random numbers for the tables.
+    pub fn new<R: RandomSource>(rt: &R, alloc: Global) -> Result<Tables, NoMemory>
+        ensures { (trace : List Event) (spots : List SpotData) → IfOk result (AreTables trace spots 0) }
+    {
+        let classes = Classes::new(rt, alloc)?;
+        let places = Places::new(rt, alloc)?;
+        Ok(Tables {
+            classes,
+            groups: Vec::new(alloc),
+            places,
+        })
+    }
+
+    /// Takes an access of a variable, the next event of the stream.
+    ///
+    /// # Errors
+    ///
+    /// `NoMemory` where a growth was refused. Nothing can be asked then.
+    pub fn take(
+        &mut self,
+        alloc: Global,
+        clocks: &StreamClocks,
+        variable: u32,
+        access: FoundAccess,
+    ) -> Result<(), NoMemory>
+        ensures { (past : List Event) (e : Event) (spots : List SpotData) → HasRoom past → IsNextAccess past e spots variable clocks.now access
+            → AreTables (past ++ e ∷ []) spots access.event self.old → OnOk result (AreTables (past ++ e ∷ []) spots (access.event + 1) self.new) }
+    {
+        make_space(&mut self.groups, alloc, variable)?;
+        let class = Class {
+            variable,
+            location: access.spot.location,
+            thread: access.thread,
+            writes: access.writes,
+        };
+        let since = self.classes.put(class, access.event)?;
+        let groups = &mut self.groups[variable as usize];
+        let rivals = rivals_of(alloc, clocks, groups.each.as_slice(), access, since)?;
+        let time = clocks
+            .below_next(access.thread, access.thread)
+            .saturating_add(1);
+        groups.note(alloc, &self.classes, variable, access, time)?;
+        self.places.offer_all(variable, access, &rivals)?;
+        Ok(())
+    }
+}
