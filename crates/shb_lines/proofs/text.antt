@@ -21,4 +21,6 @@ pub mod Numbers
 pub mod Named
 pub mod CutText
 pub mod GrammarLaw
+pub mod NamedLines
+pub mod AccessLines
 pub mod StoredEvents

@@ -101,6 +101,14 @@ impl OwnedNames {
         self.table.len()
     }
 
+    /// The name of this number. There must be one.
+    pub fn name(&self, number: u32) -> &[u8]
+        requires { number < length (names_of self.now) }
+        ensures { slice_get (names_of self.now) number ≡ Some result.now }
+    {
+        self.table[number as usize].bytes.as_slice()
+    }
+
     /// Whether this number is the name's.
     fn is_named(&self, number: u32, name: &[u8]) -> bool
         ensures { result ≡ true → slice_get (names_of self.now) number ≡ Some name.now }

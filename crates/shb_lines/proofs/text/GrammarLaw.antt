@@ -34,7 +34,7 @@ position_lacks c bytes lacks = position_or_len_is (is c) bytes (length bytes) 0 
 before_at : (c : ℕ) (front rest : List ℕ) → Lacks c front → before_first (is c) (front ++ c ∷ rest) ≡ front
 before_at c front rest lacks = ap (λ n. take n (front ++ c ∷ rest)) (position_at c front rest lacks) ∙ take-append_seam front (c ∷ rest)
 
-after_at : (c : ℕ) (front rest : List ℕ) → Lacks c front → after_first (is c) (front ++ c ∷ rest) ≡ rest
+pub after_at : (c : ℕ) (front rest : List ℕ) → Lacks c front → after_first (is c) (front ++ c ∷ rest) ≡ rest
 after_at c front rest lacks = ap (λ n. drop (n + 1) (front ++ c ∷ rest)) (position_at c front rest lacks) ∙ drop-append-add front (c ∷ rest) 1
 
 before_lacks : (c : ℕ) (bytes : List ℕ) → Lacks c bytes → before_first (is c) bytes ≡ bytes

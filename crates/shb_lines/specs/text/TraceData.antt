@@ -1,12 +1,14 @@
 -- A trace as the other crates see it, and which trace some lines and some bytes have.
-use Rattle.std.specs.Prelude.{◌≡◌, ◌+◌, ◌≤◌, ℕ, List, length, map, take, Option, None, Some}
-use Rattle.std.specs.List.{AllByRecursion, AllZip, IsDistinct, after_first}
+use Rattle.std.specs.Prelude.{◌≡◌, ◌+◌, ◌≤◌, ℕ, List, [], ◌++◌, length, map, take, codes, Option, None, Some, if◌then◌else◌}
+use Rattle.std.specs.List.{AllByRecursion, AllZip, IsDistinct, after_first, list_any}
 use Rattle.std.specs.Str.{bytes_eq}
 use Rattle.shb_lines.specs.declared.event.Event.{Event}
+use Rattle.shb_lines.specs.declared.event.Kind.{Kind}
 use Rattle.shb_lines.specs.declared.limits.Limits.{Limits}
 use Rattle.shb_lines.specs.declared.fault.LineFault.{LineFault}
 use Rattle.shb_lines.specs.declared.event.Sizes.{Sizes}
 use Rattle.shb_lines.specs.text.Faults.{HasNoLineFaultBefore, IsFirstLineFault}
+use Rattle.shb_lines.specs.text.Grammar.{word_of}
 use Rattle.shb_lines.specs.text.Limits.{most_events}
 use Rattle.shb_lines.specs.text.Meaning.{is_bar}
 use Rattle.shb_lines.specs.text.Numbers.{IsEventOf, Tables, events_of, tables_of_events}
@@ -57,3 +59,17 @@ pub record IsWellFormed (trace : TraceData) : Type 0 where
 -- what stands after the second bar of a line, or nothing
 abbrev pub location_of : List ℕ → List ℕ
 location_of line = after_first is_bar (after_first is_bar line)
+
+-- what stands after the second bar of a line, where it has one
+abbrev pub location_after : List ℕ → Option (List ℕ)
+location_after line = if list_any is_bar (after_first is_bar line) then Some (location_of line) else None
+
+-- a second bar and the location after it, where there is one
+abbrev pub barred : Option (List ℕ) → List ℕ
+barred None = []
+barred (Some location) = codes "|" ++ location
+
+-- the line `thread|word(name)` of an operation on a name, and `|location` after it where there is one
+abbrev pub call_line : List ℕ → Kind → List ℕ → Option (List ℕ) → List ℕ
+call_line thread kind name location =
+    thread ++ (codes "|" ++ (word_of kind ++ (codes "(" ++ (name ++ (codes ")" ++ barred location)))))
