@@ -3,3 +3,4 @@ mod RunTexts
 mod DigitLemmas
 mod PlaceText
 mod BlockText
+mod ScanPieces

@@ -64,3 +64,14 @@ module _ {X : Type 0} (f : X → List ℕ) (xs : List X) (k : ℕ) (d : X) (with
       ∙ ap (λ l. l ++ flat_map f (drop (k + 1) xs)) texts-next
       ∙ sym (flat_map-append f (take (k + 1) xs) (drop (k + 1) xs))
       ∙ ap (flat_map f) (take-append-drop (k + 1) xs)
+
+-- three texts, of which the second failed
+pub Puts-second_failed : {T E : Type 0} (Q : E → Type 0) (r : Result T E) (a b c : Option (List ℕ)) (held mid now xs ys zs : List ℕ) → IsErrAnd r Q
+    → HoldsBack a b mid (held ++ xs) → AppendsPrefix b c (mid ++ ys) → Puts a c r held now (xs ++ (ys ++ zs))
+Puts-second_failed Q r a b c held mid now xs ys zs is p q =
+    Puts-err Q r a c held now (xs ++ (ys ++ zs)) is (PutsPrefix-after a b c held mid xs (ys ++ zs) p (PutsPrefix-front b c mid ys zs q))
+
+-- three texts, one after another
+pub Puts-three : {T E : Type 0} (r : Result T E) (a b c d : Option (List ℕ)) (held one two now xs ys zs : List ℕ)
+    → HoldsBack a b one (held ++ xs) → HoldsBack b c two (one ++ ys) → Puts c d r two now zs → Puts a d r held now (xs ++ (ys ++ zs))
+Puts-three r a b c d held one two now xs ys zs p q s = Puts-then r a b d held one now xs (ys ++ zs) p (Puts-then r b c d one two now ys zs q s)

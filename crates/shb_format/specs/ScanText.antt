@@ -1,0 +1,58 @@
+-- The text of a scan: for each of its places the two events, their locations and their lines.
+use Rattle.std.specs.Prelude.{ℕ, ◌+◌, Bool, true, false, List, [], ◌∷◌, ◌++◌, length, codes, decimal, unwrap_or}
+use Rattle.std.specs.Option.{option_copied}
+use Rattle.shb_lines.specs.declared.event.Kind.{Kind}
+use Rattle.shb_lines.specs.declared.event.Kind.TheVariants as kinds
+use Rattle.shb_lines.specs.text.TraceData.{TraceData, call_line}
+use Rattle.shb_format.specs.declared.counts.Counts.{Counts}
+use Rattle.shb_format.specs.declared.writing.scan_writer.AccessText.{AccessText}
+use Rattle.shb_format.specs.Places.{location_at}
+use Rattle.shb_format.specs.Report.{counts_of, line_of_event, tail_bytes}
+use Rattle.shb_format.specs.Value.{counts_line, lines_text, places_line}
+
+-- the first lines: the version, the counts of the trace and the number of places
+abbrev pub scan_head_bytes : Counts → ℕ → List ℕ
+scan_head_bytes counts places = lines_text (codes "shb-scan 1" ∷ (counts_line counts ∷ (places_line places ∷ [])))
+
+-- an event as a scan shows it: its number, which is counted from 1, its location and its line
+pub record ShownEvent : Type 0 where
+  pub number : ℕ
+  pub location : List ℕ
+  pub line : List ℕ
+
+-- an event as its text has it
+abbrev pub shown_event : TraceData → ℕ → ShownEvent
+shown_event trace event = record { number = event + 1; location = location_at trace event; line = line_of_event trace event }
+
+-- the number of a place and those of its two events
+abbrev pub place_numbers_line : ℕ → ℕ → ℕ → List ℕ
+place_numbers_line number first second = codes "place " ++ (decimal number ++ (codes ": " ++ (decimal first ++ (codes " " ++ decimal second))))
+
+-- the block of a place: its number and those of its two events, their locations, and their lines
+abbrev pub place_block : ℕ → ShownEvent → ShownEvent → List ℕ
+place_block number first second =
+    lines_text (place_numbers_line number first.number second.number
+    ∷ ((codes "at " ++ first.location) ∷ ((codes "and " ++ second.location)
+    ∷ ((codes "first " ++ first.line) ∷ ((codes "second " ++ second.line) ∷ [])))))
+
+-- the blocks of some places, of which the first has this number
+abbrev pub place_blocks : TraceData → ℕ → List (ℕ × ℕ) → List ℕ
+place_blocks trace number [] = []
+place_blocks trace number (pair ∷ pairs) = place_block number (shown_event trace pair.0) (shown_event trace pair.1) ++ place_blocks trace (number + 1) pairs
+
+-- the text of a scan that lists these pairs of events of a trace: the head, a block for each pair in order, and the tail
+abbrev pub scan_bytes : TraceData → List (ℕ × ℕ) → List ℕ
+scan_bytes trace pairs = scan_head_bytes (counts_of trace) (length pairs) ++ (place_blocks trace 1 pairs ++ tail_bytes)
+
+-- what an access does
+abbrev pub access_kind : Bool → Kind
+access_kind true = kinds.Write
+access_kind false = kinds.Read
+
+-- the line of an access, made of the texts that it holds
+abbrev pub access_line : AccessText → List ℕ
+access_line access = call_line access.thread.now (access_kind access.writes) access.variable.now (option_copied access.location)
+
+-- an access whose line isn't kept
+abbrev pub shown_access : AccessText → ShownEvent
+shown_access access = record { number = access.event + 1; location = unwrap_or (option_copied access.location) []; line = access_line access }
