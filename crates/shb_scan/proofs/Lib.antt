@@ -1,0 +1,2 @@
+pub mod FoundNames
+pub mod PlaceBlocks

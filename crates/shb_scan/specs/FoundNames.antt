@@ -1,0 +1,47 @@
+-- The names behind the numbers of races that were found, and what makes them those of a trace.
+use Rattle.std.specs.Prelude.{◌≡◌, ◌<◌, ℕ, Bool, List, [], length, slice_get, unwrap_or, is_some, Option, None, Some, if◌then◌else◌}
+use Rattle.shb_lines.specs.events.Race.{variable_at}
+use Rattle.shb_lines.specs.text.OwnedNames.{names_of}
+use Rattle.shb_lines.specs.text.TraceData.{TraceData, call_line, location_after}
+use Rattle.shb_format.specs.Places.{location_at}
+use Rattle.shb_format.specs.Report.{line_of_event}
+use Rattle.shb_format.specs.ScanText.{access_kind}
+use Rattle.shb_nearest.specs.declared.access.FoundAccess.{FoundAccess}
+use Rattle.shb_nearest.specs.declared.access.FoundRace.{FoundRace}
+use Rattle.shb_nearest.specs.declared.access.Spot.{Spot}
+use Rattle.shb_scan.specs.declared.writing.ScanNames.{ScanNames}
+
+-- what stands after the second bar of an access's line: its location, if there is a second bar
+abbrev pub location_if : Bool → List ℕ → Option (List ℕ)
+location_if barred location = if barred then Some location else None
+
+-- the numbers of an access, and of its variable, have names
+pub record HasNames (names : ScanNames) (x : ℕ) (access : FoundAccess) : Type 0 where
+  pub thread : access.thread < length (names_of names.threads.now)
+  pub variable : x < length (names_of names.variables.now)
+  pub location : access.spot.location < length (names_of names.locations.now)
+
+-- the line of an access is made of the names of its thread, of its variable and of its location
+pub record IsMadeOf (names : ScanNames) (trace : TraceData) (x : ℕ) (access : FoundAccess) : Type 0 where
+  pub thread : List ℕ
+  pub name : List ℕ
+  pub location : List ℕ
+  pub thread_is : slice_get (names_of names.threads.now) access.thread ≡ Some thread
+  pub name_is : slice_get (names_of names.variables.now) x ≡ Some name
+  pub location_is : slice_get (names_of names.locations.now) access.spot.location ≡ Some location
+  pub at : location_at trace access.event ≡ unwrap_or (location_if access.spot.barred location) []
+  pub line : line_of_event trace access.event ≡ call_line thread (access_kind access.writes) name (location_if access.spot.barred location)
+
+-- the spots of the accesses of a trace are those of their lines: they have the numbers of their locations, and say which lines have a second bar
+abbrev pub AreSpotsOf : TraceData → List (List ℕ) → List Spot → Type 0
+AreSpotsOf trace locations spots = (k x : ℕ) (spot : Spot) → variable_at trace.events k ≡ Some x → slice_get spots k ≡ Some spot
+    → (slice_get locations spot.location ≡ Some (location_at trace k)) × (spot.barred ≡ is_some (location_after (line_of_event trace k)))
+
+-- what is said of an access, of both of a race
+pub record HasRaceNames (names : ScanNames) (race : FoundRace) : Type 0 where
+  pub first : HasNames names race.variable race.first
+  pub second : HasNames names race.variable race.second
+
+pub record IsRaceMadeOf (names : ScanNames) (trace : TraceData) (race : FoundRace) : Type 0 where
+  pub first : IsMadeOf names trace race.variable race.first
+  pub second : IsMadeOf names trace race.variable race.second
