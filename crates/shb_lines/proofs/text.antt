@@ -4,6 +4,7 @@ pub mod Bytes
 pub mod Meanings
 pub mod NameLemmas
 pub mod TraceLemmas
+pub mod TraceMore
 pub mod FaultLemmas
 pub mod LineLemmas
 pub mod LineTexts

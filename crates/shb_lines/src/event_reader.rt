@@ -1,5 +1,6 @@
 //! The events of a source, one after the other, up to its first line fault. The text is not kept.
 ghost use Rattle.std.specs.Prelude.{◌≡◌, ◌+◌, ◌-◌, ◌^◌, ◌<◌, ◌≤◌, ◌++◌, ℕ, List, [], length, IfOk, OnOk, Option};
+ghost use Rattle.std.specs.Str.Lines.{strip_carriage_return};
 ghost use Rattle.shb_io.specs.Devices.{CountsFailure};
 ghost use Rattle.shb_lines.specs.text.Grammar.{NamedEvent};
 ghost use Rattle.shb_lines.specs.text.Numbering.{AreWide, HasNumbered, IsWithin};
@@ -67,6 +68,27 @@ impl EventReader {
         })
     }
 
+    /// The line that was given last, without its line feed and the carriage return before it.
+    pub fn line(&self) -> &[u8]
+        ensures { result.now ≡ strip_carriage_return self.now.lines.line }
+    {
+        self.lines.line()
+    }
+
+    /// How many lines were taken, that of a fault counted.
+    pub fn line_count(&self) -> u64
+        ensures { result ≡ self.now.line }
+    {
+        self.line
+    }
+
+    /// The names and the number of the events that were taken.
+    pub fn numbering(&self) -> &Numbering
+        ensures { result.now ≡ self.now.numbering }
+    {
+        &self.numbering
+    }
+
     /// Takes the line that was given last.
     fn take_given(&mut self, alloc: Global, limits: &Limits, ended: bool) -> Result<Taken, NoMemory>
         requires wide { AreWide limits.now }
@@ -110,6 +132,7 @@ impl EventReader {
             → IfOk result (λ taken. (more : List ℕ)
             × Moves (S.remaining source.old) (S.remaining source.new) (S.given_count source.old) (S.given_count source.new) more
             × IsTaken limits.now (read ++ more) lines (S.remaining source.new) self.new taken) }
+        ensures moved { (bytes : List ℕ) × Moves (S.remaining source.old) (S.remaining source.new) (S.given_count source.old) (S.given_count source.new) bytes }
         ensures counted { CountsFailure read_failed (S.failure_count source.old) (S.failure_count source.new) result }
     {
         if self.ended {
@@ -118,10 +141,14 @@ impl EventReader {
         match self.lines.next(source, limits.line) {
             Ok(Next::Line) => Ok(self.take_given(alloc, limits, false)?),
             Ok(Next::Last) => Ok(self.take_given(alloc, limits, true)?),
-            Ok(Next::TooLong) => Ok(Taken::Fault(Fault::LineTooLong)),
+            Ok(Next::TooLong) => {
+                self.line += 1;
+                Ok(Taken::Fault(Fault::LineTooLong))
+            }
             Err(Failed) => Err(ReadError::Source),
         }
     }
+
     /// Takes lines up to the next one that gives an event or has a fault. It answers `Nothing` only where the
     /// greatest `u64` of lines were taken.
     ///
@@ -144,6 +171,7 @@ impl EventReader {
             × Moves (S.remaining source.old) (S.remaining source.new) (S.given_count source.old) (S.given_count source.new) more
             × (trace_of (lines ++ empty) ≡ trace_of lines)
             × IsTakenNext limits.now (read ++ more) (lines ++ empty) (S.remaining source.new) self.new taken) }
+        ensures moved { (bytes : List ℕ) × Moves (S.remaining source.old) (S.remaining source.new) (S.given_count source.old) (S.given_count source.new) bytes }
         ensures counted { CountsFailure read_failed (S.failure_count source.old) (S.failure_count source.new) result }
     {
         while self.line < u64::MAX {

@@ -79,6 +79,34 @@ impl Numbering {
         })
     }
 
+    /// The names of the threads, in order of first appearance.
+    pub fn threads(&self) -> &OwnedNames
+        ensures { result.now ≡ self.now.threads }
+    {
+        &self.threads
+    }
+
+    /// The names of the locks, in order of first appearance.
+    pub fn locks(&self) -> &OwnedNames
+        ensures { result.now ≡ self.now.locks }
+    {
+        &self.locks
+    }
+
+    /// The names of the variables, in order of first appearance.
+    pub fn variables(&self) -> &OwnedNames
+        ensures { result.now ≡ self.now.variables }
+    {
+        &self.variables
+    }
+
+    /// How many events there were.
+    pub fn events(&self) -> u32
+        ensures { result ≡ self.now.events }
+    {
+        self.events
+    }
+
     /// The number of an operand, and 0 for a mark, which has none.
     fn operand_number(&mut self, alloc: Global, kind: Kind, name: &[u8]) -> Result<u32, NoMemory>
         requires threads { length (names_of self.old.threads) < 2 ^ 32 }

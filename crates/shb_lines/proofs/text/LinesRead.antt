@@ -126,3 +126,7 @@ moves_more l0 l1 l2 g0 g1 g2 first more h next =
     let joined = gives_more l0 l1 l2 g0 g1 g2 [] first (first ++ more) (length first) (length more)
     (record { bytes = first; count = refl; taken = h.taken; given = h.given; joined = refl }) (record { bytes = more; count = refl; taken = next.taken; given = next.given; joined = refl }) in
     record { taken = joined.taken; given = subst (HasGiven g0 g2) (sym (length-append first more)) joined.given }
+
+-- the same, of bytes that aren't named
+pub moved_more : (l0 l1 l2 : Option (List ℕ)) (g0 g1 g2 : ℕ) → (bytes : List ℕ) × Moves l0 l1 g0 g1 bytes → (bytes : List ℕ) × Moves l1 l2 g1 g2 bytes → (bytes : List ℕ) × Moves l0 l2 g0 g2 bytes
+moved_more l0 l1 l2 g0 g1 g2 first more = (first.0 ++ more.0, moves_more l0 l1 l2 g0 g1 g2 first.0 more.0 first.1 more.1)

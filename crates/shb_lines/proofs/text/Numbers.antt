@@ -35,7 +35,7 @@ all-with_name known name (first ∷ names) other all = by (bytes_eq name first) 
     by true rest = all
     by false rest = (all.0, rest)
 
-IsDistinct-with_name : (names : List (List ℕ)) (name : List ℕ) → IsDistinct bytes_eq names → IsDistinct bytes_eq (with_name names name)
+pub IsDistinct-with_name : (names : List (List ℕ)) (name : List ℕ) → IsDistinct bytes_eq names → IsDistinct bytes_eq (with_name names name)
 unfolding IsDistinct
 IsDistinct-with_name [] name h = (tt, tt)
 IsDistinct-with_name (first ∷ names) name h = by (bytes_eq name first) refl (IsDistinct-with_name names name h.1)

@@ -186,7 +186,7 @@ module _ (limits : Limits) (read : List ℕ) (lines : List (List ℕ)) (left : O
         },
         (h.named, h.step_is, events),
       )
-  taken_as (takens.Fault fault) h = first_fault limits text lines line more fault split faultless h
+  taken_as (takens.Fault fault) h = let first = first_fault limits text lines line more fault split faultless h in (first.0, first.1, count)
   taken_as takens.End h = absurd h
 
 -- after a line with its line feed the lines of the text go on with it
@@ -215,20 +215,22 @@ taken_end limits read lines left reader ended h =
     let text_is : text ≡ read = ap (λ r. (read ++ []) ++ r) (at_end left are.1) ∙ append-nil (read ++ []) ∙ append-nil read in
     let all : lines_of text ≡ lines = ap lines_of text_is ∙ are.0 in
     let split : lines_of text ≡ lines ++ [] = all ∙ sym (append-nil lines) in
-    (all, subst (λ n. HasNoLineFaultBefore (without_text_limit limits text) text n) (ap length (sym all)) (faultless_in limits text lines [] split h.faultless))
+    let faultless = subst (λ n. HasNoLineFaultBefore (without_text_limit limits text) text n) (ap length (sym all)) (faultless_in limits text lines [] split h.faultless) in
+    (all, faultless, are.1, subst (λ r. HasTaken limits r lines left reader) (sym (append-nil read)) h)
 
 -- a line that is too long
-pub taken_too_long : (limits : Limits) (read : List ℕ) (lines : List (List ℕ)) (left : Option (List ℕ)) (new : EventReader) (held bytes full : List ℕ) → read ≡ fed lines ++ held → full ≡ held ++ bytes → BeginsLong limits.line full → AllByRecursion (Lacks 10) lines → AreFaultless limits lines
+pub taken_too_long : (limits : Limits) (read : List ℕ) (lines : List (List ℕ)) (left : Option (List ℕ)) (new : EventReader) (held bytes full : List ℕ) → read ≡ fed lines ++ held → full ≡ held ++ bytes → BeginsLong limits.line full → AllByRecursion (Lacks 10) lines → AreFaultless limits lines → new.line ≡ length lines + 1
     → IsTaken limits (read ++ bytes) lines left new (takens.Fault faults.LineTooLong)
-taken_too_long limits read lines left new held bytes full before joined long each faultless =
+taken_too_long limits read lines left new held bytes full before joined long each faultless counted =
     let rest : List ℕ = long.rest ++ rest_of left in
     let text_is : (read ++ bytes) ++ rest_of left ≡ fed lines ++ (long.front ++ rest) =
     ap (λ r. (r ++ bytes) ++ rest_of left) before ∙ ap (λ x. x ++ rest_of left) (append_assoc (fed lines) held bytes ∙ ap (λ x. fed lines ++ x) (sym joined ∙ long.joined))
     ∙ append_assoc (fed lines) (long.front ++ long.rest) (rest_of left) ∙ ap (λ x. fed lines ++ x) (append_assoc long.front long.rest (rest_of left)) in
     let first = begins_long long.front rest long.one_line in
-    first_fault limits ((read ++ bytes) ++ rest_of left) lines first.line first.more faults.LineTooLong
+    let fault = first_fault limits ((read ++ bytes) ++ rest_of left) lines first.line first.more faults.LineTooLong
     (ap lines_of text_is ∙ lines_of_fed lines (long.front ++ rest) each ∙ ap (λ ls. lines ++ ls) first.split) faultless
-    (too_long limits (events_of lines) first.line (omega (arith, long.long, first.long)))
+    (too_long limits (events_of lines) first.line (omega (arith, long.long, first.long))) in
+    (fault.0, fault.1, counted)
 
 -- a line with its line feed
 pub line_taken : (limits : Limits) (read : List ℕ) (lines : List (List ℕ)) (left0 left1 : Option (List ℕ)) (old : EventReader) (mid : LinesState) (new : EventReader) (g0 g1 : ℕ) (full : List ℕ) (n : ℕ) → (given : Gives left0 left1 g0 g1 old.lines.held full n)

@@ -60,10 +60,10 @@ IsOperation-more tables thread kind operand (ops.Join n) k name h = (h.0, slice_
 IsOperation-more tables thread kind operand ops.BeginMark k name h = h
 IsOperation-more tables thread kind operand ops.EndMark k name h = h
 
-IsEventOf-more : (tables : Tables) (thread : List ℕ) (kind : Kind) (operand : List ℕ) (event : Event) (e : LocatedEvent) → IsEventOf tables event e → IsEventOf (with_operand (with_thread tables thread) kind operand) event e
+pub IsEventOf-more : (tables : Tables) (thread : List ℕ) (kind : Kind) (operand : List ℕ) (event : Event) (e : LocatedEvent) → IsEventOf tables event e → IsEventOf (with_operand (with_thread tables thread) kind operand) event e
 IsEventOf-more tables thread kind operand event e h = grind (arith, common_steps, slice_get-with_names, slice_get-with_name, IsOperation-more)
 
-AllZip-push : {A B : Type 0} (R Q : A → B → Type 0) → ((a : A) (b : B) → R a b → Q a b) → (xs : List A) (ys : List B) (x : A) (y : B) → AllZip R xs ys → Q x y → AllZip Q (xs ++ x ∷ []) (ys ++ y ∷ [])
+pub AllZip-push : {A B : Type 0} (R Q : A → B → Type 0) → ((a : A) (b : B) → R a b → Q a b) → (xs : List A) (ys : List B) (x : A) (y : B) → AllZip R xs ys → Q x y → AllZip Q (xs ++ x ∷ []) (ys ++ y ∷ [])
 AllZip-push R Q weaker [] [] x y all last = (last, tt)
 AllZip-push R Q weaker [] (b ∷ ys) x y all last = absurd all
 AllZip-push R Q weaker (a ∷ xs) [] x y all last = absurd all

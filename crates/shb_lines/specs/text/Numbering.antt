@@ -1,6 +1,7 @@
 -- What is found in a line after some events, where the names are owned.
 use Rattle.std.specs.Prelude.{◌≡◌, ◌+◌, ◌<◌, ◌≤◌, ◌^◌, ℕ, List, [], ◌∷◌, ◌++◌, length, slice_get, Option, None, Some, Result, Ok, Err, IfSome}
 use Rattle.std.specs.Str.Lines.{strip_carriage_return}
+use Rattle.shb_lines.specs.declared.event.Event.{Event}
 use Rattle.shb_lines.specs.declared.fault.Fault.{Fault}
 use Rattle.shb_lines.specs.declared.limits.Limits.{Limits}
 use Rattle.shb_lines.specs.declared.numbering.Numbering.{Numbering}
@@ -12,6 +13,7 @@ use Rattle.shb_lines.specs.text.Limits.{most_line}
 use Rattle.shb_lines.specs.text.Meaning.{meaning}
 use Rattle.shb_lines.specs.text.Numbers.{IsNumber, IsOperation, Tables, tables_of_events}
 use Rattle.shb_lines.specs.text.OwnedNames.{names_of}
+use Rattle.shb_lines.specs.text.TraceData.{TraceData}
 use Rattle.shb_lines.specs.Lowest.{IsLowest}
 
 -- the greatest limits of a text that isn't kept: the limit of its bytes says nothing
@@ -27,6 +29,20 @@ tables_of numbering = record { threads = names_of numbering.threads; locks = nam
 pub record IsStepOf (tables : Tables) (step : Step) (named : NamedEvent) : Type 0 where
   pub thread : IsNumber tables.threads step.thread named.thread
   pub operation : IsOperation tables step.op named.kind named.operand
+
+-- the event that a step is, on this line
+abbrev pub event_of : Step → ℕ → Event
+event_of step line = record { thread = step.thread; op = step.op; line = line }
+
+-- the trace with a step more, on a line with this number and text, where names have these tables
+abbrev pub with_step : TraceData → Tables → Step → ℕ → List ℕ → TraceData
+with_step trace tables step line text = record {
+  events = trace.events ++ event_of step line ∷ [];
+  lines = trace.lines ++ text ∷ [];
+  threads = tables.threads;
+  locks = tables.locks;
+  variables = tables.variables;
+}
 
 -- the names are those of these events
 pub record HasNumbered (before : List NamedEvent) (numbering : Numbering) : Type 0 where

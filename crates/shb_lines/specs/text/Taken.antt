@@ -1,5 +1,5 @@
 -- What is taken of a source, line by line, up to the first line fault.
-use Rattle.std.specs.Prelude.{◌≡◌, ◌<◌, ℕ, Bool, true, false, List, [], ◌∷◌, ◌++◌, length, take, slice_index_or, Option, None, Some}
+use Rattle.std.specs.Prelude.{◌≡◌, ◌+◌, ◌<◌, ℕ, Bool, true, false, List, [], ◌∷◌, ◌++◌, length, take, slice_index_or, Option, None, Some}
 use Rattle.std.specs.Io.KnownBytes.{IsAtEnd}
 use Rattle.std.specs.List.{AllByRecursion, flat_map}
 use Rattle.shb_lines.specs.declared.event_reader.EventReader.{EventReader}
@@ -64,10 +64,10 @@ IsTaken limits read lines left new (takens.Step step) = HasTaken limits read (li
     × ((e : NamedEvent) × IsStepOf (tables_of new.numbering) step e × (events_of (lines ++ new.lines.line ∷ []) ≡ events_of lines ++ e ∷ []))
 IsTaken limits read lines left new (takens.Fault fault) =
     let text = read ++ rest_of left in
-    IsFirstLineFault (without_text_limit limits text) text (length lines) fault × (take (length lines) (lines_of text) ≡ lines)
+    IsFirstLineFault (without_text_limit limits text) text (length lines) fault × (take (length lines) (lines_of text) ≡ lines) × (new.line ≡ length lines + 1)
 IsTaken limits read lines left new takens.End =
     let text = read ++ rest_of left in
-    (lines_of text ≡ lines) × HasNoLineFaultBefore (without_text_limit limits text) text (length (lines_of text))
+    (lines_of text ≡ lines) × HasNoLineFaultBefore (without_text_limit limits text) text (length (lines_of text)) × IsAtEnd left × HasTaken limits read lines left new
 
 -- the same, where lines that give nothing are passed
 abbrev pub IsTakenNext : Limits → List ℕ → List (List ℕ) → Option (List ℕ) → EventReader → Taken → Type 0

@@ -1,6 +1,8 @@
 -- Lines that give nothing are passed, and what comes next is answered.
-use Rattle.std.proofs.Common.{rules}
-use Rattle.shb_lines.proofs.text.TakenEvents.{taken_after, taken_next}
+use Rattle.std.proofs.Common.{◌++◌, rules, subst}
+use Rattle.shb_lines.specs.text.Taken.{IsTaken}
+use Rattle.shb_lines.proofs.text.LinesRead.{moved_more}
+use Rattle.shb_lines.proofs.text.TakenEvents.{passed_more, taken_after, taken_next}
 use Rattle.shb_lines.proofs.event_reader.EventReader.next_event.Goals as goal
 
 pub returns-in_default : goal.returns-in_default
@@ -11,6 +13,7 @@ returns-in_default g c = record {
       let after = taken_after c.args.limits.now read lines (g.S.Source.remaining c.args.source.now) (g.S.Source.remaining c.loop-self.source) (g.S.Source.remaining c.take_next.new.source) _ _ _ c.loop-self.self c.take_next.new.self c.in_ok-taken.taken
       (c.loop-self.invariant.passed read lines h) c.in_ok-taken.ensures.taken in
       (after.0, after.1, after.2, after.3, taken_next c.args.limits.now _ _ (g.S.Source.remaining c.take_next.new.source) c.take_next.new.self c.in_ok-taken.taken c.in_default.not-Nothing after.4);
+  moved = moved_more _ _ _ _ _ _ c.loop-self.invariant.moved c.in_ok-taken.ensures.moved;
   counted = search rules;
 }
 
@@ -18,3 +21,18 @@ pub returns-clause-taken : goal.returns-clause-taken
 returns-clause-taken g c = λ read lines h.
     let passed = c.loop-self.invariant.passed read lines h in
     (passed.more, passed.empty, passed.moves, passed.same, passed.taken)
+
+pub returns-in_err-taken-clause-moved : goal.returns-in_err-taken-clause-moved
+returns-in_err-taken-clause-moved g c = moved_more _ _ _ _ _ _ c.loop-self.invariant.moved c.in_err-taken.ensures.moved
+
+pub loop-self-preserved : goal.loop-self-preserved
+loop-self-preserved g c = record {
+  within = search rules;
+  counted = search rules;
+  moved = moved_more _ _ _ _ _ _ c.loop-self.invariant.moved c.in_ok-taken.ensures.moved;
+  passed = λ read lines h.
+      passed_more c.args.limits.now read lines (g.S.Source.remaining c.args.source.now) (g.S.Source.remaining c.loop-self.source) (g.S.Source.remaining c.take_next.new.source) _ _ _ c.loop-self.self c.take_next.new.self
+      (c.loop-self.invariant.passed read lines h) (λ r ls held.
+      let next = c.in_ok-taken.ensures.taken r ls held in
+      (next.0, next.1, subst (λ taken. IsTaken c.args.limits.now (r ++ next.0) ls (g.S.Source.remaining c.take_next.new.source) c.take_next.new.self taken) c.in-Nothing.is next.2));
+}

@@ -1,5 +1,5 @@
 -- What is taken next is the next line of the text.
-use Rattle.std.proofs.Common.{[], subst}
+use Rattle.std.proofs.Common.{◌+◌, [], false, arith, subst}
 use Rattle.shb_lines.specs.text.Lines.{IsNext}
 use Rattle.shb_lines.specs.text.Taken.{AreLinesOf}
 use Rattle.shb_lines.proofs.text.LinesRead.{moves_none, moves_of}
@@ -37,4 +37,4 @@ returns-in-Ok-TooLong-clause-taken g c = λ read lines h.
     let next = c.in-Ok-TooLong.ensures.next in
     let is = subst (λ f. IsNext c.args.limits.now.line next.0 c.next.new.self (g.S.Source.remaining c.next.new.source) f) c.in-Ok-TooLong.field-0-is next.3 in
     let before = subst (λ b. AreLinesOf b read lines c.args.self.now.lines.held (g.S.Source.remaining c.args.source.now)) c.if-self.false h.lines_are in
-    (next.2.bytes, moves_of _ _ _ _ _ _ _ next.2, taken_too_long c.args.limits.now read lines (g.S.Source.remaining c.next.new.source) c.args.self.now c.args.self.now.lines.held next.2.bytes next.0 before next.2.joined is h.one_line_each h.faultless)
+    (next.2.bytes, moves_of _ _ _ _ _ _ _ next.2, taken_too_long c.args.limits.now read lines (g.S.Source.remaining c.next.new.source) (record { lines = c.args.self.now.lines; numbering = c.args.self.now.numbering; line = c.args.self.now.line + 1; ended = false }) c.args.self.now.lines.held next.2.bytes next.0 before next.2.joined is h.one_line_each h.faultless (omega (arith, h.line_is)))
