@@ -1,15 +1,17 @@
 //! The program: words, devices, texts of refusals and exit statuses. What it writes is the work of
-//! `run`, `run_places` and `check` of `shb_run`.
+//! `run`, `run_places`, `run_scan` and `check` of `shb_run`.
 #![tactic(auto)]
 
 mod checks;
 mod complaints;
 mod output;
 mod reports;
+mod scans;
 
 use crate::checks::follow_check;
 use crate::complaints::{FAILED, WORDS_REFUSED, complain};
 use crate::reports::follow_report;
+use crate::scans::follow_scan;
 use shb_run::Settings;
 pub use shb_words::{Plan, WordsFault, plan_of};
 use std::env;
@@ -41,6 +43,7 @@ fn follow<R: Print + Eprint + Input + AllocGlobal + Files + RandomSource + Threa
             let path = trace.as_ref().map(|path| path.as_str());
             follow_report(rt, path, listing, settings)
         }
+        Ok(Plan::Scan { trace }) => follow_scan(rt, trace.as_ref().map(|path| path.as_str())),
         Ok(Plan::Check { trace }) => follow_check(rt, trace.as_str()),
         Ok(Plan::Help { text }) => match rt.print(text.as_str()) {
             Ok(()) => 0,

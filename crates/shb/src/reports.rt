@@ -13,8 +13,8 @@ use std::rt::Files;
 use std::sync::Wait;
 use std::thread::Threads;
 
-/// How many bytes of a report are written at once.
-const REPORT_BUFFER: usize = 1 << 16;
+/// How many bytes of a report or of a scan are written at once.
+pub(crate) const REPORT_BUFFER: usize = 1 << 16;
 
 /// Writes the report of a source to standard output, and gives the program's status.
 fn run_listing<R: Print + Eprint + AllocGlobal + RandomSource + Threads + Wait + Sync, S: Source>(

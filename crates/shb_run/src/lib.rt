@@ -4,7 +4,8 @@
 //! the races and write them (`write_search` of `shb_write`, by workers). [`run_gated`] is the same with
 //! gates for tests. Both have the main theorem as their contract. [`run_places`] is the same body, and
 //! lists of each place the first race. [`check`], from a trace and a report to a verdict, is that of
-//! `shb_check`, and so are the errors.
+//! `shb_check`, and so are the errors. [`run_scan`], from a source that is read once to the nearest race of
+//! each place, is that of `shb_scan`.
 #![tactic(auto)]
 
 mod all;
@@ -24,4 +25,5 @@ pub use shb_check::{
     RaceFault, RunError, Verdict, check, end_of_check, exit_status, fault_line, status_of_check,
 };
 pub use shb_fan::{FreeGate, Gate, Workers};
+pub use shb_scan::{ScanError, end_of_scan, run_scan, status_of_scan};
 pub use statuses::{end_of_run, status_of_run};

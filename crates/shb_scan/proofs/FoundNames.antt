@@ -22,7 +22,7 @@ use Rattle.shb_nearest.specs.declared.access.FoundAccess.{FoundAccess}
 use Rattle.shb_nearest.specs.declared.access.FoundRace.{FoundRace}
 use Rattle.shb_nearest.specs.declared.access.Spot.{Spot}
 use Rattle.shb_scan.specs.declared.writing.ScanNames.{ScanNames}
-use Rattle.shb_scan.specs.FoundNames.{AreSpotsOf, HasNames, HasRaceNames, IsMadeOf, IsRaceMadeOf, location_if}
+use Rattle.shb_scan.specs.FoundNames.{AreSpots, HasNames, HasRaceNames, IsMadeOf, IsRaceMadeOf, location_if}
 
 -- numbers of names that a line is made of have names
 pub has_names : (names : ScanNames) (trace : TraceData) (x : ℕ) (access : FoundAccess) → IsMadeOf names trace x access → HasNames names x access
@@ -52,7 +52,7 @@ accesses false x = refl
 
 -- an access of a trace is made of the names behind its numbers
 module _ (lines : List (List ℕ)) (names : ScanNames) (trace : TraceData) (spots : List Spot) (trace_is : IsTraceOf lines trace)
-    (threads_are : names_of names.threads.now ≡ trace.threads) (variables_are : names_of names.variables.now ≡ trace.variables) (spots_are : AreSpotsOf trace (names_of names.locations.now) spots) where
+    (threads_are : names_of names.threads.now ≡ trace.threads) (variables_are : names_of names.variables.now ≡ trace.variables) (spots_are : AreSpots trace (names_of names.locations.now) spots) where
   variable_is : (x : ℕ) (access : FoundAccess) → IsFoundAccess trace.events spots x access → variable_at trace.events access.event ≡ Some x
   variable_is x access h = ap (option_and_then variable_of) h.op_is ∙ accesses access.writes x
 
@@ -62,13 +62,13 @@ module _ (lines : List (List ℕ)) (names : ScanNames) (trace : TraceData) (spot
       let line : List ℕ = line_of_event trace access.event in
       let parts = operation_parts (tables_in trace) access.writes x gives.named.kind gives.named.operand gives.operation in
       let spot = spots_are access.event x access.spot (variable_is x access h) h.spot_is in
-      let after = after_is (list_any is_bar (after_first is_bar line)) access.spot.barred (location_of line) spot.1 in record {
+      let after = after_is (list_any is_bar (after_first is_bar line)) access.spot.barred (location_of line) spot.barred in record {
         thread = gives.named.thread;
         name = gives.named.operand;
         location = location_of line;
         thread_is = ap (λ ns. slice_get ns access.thread) threads_are ∙ gives.thread;
         name_is = ap (λ ns. slice_get ns x) variables_are ∙ parts.1;
-        location_is = spot.0;
+        location_is = spot.location;
         at = location_from_after line ∙ ap (λ o. unwrap_or o []) after;
         line =
             made_of_its_names line gives.named gives.line (ap is_mark parts.0 ∙ no_mark access.writes)

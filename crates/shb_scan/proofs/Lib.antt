@@ -1,2 +1,9 @@
 pub mod FoundNames
 pub mod PlaceBlocks
+pub mod Pushes
+pub mod Noted
+pub mod Taking
+pub mod Places
+pub mod Endings
+pub mod Listed
+pub mod Outcomes

@@ -2,7 +2,7 @@
 use Rattle.std.specs.Prelude.{◌≡◌, ◌<◌, ℕ, Bool, List, [], length, slice_get, unwrap_or, is_some, Option, None, Some, if◌then◌else◌}
 use Rattle.shb_lines.specs.events.Race.{variable_at}
 use Rattle.shb_lines.specs.text.OwnedNames.{names_of}
-use Rattle.shb_lines.specs.text.TraceData.{TraceData, call_line, location_after}
+use Rattle.shb_lines.specs.text.TraceData.{TraceData, call_line, location_after, location_of}
 use Rattle.shb_format.specs.Places.{location_at}
 use Rattle.shb_format.specs.Report.{line_of_event}
 use Rattle.shb_format.specs.ScanText.{access_kind}
@@ -32,10 +32,14 @@ pub record IsMadeOf (names : ScanNames) (trace : TraceData) (x : ℕ) (access : 
   pub at : location_at trace access.event ≡ unwrap_or (location_if access.spot.barred location) []
   pub line : line_of_event trace access.event ≡ call_line thread (access_kind access.writes) name (location_if access.spot.barred location)
 
--- the spots of the accesses of a trace are those of their lines: they have the numbers of their locations, and say which lines have a second bar
-abbrev pub AreSpotsOf : TraceData → List (List ℕ) → List Spot → Type 0
-AreSpotsOf trace locations spots = (k x : ℕ) (spot : Spot) → variable_at trace.events k ≡ Some x → slice_get spots k ≡ Some spot
-    → (slice_get locations spot.location ≡ Some (location_at trace k)) × (spot.barred ≡ is_some (location_after (line_of_event trace k)))
+-- the spot of an access with this line: the number of its location, and whether the line has a second bar
+pub record IsSpotOf (locations : List (List ℕ)) (line : List ℕ) (spot : Spot) : Type 0 where
+  pub location : slice_get locations spot.location ≡ Some (location_of line)
+  pub barred : spot.barred ≡ is_some (location_after line)
+
+-- the spots of the accesses of a trace are those of their lines; other events' say nothing
+abbrev pub AreSpots : TraceData → List (List ℕ) → List Spot → Type 0
+AreSpots trace locations spots = (k x : ℕ) (spot : Spot) → variable_at trace.events k ≡ Some x → slice_get spots k ≡ Some spot → IsSpotOf locations (line_of_event trace k) spot
 
 -- what is said of an access, of both of a race
 pub record HasRaceNames (names : ScanNames) (race : FoundRace) : Type 0 where

@@ -1,1 +1,6 @@
+pub mod Limits
+pub mod Errors
 pub mod FoundNames
+pub mod Scans
+pub mod Words
+pub mod Outcomes

@@ -1,6 +1,23 @@
 //! A scan of a trace: one pass over a stream, and its text.
+//!
+//! [`read_scan`] reads a source once: a line at a time is taken (`EventReader` of `shb_lines`), its event is judged
+//! (`State` of `shb_discipline`) and searched for races (`NearestRaces` of `shb_nearest`), and then forgotten. What is
+//! left is a [`FoundScan`]: the nearest races, and the names behind their numbers. [`write_found`] writes its text. [`run_scan`] does
+//! both, and has the theorem as its contract.
 #![tactic(auto)]
 
+mod errors;
+mod found;
+mod limits;
+mod reading;
+mod scan;
+mod statuses;
 mod writing;
 
+pub use errors::ScanError;
+pub use found::{FoundScan, write_found};
+pub use limits::scan_bounds;
+pub use reading::read_scan;
+pub use scan::run_scan;
+pub use statuses::{end_of_scan, scan_line, scan_message, status_of_scan};
 pub use writing::{ScanNames, write_scan};

@@ -1,5 +1,5 @@
 //! The command line that is read.
-use crate::help::{ABOUT_CHECKS, ABOUT_PLACES, ABOUT_THE_PROGRAM, ABOUT_TRACES};
+use crate::help::{ABOUT_CHECKS, ABOUT_PLACES, ABOUT_SCANS, ABOUT_THE_PROGRAM, ABOUT_TRACES};
 use clap::{Arg, ArgAction, Command, value_parser};
 use shb_io::NoMemory;
 use std::alloc::Global;
@@ -40,6 +40,15 @@ fn report_command<'a>(
         .after_help(details)
         .arg(workers_argument(alloc))?
         .arg(list_argument(alloc))?
+        .arg(trace_argument(alloc))?;
+    Ok(command)
+}
+
+/// `scan [TRACE]`
+fn scan_command<'a>(alloc: Global) -> Result<Command<'a>, NoMemory> {
+    let command = Command::new(alloc, "scan")
+        .about("Writes one race of each place of a trace of any length")
+        .after_help(ABOUT_SCANS)
         .arg(trace_argument(alloc))?;
     Ok(command)
 }
@@ -90,5 +99,6 @@ fn with_places<'a>(alloc: Global, line: Command<'a>) -> Result<Command<'a>, NoMe
 /// The whole command line.
 pub fn command<'a>(alloc: Global) -> Result<Command<'a>, NoMemory> {
     let reports = with_places(alloc, with_races(alloc, program(alloc))?)?;
-    Ok(reports.subcommand(check_command(alloc)?)?)
+    let scans = reports.subcommand(scan_command(alloc)?)?;
+    Ok(scans.subcommand(check_command(alloc)?)?)
 }

@@ -2,9 +2,8 @@
 
 /// Under the list of commands: what to begin with, and the statuses.
 pub const ABOUT_THE_PROGRAM: &str =
-    "Without arguments it runs 'shb races --list': it reads a trace from standard
-input and lists its races. Begin with 'shb places --list', which lists one race
-for each place. Without --list each race has a schedule.
+    "No arguments mean 'shb races --list'. Begin with 'shb places --list', or with
+'shb scan' for a long trace. Without --list each race has a schedule.
 
   $ printf 'T1|w(y)|1\\nT2|r(y)|2\\n' | shb places --list
 
@@ -106,6 +105,49 @@ Example:
   first T1|w(y)|1
   second T2|r(y)|2
   schedule 0:
+  end
+";
+
+/// Under the options of `scan`: what it reads and writes, and what that costs.
+pub const ABOUT_SCANS: &str =
+    "The trace is read once, from front to end, and neither its text nor its events
+are kept: it may come from a pipe, and have any length. It is as in 'shb help
+races', and may have 4294967294 events, 65535 threads and lines of 4096 bytes.
+
+Of each place, the locations of two accesses in their order, that has a race
+anywhere in the trace one is listed: the one whose second event comes first,
+and of those that this event has there the one whose first event comes last.
+They are the places of 'shb places --list', mostly with other races of them.
+
+The scan:
+  How many events, threads, locks and variables the trace has, and how many
+  places. Then for each place the numbers of its two events, counted from 1,
+  their locations and their lines, by the second event, then by the first. The
+  last line is 'end'. It has no schedules, and 'shb check' doesn't judge it.
+  Nothing is written before the trace was read to its end and judged.
+
+Costs:
+  Memory grows with the names of the trace, with what its threads know of each
+  other and with its places, not with its length. The time is that of one pass;
+  where hundreds of threads access one variable each access looks at all of
+  them.
+
+Exit status:
+  0  the scan was written, or the help that was asked for
+  2  the trace is refused; 'line N: REASON' is on standard error
+  3  wrong command line
+  4  a file, a device or the memory failed
+
+Example:
+  $ printf 'T1|w(y)|1\\nT2|r(y)|2\\nT3|r(y)|2\\n' | shb scan
+  shb-scan 1
+  events 3 threads 3 locks 0 variables 1
+  places 1
+  place 1: 1 2
+  at 1
+  and 2
+  first T1|w(y)|1
+  second T2|r(y)|2
   end
 ";
 

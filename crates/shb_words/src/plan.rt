@@ -29,6 +29,10 @@ pub enum Plan {
         list: bool,
         trace: Option<String>,
     },
+    /// Write the scan of a trace, of standard input where `trace` is `None`.
+    Scan {
+        trace: Option<String>,
+    },
     /// Check the report on standard input against a trace.
     Check {
         trace: String,
@@ -101,6 +105,13 @@ fn report_plan(
     })
 }
 
+/// The plan of the words after `scan`.
+fn scan_plan(alloc: Global, matches: &ArgMatches<'_>) -> Result<Plan, WordsFault> {
+    Ok(Plan::Scan {
+        trace: trace_in(alloc, matches)?,
+    })
+}
+
 /// The plan of the words after `check`.
 fn check_plan(alloc: Global, matches: &ArgMatches<'_>) -> Result<Plan, WordsFault> {
     match matches.get_str("trace") {
@@ -136,6 +147,7 @@ fn plan_in(alloc: Global, matches: &ArgMatches<'_>) -> Result<Plan, WordsFault> 
     match matches.subcommand() {
         Some(("races", inner)) => report_plan(alloc, Listing::Races, inner),
         Some(("places", inner)) => report_plan(alloc, Listing::Places, inner),
+        Some(("scan", inner)) => scan_plan(alloc, inner),
         Some(("check", inner)) => check_plan(alloc, inner),
         _ => refused(alloc, "error: no command was given\n"),
     }
@@ -152,8 +164,8 @@ fn line_of(alloc: Global, words: &[String]) -> Result<Vec<&str>, NoMemory> {
 }
 
 /// The plan that the words of a command line ask for, the program's own name left out:
-/// `races` or `places`, each with `[--workers N] [--list] [TRACE]` and N from 1 to 64, `check TRACE`, or
-/// help. No words at all are `races --list`, with 4 workers.
+/// `races` or `places`, each with `[--workers N] [--list] [TRACE]` and N from 1 to 64, `scan [TRACE]`,
+/// `check TRACE`, or help. No words at all are `races --list`, with 4 workers.
 ///
 /// # Errors
 ///

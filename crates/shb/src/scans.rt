@@ -1,0 +1,40 @@
+//! `shb scan`: the scan of a trace goes to standard output.
+use crate::complaints::{FAILED, complain};
+use crate::reports::REPORT_BUFFER;
+use shb_io::{FromRead, Source, ToWrite};
+use shb_run::{ScanError, end_of_scan, run_scan};
+use std::fs::File;
+use std::io::{BufWriter, writer};
+use std::random::RandomSource;
+use std::rt::Files;
+
+/// Writes the scan of a source to standard output, and gives the program's status. A flush that fails is a sink that
+/// failed.
+fn scan<R: Print + Eprint + AllocGlobal + RandomSource, S: Source>(rt: &R, source: &mut S) -> u8
+    requires { S.failure_count source.old ≡ 0 }
+{
+    let Ok(buffer) = BufWriter::with_capacity(rt.alloc(), REPORT_BUFFER, writer(rt)) else {
+        return complain(rt, "out of memory", FAILED);
+    };
+    let mut sink = ToWrite::new(buffer);
+    let answer = match run_scan(rt, rt.alloc(), source, &mut sink) {
+        Ok(()) => sink.finish().map_err(|_| ScanError::Sink),
+        Err(error) => Err(error),
+    };
+    end_of_scan(rt, &answer)
+}
+
+/// Writes the scan of a file, or of standard input where none is named, to standard output, and gives the program's
+/// status.
+pub(crate) fn follow_scan<R: Print + Eprint + Input + AllocGlobal + Files + RandomSource>(
+    rt: &R,
+    trace: Option<&str>,
+) -> u8 {
+    match trace {
+        Some(path) => match File::open(rt, path) {
+            Ok(file) => scan(rt, &mut FromRead::new(file)),
+            Err(_) => complain(rt, "cannot open", FAILED),
+        },
+        None => scan(rt, &mut FromRead::new(rt.reader())),
+    }
+}

@@ -1,0 +1,84 @@
+-- Numbers of locations tell the same places as the locations do.
+use Rattle.std.proofs.Common.{◌≡◌, ◌⊎◌, ◌+◌, ◌<◌, ◌≤◌, ◌↔◌, ℕ, false, List, [], length, map, get_or, option_and_then, Option, Some, None, slice_get, refl, sym, ap, subst, ◌∙◌, arith}
+use Rattle.std.specs.List.{IsDistinct}
+use Rattle.std.specs.Str.{bytes_eq}
+use Rattle.std.proofs.lemmas.Option.{slice_get-get_or, slice_get_within}
+use Rattle.shb_lines.specs.declared.event.Event.{Event}
+use Rattle.shb_lines.specs.events.Race.{Race, variable_at}
+use Rattle.shb_lines.specs.text.Numbering.{tables_of}
+use Rattle.shb_lines.specs.text.OwnedNames.{names_of}
+use Rattle.shb_lines.specs.text.Text.{lines_of}
+use Rattle.shb_lines.specs.text.TraceData.{TraceData, location_of}
+use Rattle.shb_lines.proofs.text.Numbers.{one_number}
+use Rattle.shb_format.specs.Places.{location_at}
+use Rattle.shb_format.specs.Report.{line_of_event}
+use Rattle.shb_nearest.specs.Found.{ends_of, location_in}
+use Rattle.shb_nearest.specs.Nearest.{AreNearest, IsNearest}
+use Rattle.shb_nearest.specs.Searched.{AreNearestRaces, HasSearched}
+use Rattle.shb_nearest.specs.declared.access.Spot.{Spot}
+use Rattle.shb_scan.specs.declared.found.FoundScan.{FoundScan}
+use Rattle.shb_scan.specs.declared.reading.Scan.{Scan}
+use Rattle.shb_scan.specs.FoundNames.{AreSpots, IsSpotOf}
+use Rattle.shb_scan.specs.Scans.{HasEnded, IsFoundIn}
+use Rattle.shb_scan.proofs.Pushes.{accessing}
+use Rattle.shb_scan.proofs.Taking.{events_count}
+
+-- where two locations are alike by one way exactly where they are by the other, the nearest races are the same
+module _ {A B : Type 0} (events : List Event) (f : ℕ → A) (g : ℕ → B) (alike : (k i x y : ℕ) → variable_at events k ≡ Some x → variable_at events i ≡ Some y → (f k ≡ f i) ↔ (g k ≡ g i)) where
+  same_first : (i j k l : ℕ) → Race events i j → Race events k l → (f k ≡ f i) ↔ (g k ≡ g i)
+  same_first i j k l one other = alike k i other.conflict.variable one.conflict.variable other.conflict.first_accesses one.conflict.first_accesses
+
+  same_second : (i j k l : ℕ) → Race events i j → Race events k l → (f l ≡ f j) ↔ (g l ≡ g j)
+  same_second i j k l one other = alike l j other.conflict.variable one.conflict.variable other.conflict.second_accesses one.conflict.second_accesses
+
+  to_g : (i j : ℕ) → IsNearest events f i j → IsNearest events g i j
+  to_g i j h = record { race = h.race; nearest = λ k l race at and. h.nearest k l race ((same_first i j k l h.race race).1 at) ((same_second i j k l h.race race).1 and) }
+
+  to_f : (i j : ℕ) → IsNearest events g i j → IsNearest events f i j
+  to_f i j h = record { race = h.race; nearest = λ k l race at and. h.nearest k l race ((same_first i j k l h.race race).0 at) ((same_second i j k l h.race race).0 and) }
+
+  pub nearest_by : (races : List (ℕ × ℕ)) → AreNearest events f races → AreNearest events g races
+  nearest_by races h = record { all = λ i j. (λ has. to_g i j ((h.all i j).0 has), λ is. (h.all i j).1 (to_f i j is)); in_order = h.in_order }
+
+-- accesses have one number exactly where they have one location
+module _ (trace : TraceData) (names : List (List ℕ)) (spots : List Spot) (distinct : IsDistinct bytes_eq names) (many : length spots ≡ length trace.events) (located : AreSpots trace names spots) where
+  spot_at : (k x : ℕ) → variable_at trace.events k ≡ Some x → (s : Spot) × (location_in spots k ≡ Some s.location) × IsSpotOf names (line_of_event trace k) s
+  spot_at k x var =
+      let e = accessing trace.events k x var in
+      let within : k < length spots = omega (arith, slice_get_within trace.events k e.0 e.1, many) in
+      let s : Spot = get_or spots k (record { location = 0; barred = false }) in
+      let at : slice_get spots k ≡ Some s = slice_get-get_or spots k (record { location = 0; barred = false }) within in
+      (s, ap (λ (o : Option Spot). option_and_then (λ (s : Spot). Some s.location) o) at, located k x s var at)
+
+  pub alike : (k i x y : ℕ) → variable_at trace.events k ≡ Some x → variable_at trace.events i ≡ Some y → (location_in spots k ≡ location_in spots i) ↔ (location_of (line_of_event trace k) ≡ location_of (line_of_event trace i))
+  alike k i x y first second =
+      let a = spot_at k x first in
+      let b = spot_at i y second in (
+        (λ same.
+        let numbers : Some a.0.location ≡ Some b.0.location = sym a.1 ∙ same ∙ b.1 in
+        let number : a.0.location ≡ b.0.location = cc in
+        let both : Some (location_of (line_of_event trace k)) ≡ Some (location_of (line_of_event trace i)) = sym a.2.location ∙ ap (slice_get names) number ∙ b.2.location in
+        cc),
+        (λ same.
+        let number : a.0.location ≡ b.0.location = one_number names (location_of (line_of_event trace i)) a.0.location b.0.location distinct (a.2.location ∙ ap (λ (l : List ℕ). Some l) same) b.2.location in
+        a.1 ∙ ap (λ (n : ℕ). Some n) number ∙ sym b.1),
+      )
+
+-- what was found in a text that has ended
+pub found_in : (text : List ℕ) (left : Option (List ℕ)) (scan : Scan) (found : FoundScan) → HasEnded text left scan → found.reader ≡ scan.reader → found.locations ≡ scan.locations
+    → ((past : List Event) (spots : List Spot) → HasSearched past spots scan.nearest → AreNearestRaces past spots found.races.items) → IsFoundIn text found
+found_in text left scan found h reader locations races =
+    let s = h.scanned in
+    let are = races s.trace.events s.spots s.noted.searched in
+    record {
+      faultless = h.faultless;
+      trace = s.trace;
+      trace_is = s.trace_is;
+      disciplined = s.noted.disciplined;
+      names_are = ap (λ r. tables_of r.numbering) reader ∙ s.taken.numbered.tables_are ∙ sym s.trace_is.tables_are;
+      count_is = ap (λ r. r.numbering.events) reader ∙ s.taken.numbered.count_is ∙ sym (events_count (lines_of text) s.trace s.trace_is);
+      spots = s.spots;
+      located = subst (λ l. AreSpots s.trace (names_of l) s.spots) (sym locations) s.noted.located;
+      nearest = nearest_by s.trace.events (location_in s.spots) (location_at s.trace) (alike s.trace (names_of scan.locations) s.spots s.noted.distinct s.noted.searched.as_many s.noted.located) (map ends_of found.races.items) are.nearest;
+      accesses = are.accesses;
+    }

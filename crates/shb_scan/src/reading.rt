@@ -1,0 +1,213 @@
+//! From a source to the nearest races of its trace, or to the first fault of its text. Neither the text nor the
+//! events are kept.
+ghost use Rattle.std.specs.Prelude.{◌≡◌, ◌+◌, ◌-◌, ◌^◌, ◌<◌, ◌↔◌, ◌++◌, ◌∷◌, ℕ, List, [], IsTrue, IfOk, OnOk, Option, Some, length, is_some};
+ghost use Rattle.std.specs.Str.Lines.{strip_carriage_return};
+ghost use Rattle.shb_io.specs.Devices.{CountsFailure};
+ghost use Rattle.shb_lines.specs.events.Discipline.{MayCome};
+ghost use Rattle.shb_lines.specs.events.Events.{variable_of};
+ghost use Rattle.shb_lines.specs.text.Lines.{Moves};
+ghost use Rattle.shb_lines.specs.text.Names.{with_name};
+ghost use Rattle.shb_lines.specs.text.Numbering.{IsWithin, event_of, with_step};
+ghost use Rattle.shb_lines.specs.text.Numbers.{Tables, events_of};
+ghost use Rattle.shb_lines.specs.text.OwnedNames.{names_of};
+ghost use Rattle.shb_lines.specs.text.TraceData.{TraceData, location_of};
+ghost use Rattle.shb_nearest.specs.declared.access.Spot.{Spot as SpotData};
+ghost use Rattle.shb_scan.specs.declared.errors.ScanError.TheVariants.{Trace};
+ghost use Rattle.shb_scan.specs.Errors.{IsDeviceless, source_failed};
+ghost use Rattle.shb_scan.specs.Limits.{most_scan_events, scan_bounds};
+ghost use Rattle.shb_scan.specs.FoundNames.{IsSpotOf};
+ghost use Rattle.shb_scan.specs.Scans.{HasEnded, HasNoted, HasReadScan, HasScanned, HasSpot, IsFoundIn, IsNext, IsStepped};
+
+use crate::errors::ScanError;
+use crate::found::FoundScan;
+use crate::limits::scan_bounds;
+use shb_discipline::State;
+use shb_io::{NoMemory, Source};
+use shb_lines::{EventReader, Fault, Limits, Op, OwnedNames, Step, Taken, location_after, location_in};
+use shb_nearest::{NearestRaces, Spot};
+use std::alloc::Global;
+use std::random::RandomSource;
+
+/// What is known of a text after some of its lines.
+pub struct Scan {
+    reader: EventReader,
+    /// The different locations of accesses.
+    locations: OwnedNames,
+    state: State,
+    nearest: NearestRaces,
+}
+
+impl Drop for Scan {
+    fn drop(self) {
+        let Scan {
+            reader: _,
+            locations: _,
+            state: _,
+            nearest: _,
+        } = self;
+    }
+}
+
+/// Whether the operation accesses a variable.
+fn is_access(op: Op) -> bool
+    ensures { result ≡ is_some (variable_of op) }
+{
+    match op {
+        Op::Read(_) | Op::Write(_) => true,
+        _ => false,
+    }
+}
+
+/// Where an access stands, by its line. A location that is new is put last.
+fn spot_of(alloc: Global, locations: &mut OwnedNames, line: &[u8]) -> Result<Spot, NoMemory>
+    requires room { length (names_of locations.old) < 2 ^ 32 }
+    ensures spot { IfOk result (IsSpotOf (names_of locations.new) line.now) }
+    ensures names { OnOk result (names_of locations.new ≡ with_name (names_of locations.old) (location_of line.now)) }
+{
+    let barred = location_after(line).is_some();
+    let location = locations.number_of(alloc, location_in(line))?;
+    Ok(Spot { location, barred })
+}
+
+impl Scan {
+    /// Nothing read yet.
+    fn new<R: RandomSource>(rt: &R, alloc: Global) -> Result<Scan, NoMemory>
+        ensures { (left : Option (List ℕ)) → IfOk result (HasScanned [] [] left) }
+    {
+        Ok(Scan {
+            reader: EventReader::new(rt, alloc)?,
+            locations: OwnedNames::new(rt, alloc)?,
+            state: State::new(alloc),
+            nearest: NearestRaces::new(rt, alloc)?,
+        })
+    }
+
+    /// Where the event of the line that was given last stands. Of an event that is no access the spot says nothing.
+    fn spot(&mut self, alloc: Global, op: Op) -> Result<Spot, NoMemory>
+        requires room { length (names_of self.old.locations) < 2 ^ 32 }
+        ensures reader { self.new.reader ≡ self.old.reader }
+        ensures state { self.new.state ≡ self.old.state }
+        ensures nearest { self.new.nearest ≡ self.old.nearest }
+        ensures spot { IfOk result (HasSpot (names_of self.old.locations) (names_of self.new.locations) op (strip_carriage_return self.old.reader.lines.line)) }
+    {
+        if is_access(op) {
+            return spot_of(alloc, &mut self.locations, self.reader.line());
+        }
+        Ok(Spot {
+            location: 0,
+            barred: false,
+        })
+    }
+
+    /// Takes note of an event that may come, and where it stands.
+    fn note(&mut self, alloc: Global, step: Step) -> Result<(), NoMemory>
+        requires room { length (names_of self.old.locations) < 2 ^ 32 }
+        ensures reader { self.new.reader ≡ self.old.reader }
+        ensures noted { (trace : TraceData) (spots : List SpotData) (tables : Tables) (line : ℕ) → HasNoted trace spots self.old.locations self.old.state self.old.nearest
+            → MayCome trace.events (event_of step line) → length trace.events < most_scan_events
+            → OnOk result ((spot : SpotData) × HasNoted (with_step trace tables step line (strip_carriage_return self.old.reader.lines.line))
+            (spots ++ spot ∷ []) self.new.locations self.new.state self.new.nearest) }
+    {
+        self.state.note(step.thread, step.op)?;
+        let spot = self.spot(alloc, step.op)?;
+        self.nearest.take(alloc, step, spot)
+    }
+
+    /// The line that was taken last has this fault.
+    fn refused(&self, fault: Fault) -> ScanError
+        ensures { result ≡ Trace self.now.reader.line fault }
+    {
+        ScanError::Trace {
+            line: self.reader.line_count(),
+            fault,
+        }
+    }
+
+    /// Takes note of what was taken next, and says whether it is an event.
+    ///
+    /// # Errors
+    ///
+    /// `Trace` where it is a fault, or an event that may not come. `TooManyLines` where nothing was taken.
+    fn take(&mut self, alloc: Global, taken: Taken) -> Result<bool, ScanError>
+        requires room { length (names_of self.old.locations) < 2 ^ 32 }
+        ensures reader { self.new.reader ≡ self.old.reader }
+        ensures reading { IsDeviceless result }
+        ensures stepped { (read : List ℕ) (lines : List (List ℕ)) (left : Option (List ℕ)) (before : ℕ) → IsNext read lines left self.old taken
+            → length (events_of lines) ≡ before → IsStepped read left before self.new result }
+    {
+        match taken {
+            Taken::Nothing => Err(ScanError::TooManyLines),
+            Taken::Fault(fault) => Err(self.refused(fault)),
+            Taken::End => Ok(false),
+            Taken::Step(step) => {
+                if let Some(fault) = self.state.fault(step.thread, step.op) {
+                    return Err(self.refused(fault));
+                }
+                self.note(alloc, step)?;
+                Ok(true)
+            }
+        }
+    }
+
+    /// Takes lines up to the next event, takes note of it, and says whether there was one.
+    fn advance<S: Source>(
+        &mut self,
+        alloc: Global,
+        source: &mut S,
+        limits: &Limits,
+    ) -> Result<bool, ScanError>
+        requires limits { limits.now ≡ scan_bounds }
+        requires within { IsWithin limits.now self.old.reader.numbering }
+        requires room { length (names_of self.old.locations) < 2 ^ 32 }
+        requires countable { S.failure_count source.old < 2 ^ 64 - 1 }
+        ensures stepped { (read : List ℕ) (lines : List (List ℕ)) → HasScanned read lines (S.remaining source.old) self.old
+            → (more : List ℕ) × Moves (S.remaining source.old) (S.remaining source.new) (S.given_count source.old) (S.given_count source.new) more
+            × IsStepped (read ++ more) (S.remaining source.new) self.old.reader.numbering.events self.new result }
+        ensures counted { CountsFailure source_failed (S.failure_count source.old) (S.failure_count source.new) result }
+    {
+        let taken = self.reader.next_event(alloc, source, limits)?;
+        self.take(alloc, taken)
+    }
+
+    /// The races that were found, and the names behind their numbers.
+    fn into_found(self, alloc: Global) -> Result<FoundScan, NoMemory>
+        ensures { (text : List ℕ) (left : Option (List ℕ)) → HasEnded text left self → IfOk result (IsFoundIn text) }
+    {
+        let Scan {
+            reader,
+            locations,
+            state: _,
+            nearest,
+        } = self;
+        let races = nearest.races(alloc)?;
+        Ok(FoundScan {
+            reader,
+            locations,
+            races,
+        })
+    }
+}
+
+/// Reads a source to its end, and finds the nearest races of its trace. Neither the text nor the events are kept: memory
+/// grows with names, and with what the search keeps.
+///
+/// # Errors
+///
+/// - [`ScanError::Trace`]: the text has a fault, and this is the first. What follows its line isn't judged.
+/// - [`ScanError::TooManyLines`]: the text has 18,446,744,073,709,551,615 lines or more, and none of the first has a fault.
+/// - [`ScanError::Source`]: the source failed, at once.
+/// - [`ScanError::Memory`]: memory was refused.
+pub fn read_scan<S: Source, R: RandomSource>(
+    rt: &R,
+    alloc: Global,
+    source: &mut S,
+) -> Result<FoundScan, ScanError>
+    requires { S.failure_count source.old < 2 ^ 64 - 1 }
+    ensures { HasReadScan (S.remaining source.old) (S.remaining source.new) (S.given_count source.old) (S.given_count source.new)
+        (S.failure_count source.old) (S.failure_count source.new) result }
+{
+    let limits = scan_bounds();
+    let mut scan = Scan::new(rt, alloc)?;
+    while scan.advance(alloc, source, &limits)? {}
+    Ok(scan.into_found(alloc)?)
+}
