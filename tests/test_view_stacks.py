@@ -164,6 +164,21 @@ class Stacks(program.Case):
         self.assertIn("   a.c:7: 1 free by main\n", out)
         self.assertIn("     free by main at a.c:7 (event 4)\n", out)
 
+    def test_a_use_after_a_free(self):
+        """In the order of the trace; it comes before all other groups."""
+        lines = b"main|fork(T1)|a.c:1", b"T1|w(a.c:9#2)|a.c:5", b"main|w(a.c:9#2)|a.c:7", b"T1|w(a.c:9#2)|a.c:6"
+        before = "In this trace main frees the block at a.c:7, and nothing orders that and the use at a.c:5"
+        for order, event, headline, fact in (
+                ((0, 1, 2), 3, "freed at a.c:7 while in use", f"{before}."),
+                ((0, 2, 1), 2, "used at a.c:5 after it was freed at a.c:7", f"{before}. The use at a.c:5 came after it here: a use after free."),
+                ((0, 1, 2, 3), 3, "used at a.c:6 after it was freed at a.c:7",
+                 f"{before} and a.c:6. The use at a.c:6 came after it here: a use after free.")):
+            with self.subTest(order):
+                trace = b"".join(lines[k] + b"\n" for k in order) + b"T1|w(z)|b.c:1\nmain|w(z)|b.c:2\n" * 2
+                _, out, _ = self.shown(stacks([0] * 8, TABLES + b"free %d %d\n" % (event, event)), trace=trace)
+                self.assertIn(f"1. a.c:9#2: {headline} (", out)
+                self.assertIn(f"   {fact}\n", out)
+
     def test_a_read_of_what_was_freed(self):
         """In the trace a free is a write, and orders what follows such a read; but it wrote nothing."""
         trace = b"main|fork(T1)|a.c:1\nmain|w(a.c:9#2)|a.c:7\nT1|r(a.c:9#2)|a.c:5\n"

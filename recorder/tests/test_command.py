@@ -171,6 +171,12 @@ class Command(recorder.Case):
         self.assertRegex(said, r"In this trace main frees the block at early_free.c:20, and nothing orders that and the use at early_free.c:10\.\n")
         self.assertIn("   early_free.c:20: 1 free by main\n", said)
 
+    def test_a_late_use(self):
+        """The recorded order tells that the use came after the free."""
+        status, _, said = self.record(self.program("late_use.c"))
+        self.assertEqual(status, 66, said)
+        self.assertIn("The use at late_use.c:9 came after it here: a use after free.\n", said)
+
     def test_a_folder_whose_name_is_not_utf8(self):
         folder = os.fsencode(self.folder) + b"/r\xff"
         how = {**os.environ, "SHB": str(recorder.SHB)}

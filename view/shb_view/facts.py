@@ -26,6 +26,7 @@ class Site:
         self.bare = 0  # accesses that hold no lock
         self.unknown = 0  # accesses whose locks aren't counted
         self.partners = {}  # the lines that it races with, with how many races
+        self.later = set()  # those of these whose access came later in a race that was read
 
     def total(self):
         return sum(self.accesses.values())
@@ -80,6 +81,9 @@ def sites_of(group, counts):
         for location, partner in {(one, other), (other, one)}:
             if location in sites:
                 sites[location].partners[partner] = pair.races
+        for first, second in pair.orders:
+            if first in sites:
+                sites[first].later.add(second)
     order = sorted(sites.values(), key=lambda site: (site.location is None, by_numbers(site.location or b"")))
     return sorted(order, key=lambda site: (site.location not in racing, not site.writes(), -site.total()))
 
@@ -114,7 +118,17 @@ def freed(sites, whole):
     uses = listed([[place(location)] for location in used], MOST_NAMED) if used else ["another free of it"]
     sentence = [f"In this {whole} ", *threads, " frees the block at " if len(threads) == 1 else " free the block at ", *lines_of(frees),
                 ", and nothing orders that and the use at ", *uses, "."]
-    return Fact(1, ["freed at ", *lines_of(frees), " while in use"], sentence, None)
+    after = used_after(frees, sites)
+    if not after:
+        return Fact(1, ["freed at ", *lines_of(frees), " while in use"], sentence, None)
+    sentence += [" The use at ", *after, " came after it here: a use after free."]
+    return Fact(0, ["used at ", *after, " after it was freed at ", *lines_of(frees)], sentence, None)
+
+
+def used_after(frees, sites):
+    """The lines whose use came after a free in a race, as parts. A line that frees and does something else says nothing of that."""
+    found = set().union(*(site.later for site in frees if site.accesses[b"f"] == site.total()))
+    return listed([[place(site.location)] for site in sites if site.location in found and not site.accesses[b"f"]], MOST_NAMED)
 
 
 def not_atomic(sites, whole):
