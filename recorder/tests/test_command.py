@@ -175,6 +175,7 @@ class Command(recorder.Case):
         """The recorded order tells that the use came after the free."""
         status, _, said = self.record(self.program("late_use.c"))
         self.assertEqual(status, 66, said)
+        self.assertRegex(said, r"(?m)^1\. .*: used at late_use.c:9 after it was freed at late_use.c:17 \(")
         self.assertIn("The use at late_use.c:9 came after it here: a use after free.\n", said)
 
     def test_a_folder_whose_name_is_not_utf8(self):

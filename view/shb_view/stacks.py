@@ -43,7 +43,7 @@ def origins(view, section):
 def publications(stacks, sites, fact):
     """The first few atomics that a racing thread which writes stores to and another racing thread loads, without an order that the
     language gives: each as the store and the load. Where a lock tells what is missing there are none."""
-    if fact.lock or fact.rank == 1:
+    if fact.lock or fact.rank <= 1:
         return []
     racing, found = [site for site in sites if site.partners], {}
     writers, others = set().union(*(site.writers for site in racing)), {thread for site in racing for thread in site.threads}
