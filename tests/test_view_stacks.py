@@ -154,6 +154,25 @@ class Stacks(program.Case):
         self.assertEqual(status, 4)
         self.assertRegex(err, r"is damaged in line \d+: `local 2")
 
+    def test_locks_and_atomics_on_stacks(self):
+        """They have the name of the local that they are, where that is the same one in the whole trace, also of a lock for reading."""
+        for lock, more, name in ((b"stack.main-0x40", b"", "q.m of main"), (b"stack.main-0x40@reader.T1", b"", "q.m of main for reading"),
+                                 (b"stack.main-0x40", b"local 5\tstack.main-0x40\ty of f\n", "stack.main-0x40")):
+            trace = b"main|fork(T1)|a.c:1\nT1|acq(%b)|a.c:4\nT1|w(x)|a.c:5\nT1|rel(%b)|a.c:6\nmain|w(x)|a.c:7\n" % (lock, lock)
+            tables = TABLES + b"local 4\tstack.main-0x40\tq.m of main\n" + more
+            _, out, err = self.shown(stacks([1, 9, 5, 7, 5], tables), "--all", trace=trace)
+            self.assertEqual(err, "")
+            self.assertIn(f"     holds {name}\n", out)
+            self.assertIn(f"   lock {name}, held at a.c:5, was taken in make a.c:9", out)
+            self.shown(stacks([1, 9, 5, 7, 5], tables), "--html", self.folder / "page.html", trace=trace)
+            self.assertIn(f"lock {name}, held at a.c:5, was taken at", [text for _, text in Page((self.folder / "page.html").read_text()).all("p")])
+        trace = b"main|fork(T1)|a.c:1\nmain|w(a.c:9#2)|a.c:5\nT1|r(a.c:9#2)|a.c:7\n"
+        tables = (b"atomic stack.main-0x20\tmain\ta.c:6\tstore relaxed\natomic stack.main-0x20\tT1\ta.c:4\tload acquire\n"
+                  b"local 3\tstack.main-0x20\tq.tail of main\n")
+        _, out, _ = self.shown(stacks(tables=TABLES + tables), trace=trace)
+        self.assertIn(": a.c:6 writes q.tail of main relaxed (", out)
+        self.assertIn("   main and T1 use the atomic q.tail of main: a.c:6 writes it relaxed", out)
+
     def test_a_free(self):
         """One call frees a block of two variables that another thread uses: it is one free, and no write."""
         trace = (b"main|fork(T1)|a.c:1\nT1|r(a.c:9#2)|a.c:5\nT1|r(a.c:9#2+8)|a.c:6\nmain|w(a.c:9#2)|a.c:7\nmain|w(a.c:9#2+8)|a.c:7\n")

@@ -64,7 +64,7 @@ class Stacks:
     def __init__(self, path, shift, events):
         self.frames, self.calls, self.threads, self.blocks = [None], {}, {}, {}
         self.stores, self.loads = [], {}  # uses of atomics; the loads by name; an update is both
-        self.sources = {}  # by the name in a location: the file's path
+        self.sources, self.sums = {}, {}  # by the name in a location: the file's path; by location: a sum of its line's text
         self.locals = {}  # by variable on a stack: events, each with the name of the local that it is from there on
         self.free_starts, self.free_ends, self.shift = array.array("Q"), array.array("Q"), shift
         with open_regular(path) as file:
@@ -73,10 +73,10 @@ class Stacks:
             if len(self.numbers) != events:
                 raise BadStacks(OTHER)
             takers = {"frame": self.take_frame, "stack": self.take_stack, "thread": self.take_thread, "block": self.take_block,
-                      "atomic": self.add_use, "source": self.take_source, "local": self.take_local, "free": self.take_free}
+                      "atomic": self.add_use, "source": self.take_source, "line": self.take_line, "local": self.take_local,
+                      "free": self.take_free}
             for kind, fields in entries_in(file, count):
-                if kind in takers:
-                    takers[kind](*fields)
+                takers[kind](*fields)
         sort_locals(self.locals)
 
     def take_frame(self, function, location, in_system):
@@ -93,6 +93,9 @@ class Stacks:
 
     def take_source(self, name, path):
         self.sources[name] = path
+
+    def take_line(self, location, sum):
+        self.sums[location] = sum
 
     def take_local(self, event, variable, name):
         self.locals.setdefault(variable, []).append((event, name))
@@ -125,6 +128,12 @@ class Stacks:
             add_function(found, frame.function, frame.location)
         return found
 
+    @functools.cached_property
+    def lasting_locals(self):
+        """By variable, lock or atomic on a stack: the local that it is, where it is the same one all the time."""
+        names = {variable: {name for _, name in found} for variable, found in self.locals.items()}
+        return {variable: found.pop() for variable, found in names.items() if len(found) == 1 and b"" not in found}
+
     def of_event(self, event):
         return self.stack(self.numbers[event - 1]) if 0 < event <= len(self.numbers) else ()
 
@@ -154,7 +163,7 @@ class Stacks:
 class NoStacks:
     """Of a trace without such a file nothing is known."""
 
-    sources, stores, loads, locals, functions = {}, (), {}, {}, {}
+    sources, sums, stores, loads, locals, lasting_locals, functions = {}, {}, (), {}, {}, {}, {}
 
     def of_event(self, event):
         return ()

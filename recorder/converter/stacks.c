@@ -34,7 +34,8 @@ enum { NODES_AT_ONCE = 1 << 14, MOST_FRAMES_OF_A_CALL = 64, MOST_LEFT = 256 };
 /* way: where code without hooks was called that has the caller, or 0. own: the innermost of the program's own places from here
    on further out, or 0. */
 typedef struct { u64 caller, function, way, own, place; } call;         /* place: as in a record OP_PLACE */
-/* An access by another thread of what lies in a function of a thread, since whose last record it is the first one. */
+/* An access by another thread of what lies in a function of a thread, since whose last record it is the first one. `number` is that
+   of what has a name. */
 typedef struct { u64 event; u32 number, depth; } foreign;
 typedef struct {
     call *calls;                       /* the outermost first; further in than `depth` are those that were met before */
@@ -95,26 +96,26 @@ static u64 place_at(u64 caller, u64 function) {
     return site_places[number - 1];
 }
 
-/* Of a piece on a stack: its name now, and how many records the stack's thread had at the last access by another one. */
-typedef struct { const char *name; u64 records; } named;
+/* A piece or an object on a stack: its name now, and how many records the stack's thread had at the last access by another one. */
+typedef struct { u64 at; u32 block; const char *name; u64 records; } named;
+static named *named_places;
+static u64 named_count, named_capacity;
 
-static named *named_piece(u32 number) {
+static u32 named_number(u64 at, u32 block) {
     static map met;
-    static named *found;
-    static u64 count, capacity;
-    u32 k = map_number(&met, number, 0);
-    if (k > count) {
-        GROW(found, count, capacity);
-        found[count++] = (named){"", 0};
+    u32 k = map_number(&met, at, block);
+    if (k > named_count) {
+        GROW(named_places, named_count, named_capacity);
+        named_places[named_count++] = (named){at, block, "", 0};
     }
-    return &found[k - 1];
+    return k - 1;
 }
 
-/* The piece has this name from the event on. */
+/* It has this name from the event on. */
 static void write_local(u64 event, u32 number, const char *name) {
-    const piece *p = piece_of(number);
-    named_piece(number)->name = name;
-    part variable = variable_name(p->at, block_of(p->block));
+    named *n = &named_places[number];
+    n->name = name;
+    part variable = variable_name(n->at, block_of(n->block));
     fprintf(lines, "local %lu\t%.*s\t%s\n", event, (int)variable.length, variable.at, name);
 }
 
@@ -268,17 +269,16 @@ static const char *local_at(const calls_of_thread *s, u64 address, u64 length, u
     return "";
 }
 
-void note_local(u32 number, u64 event, u32 t) {
+void note_local(u64 at, u32 block_number, u64 event, u32 t) {
     enum { MOST_LENGTH = 4096 };
-    const piece *p = piece_of(number);
-    const block *b = block_of(p->block);
+    const block *b = block_of(block_number);
     if (!with_stacks || !b || !b->stack) return;
     calls_of_thread *s = &stacks[b->thread];
-    u32 depth = 0;
-    const char *name = local_at(s, p->at, next_cut(p->at, p->at + MOST_LENGTH) - p->at, &depth);
-    if (strcmp(named_piece(number)->name, name)) write_local(event, number, name);
-    if (!*name || t == b->thread || named_piece(number)->records == s->records) return;
-    named_piece(number)->records = s->records;
+    u32 depth = 0, number = named_number(at, block_number);
+    const char *name = local_at(s, at, next_cut(at, at + MOST_LENGTH) - at, &depth);
+    if (strcmp(named_places[number].name, name)) write_local(event, number, name);
+    if (!*name || t == b->thread || named_places[number].records == s->records) return;
+    named_places[number].records = s->records;
     GROW(s->foreign, s->foreign_count, s->foreign_capacity);
     s->foreign[s->foreign_count++] = (foreign){event, number, depth};
 }
@@ -312,7 +312,9 @@ void note_atomic(u64 i, u64 object) {
     u64 use = caller_of(i) | (u64)operation << 48 | (u64)order << 56;
     if (!with_stacks || map_number(&met, object << 20 | thread_of(i), use) <= count) return;
     count++;
-    part name = variable_name(address_of(i), block_at(address_of(i))), place = place_of(caller_of(i));
+    const block *b = block_at(address_of(i));
+    note_local(address_of(i), block_number(b), events + 1, thread_of(i));
+    part name = variable_name(address_of(i), b), place = place_of(caller_of(i));
     fprintf(lines, "atomic %.*s\t%s\t%.*s\t%s %s\n", (int)name.length, name.at, thread_name(thread_of(i)), (int)place.length, place.at,
             operation == OP_ATOMIC_LOAD ? "load" : operation == OP_ATOMIC_STORE ? "store" : "update", orders[order]);
 }

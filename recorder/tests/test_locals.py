@@ -35,18 +35,40 @@ def of_events(path, trace):
 
 
 class Programs(recorder.Case):
-    def found(self, compiler, option):
-        """By line, the names of what it accesses."""
-        program, record, path = self.folder / "app", self.folder / "app.rec", self.folder / "app.stacks"
+    def recorded(self, compiler, option, source):
+        """The record of a program."""
+        program, record = self.folder / "app", self.folder / "app.rec"
         library = recorder.BUILT / "lib"
         linked = [f"-B{library}/"] if compiler == "gcc" else ["-fno-sanitize-link-runtime", f"-L{library}", "-ltsan"]
-        recorder.must(recorder.call(compiler, "-w", "-g", option, "-fsanitize=thread", "-pthread", recorder.PROGRAMS / "locals.c", *linked,
+        recorder.must(recorder.call(compiler, "-w", "-g", option, "-fsanitize=thread", "-pthread", recorder.PROGRAMS / source, *linked,
                                     "-o", program))
         recorder.must(recorder.call(program, env=recorder.settings(record)))
+        return record
+
+    def found(self, compiler, option):
+        """By line, the names of what it accesses."""
+        record, path = self.recorded(compiler, option, "locals.c"), self.folder / "app.stacks"
         names = {}
         for place, name in of_events(path, recorder.must(recorder.convert(record, "-a", "--stacks", path)).stdout):
             names.setdefault(place, set()).add(name)
         return names
+
+    def test_locks_and_atomics(self):
+        """Each has one name in the whole trace, however much of it is written: with -r no lock that only keeps accesses apart."""
+        raced = {b"work.gate of main", b"work.tail of main", b"work.items[1] of main"}
+        kept_apart = {b"work.door of main", b"work.count of main"}
+        for compiler in ("gcc", "clang"):
+            record, path = self.recorded(compiler, "-O1", "local_locks.c"), self.folder / "app.stacks"
+            for options in ((), ("-r",), ("-a",)):
+                lines = recorder.must(recorder.convert(record, *options, "--stacks", path)).stdout.splitlines()
+                stacks, named = Stacks(path, 0, len(lines)), set()
+                for line in lines:
+                    name = line.split(b"(", 1)[1].split(b")|")[0].partition(b"@")[0].partition(b"!")[0]
+                    named.update([stacks.lasting_locals.get(name)] if name.startswith(b"stack.main") else [])
+                named.update(stacks.lasting_locals.get(use.name) for use in stacks.stores)
+                wanted = raced if options == ("-r",) else raced | kept_apart
+                others = named - raced - kept_apart - {b"one of main", b"other of main"}
+                self.assertEqual((wanted - named, others), (set(), set()), (compiler, options))
 
     def test_by_gcc(self):
         wanted = recorder.marked(recorder.PROGRAMS / "locals.c", "IS")

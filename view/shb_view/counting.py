@@ -36,7 +36,7 @@ class Kinds:
 
     def __init__(self, gathered, stacks):
         """`gathered` has the atomic of a variable that stands for what a thread wrote to it, and names of locals."""
-        self.atomics, self.locals, self.stacks = gathered.atomics, gathered.locals, stacks
+        self.atomics, self.locals, self.stacks, self.locks = gathered.atomics, gathered.locals, stacks, stacks.lasting_locals
 
     def of(self, number, word, variable):
         """The word of `words.KINDS` for an event."""
@@ -69,7 +69,7 @@ class Counting:
         self.counts = collections.defaultdict(dict)
         self.kinds = self.found = 0
         self.noted = {}  # by event
-        self.held = collections.defaultdict(Held)  # by thread
+        self.held = collections.defaultdict(lambda: Held(kinds.locks))  # by thread
         self.recent = collections.defaultdict(lambda: collections.deque(maxlen=BEFORE))  # by thread: its last events
         self.before = {}  # by group and thread: its last access
         self.writes = {}  # by variable: its last write

@@ -20,15 +20,23 @@ def is_lock(name):
     return b"@" not in name or STAND_IN.fullmatch(name) is None
 
 
+def called(lock, locals):
+    """A lock as the program has it: one on a stack by the local that it is."""
+    base, sign, rest = lock.partition(b"@")
+    return locals[base] + sign + rest if base in locals else lock
+
+
 class Held:
     """The locks that one thread holds, oldest first, but for those that the program doesn't have. Of nested acquires of a lock the
-    outermost counts."""
+    outermost counts. `locals` has the names of those on stacks."""
 
-    def __init__(self):
+    def __init__(self, locals={}):
+        self.locals = locals
         self.locks = {}  # by name: the acquire since which it is held, and how often it was acquired since
         self.kept_names = self.kept_newest = None  # answers, until the locks change
 
     def acquire(self, lock, event):
+        lock = called(lock, self.locals)
         nest = self.locks.get(lock)
         if nest is not None:
             nest[1] += 1
@@ -37,6 +45,7 @@ class Held:
             self.kept_names = self.kept_newest = None
 
     def release(self, lock):
+        lock = called(lock, self.locals)
         if self.is_last_release(lock):
             del self.locks[lock]
             self.kept_names = self.kept_newest = None

@@ -66,7 +66,7 @@ class Drawing:
                 shown = self.window.events[event]
                 for lock, acquire in shown.locks[-MOST_BARS:]:
                     top = bars[acquire].top if acquire in bars else self.y.get(acquire, self.y[event] - STUB)
-                    bottom = self.y[event] + (0 if shown.frees and shown.event.name == lock else STUB)
+                    bottom = self.y[event] + (0 if shown.freed == lock else STUB)
                     bars[acquire] = Bar(thread, lock, top, bottom)
         return list(bars.values())
 

@@ -50,7 +50,8 @@ def publications(stacks, sites, fact):
     for store in stacks.stores:
         for load in stacks.loads.get(store.name, ()) if store.thread in writers else ():
             if load.thread in others and store.thread != load.thread and not (store.gives() and load.takes()):
-                found.setdefault((store.name, store.location, load.location), (store, load))
+                name = stacks.lasting_locals.get(store.name, store.name)
+                found.setdefault((name, store.location, load.location), (store._replace(name=name), load._replace(name=name)))
                 if len(found) == MOST_ATOMICS:
                     return list(found.values())
     return list(found.values())

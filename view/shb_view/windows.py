@@ -4,14 +4,14 @@ import collections
 import typing
 
 from shb_common.report import Race
-from shb_view.held import Held
+from shb_view.held import Held, called
 from shb_view.trace import OPENS, Event, event_of, fields_of
 
 
 class Shown(typing.NamedTuple):
     """An event that is shown. `previous` is the event before it in its thread, or 0. `source` is the event of another thread that
     it waits for or sees: for an acquire the last release of the lock, for a read the last write, for a join the thread's last
-    event; or 0. `locks` and `held` are as `Held.newest` has them; `frees` says whether it makes a lock free."""
+    event; or 0. `locks` and `held` are as `Held.newest` has them; `freed` is the lock that it makes free, or None."""
 
     number: int
     row: int
@@ -21,7 +21,7 @@ class Shown(typing.NamedTuple):
     source: int
     locks: typing.Tuple[typing.Tuple[bytes, int], ...]
     held: int
-    frees: bool
+    freed: typing.Optional[bytes]
 
 
 class Moment(typing.NamedTuple):
@@ -30,7 +30,7 @@ class Moment(typing.NamedTuple):
     previous: int
     locks: typing.Tuple[typing.Tuple[bytes, int], ...]
     held: int
-    frees: bool
+    freed: typing.Optional[bytes]
 
 
 class Window(typing.NamedTuple):
@@ -50,14 +50,15 @@ class Window(typing.NamedTuple):
 class Moments:
     """Notes the wanted events, and of some operations the last one before each wanted event."""
 
-    def __init__(self, wanted, sources):
-        """`sources` has for an event the operation that it waits for or sees, `w(X)` or `rel(L)`."""
+    def __init__(self, wanted, sources, locals):
+        """`sources` has for an event the operation that it waits for or sees, `w(X)` or `rel(L)`; `locals` the names of locks on
+        stacks."""
         self.wanted, self.sources = wanted, sources
         self.tracked = set(sources.values())
         self.latest = {}  # of a tracked operation: its last event, its thread and its moment
         self.moments = {}
         self.found = {}  # by event: its source, where that is an event of another thread
-        self.held = collections.defaultdict(Held)  # by thread
+        self.held, self.locals = collections.defaultdict(lambda: Held(locals)), locals  # by thread
         self.last = {}  # by thread
 
     def read(self, trace):
@@ -78,8 +79,8 @@ class Moments:
 
     def note(self, number, thread, operation):
         held = self.held[thread]
-        frees = operation.startswith(b"rel(") and held.is_last_release(operation[4:-1])
-        moment = Moment(self.last.get(thread, 0), *held.newest(), frees)
+        lock = called(operation[4:-1], self.locals) if operation.startswith(b"rel(") else None
+        moment = Moment(self.last.get(thread, 0), *held.newest(), lock if held.is_last_release(lock) else None)
         if number in self.wanted:
             self.moments[number] = moment
             source, by, its_moment = self.latest.get(self.sources.get(number), (0, thread, None))
@@ -107,7 +108,8 @@ def make_windows(trace, races, counting, order):
     events = {number: event_of(found.line) for number, found in trace.find(before).items()}
     joined = {number: counting.recent[event.name][-1] for number, event in events.items()
               if event.word == b"join" and counting.recent.get(event.name)}
-    moments = Moments({*accesses, *before, *filter(None, forks.values()), *acquires, *joined.values()}, sources_of(events))
+    wanted = {*accesses, *before, *filter(None, forks.values()), *acquires, *joined.values()}
+    moments = Moments(wanted, sources_of(events), counting.access_kinds.locks)
     moments.read(trace)
     moments.found.update(joined)
     found = trace.find(moments.moments)
