@@ -9,7 +9,7 @@ from shb_common import variables
 from shb_common.report import BadReport
 
 MOST_WORDS = 500    # bytes of a reason that are kept
-LIST, HEAD, FULL = ["places", "--list"], ["races", "--list"], ["places"]
+LIST, HEAD, FULL, SCAN = ["places", "--list"], ["races", "--list"], ["places"], ["scan"]
 REFUSED = 2         # the status of `shb` for a refused trace
 
 
@@ -69,14 +69,14 @@ def must(answer):
 
 
 def places_of(read, trace, run, room=None):
-    """The places of an open trace with their variables. `read` is the `Report` of its places; `run` analyses an open trace into an
-    open file, and gives its `Answer`. Copies of the trace are made in `room`."""
+    """The places of an open trace with their variables. `read` is the `Report` of its places, or a `Scan`; `run` analyses an open trace
+    into an open file in the same way, and gives its `Answer`. Copies of the trace are made in `room`."""
     first = {(one.location, other.location): {one.name: variables.Found((race.first, race.second), (one, other), 1)}
              for race, (one, other) in read.races()}
     if not first:
         return []
     try:
-        found = all_variables({location for place in first for location in place}, trace, run, room)
+        found = all_variables({location for place in first for location in place}, trace, type(read), run, room)
     except variables.TooLong:
         return [Place(*place, named, True) for place, named in first.items()]
     if found.keys() != first.keys():
@@ -84,13 +84,13 @@ def places_of(read, trace, run, room=None):
     return [Place(*place, *kept(found[place])) for place in first]
 
 
-def all_variables(locations, trace, run, room=None):
-    """By place and variable: a race of it in an open trace, whose races have these locations."""
+def all_variables(locations, trace, form, run, room=None):
+    """By place and variable: a race of it in an open trace, whose races have these locations. `form` is what `run` writes, as `read`."""
     with tempfile.TemporaryFile(dir=room) as copy, tempfile.TemporaryFile(dir=room) as report:
         numbers = variables.write_copy(trace, locations, copy)
         must(run(copy, report))
         report.seek(0)
-        return variables.variables_in(report, numbers)
+        return variables.variables_in(form(report), numbers)
 
 
 def kept(by_variable):

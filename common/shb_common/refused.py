@@ -31,6 +31,8 @@ REPAIRS = {         # of faults between lines
     "the thread was forked before": "the thread's name may be used again",
     "the forked thread was joined before": "the thread's name may be used again",
 }
+LIMITS = "there are more than 4194304 events", "there are more than 1024 threads", "the text is longer than 1073741824 bytes"
+SCAN = "`shb scan` lists the places of a trace of any length, and `shb-windows` cuts windows of it for pages"
 CARRIAGE_RETURNS = "a carriage return stands alone: lines end with a line feed, or with both"
 
 
@@ -58,7 +60,9 @@ def line_and_hint(words, file):
 
 
 def repair_of(words):
-    """What `shb-fix` may repair of a fault between lines."""
+    """What helps where a trace is too long, and what `shb-fix` may repair of a fault between lines."""
+    if words.endswith(LIMITS):
+        return SCAN
     repair = next((repair for fault, repair in REPAIRS.items() if words.endswith(fault)), None)
     return f"{repair}; `shb-fix` repairs such logs" if repair else ""
 

@@ -8,7 +8,7 @@ takes locations as they are, so the copy has the same races; its places are pair
 import re
 import typing
 
-from shb_common.report import Access, BadReport, Report
+from shb_common.report import Access, BadReport
 
 ACCESSES = b"r(", b"w("
 NUMBER = re.compile(rb"[0-9]{1,9}")
@@ -62,10 +62,10 @@ def write_copy(trace, locations, out):
 
 
 def variables_in(report, locations, counts=None):
-    """By place and variable: a race of it, from an open report of the copy's places. `counts` has how many races each place of the
-    copy has, where that is known."""
+    """By place and variable: a race of it, from the `Report` of the copy's places. `counts` has how many races each place of the copy
+    has, where that is known."""
     found = {}
-    for race, accesses in Report(report).races():
+    for race, accesses in report.races():
         if not all(NUMBER.fullmatch(access.location) and int(access.location) < len(locations) for access in accesses):
             raise BadReport(f"race {race.number} of the report: its locations aren't those of the trace")
         one, other = (access._replace(location=locations[int(access.location)]) for access in accesses)

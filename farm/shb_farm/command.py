@@ -38,7 +38,8 @@ Files in OUT:
   traces.tsv      how each trace ended: a report, refused, out of memory, time
                   or size, or missing; with its seconds and MiB
   reports/        for each unknown place the full report of the smallest trace
-                  that has it
+                  that has it; of a trace that is too long for one what
+                  'shb scan' writes
 
 Known places:
   On a line two locations, or functions as FILE:FUNCTION(), in either order, and
@@ -66,9 +67,8 @@ Exit status:
       awk '$1 == "refused" && $2 > 0 { bad = 1 } END { exit bad }' out/facts.tsv
 
 Environment:
-  SHB          the program to run, if not the one that came with this command
-  SHB_WINDOWS  the same of shb-windows, which cuts traces that are too long
-  SHB_VIEW     the same of shb-view, which says what is known of a place
+  SHB       the program to run, if not the one that came with this command
+  SHB_VIEW  the same of shb-view, which says what is known of a place
 """
 class Farm(typing.NamedTuple):
     engine: str
@@ -166,12 +166,11 @@ def pass_of(options, room):
     shb = command_of("SHB", "../bin/shb", "../../bin/shb")
     if not shb:
         raise Refused("there is no shb where this command was installed; SHB can name it")
-    windows = command_of("SHB_WINDOWS", "../recorder/shb-windows", "../../bin/shb-windows")
     with open(shb, "rb") as program:
         checksum = files.checksum_of_file(program)
     traces, out = os.path.realpath(options.traces), os.path.realpath(options.out)
     view = command_of("SHB_VIEW", "../view/shb-view", "shb-view")
-    return passes.Pass(shb, checksum, windows or "", traces, out, str(room), view or "", options.links, seconds=options.seconds, size=options.size)
+    return passes.Pass(shb, checksum, traces, out, str(room), view or "", options.links, seconds=options.seconds, size=options.size)
 
 
 def known_in(path):
@@ -225,8 +224,7 @@ def report_of(work, name, ending):
     """Where the full report of a trace is, below the folder of the outcomes, or why there is none."""
     if ending.kind != "report":
         return "missing" if ending.kind == "missing" else tables.why(ending)
-    path = (passes.windows_path if ending.words.endswith("windows") else passes.report_path)(work.out, name)
-    return os.path.relpath(path, work.out)
+    return os.path.relpath(passes.kept_path(work.out, name, ending.words), work.out)
 
 
 def run(options):

@@ -4,9 +4,8 @@ import os
 
 MIB = 1 << 20
 MOST_EVENTS = 4_194_304
-MOST_BYTES = 1 << 30
-# How the program's words end that refuse a trace which windows can be cut of.
-TOO_LONG = ("there are more than 4194304 events", "there are more than 1024 threads", "the text is longer than 1073741824 bytes")
+MOST_BYTES = 1 << 30    # of a text that is kept whole
+SCAN_MIB = 128      # for a trace that is scanned, which keeps names alone
 
 
 def memory_for(size):
@@ -14,8 +13,10 @@ def memory_for(size):
 
     The program keeps the text, at most 100 bytes an event, and rows of 4 bytes a thread. How many events and rows there are
     isn't known before the trace is read: a line is taken to have 32 bytes, and the rows to fit into 64 MiB. A trace that
-    needs more is refused for its memory, and goes on to the next pass.
+    needs more is refused for its memory, and goes on to the next pass. Of a longer text than the program keeps names alone are kept.
     """
+    if size > MOST_BYTES:
+        return SCAN_MIB
     events = min(size // 32, MOST_EVENTS)
     return 64 + (size + 100 * events) // MIB
 

@@ -12,9 +12,7 @@ import tempfile
 import time
 import typing
 
-from shb_farm.limits import TOO_LONG
-
-LIST, FULL = "list", "full"     # the places of a trace; its report with schedules
+LIST, FULL, SCAN = "list", "full", "scan"   # the places of a trace; its report with schedules; both of a trace that is too long for these
 FOLDER_OF = {LIST: "outcomes", FULL: "reports"}
 LOCK, DONE = "lock", "done"
 TEMPORARY_SECONDS = 86_400      # a day: what no lock tells about is deleted then
@@ -25,7 +23,6 @@ OTHER = re.compile(r"[^A-Za-z0-9._-]+")
 class Pass(typing.NamedTuple):
     shb: str                    # the program
     program: str                # its checksum
-    windows: str                # the command that cuts a long trace into windows, or nothing
     traces: str                 # the folder of the traces
     out: str                    # the folder of the outcomes
     room: str                   # the folder for files of this run that aren't whole yet
@@ -108,9 +105,14 @@ def found_path(out, name):
     return pathlib.Path(out) / FOLDER_OF[FULL] / f"{key_of(name)}.json"
 
 
-def windows_path(out, name):
-    """The folder with the reports of a trace's windows."""
-    return pathlib.Path(out) / FOLDER_OF[FULL] / f"{key_of(name)}.windows"
+def scan_path(out, name):
+    """What `shb scan` writes of a trace that is too long for a report."""
+    return pathlib.Path(out) / FOLDER_OF[FULL] / f"{key_of(name)}.scan"
+
+
+def kept_path(out, name, words):
+    """What was kept of a trace whose outcome has these words in a pass for full reports."""
+    return (scan_path if words.startswith(SCAN) else report_path)(out, name)
 
 
 def stands(outcome, work, name, stamp):
@@ -122,14 +124,10 @@ def is_final(outcome, work, name):
     """The same, where the trace is known to be the one that the outcome is of."""
     if outcome.program != work.program or outcome.kind == "failed":
         return False
-    if outcome.kind == "refused" and work.windows and outcome.words.endswith(TOO_LONG):
-        return False        # there was no shb-windows then
     if outcome.kind in ("memory", "time", "size"):
         limit = {"memory": work.memory, "time": work.seconds, "size": work.size}[outcome.kind]
         return int(outcome.words) >= limit
     if work.form == LIST or outcome.kind != "report":
         return True
-    path = report_path(work.out, name)
-    if outcome.words.endswith("windows"):
-        return windows_path(work.out, name).is_dir()
-    return path.exists() and os.stat(path).st_size == int(outcome.words)
+    path = kept_path(work.out, name, outcome.words)
+    return path.exists() and os.stat(path).st_size == int(outcome.words.split()[-1])

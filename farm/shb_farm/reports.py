@@ -1,19 +1,19 @@
-"""The report of one trace, or of its windows where it is longer than the program takes."""
+"""The report of one trace, or its scan where it is longer than a report may be of."""
 
 import os
-import pathlib
 import sys
-import tempfile
 
 from shb_common import analyser, refused
 from shb_common.files import put_file, temporary_file
 from shb_common.report import BadReport, Report
+from shb_common.scan import Scan
 from shb_common.variables import atomic_of
-from shb_farm import calls, passes, running, traces, windows
-from shb_farm.limits import MOST_BYTES, TOO_LONG, memory_for
+from shb_farm import calls, passes, running, traces
+from shb_farm.limits import MOST_BYTES, memory_for
 from shb_farm.outcomes import Place
 from shb_farm.running import METER, End
 
+SCANNED = "it is longer than a report may be of: its places are those of `shb scan`, without schedules"
 MARKED = "a byte order mark before the first line is part of the first thread's name"
 
 
@@ -32,38 +32,51 @@ def analysed(work, name, trace):
 
 def analysed_text(work, name, trace):
     """The same of a trace that isn't packed."""
-    can_cut = bool(work.windows)
-    if not can_cut or os.fstat(trace.fileno()).st_size <= MOST_BYTES:
-        end, places = report_of(work, trace, passes.report_path(work.out, name), name)
-        if not can_cut or end.kind != "refused" or not end.words.endswith(TOO_LONG):
+    if os.fstat(trace.fileno()).st_size <= MOST_BYTES:
+        end, places = report_of(work, name, trace)
+        if end.kind != "refused" or not end.words.endswith(refused.LIMITS):
             return end, places
-        trace.seek(0)
-    with tempfile.TemporaryDirectory(dir=work.room) as folder:
-        return windows.analysed(work, name, trace, pathlib.Path(folder) / "windows")
+    return scan_of(work, name, trace)
 
 
-def report_of(work, trace, path, name=None):
-    """The same for a trace that isn't cut; `path` is where a full report is put, with what the view says of a trace of this name. A
-    report counts only whole."""
+def report_of(work, name, trace):
+    """The same by the report of a trace. A full one is put in place, with what the view says of the trace."""
     with temporary_file(work.room) as (report, new):
-        end = running.analyse(work, work.form, trace, report)
-        if end.kind == "refused" and not end.words.endswith(TOO_LONG):
-            return End("refused", refused.explained(end.words, trace)), []
-        if end.kind != "report":
-            return end, []
-        try:
-            report.seek(0)
-            counts, places = places_of(work, trace, Report(report))
-        except BadReport as fault:
-            return End("failed", f"`shb` wrote no whole report: {fault}"), []
-        except analyser.Failed as fault:
-            return running.end_of(work, fault.answer.status, fault.answer.words, work.size), []
-        if work.form == passes.FULL:
-            if name and work.view:
+        end, places = written(work, work.form, trace, report, Report)
+        if end.kind == "report" and work.form == passes.FULL:
+            if work.view:
                 put_found(work, trace, new, name)
-            put_file(new, path)
+            put_file(new, passes.report_path(work.out, name))
             return End("report", str(os.fstat(report.fileno()).st_size)), []
-        return End("report", f"{counts}; {MARKED}" if is_marked(trace) else counts), places
+        return end, places
+
+
+def scan_of(work, name, trace):
+    """The same by its scan, which has no schedules. It is put in place of a full report."""
+    with temporary_file(work.room) as (scan, new):
+        end, places = written(work, passes.SCAN, trace, scan, Scan)
+        if end.kind == "report" and work.form == passes.FULL:
+            put_file(new, passes.scan_path(work.out, name))
+            return End("report", f"scan {os.fstat(scan.fileno()).st_size}"), []
+        return end._replace(words=f"{end.words}; {SCANNED}") if end.kind == "report" else end, places
+
+
+def written(work, form, trace, out, read):
+    """How the program ended on an open trace, writing this form to an open file, which counts only whole; and the places, of a pass for
+    full reports none."""
+    end = running.analyse(work, form, trace, out)
+    if end.kind == "refused" and not end.words.endswith(refused.LIMITS):
+        return End("refused", refused.explained(end.words, trace)), []
+    if end.kind != "report":
+        return end, []
+    try:
+        out.seek(0)
+        counts, places = places_of(work, form, trace, read(out))
+    except BadReport as fault:
+        return End("failed", f"`shb` wrote no whole report: {fault}"), []
+    except analyser.Failed as fault:
+        return running.end_of(work, fault.answer.status, fault.answer.words, work.size), []
+    return End("report", f"{counts}; {MARKED}" if is_marked(trace) else counts), places
 
 
 def is_marked(trace):
@@ -72,18 +85,18 @@ def is_marked(trace):
     return trace.read(len(refused.MARK)) == refused.MARK
 
 
-def places_of(work, trace, report):
-    """What a whole report says of its trace, and its places; of a full report none."""
-    if report.places is None:
+def places_of(work, form, trace, read):
+    """What a whole report or scan says of its trace, and its places; for a full report none."""
+    if isinstance(read, Report) and read.places is None:
         raise BadReport("it has no places")
     found = []
     if work.form == passes.FULL:
-        for _ in report.races():
+        for _ in read.races():
             pass
     else:
-        run = lambda given, out: running.run(work, [work.shb, *running.WORDS[passes.LIST]], given, out)
-        found = list(map(place_of, analyser.places_of(report, trace, run, work.room)))
-    counts = report.counts
+        run = lambda given, out: running.run(work, [work.shb, *running.WORDS[form]], given, out)
+        found = list(map(place_of, analyser.places_of(read, trace, run, work.room)))
+    counts = read.counts
     return f"events {counts.events} threads {counts.threads} locks {counts.locks} variables {counts.variables}", found
 
 

@@ -3,14 +3,13 @@
 import os
 import resource
 import signal
-import subprocess
 import typing
 
 from shb_common import analyser
 from shb_farm.children import end_with
 from shb_farm.limits import MIB
 
-WORDS = {"list": [*analyser.LIST, "--workers", "1"], "full": [*analyser.FULL, "--workers", "1"]}
+WORDS = {"list": [*analyser.LIST, "--workers", "1"], "full": [*analyser.FULL, "--workers", "1"], "scan": analyser.SCAN}
 
 
 class End(typing.NamedTuple):
@@ -69,14 +68,6 @@ def run(work, words, given, out, **how):
     answer = analyser.call(words, given, out, preexec=lambda: set_limits(work, parent), **how)
     METER.add(answer.seconds, answer.kib)
     return answer
-
-
-def start(work, words, given):
-    """Starts a command that gets an open file beside three pipes."""
-    check_machine(work)
-    parent = os.getpid()
-    return subprocess.Popen(words, bufsize=0, stdin=subprocess.PIPE, stdout=subprocess.PIPE, stderr=subprocess.PIPE,
-                            pass_fds=[given.fileno()], preexec_fn=lambda: set_limits(work, parent))
 
 
 def end_of(work, status, said, written):

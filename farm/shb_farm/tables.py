@@ -81,8 +81,6 @@ def note_of(ending):
     """What a reader must know of a trace that has a report; nothing mostly."""
     if ending.kind != "report":
         return ""
-    if ending.words.endswith(" windows"):
-        return f"searched in {ending.words}: races of accesses that are further apart than these overlap aren't found"
     return ending.words.partition("; ")[2]
 
 

@@ -81,7 +81,7 @@ class Case(side_by_side.Case):
     def environment(self, shb=None, **settings):
         """The environment of a run, in which Python writes as it does for a user."""
         own = {name: value for name, value in os.environ.items() if name != "PYTHONUNBUFFERED"}
-        return {**own, "SHB": str(shb or SHB), "SHB_WINDOWS": "", **{name: str(value) for name, value in settings.items()}}
+        return {**own, "SHB": str(shb or SHB), **{name: str(value) for name, value in settings.items()}}
 
     def farm(self, *words, shb=None, out=None, **settings):
         """Runs the farm to its end."""

@@ -266,7 +266,7 @@ class Names(farm.Case):
     def test_a_trace_that_cannot_be_read_is_missing_and_not_tried(self):
         """It has no size then. (Root reads all files, so the answer of the system is a stand-in.)"""
         self.trace("race.std", RACE)
-        work = Pass("", "", "", str(self.traces), str(self.out), "")
+        work = Pass("", "", str(self.traces), str(self.out), "")
         self.assertEqual(merging.ending_of(work, "race.std").size, len(RACE))
         with mock.patch.object(merging.os, "access", lambda path, mode: not str(path).endswith("race.std")):
             self.assertEqual(merging.ending_of(work, "race.std"), merging.Ending("missing", "Permission denied", [], None))
@@ -311,6 +311,6 @@ class Installed(farm.Case):
                 farm.put_program(source, root / name)
             link = self.folder / f"link-{root.name}"
             link.symlink_to(root / command)
-            environment = {name: value for name, value in os.environ.items() if name not in ("SHB", "SHB_WINDOWS")}
+            environment = {name: value for name, value in os.environ.items() if name != "SHB"}
             ran = subprocess.run([link, self.traces, root / "out"], env=environment, capture_output=True, timeout=farm.SECONDS)
             self.assertEqual(ran.returncode, 1, ran.stderr)

@@ -108,7 +108,7 @@ class Size(farm.Case):
 
 class Ends(farm.Case):
     def test_how_a_run_ended(self):
-        work = Pass("", "", "", "", "", "", memory=256, seconds=60, size=1)
+        work = Pass("", "", "", "", "", memory=256, seconds=60, size=1)
         for status, said, written, wanted in (
             (0, "", 9, End("report", "")),
             (2, "line 1: the operation is not known", 0, End("refused", "line 1: the operation is not known")),

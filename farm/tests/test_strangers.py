@@ -40,7 +40,7 @@ class Packed(farm.Case):
         def greedy(trace):
             return bytes(2 << 30)
 
-        work = Pass("", "", "", "", "", str(self.folder), memory=64, seconds=1, size=1)
+        work = Pass("", "", "", "", str(self.folder), memory=64, seconds=1, size=1)
         for opener, wanted in ((endless, ("time", "1")), (greedy, ("refused", "it can't be unpacked: that takes more than 1024 MiB of memory")),
                                (lambda trace: os.kill(os.getpid(), signal.SIGKILL), ("failed", "unpacking was ended by signal 9"))):
             with open(os.devnull, "rb") as trace, open(self.folder / "text", "wb") as text, self.assertRaises(traces.BadPacking) as refused:

@@ -151,6 +151,7 @@ void note_free(u64 first, u64 last);   /* the events of one call that frees a bl
 void note_local(u64 at, u32 block, u64 event, u32 t);        /* of a piece or an object: this event of a thread is of it */
 void note_atomic(u64 i, u64 object);   /* a use of an atomic that several threads use */
 void forget_calls(void);               /* between the passes that meet them */
+void leave_stacks(void);               /* in a process that writes no stacks */
 void end_stacks(void);
 
 /* accesses.c, objects.c: what the passes do with a record. */
@@ -204,6 +205,8 @@ void add_to_list(u32 *list, u32 thread);
 extern u64 event_limit, events;
 extern int into_windows;               /* the events go to windows, and no limit cuts them */
 extern const char *cut_reason;         /* null while the trace goes on */
+extern const char *too_many_threads;   /* what it is then */
+void begin_scan_trace(void);           /* with the limits of shb scan, and the variable behind each location, after a bar */
 void name_thread(u32 t, u64 function); /* by the function that it runs, where it has no name yet */
 void name_by_own(u32 t, u64 function); /* the same, by one that it enters, if that is the program's own */
 void give_name(u32 t, const char *piece, int is_first);      /* a piece of one that the program gave; the main thread keeps its own */

@@ -4,12 +4,23 @@
 #include <string.h>
 #include "converter.h"
 
-enum { SHB_EVENTS = 4194304, SHB_LINE = 4096, SHB_BYTES = 1 << 30 };
+enum { SHB_EVENTS = 4194304, SHB_LINE = 4096, SHB_BYTES = 1 << 30, SCAN_THREADS = 65535 };
+static const u64 SCAN_EVENTS = 4294967294;
 
 u64 event_limit = SHB_EVENTS, events;
 int into_windows;
-const char *cut_reason;
-static u64 bytes;
+const char *cut_reason, *too_many_threads = "before a thread too many: shb takes 1,024";
+static u64 bytes, byte_limit = SHB_BYTES;
+static int for_scan;
+
+void begin_scan_trace(void) {
+    for_scan = 1;
+    event_limit = SCAN_EVENTS;
+    byte_limit = -1;
+    thread_limit = SCAN_THREADS;
+    too_many_threads = "before a thread too many: shb scan takes 65,535";
+}
+
 /* in_windows: its number in windows.c, from its first event on */
 static struct { char name[THREAD_BYTES]; u32 length, in_windows; u64 epoch; } threads[THREADS];
 
@@ -123,7 +134,7 @@ static char *add_descriptor_name(char *to, u64 address) {
 
 /* Short ones are mostly found in a table of recent ones. */
 static part symbol_of(u64 address) {
-    enum { RECENT = 8192, SHORT = 84 };
+    enum { RECENT = 1 << 16, SHORT = 84 };
     static struct { u64 address; u32 length; char name[SHORT]; } recent[RECENT];
     static char name[NAME_BYTES];
     u32 at = mix(address, 0) & (RECENT - 1);
@@ -164,6 +175,10 @@ static char *add_line(char *to, u32 t, const char *operation, part name, const c
     to = add_text(to, tail);
     to = add_text(to, ")|");
     to = add(to, place);
+    if (for_scan && !operation[1]) {  /* of accesses: so the places of shb scan have a variable each */
+        *to++ = '|';
+        to = add_text(add(to, name), tail);
+    }
     *to++ = '\n';
     return to;
 }
@@ -185,12 +200,12 @@ void hold_event(u32 t, const char *operation, part name, const char *tail, u64 c
     char *line = lines + lines_bytes, *end = add_line(line, t, operation, name, tail, place);
     u64 length = end - line - 1;
     const char *operand = line + thread.length + strlen(operation) + 2;
-    part operand_part = {operand, end - operand - place.length - 3};
+    part operand_part = {operand, name.length + strlen(tail)};
     if (!threads[t].in_windows) threads[t].in_windows = window_thread(thread.at, thread.length);
     if (into_windows) refuse_fault(line, end, window_event(line, length, kind_of(operation), threads[t].in_windows, operand_part, place));
     else {
         if (events == event_limit) cut_reason = "at the limit of events";
-        else if (bytes + length + 1 > SHB_BYTES) cut_reason = "at 1 GiB of text";
+        else if (bytes + length + 1 > byte_limit) cut_reason = "at 1 GiB of text";
         if (cut_reason) return;
         refuse_fault(line, end, trace_event(length, kind_of(operation), threads[t].in_windows, operand_part, place));
         bytes += length + 1;

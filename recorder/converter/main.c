@@ -3,17 +3,20 @@
    Passes over the record.  The first meets the blocks of memory and finds those that one thread alone uses; the
    second cuts what is left into pieces; the third finds which pieces and objects are shared, and who reads what; the
    last writes the events, into one trace or into windows.  With -r two come before it: one finds what is left open, the
-   other what repeats.  README.md has the table of what becomes what. */
+   other what repeats.  With --scan a process of its own makes the last pass beside these, without -r and
+   without windows.  README.md has the table of what becomes what. */
 #define _GNU_SOURCE
 #include <errno.h>
 #include <getopt.h>
+#include <signal.h>
 #include <stdio.h>
 #include <stdlib.h>
 #include <string.h>
+#include <sys/wait.h>
 #include <unistd.h>
 #include "converter.h"
 
-enum { SHB_THREADS = 1024, SHB_EVENTS = 4194304, NOT_WHOLE = 1 };   /* the status where the trace is a part of the run */
+enum { SHB_EVENTS = 4194304, NOT_WHOLE = 1 };   /* the status where the trace is a part of the run */
 #define MAX_RANGE_STEPS (1ull << 28)   /* in a pass: seconds */
 
 static int is_of_stack(enum operation operation) { return operation >= OP_FRAME && operation <= OP_DEPTH; }
@@ -78,7 +81,7 @@ static void write_events(u64 i) {
     enum operation operation = operation_of(i);
     meet_call(i);
     if (is_of_stack(operation)) return;
-    if (operation == OP_FORK && other_thread_of(i) >= SHB_THREADS && !into_windows) cut_reason = "before a thread too many: shb takes 1,024";
+    if (operation == OP_FORK && other_thread_of(i) >= thread_limit && !into_windows) cut_reason = too_many_threads;
     else if (operation == OP_FORK) {
         event(thread_of(i), "fork", name_of_thread(other_thread_of(i)), "", caller_of(i));
         pass_fork(thread_of(i), other_thread_of(i));
@@ -161,6 +164,9 @@ static const char help[] =
     "  --stacks FILE  write the call stack of each event to this file, where threads were created and blocks\n"
     "                 allocated, and which locals the variables on stacks are\n"
     "  -n EVENTS      at most so many events, of the trace or of each window (4194304)\n"
+    "  --scan FILE    besides, write the trace without -r, and of any length, to this file, for 'shb scan':\n"
+    "                 behind each location with a bar and the variable, so that its places have one each;\n"
+    "                 from a FIFO or /dev/fd/N it is read while it is made\n"
     "  -a             also what can't conflict\n"
     "  -r             only what a race needs: leave out what locks, threads and the like order, and what repeats\n"
     "  --strip DIR    files below this folder are named by their paths from it; else a file is named by the\n"
@@ -172,12 +178,13 @@ static const char help[] =
     "Exit status: 0; 1 the trace was written, and isn't the whole run; 2 nothing can be said; 3 wrong\n"
     "command line.\n" VERSION_LINE;
 
-static const char *windows_folder, *stacks_path;
+static const char *windows_folder, *stacks_path, *scan_path;
 
 static void read_words(int count, char **words) {
     static const struct option options[] = {{"windows", required_argument, 0, 'w'}, {"stacks", required_argument, 0, 's'},
-                                            {"strip", required_argument, 0, 'd'}, {"one-by-one", no_argument, &one_by_one, 1},
-                                            {"version", no_argument, 0, 'v'}, {"help", no_argument, 0, 'h'}, {0, 0, 0, 0}};
+                                            {"strip", required_argument, 0, 'd'}, {"scan", required_argument, 0, 'o'},
+                                            {"one-by-one", no_argument, &one_by_one, 1}, {"version", no_argument, 0, 'v'},
+                                            {"help", no_argument, 0, 'h'}, {0, 0, 0, 0}};
     opterr = 0;
     for (int c; (c = getopt_long(count, words, "ahn:pr", options, 0)) >= 0;)
         if (c == 'h') {
@@ -189,6 +196,7 @@ static void read_words(int count, char **words) {
         } else if (c == 'w') windows_folder = optarg;
         else if (c == 's') stacks_path = optarg;
         else if (c == 'd') strip_folder(optarg);
+        else if (c == 'o') scan_path = optarg;
         else if (c == 'a') whole_trace = 1;
         else if (c == 'r') only_open = 1;
         else if (c == 'p') whole_paths = 1;
@@ -213,11 +221,53 @@ static void end_trace(void) {
     fputc('\n', stderr);
 }
 
+/* ---- the trace for shb scan, which a process of its own writes ---- */
+static FILE *scan_file;
+static pid_t scan_writer;
+
+static void open_scan(void) {
+    scan_file = fopen(scan_path, "w");
+    if (!scan_file) die("cannot open %s: %s", scan_path, strerror(errno));
+}
+
+static void write_scan(void) {
+    const char *shortened_before = shortened;
+    if (dup2(fileno(scan_file), STDOUT_FILENO) < 0) die("cannot write to %s: %s", scan_path, strerror(errno));
+    into_windows = only_open = 0;
+    leave_stacks();
+    begin_scan_trace();
+    pass(write_events, 0);
+    write_lines();
+    if (fflush(stdout) || ferror(stdout)) die("cannot write to %s: %s", scan_path, strerror(errno));
+    if (!cut_reason && shortened != shortened_before) cut_reason = shortened;
+    if (cut_reason) fprintf(stderr, "shb-std: the trace for shb scan is cut %s\n", cut_reason);
+    _exit(cut_reason ? NOT_WHOLE : 0);
+}
+
+/* What is buffered is written before, so that it isn't written twice. */
+static void begin_scan(void) {
+    if (fflush(0)) die("cannot write: %s", strerror(errno));
+    scan_writer = fork();
+    if (scan_writer < 0) die("cannot start a process: %s", strerror(errno));
+    if (!scan_writer) write_scan();
+    fclose(scan_file);
+}
+
+/* Gives whether that trace is cut. Where its reader has ended before it, that one says why. */
+static int end_scan(void) {
+    int status;
+    while (waitpid(scan_writer, &status, 0) < 0)
+        if (errno != EINTR) die("cannot wait for a process: %s", strerror(errno));
+    if (WIFSIGNALED(status) ? WTERMSIG(status) != SIGPIPE : WEXITSTATUS(status) > NOT_WHOLE) die("the trace for shb scan could not be written");
+    return WIFEXITED(status) && WEXITSTATUS(status) == NOT_WHOLE;
+}
+
 int main(int count, char **words) {
     read_words(count, words);
     open_record(words[optind]);
     if (stacks_path) open_stacks(stacks_path);
     if (windows_folder) prepare_windows();
+    if (scan_path) open_scan();
     pass(meet_record, 1);
     threads_of_record = thread_count;
     if (!shortened) check_sum();
@@ -225,13 +275,15 @@ int main(int count, char **words) {
     find_places();
     pass(find_sharing, 0);
     forget_states();
+    if (scan_path) begin_scan();
     if (only_open && !whole_trace) find_open();
     else only_open = 0;
     pass(write_events, 0);
     end_trace();
+    int scan_is_cut = scan_path && end_scan();
     say_crash();
     if (!cut_reason) cut_reason = shortened;
     if (recording_cut) fprintf(stderr, "shb-std: the recording is not the whole run: %s\n", recording_cut);
     if (cut_reason) fprintf(stderr, "shb-std: the trace is cut %s\n", cut_reason);
-    return cut_reason || recording_cut ? NOT_WHOLE : 0;
+    return cut_reason || recording_cut || scan_is_cut ? NOT_WHOLE : 0;
 }

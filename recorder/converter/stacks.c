@@ -450,6 +450,8 @@ void say_crash(void) {
     fputc('\n', stderr);
 }
 
+void leave_stacks(void) { with_stacks = 0; }
+
 void end_stacks(void) {
     if (!with_stacks) return;
     write_nodes();

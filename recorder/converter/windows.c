@@ -327,11 +327,13 @@ const char *window_event(const char *line, u64 length, enum window_kind kind, u3
     return add_operation(line, length, operation_of_parts(kind, thread, operand, place));
 }
 
+u32 thread_limit = SHB_THREADS;
+
 const char *trace_event(u64 length, enum window_kind kind, u32 thread, part operand, part place) {
     if (length > SHB_LINE || !operand.length) return length > SHB_LINE ? too_long : no_operand;
     operation o = operation_of_parts(kind, thread, operand, place);
     const char *fault = fault_of(o);
-    if (!fault && thread_names.count > SHB_THREADS) fault = "there are more than 1,024 threads";
+    if (!fault && thread_names.count > thread_limit) fault = "there are too many threads";
     if (!fault) take(o);
     return fault;
 }

@@ -82,12 +82,15 @@ class Conversion:
                       process.record]
         self.size, self.notes, self.cuts = "", [], []  # known at the end: how much there is, what is said of it, what makes it a part
 
-    def traces(self):
-        """The trace or its windows, one after the other, each with whether there are several; none where the trace is empty."""
+    def traces(self, scan):
+        """The trace or its windows, one after the other, each with whether there are several; none where the trace is empty.
+        Meanwhile `scan` gets the whole."""
         before, is_cut_up = None, False
-        pipes = {"bufsize": 0, "stdin": subprocess.PIPE, "stdout": subprocess.PIPE}
-        with tempfile.TemporaryFile() as said, subprocess.Popen(self.words, stderr=said, **pipes, **APART) as ran:
+        pipes = {"bufsize": 0, "stdin": subprocess.PIPE, "stdout": subprocess.PIPE, "pass_fds": [scan.descriptor]}
+        words = [*self.words[:-1], "--scan", f"/dev/fd/{scan.descriptor}", self.words[-1]]
+        with tempfile.TemporaryFile() as said, subprocess.Popen(words, stderr=said, **pipes, **APART) as ran:
             try:
+                scan.begun()
                 for row in ran.stdout:
                     name, *numbers = row.decode().split("\t")
                     with contextlib.suppress(BrokenPipeError):  # its status says how it ended

@@ -9,31 +9,37 @@ import typing
 from shb_common import analyser, known
 from shb_common.programs import Origin
 from shb_common.report import BadReport, Report
+from shb_common.shown import shown
 from shb_common.stacks import BadStacks, Tables
 from shb_common.stops import APART
 from shb_common.words import counted
-from shb_record.converting import CRASHED, KILLED, Conversion, check_room, order_of, processes
+from shb_record.converting import CRASHED, KILLED, Conversion, Trace, check_room, order_of, processes
 from shb_record.modules import Modules
 from shb_record.parts import ANALYSER, VIEW, Failed, now, say
 from shb_record.places import Places
 from shb_record.running import cause
+from shb_record.scanning import lacking, scanning
+
+
+KINDS = {b"r": "read", b"w": "written"}
 
 
 class Analysed(typing.NamedTuple):
-    """A trace that is kept, with its places and the report of these."""
+    """A trace that is kept, with its places and the report of these. Of the places that no trace has, the scan of the whole."""
 
     trace: typing.Any
     places: typing.List[analyser.Place]
-    report: bytes
+    report: typing.Optional[bytes]
     is_window: bool
 
 
 class Looked:
-    """What was found in a process: where its windows begin, its places, and the traces with places that no trace of it before had."""
+    """What was found in a process: where its windows begin, the places of its traces and of the whole, and the traces with places that
+    no trace of it before had."""
 
     def __init__(self, process, options):
         self.process, self.conversion = process, Conversion(process, options)
-        self.starts, self.places, self.analysed, self.new = [], {}, [], []
+        self.starts, self.places, self.analysed, self.new, self.whole = [], {}, [], [], []
         self.stacks = None
 
     def reach(self):
@@ -42,10 +48,18 @@ class Looked:
 
     def take(self, places):
         """Takes the places of a window, and says whether one, or a variable of one, is new."""
-        before = sum(map(len, self.places.values()))
+        new = list(lacking(places, self.places.values()))
         for place in places:
-            self.places.setdefault((place.first, place.second), set()).update(place.variables)
-        return before < sum(map(len, self.places.values()))
+            key = place.first, place.second
+            before = self.places.get(key, place)
+            self.places[key] = place._replace(variables={**place.variables, **before.variables}, has_more=place.has_more or before.has_more)
+        return bool(new)
+
+    def take_whole(self, places):
+        """Takes the places of the whole. Those of its traces that the whole lacks can't be, and go; how many these are."""
+        self.whole, there = places, {(place.first, place.second) for place in places}
+        self.analysed = [one._replace(places=[place for place in one.places if (place.first, place.second) in there]) for one in self.analysed]
+        return len(self.places.keys() - there)
 
 
 class Look:
@@ -109,12 +123,30 @@ class Look:
         """Converts and analyses a process, its windows as one run."""
         check_room(process, self.options.window)
         try:
-            for trace, is_window in looked.conversion.traces():
-                self.trace(process, trace, is_window, looked)
+            with scanning(self.results.work) as scan:
+                for trace, is_window in looked.conversion.traces(scan):
+                    self.trace(process, trace, is_window, looked)
+                self.take_whole(process, looked, scan)
         except (Failed, OSError):
             self.take_places(process, looked)
             raise
         self.take_places(process, looked)
+
+    def take_whole(self, process, looked, scan):
+        """Takes the places of the whole: all that there are, and no others. What of them no trace has is kept as the scan has it."""
+        try:
+            made_up = looked.take_whole(scan.places())
+        except Failed as fault:  # what the traces have is shown all the same
+            self.fail(f"{process.name}: {fault}")
+            return
+        if made_up:
+            self.fail(Failed(f"{process.name}: {counted(made_up, 'place')} of its trace can't be, since the whole has no such race: this is a fault "
+                             "of shb-std"))
+        rest = list(lacking(looked.whole, looked.places.values()))
+        if rest:
+            path = self.results.path(f"{process.base}.scan")
+            scan.copy(path)
+            looked.analysed.append(Analysed(Trace(path, 1, 0, 0), rest, None, False))
 
     def trace(self, process, trace, is_window, looked):
         """Analyses a trace or a window, and keeps it where it has a place that none before had."""
@@ -137,7 +169,7 @@ class Look:
             origin = Origin(tables_in(looked.stacks), process.program)
             origin.add_modules(process.modules)
             self.modules.add(process.modules)
-        looked.new = [(one, self.places.add(process, one.trace, origin, one.places)) for one in looked.analysed]
+        looked.new = [(one, self.places.add(process, one.trace, origin, one.places, one.report is not None)) for one in looked.analysed]
 
     def show(self, process, looked):
         """Shows a process, and says how much it has."""
@@ -154,7 +186,7 @@ class Look:
             self.runs[-1].append(order_of(process.record))
         if looked.starts:
             covered = f" that cover races of accesses up to {looked.reach():,} events apart" * (len(looked.starts) > 1)
-            say(f"{process.name} ({process.command}): {conversion.size}{covered}; {counted(len(looked.places), 'place')} with races")
+            say(f"{process.name} ({process.command}): {conversion.size}{covered}; {counted(len(looked.whole or looked.places), 'place')} with races")
         for note in conversion.notes:
             if looked.starts or note != KILLED:
                 more = "; SHB_RECORDS=NUMBER allows more records, of 16 bytes each" * ("SHB_RECORDS is reached" in note)
@@ -162,6 +194,9 @@ class Look:
 
     def show_analysed(self, process, looked, one, unknown):
         """The view's page and text of a trace with new places that aren't known. Of another one what was kept is deleted."""
+        if one.report is None:
+            show_apart(unknown, looked.reach())
+            return
         if not unknown:
             if one.is_window and not self.options.keep:
                 one.trace.path.unlink()
@@ -188,6 +223,17 @@ class Look:
             return
         self.pages.append(page)
         self.found[trace.path] = json.loads(found.read_text(encoding="ascii"))
+
+
+def show_apart(unknown, reach):
+    """Says which places of the whole no page shows."""
+    if unknown:
+        why = f"their accesses are more than {reach:,} events apart" if reach else "the trace of the page lacks them, by a fault of shb-std"
+        say(f"{counted(len(unknown), 'place')} of the whole run without a page, since {why}:")
+    for new in unknown:
+        for name in sorted(set(new.place.variables) & new.variables):
+            first, second = (f"{shown(access.location)} {KINDS[access.word]} by {shown(access.thread)}" for access in new.place.variables[name].accesses)
+            say(f"  {shown(name)}: {first}, and {second}")
 
 
 def lines_of_new(new):

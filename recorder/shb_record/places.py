@@ -34,11 +34,13 @@ class Places:
     def __init__(self, given):
         self.given, self.names, self.seen, self.known_before = given, Names(), {}, set()
 
-    def add(self, process, trace, origin, places):
-        """Takes the places of a trace, and gives those that are new, or have a new variable."""
+    def add(self, process, trace, origin, places, has_locals):
+        """Takes the places of a trace, and gives those that are new, or have a new variable. `has_locals` says whether the process's
+        table of locals is of its events."""
         orders = [(origin.location(place.first), origin.location(place.second)) for place in places]
         self.names.add_all(origin)
-        found = [self.add_place(order, place, process, trace, origin.tables.local_of) for order, place in zip(orders, places)]
+        local_of = origin.tables.local_of if has_locals else lambda variable, event: None
+        found = [self.add_place(order, place, process, trace, local_of) for order, place in zip(orders, places)]
         return [new for new in found if new]
 
     def add_place(self, order, place, process, trace, local_of):

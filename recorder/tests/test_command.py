@@ -144,6 +144,48 @@ class Command(recorder.Case):
         self.assertGreater(len(numbers), 8)
         self.assertLessEqual(max(numbers), 5)
 
+    def test_a_race_that_no_window_has(self):
+        program = self.program("far_apart.c")
+        first, second = (f"far_apart.c:{number}" for number, line in enumerate(
+            text_of(recorder.PROGRAMS / "far_apart.c").splitlines(), 1) if "RACE */" in line)
+        status, _, said = self.record("--window", "400", program)
+        self.assertEqual(status, 66)
+        reach = re.search(r"windows that cover races of accesses up to ([\d,]+) events apart; 3 places with races", said)[1]
+        self.assertIn(f"shb-record: 1 place of the whole run without a page, since their accesses are more than {reach} events apart:\n"
+                      f"shb-record:   far: {first} written by T1.begin, and {second} written by T2.end\n", said)
+        rows = [line.split("\t") for line in text_of(self.folder / "far_apart.shb" / "places.tsv").splitlines()[1:]]
+        [row] = [row for row in rows if row[3] == "far"]
+        self.assertEqual((row[:5], re.sub(r"\d{2,}", "N", row[8])), ([first, second, "1", "far", "unknown"], "run1.N.scan"))
+        kept = text_of(self.folder / "far_apart.shb" / row[8])
+        self.assertIn(f": {row[5]} {row[6]}\nat {first}|far\nand {second}|far\n", kept)
+        known = self.known("far_apart.c:*()\tfar_apart.c:*()\tcell\n")
+        status, _, said = self.record("--window", "400", "--known", known, program)
+        self.assertEqual((status, "1 unknown place with races, 2 known ones passed over" in said), (66, True), said)
+        self.assertEqual(self.record("--window", "400", "--known", self.known("*\t*\tcell\n*\t*\tfar\n"), program)[0], 0)
+
+    def test_a_place_that_the_whole_lacks(self):
+        """Such a fault of the converter makes no place up: the scan decides."""
+        fake = self.folder / "shb"
+        fake.write_text('#!/bin/sh\n[ "$1" = scan ] || exec ' + str(recorder.SHB) + ' "$@"\ncat > /dev/null\n'
+                        'printf "shb-scan 1\nevents 9 threads 3 locks 0 variables 1\nplaces 0\nend\n"\n')
+        fake.chmod(0o755)
+        status, _, said = self.record(self.program(), "0", "race", SHB=str(fake))
+        self.assertEqual(status, 125, said)
+        self.assertIn("1 place of its trace can't be, since the whole has no such race: this is a fault of shb-std", said)
+        self.assertEqual((text_of(self.folder / "status.shb" / "unknown.places"), self.names()),
+                         ("", [*TABLES, "run1.N.stacks", "run1.N.std", "unknown.places"]))
+
+    def test_a_scan_that_fails(self):
+        fake = self.folder / "shb"
+        for answer, wanted in (("exit 4", "`shb scan` ended with status 4: "), ("echo shb-scan 1", "`shb scan` wrote no whole text: line 2 of the scan is missing"),
+                               ("kill -KILL $$", "`shb scan` ended with status -9: ")):
+            fake.write_text(f'#!/bin/sh\n[ "$1" = scan ] || exec {recorder.SHB} "$@"\n{answer}\n')
+            fake.chmod(0o755)
+            status, _, said = self.record(self.program(), "0", "race", SHB=str(fake))
+            self.assertEqual((status, wanted in said), (66, True), said)
+            self.assertIn("not all could be looked at", said)
+            self.assertIn("run1.N.html", self.names())
+
     def test_a_disk_without_room_for_windows(self):
         """Of 16 events each, so three and a half have 56 events, of 64 bytes."""
         command, program = self.folder / "command", self.program()

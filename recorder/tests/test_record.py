@@ -89,6 +89,26 @@ class Canned(recorder.Case):
         self.assertIn(b"the trace is cut at the limit of events", answer.stderr)
         self.assertNotIn(b"cut", recorder.convert(self.record, "-n", str(len(TRACE))).stderr)
 
+    def test_the_trace_for_scan(self):
+        """It has the variable behind the location of each access, and neither -r nor a limit nor windows change it, nor it the trace."""
+        wanted = [line + "|" + line.split("(")[1].split(")")[0] if line.split("|")[1][:2] in ("r(", "w(") else line for line in TRACE]
+        scan = self.folder / "scan"
+        for words in ((), ("-r",), ("-n", "5"), ("--windows", self.folder / "windows"), ("-r", "--stacks", self.folder / "stacks")):
+            before = recorder.convert(self.record, *words)
+            answer = recorder.convert(self.record, "--scan", scan, *words)
+            self.assertEqual((answer.returncode, answer.stdout, answer.stderr), (before.returncode, before.stdout, before.stderr))
+            self.assertEqual(scan.read_text().splitlines(), wanted)
+
+    def test_a_trace_for_scan_that_nobody_reads_on(self):
+        """Where its reader ends early the trace is whole all the same; where it can't be written there is none."""
+        trace = f"{recorder.BUILT}/shb-std --scan /dev/fd/9 {self.record} > {self.folder}/trace"
+        self.record.write_bytes(HEADER + ENTRIES[:64] + ENTRIES[64:] * 1 + b"".join(
+            entry(k % 2, "WRITE", RANGE, 0x300 + k % 7, 1) for k in range(100_000)) + bytes(64))
+        recorder.must(recorder.call("bash", "-c", f"{trace} 9> >(exec true)"))
+        self.assertGreater(len((self.folder / "trace").read_text().splitlines()), 100_000)
+        answer = recorder.call("bash", "-c", f"{trace} 9> /dev/full")
+        self.assertEqual((answer.returncode, b"the trace for shb scan could not be written" in answer.stderr), (2, True))
+
     def test_a_recording_that_ended_early_is_said(self):
         for how, said in ((b"", b"the program was killed"), (b"the disk is\nfull", b"the disk is!full")):
             self.record.write_bytes(HEADER[:65536 - 256] + how.ljust(256, b"\0") + ENTRIES)

@@ -75,7 +75,7 @@ class Analyser:
             report.seek(0)
             report.truncate()
             self.run(LIST, copy, report)
-            for by_variable in variables_in(report, numbers, counts).values():
+            for by_variable in variables_in(Report(report), numbers, counts).values():
                 for found in by_variable.values():
                     take(Race(0, *found.events, b"", b"", None), *found.accesses, found.races)
         return EACH

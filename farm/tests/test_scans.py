@@ -1,0 +1,74 @@
+"""Traces that are longer than a report may be of: they are scanned."""
+
+import json
+
+import farm
+from farm import BAD, RACE
+from shb_farm import limits
+from shb_farm.passes import key_of
+
+MANY = 4_194_304        # events that a report may be of
+END = b"A|end\n"
+FAR = b"T3|w(y)|k.c:1\nT4|r(z)|k.c:2\n" + END * MANY + b"T4|r(y)|k.c:2\nT3|w(z)|k.c:1\n"  # two races at two places, far apart
+THREADS = b"".join(b"T%d|w(x)|q.c:1\n" % number for number in range(1025))
+NOTE = "it is longer than a report may be of: its places are those of `shb scan`, without schedules"
+
+
+class Scans(farm.Case):
+    def setUp(self):
+        super().setUp()
+        self.run_alone()
+
+    def test_races_that_are_far_apart(self):
+        self.trace("long.std", FAR)
+        self.trace("race.std", RACE)
+        answer = self.farm()
+        self.assertEqual((answer.status, self.ends()["long.std"]), (1, ("report", f"events {MANY + 4} threads 3 locks 0 variables 2; {NOTE}")))
+        self.assertTrue(answer.out.endswith(f"\n\nreport  long.std  {NOTE}\n"))
+        [invocation] = json.loads((self.out / "places.sarif").read_text())["runs"][0]["invocations"]
+        self.assertEqual(invocation["toolExecutionNotifications"], [{"level": "note", "message": {"text": f"long.std: {NOTE}"}}])
+        kept = f"reports/{key_of('long.std')}.scan"
+        self.assertEqual(self.table("places.tsv"), [["1", "unknown", "a.c:1", "b.c:2", "race.std", f"reports/{key_of('race.std')}.report", "1", "x", ""],
+                                                    ["1", "unknown", "k.c:1", "k.c:2", "long.std", kept, "2", "y, z", ""]])
+        self.assertEqual((self.out / kept).read_bytes(), b"""shb-scan 1
+events 4194308 threads 3 locks 0 variables 2
+places 2
+place 1: 1 4194307
+at k.c:1
+and k.c:2
+first T3|w(y)|k.c:1
+second T4|r(y)|k.c:2
+place 2: 2 4194308
+at k.c:2
+and k.c:1
+first T4|r(z)|k.c:2
+second T3|w(z)|k.c:1
+end
+""")
+        self.assertEqual(list((self.out / "tmp").iterdir()), [])
+
+    def test_an_outcome_of_a_scan_stands(self):
+        self.trace("threads.std", THREADS)
+        shb = self.counting()
+        self.assertEqual(self.farm(shb=shb).status, 1)
+        self.assertEqual(self.ends()["threads.std"], ("report", f"events 1025 threads 1025 locks 0 variables 1; {NOTE}"))
+        self.assertEqual(self.runs(), 5)        # refused, scanned, scanned for its variables; then refused and scanned for what is kept
+        self.assertEqual(self.farm(shb=shb).status, 1)
+        self.assertEqual(self.runs(), 0)
+        (self.out / "reports" / f"{key_of('threads.std')}.scan").unlink()
+        self.assertEqual(self.farm(shb=shb).status, 1)
+        self.assertEqual(self.runs(), 2)
+
+    def test_a_known_place_of_a_long_trace(self):
+        self.trace("threads.std", THREADS)
+        self.assertEqual(self.farm("--known", self.known(b"q.c:1\tq.c:1\tx\n")).status, 0)
+        self.assertEqual(self.farm("--known", self.known(b"q.c:1\tq.c:1\ty\n")).status, 1)
+
+    def test_a_long_trace_that_is_refused_late(self):
+        self.trace("long.std", THREADS + BAD)
+        self.assertEqual(self.farm().status, 5)
+        self.assertEqual(self.ends()["long.std"][0], "refused")
+        self.assertRegex(self.ends()["long.std"][1], r"^line 1026: the line has no operation field")
+
+    def test_a_text_that_no_report_is_of_begins_with_little_memory(self):
+        self.assertEqual((limits.memory_for(limits.MOST_BYTES) > 1024, limits.memory_for(limits.MOST_BYTES + 1)), (True, limits.SCAN_MIB))

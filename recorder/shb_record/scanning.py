@@ -1,0 +1,96 @@
+"""`shb scan` on all that a process recorded, while a smaller trace is made for the pages.
+
+What it reads has behind each location a bar and the variable, so each of its places has one variable; here they are taken apart.
+"""
+
+import contextlib
+import os
+import subprocess
+import tempfile
+
+from shb_common.analyser import MOST_WORDS, Place, words_in
+from shb_common.report import BadReport
+from shb_common.scan import Scan
+from shb_common.stops import APART
+from shb_common.variables import MOST_VARIABLES, Found
+from shb_record.parts import ANALYSER, Failed
+
+
+class Scanning:
+    """A running `shb scan`, which reads from a pipe. `descriptor` is where the trace is to be written; who has it as well can be
+    started before `begun`, after which the scan ends when they have ended."""
+
+    def __init__(self, room):
+        self.text, self.said = tempfile.TemporaryFile(dir=room), tempfile.TemporaryFile()
+        reading, self.descriptor = os.pipe()
+        with open(reading, "rb") as pipe:
+            self.ran = subprocess.Popen([ANALYSER, "scan"], stdin=pipe, stdout=self.text, stderr=self.said, **APART)
+
+    def begun(self):
+        os.close(self.descriptor)
+        self.descriptor = None
+
+    def close(self):
+        """Ends what still runs, and lets go of what it wrote."""
+        if self.descriptor is not None:
+            self.begun()
+        self.ran.kill()
+        self.ran.wait()
+        self.text.close()
+        self.said.close()
+
+    def places(self):
+        """The places of the whole, with their variables, when all is read."""
+        status = self.ran.wait()
+        if status:
+            self.said.seek(0)
+            raise Failed(f"`shb scan` ended with status {status}: {words_in(self.said.read(MOST_WORDS))}")
+        self.text.seek(0)
+        try:
+            return places_of(Scan(self.text))
+        except BadReport as fault:
+            raise Failed(f"`shb scan` wrote no whole text: {fault}") from None
+
+    def copy(self, path):
+        """Puts what it wrote into a file."""
+        self.text.seek(0)
+        with open(path, "wb") as out:
+            for part in iter(lambda: self.text.read(1 << 20), b""):
+                out.write(part)
+
+
+@contextlib.contextmanager
+def scanning(room):
+    scan = Scanning(room)
+    try:
+        yield scan
+    finally:
+        scan.close()
+
+
+def places_of(scan):
+    """By place: its first so many variables, each with a race of it."""
+    found, more = {}, set()
+    for race, accesses in scan.races():
+        one, other = (access._replace(location=access.location.rpartition(b"|")[0]) for access in accesses)
+        place = one.location, other.location
+        by_variable = found.setdefault(place, {})
+        if len(by_variable) == MOST_VARIABLES:
+            more.add(place)
+        else:
+            by_variable[one.name] = Found((race.first, race.second), (one, other), 1)
+    return [Place(*place, by_variable, place in more) for place, by_variable in found.items()]
+
+
+def lacking(places, others):
+    """Of these places those that the others lack, with the variables that they lack. Where variables weren't listed nothing is said
+    of them."""
+    known = {(other.first, other.second): other for other in others}
+    for place in places:
+        other = known.get((place.first, place.second))
+        if other is None:
+            yield place
+        elif not other.has_more:
+            variables = {name: race for name, race in place.variables.items() if name not in other.variables}
+            if variables:
+                yield place._replace(variables=variables)
