@@ -102,10 +102,9 @@ class Canned(recorder.Case):
     def test_a_trace_for_scan_that_nobody_reads_on(self):
         """Where its reader ends early the trace is whole all the same; where it can't be written there is none."""
         trace = f"{recorder.BUILT}/shb-std --scan /dev/fd/9 {self.record} > {self.folder}/trace"
-        self.record.write_bytes(HEADER + ENTRIES[:64] + ENTRIES[64:] * 1 + b"".join(
-            entry(k % 2, "WRITE", RANGE, 0x300 + k % 7, 1) for k in range(100_000)) + bytes(64))
+        self.record.write_bytes(HEADER + entry(0, "FORK", 1, 0x101) + b"".join(entry(k % 2, "WRITE", RANGE, 0x300 + k % 7, 1) for k in range(100_000)))
         recorder.must(recorder.call("bash", "-c", f"{trace} 9> >(exec true)"))
-        self.assertGreater(len((self.folder / "trace").read_text().splitlines()), 100_000)
+        self.assertEqual(len((self.folder / "trace").read_text().splitlines()), 100_001)
         answer = recorder.call("bash", "-c", f"{trace} 9> /dev/full")
         self.assertEqual((answer.returncode, b"the trace for shb scan could not be written" in answer.stderr), (2, True))
 
