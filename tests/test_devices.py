@@ -33,6 +33,15 @@ class Devices(program.Case):
             self.addCleanup(os.close, folder)
             self.expect(program.run_over(words, folder), 4, b"", b"cannot read\n")
 
+    def test_a_closed_standard_input(self):
+        """A trace that is opened then has its number, and isn't taken for the report."""
+        for words in (["races"], [], ["check", self.trace], ["check", self.folder / "none"]):
+            with self.subTest(words):
+                ran = subprocess.run(["sh", "-c", '"$@" <&-', "sh", program.PATH, *words], capture_output=True, timeout=program.SECONDS)
+                self.assertEqual((ran.returncode, ran.stdout, ran.stderr), (4, b"", b"cannot read\n"))
+        ran = subprocess.run(["sh", "-c", '"$@" <&-', "sh", program.PATH, "races", self.trace], capture_output=True, timeout=program.SECONDS)
+        self.assertEqual((ran.returncode, ran.stdout, ran.stderr), (0, self.report, b""))
+
     def test_a_full_disk(self):
         for words, given in self.writers():
             with self.subTest(words), open("/dev/full", "wb") as full:

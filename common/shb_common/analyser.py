@@ -6,6 +6,7 @@ import tempfile
 import typing
 
 from shb_common import variables
+from shb_common.refused import without_note
 from shb_common.report import BadReport
 
 MOST_WORDS = 500    # bytes of a reason that are kept
@@ -58,7 +59,7 @@ def call(words, given, out, preexec=None, **how):
 
 def words_in(said):
     """What a command said, as words in one line."""
-    return " ".join(said[:MOST_WORDS].decode("utf-8", "backslashreplace").split())
+    return " ".join(without_note(said)[:MOST_WORDS].decode("utf-8", "backslashreplace").split())
 
 
 def must(answer):

@@ -11,6 +11,7 @@ WORDS = {b"r", b"w", b"acq", b"rel", b"fork", b"join", b"begin", b"end"}
 KIN = {b"read": "r", b"write": "w", b"lock": "acq", b"acquire": "acq", b"unlock": "rel", b"release": "rel", b"start": "fork"}
 SEPARATORS = {b"\t": "tabs", b",": "commas", b";": "semicolons"}
 MARK = b"\xef\xbb\xbf"
+NOTE = b"the trace begins with a byte order mark, which is a part of the first thread's name\n"    # as `shb` says it of any trace
 BEGINNINGS = {      # of files that are something else
     b"\x1f\x8b": "the file is packed by gzip: unpack it first",
     b"\xfd7zXZ": "the file is packed by xz: unpack it first",
@@ -34,6 +35,11 @@ REPAIRS = {         # of faults between lines
 LIMITS = "there are more than 4194304 events", "there are more than 1024 threads", "the text is longer than 1073741824 bytes"
 SCAN = "`shb scan` lists the places of a trace of any length, and `shb-windows` cuts windows of it for pages"
 CARRIAGE_RETURNS = "a carriage return stands alone: lines end with a line feed, or with both"
+
+
+def without_note(said):
+    """What `shb` said, but for its note on how the trace begins, which the commands give by themselves."""
+    return said.replace(NOTE, b"")
 
 
 def explained(words, file):

@@ -6,6 +6,7 @@ import tempfile
 import typing
 
 from shb_common.analyser import HEAD, LIST, call
+from shb_common.refused import without_note
 from shb_common.report import BadReport, Race, Report
 from shb_common.variables import TooLong, variables_in, write_copy
 from shb_view.faults import Refused
@@ -128,7 +129,7 @@ class Analyser:
         if status in good:
             return status
         self.errors.seek(0)
-        said = short(self.errors.read(MOST_BYTES).rstrip(b"\n"), MOST_SAID)
+        said = short(without_note(self.errors.read(MOST_BYTES)).rstrip(b"\n"), MOST_SAID)
         if status == REFUSED and said:
             raise Refused(f"`shb` refuses the trace: {said}{refused_line(self.path, said)}")
         how = f"was ended by signal {-status}" if status < 0 else f"ended with status {status}"

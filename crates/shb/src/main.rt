@@ -2,6 +2,7 @@
 //! `run`, `run_places`, `run_scan` and `check` of `shb_run`.
 #![tactic(auto)]
 
+mod beginning;
 mod checks;
 mod complaints;
 mod output;

@@ -1,6 +1,7 @@
 //! `shb races` and `shb places`: the report of a trace goes to standard output.
 ghost use Rattle.std.specs.Prelude.{◌≡◌};
 
+use crate::beginning::Begun;
 use crate::complaints::{FAILED, complain};
 use crate::output::flushed;
 use shb_io::{FromRead, Source, ToWrite};
@@ -37,6 +38,24 @@ fn run_listing<R: Print + Eprint + AllocGlobal + RandomSource + Threads + Wait +
     end_of_run(rt, &answer)
 }
 
+/// Writes the report of a source that wasn't read yet to standard output, says on standard error where its text begins
+/// with a byte order mark, and gives the program's status.
+fn run_begun<R: Print + Eprint + AllocGlobal + RandomSource + Threads + Wait + Sync, S: Source>(
+    rt: &R,
+    source: S,
+    listing: Listing,
+    settings: Settings,
+) -> u8
+where
+    S: Drop,
+    requires { S.failure_count source ≡ 0 }
+{
+    let mut source = Begun::new(source);
+    let status = run_listing(rt, &mut source, listing, settings);
+    source.tell_mark(rt);
+    status
+}
+
 /// Writes the report of a file, or of standard input where none is named, to standard output, and gives
 /// the program's status.
 pub(crate) fn follow_report<
@@ -44,9 +63,9 @@ pub(crate) fn follow_report<
 >(rt: &R, trace: Option<&str>, listing: Listing, settings: Settings) -> u8 {
     match trace {
         Some(path) => match File::open(rt, path) {
-            Ok(file) => run_listing(rt, &mut FromRead::new(file), listing, settings),
+            Ok(file) => run_begun(rt, FromRead::new(file), listing, settings),
             Err(_) => complain(rt, "cannot open", FAILED),
         },
-        None => run_listing(rt, &mut FromRead::new(rt.reader()), listing, settings),
+        None => run_begun(rt, FromRead::new(rt.reader()), listing, settings),
     }
 }

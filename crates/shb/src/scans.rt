@@ -1,4 +1,7 @@
 //! `shb scan`: the scan of a trace goes to standard output.
+ghost use Rattle.std.specs.Prelude.{◌≡◌};
+
+use crate::beginning::Begun;
 use crate::complaints::{FAILED, complain};
 use crate::reports::REPORT_BUFFER;
 use shb_io::{FromRead, Source, ToWrite};
@@ -24,6 +27,19 @@ fn scan<R: Print + Eprint + AllocGlobal + RandomSource, S: Source>(rt: &R, sourc
     end_of_scan(rt, &answer)
 }
 
+/// Writes the scan of a source that wasn't read yet to standard output, says on standard error where its text begins
+/// with a byte order mark, and gives the program's status.
+fn scan_begun<R: Print + Eprint + AllocGlobal + RandomSource, S: Source>(rt: &R, source: S) -> u8
+where
+    S: Drop,
+    requires { S.failure_count source ≡ 0 }
+{
+    let mut source = Begun::new(source);
+    let status = scan(rt, &mut source);
+    source.tell_mark(rt);
+    status
+}
+
 /// Writes the scan of a file, or of standard input where none is named, to standard output, and gives the program's
 /// status.
 pub(crate) fn follow_scan<R: Print + Eprint + Input + AllocGlobal + Files + RandomSource>(
@@ -32,9 +48,9 @@ pub(crate) fn follow_scan<R: Print + Eprint + Input + AllocGlobal + Files + Rand
 ) -> u8 {
     match trace {
         Some(path) => match File::open(rt, path) {
-            Ok(file) => scan(rt, &mut FromRead::new(file)),
+            Ok(file) => scan_begun(rt, FromRead::new(file)),
             Err(_) => complain(rt, "cannot open", FAILED),
         },
-        None => scan(rt, &mut FromRead::new(rt.reader())),
+        None => scan_begun(rt, FromRead::new(rt.reader())),
     }
 }

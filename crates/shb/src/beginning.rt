@@ -1,0 +1,103 @@
+//! Whether a trace begins with a byte order mark, whose bytes are part of its first name.
+ghost use Rattle.std.specs.Prelude.{◌≡◌, ◌-◌, ◌^◌, ◌<◌, ◌≤◌, ◌↔◌, ◌++◌, ◌∷◌, [], length, take, IfOk, IsTrue};
+ghost use Rattle.std.specs.Io.KnownBytes.{ReadConsumes};
+ghost use Rattle.shb_io.specs.Devices.{IsCounted, IsGivenCounted};
+
+use arrayvec::ArrayVec;
+use shb_io::{Failed, Source};
+use std::io::Write;
+
+/// The bytes of a byte order mark in UTF-8.
+const MARK: [u8; 3] = [0xEF, 0xBB, 0xBF];
+
+/// What a user is told of a trace that begins with one.
+const WORDS: &str =
+    "the trace begins with a byte order mark, which is a part of the first thread's name";
+
+/// The first three bytes of a text that comes in pieces; all of it while it is shorter.
+#[derive(Drop)]
+struct Front {
+    bytes: ArrayVec<u8, 3>,
+}
+
+impl Front {
+    /// That of a text of which nothing came.
+    fn new() -> Front
+        ensures { result.bytes.items ≡ [] }
+    {
+        Front {
+            bytes: ArrayVec::new(),
+        }
+    }
+
+    /// The text goes on with these bytes.
+    fn add(&mut self, bytes: &[u8])
+        ensures { self.new.bytes.items ≡ take 3 (self.old.bytes.items ++ bytes.now) }
+    {
+        if !self.bytes.is_full() {
+            let _taken = self.bytes.write(bytes);
+        }
+    }
+
+    /// Whether the text begins with a byte order mark.
+    fn is_mark(&self) -> bool
+        ensures { IsTrue result ↔ (self.now.bytes.items ≡ 239 ∷ 187 ∷ 191 ∷ []) }
+    {
+        self.bytes.as_slice() == MARK.as_slice()
+    }
+}
+
+/// A source that knows how what it gave begins, and else is the source inside.
+#[derive(Drop)]
+pub(crate) struct Begun<S> {
+    source: S,
+    front: Front,
+}
+
+impl<S: Source> Begun<S> {
+    /// The same source, which is looked at from here on.
+    pub(crate) fn new(source: S) -> Begun<S>
+        ensures { ⟦<Begun<S> as Source>⟧.failure_count result ≡ S.failure_count source }
+    {
+        Begun {
+            source,
+            front: Front::new(),
+        }
+    }
+
+    /// Says on standard error where the text that was given begins with a byte order mark. A failure of
+    /// standard error is passed over.
+    pub(crate) fn tell_mark<R: Eprint>(&self, rt: &R) {
+        if self.front.is_mark() {
+            let _ = rt.eprintln(WORDS);
+        }
+    }
+}
+
+impl<S: Source> Source for Begun<S> {
+    ghost remaining = { λ s. S.remaining s.source };
+
+    ghost failure_count = { λ s. S.failure_count s.source };
+
+    ghost given_count = { λ s. S.given_count s.source };
+
+    /// Hands out what the source inside does, and keeps the first three bytes of all that it gave.
+    fn read(&mut self, buf: &mut [u8]) -> Result<usize, Failed>
+        requires room { 0 < length buf.old }
+        requires countable { S.failure_count self.old.source < 2 ^ 64 - 1 }
+        ensures bound { IfOk result (λ n. n ≤ length buf.new) }
+        ensures bytes { ReadConsumes (S.remaining self.old.source) (S.remaining self.new.source) result buf.new }
+        ensures counted { IsCounted (S.failure_count self.old.source) (S.failure_count self.new.source) result }
+        ensures given { IsGivenCounted (S.given_count self.old.source) (S.given_count self.new.source) result }
+        ensures front { IfOk result (λ n.
+            self.new.front.bytes.items ≡ take 3 (self.old.front.bytes.items ++ take n buf.new)) }
+    {
+        let count = self.source.read(buf)?;
+        self.front.add(&buf[..count]);
+        Ok(count)
+    }
+
+    fn failures(&self) -> u64 {
+        self.source.failures()
+    }
+}
