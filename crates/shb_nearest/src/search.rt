@@ -18,10 +18,10 @@ use std::random::RandomSource;
 /// What is known of the races of a stream after some events.
 #[derive(Drop)]
 pub struct NearestRaces {
-    pub clocks: StreamClocks,
+    clocks: StreamClocks,
     /// How many events were taken.
-    pub events: u32,
-    pub tables: Tables,
+    events: u32,
+    tables: Tables,
 }
 
 /// Takes an event into the tables, if it is an access.

@@ -24,6 +24,8 @@ mod fixtures;
 #[cfg(test)]
 mod lines;
 #[cfg(test)]
+mod nearest;
+#[cfg(test)]
 mod pairs;
 #[cfg(test)]
 mod replay;

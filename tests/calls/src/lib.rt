@@ -13,6 +13,8 @@ mod fan;
 #[cfg(test)]
 mod machine;
 #[cfg(test)]
+mod nearest;
+#[cfg(test)]
 mod orders;
 #[cfg(test)]
 mod pairs;
