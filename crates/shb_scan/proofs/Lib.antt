@@ -7,3 +7,4 @@ pub mod Places
 pub mod Endings
 pub mod Listed
 pub mod Outcomes
+pub mod OneScan

@@ -43,21 +43,53 @@ module _ {A B : Type 0} (remaining : A → Option (List ℕ)) (given failed_read
     where
       by : (error : ScanError) → Reads (Err error) → Outcome T sink (Err error)
       by (Trace line fault) read = record {
-        read = tt; refused = read.refused; many = tt; unwritten = refl; silent = anyway (remaining source) (sink ≡ sink) refl; cut = tt;
-        grown = ([], Appends-nil (taken sink)); lost = read.moved; source_counted = read.counted; sink_counted = refl;
+        read = tt;
+        refused = read.refused;
+        many = tt;
+        unwritten = refl;
+        silent = anyway (remaining source) (sink ≡ sink) refl;
+        cut = tt;
+        grown = ([], Appends-nil (taken sink));
+        lost = read.moved;
+        source_counted = read.counted;
+        sink_counted = refl;
       }
       by TooManyLines read = record {
-        read = tt; refused = tt; many = read.many; unwritten = refl; silent = anyway (remaining source) (sink ≡ sink) refl; cut = tt;
-        grown = ([], Appends-nil (taken sink)); lost = read.moved; source_counted = read.counted; sink_counted = refl;
+        read = tt;
+        refused = tt;
+        many = read.many;
+        unwritten = refl;
+        silent = anyway (remaining source) (sink ≡ sink) refl;
+        cut = tt;
+        grown = ([], Appends-nil (taken sink));
+        lost = read.moved;
+        source_counted = read.counted;
+        sink_counted = refl;
       }
       by Source read = record {
-        read = tt; refused = tt; many = tt; unwritten = refl; silent = anyway (remaining source) (sink ≡ sink) refl; cut = tt;
-        grown = ([], Appends-nil (taken sink)); lost = read.moved; source_counted = read.counted; sink_counted = refl;
+        read = tt;
+        refused = tt;
+        many = tt;
+        unwritten = refl;
+        silent = anyway (remaining source) (sink ≡ sink) refl;
+        cut = tt;
+        grown = ([], Appends-nil (taken sink));
+        lost = read.moved;
+        source_counted = read.counted;
+        sink_counted = refl;
       }
       by Sink read = absurd read.read
       by (Memory refused) read = record {
-        read = tt; refused = tt; many = tt; unwritten = refl; silent = anyway (remaining source) (sink ≡ sink) refl; cut = tt;
-        grown = ([], Appends-nil (taken sink)); lost = read.moved; source_counted = read.counted; sink_counted = refl;
+        read = tt;
+        refused = tt;
+        many = tt;
+        unwritten = refl;
+        silent = anyway (remaining source) (sink ≡ sink) refl;
+        cut = tt;
+        grown = ([], Appends-nil (taken sink));
+        lost = read.moved;
+        source_counted = read.counted;
+        sink_counted = refl;
       }
 
   module _ (found : FoundScan) (read : Reads (Ok found)) (written : B) where

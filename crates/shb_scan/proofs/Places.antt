@@ -55,13 +55,13 @@ module _ (trace : TraceData) (names : List (List ℕ)) (spots : List Spot) (dist
       let a = spot_at k x first in
       let b = spot_at i y second in (
         (λ same.
-        let numbers : Some a.0.location ≡ Some b.0.location = sym a.1 ∙ same ∙ b.1 in
-        let number : a.0.location ≡ b.0.location = cc in
-        let both : Some (location_of (line_of_event trace k)) ≡ Some (location_of (line_of_event trace i)) = sym a.2.location ∙ ap (slice_get names) number ∙ b.2.location in
-        cc),
+            let numbers : Some a.0.location ≡ Some b.0.location = sym a.1 ∙ same ∙ b.1 in
+            let number : a.0.location ≡ b.0.location = cc in
+            let both : Some (location_of (line_of_event trace k)) ≡ Some (location_of (line_of_event trace i)) = sym a.2.location ∙ ap (slice_get names) number ∙ b.2.location in
+            cc),
         (λ same.
-        let number : a.0.location ≡ b.0.location = one_number names (location_of (line_of_event trace i)) a.0.location b.0.location distinct (a.2.location ∙ ap (λ (l : List ℕ). Some l) same) b.2.location in
-        a.1 ∙ ap (λ (n : ℕ). Some n) number ∙ sym b.1),
+            let number : a.0.location ≡ b.0.location = one_number names (location_of (line_of_event trace i)) a.0.location b.0.location distinct (a.2.location ∙ ap (λ (l : List ℕ). Some l) same) b.2.location in
+            a.1 ∙ ap (λ (n : ℕ). Some n) number ∙ sym b.1),
       )
 
 -- what was found in a text that has ended

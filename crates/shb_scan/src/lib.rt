@@ -8,6 +8,7 @@
 
 mod errors;
 mod found;
+pub mod laws;
 mod limits;
 mod reading;
 mod scan;

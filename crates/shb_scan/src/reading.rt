@@ -23,7 +23,9 @@ use crate::found::FoundScan;
 use crate::limits::scan_bounds;
 use shb_discipline::State;
 use shb_io::{NoMemory, Source};
-use shb_lines::{EventReader, Fault, Limits, Op, OwnedNames, Step, Taken, location_after, location_in};
+use shb_lines::{
+    EventReader, Fault, Limits, Op, OwnedNames, Step, Taken, location_after, location_in,
+};
 use shb_nearest::{NearestRaces, Spot};
 use std::alloc::Global;
 use std::random::RandomSource;
