@@ -12,7 +12,8 @@ use Rattle.shb_scan.specs.declared.errors.ScanError.TheVariants.{Trace, TooManyL
 use Rattle.shb_scan.specs.declared.found.FoundScan.{FoundScan}
 use Rattle.shb_scan.specs.Limits.{scan_limits}
 use Rattle.shb_scan.specs.Outcomes.{HasScan, IsScanOutcome}
-use Rattle.shb_scan.specs.Scans.{HasReadScan, IsFoundIn, ReadsAll}
+use Rattle.shb_scan.specs.Reads.{ReadsAll}
+use Rattle.shb_scan.specs.Scans.{HasReadScan, IsFoundIn}
 
 -- a source that tells its bytes and was read to its end gave all of them
 told : (l0 l1 : Option (List ℕ)) (g0 g1 : ℕ) (P : List ℕ → Type 0) → ReadsAll l0 l1 g0 g1 P → IfSome l0 P

@@ -14,7 +14,7 @@ use Rattle.shb_nearest.specs.Nearest.{AreNearest}
 use Rattle.shb_scan.specs.declared.errors.ScanError.{ScanError}
 use Rattle.shb_scan.specs.Errors.{OnSink, OnTooManyLines, OnTrace, OnUnwritten, sink_failed, source_failed}
 use Rattle.shb_scan.specs.Limits.{scan_limits}
-use Rattle.shb_scan.specs.Scans.{ReadsAll, ReadsFront}
+use Rattle.shb_scan.specs.Reads.{ReadsAll, ReadsFront}
 
 -- the races of the scan of a trace: the nearest of each place, where a place is two location texts
 abbrev pub IsScan : TraceData → List (ℕ × ℕ) → Type 0

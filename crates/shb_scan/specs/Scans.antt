@@ -34,6 +34,7 @@ use Rattle.shb_scan.specs.declared.found.FoundScan.{FoundScan}
 use Rattle.shb_scan.specs.declared.reading.Scan.{Scan}
 use Rattle.shb_scan.specs.FoundNames.{AreSpots, IsSpotOf}
 use Rattle.shb_scan.specs.Errors.{IsReading, OnTooManyLines, OnTrace, source_failed}
+use Rattle.shb_scan.specs.Reads.{ReadsAll, ReadsFront}
 use Rattle.shb_scan.specs.Limits.{scan_bounds, scan_limits}
 
 -- the spot of an event by its line, if it is an access; then its location is put among the names
@@ -84,19 +85,6 @@ IsStepped read left before scan (Err (errors.Trace line fault)) = let text = rea
 IsStepped read left before scan (Err errors.TooManyLines) = 2 ^ 64 - 1 ≤ length (lines_of (read ++ rest_of left))
 IsStepped read left before scan (Err errors.Sink) = ⊥
 IsStepped read left before scan (Err _) = ⊤
-
--- a source gave its bytes up to its end, and P holds of them
-pub record ReadsAll (old new : Option (List ℕ)) (given_before given_after : ℕ) (P : List ℕ → Type 0) : Type 0 where
-  pub text : List ℕ
-  pub moves : Moves old new given_before given_after text
-  pub ended : IsAtEnd new
-  pub holds : P text
-
--- a source gave its first bytes, and P holds of all that it had; where it doesn't tell them, of those that it gave
-pub record ReadsFront (old new : Option (List ℕ)) (given_before given_after : ℕ) (P : List ℕ → Type 0) : Type 0 where
-  pub read : List ℕ
-  pub moves : Moves old new given_before given_after read
-  pub holds : P (read ++ rest_of new)
 
 -- what is found in a text that has no fault: its counts and names, and the nearest races of its trace
 pub record IsFoundIn (text : List ℕ) (found : FoundScan) : Type 0 where
