@@ -11,6 +11,7 @@ ghost use Rattle.shb_nearest.specs.declared.classes.Class.{Class as ClassData};
 
 use crate::access::{FoundAccess, Spot};
 use crate::classes::{Class, Classes};
+use crate::tight::push;
 use shb_io::NoMemory;
 use std::alloc::Global;
 
@@ -74,7 +75,7 @@ impl Group {
     fn keep(&mut self, classes: &Classes, variable: u32, access: Kept) -> Result<(), NoMemory>
         ensures { OnOk result (HasKept classes.now.newest.entries variable access self.old self.new) }
     {
-        self.kept.push(access)?;
+        push(&mut self.kept, access)?;
         if self.kept.len() <= self.most {
             return Ok(());
         }
@@ -110,12 +111,13 @@ impl Groups {
             return Ok(at);
         }
         let at = self.each.len();
-        self.each.push(Group {
+        let group = Group {
             thread,
             writes,
             kept: Vec::new(alloc),
             most: FEW,
-        })?;
+        };
+        push(&mut self.each, group)?;
         Ok(at)
     }
 

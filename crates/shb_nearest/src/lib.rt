@@ -25,6 +25,7 @@ mod places;
 mod rivals;
 mod search;
 mod tables;
+mod tight;
 
 pub use access::{FoundAccess, FoundRace, Spot};
 pub use search::NearestRaces;
