@@ -1,10 +1,9 @@
 -- What was found in a text is what its scan lists.
 use Rattle.std.proofs.Common.{◌≡◌, ℕ, List, All, length, sym, ap, subst, ◌∙◌}
 use Rattle.shb_lines.specs.declared.numbering.Numbering.{Numbering}
-use Rattle.shb_lines.specs.text.Numbering.{tables_of}
 use Rattle.shb_lines.specs.text.OwnedNames.{names_of}
 use Rattle.shb_lines.specs.text.Text.{lines_of}
-use Rattle.shb_lines.specs.text.TraceData.{TraceData, tables_in}
+use Rattle.shb_lines.specs.text.TraceData.{TraceData}
 use Rattle.shb_format.specs.declared.counts.Counts.{Counts}
 use Rattle.shb_format.specs.Report.{counts_of}
 use Rattle.shb_nearest.specs.declared.access.FoundRace.{FoundRace}

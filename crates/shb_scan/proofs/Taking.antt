@@ -1,5 +1,5 @@
 -- What is known after what was taken next.
-use Rattle.std.proofs.Common.{◌≡◌, ◌⊎◌, inl, inr, ◌+◌, ◌-◌, ◌^◌, ◌<◌, ◌≤◌, ℕ, Bool, true, false, List, [], ◌∷◌, ◌++◌, length, map, take, Option, None, Some, slice_get, refl, sym, ap, subst, ◌∙◌, arith, append_assoc, append-nil, length-append}
+use Rattle.std.proofs.Common.{◌≡◌, inl, inr, ◌+◌, ◌-◌, ◌^◌, ◌<◌, ◌≤◌, ℕ, Bool, true, false, List, [], ◌∷◌, ◌++◌, length, map, take, Option, None, Some, refl, sym, ap, subst, ◌∙◌, arith, append_assoc, append-nil, length-append}
 use Rattle.std.specs.Io.KnownBytes.{IsAtEnd}
 use Rattle.std.specs.Str.Lines.{strip_carriage_return}
 use Rattle.std.proofs.lemmas.List.{take-append-le}
@@ -13,18 +13,16 @@ use Rattle.shb_lines.specs.declared.numbering.Step.{Step}
 use Rattle.shb_lines.specs.Lowest.{IsLowest}
 use Rattle.shb_lines.specs.events.Discipline.{MayCome}
 use Rattle.shb_lines.specs.text.Faults.{HasNoLineFaultBefore, number_of}
-use Rattle.shb_lines.specs.text.Grammar.{NamedEvent}
 use Rattle.shb_lines.specs.text.Numbering.{IsWithin, event_of, tables_of, with_step}
-use Rattle.shb_lines.specs.text.Numbers.{IsEventOf, Tables, events_of, tables_of_events}
+use Rattle.shb_lines.specs.text.Numbers.{IsEventOf, Tables, events_of}
 use Rattle.shb_lines.specs.text.Taken.{AreLinesOf, HasTaken, IsTakenNext, IsWithinAfter, fed, rest_of}
 use Rattle.shb_lines.specs.text.Text.{LocatedEvent, lines_of, trace_of}
 use Rattle.shb_lines.specs.text.TraceData.{IsTraceOf, TraceData, tables_in}
 use Rattle.shb_lines.proofs.text.TakenEvents.{faultless_in, front_whole, lines_of_fed}
 use Rattle.shb_lines.proofs.text.TraceMore.{step_more, step_none}
 use Rattle.shb_discipline.specs.Faults.{HasDisciplineFault, IsFirstDisciplineFault}
-use Rattle.shb_discipline.specs.FirstFault.{HasNoFault, IsFirstFault}
+use Rattle.shb_discipline.specs.FirstFault.{IsFirstFault}
 use Rattle.shb_discipline.specs.State.{IsStateAfter}
-use Rattle.shb_discipline.specs.declared.state.State.{State}
 use Rattle.shb_discipline.proofs.Faultless.{may_come}
 use Rattle.shb_discipline.proofs.FirstFault.{accepted, first_of_discipline, first_of_lines}
 use Rattle.shb_nearest.specs.declared.access.Spot.{Spot}

@@ -1,5 +1,5 @@
 -- By the last step of the loop.
-use Rattle.std.proofs.Common.{rules, arith}
+use Rattle.std.proofs.Common.{rules}
 use Rattle.shb_scan.proofs.Endings.{ended_error, ended_found, ended_refused, passed_more, passed_none, smaller}
 use Rattle.shb_scan.proofs.reading.read_scan.Goals as goal
 
