@@ -3,7 +3,8 @@
 //! reports are in `shb_run_tests`.
 //!
 //! A module has the tests of one crate, and has its name: `pairs` those of `shb_pairs`. `source_lines` and
-//! `source_events` are about what `shb_lines` reads without keeping the text. They use public items alone.
+//! `source_events` are about what `shb_lines` reads without keeping the text, `stream_clocks` about the order that
+//! `shb_stamps` keeps of it. They use public items alone.
 //!
 //! A test is proved like any function, and an assertion written in it costs some 9 seconds of
 //! proof. So a test calls the functions of `asserting`: `same(&rt, &found, &wanted, "what it is")`,
@@ -33,5 +34,7 @@ mod replay;
 mod source_events;
 #[cfg(test)]
 mod source_lines;
+#[cfg(test)]
+mod stream_clocks;
 #[cfg(test)]
 mod witness;

@@ -9,7 +9,8 @@ use std::alloc::Global;
 use std::test::Fail;
 
 /// A text, and what is taken of it, a letter an event: the operation with the numbers of thread and operand, the number of a fault, `.` at the end.
-const TEXTS: [(&[u8], &[u8]); 9] = [
+/// In the last row are names of 33, 32 and 31 bytes, each the beginning of the one before.
+const TEXTS: [(&[u8], &[u8]); 10] = [
     (b"", b"."),
     (b"A|w(x)\nB|r(x)\nA|w(y)", b"w00r10w01."),
     (b"A|w(x)\r\n\r\nB|r(x)|here\r\n", b"w00r10."),
@@ -22,6 +23,10 @@ const TEXTS: [(&[u8], &[u8]); 9] = [
     (b"A|w(x)\n\n|w(x)", b"w004"),
     (b"A|x(x)\r", b"5"),
     (b"A|w(x)\nA|w()\n", b"w006"),
+    (
+        b"A|w(abcdefghijklmnopqrstuvwxyz0123456)\nA|w(abcdefghijklmnopqrstuvwxyz012345)\nA|w(abcdefghijklmnopqrstuvwxyz01234)\nA|r(abcdefghijklmnopqrstuvwxyz0123456)\nA|r(abcdefghijklmnopqrstuvwxyz012345)\nA|r(abcdefghijklmnopqrstuvwxyz01234)\n",
+        b"w00w01w02r00r01r02.",
+    ),
 ];
 
 fn letter(step: Step) -> [u8; 3] {
