@@ -5,6 +5,7 @@ import io
 import farm
 from farm import BAD_WORDS, RACE
 from shb_common import refused
+from shb_common.analyser import words_in
 
 OPERATION = "the operation is not known"
 BLANKS = "there are blanks around the bar: write THREAD|OPERATION|LOCATION without them"
@@ -47,6 +48,13 @@ class Refused(farm.Case):
     def test_other_words_stay(self):
         for words in ("it can't be unpacked", "line 0: x", "line x: y"):
             self.assertEqual(refused.explained(words, io.BytesIO(b"T1|w(x)\n")), words)
+
+    def test_the_note_on_a_mark_is_no_reason(self):
+        """`shb` says it of any trace; the hint stays."""
+        self.assertEqual(words_in(b"line 1: the thread name is empty\n" + refused.NOTE), "line 1: the thread name is empty")
+        self.trace("bad.std", b"\xef\xbb\xbf# a comment\n")
+        self.assertIn("\nrefused  bad.std  line 1: the line has no operation field; it is `\\ufeff# a comment`: the file begins with a byte "
+                      "order mark: save it without one\n", self.farm().out)
 
     def test_a_byte_order_mark_is_said(self):
         """The trace is read as it is: its first thread has another name than the later lines'."""
