@@ -61,6 +61,7 @@ static u64 sum_of_line(const uint8_t *from, const uint8_t *end) {
 
 /* Of a source file, by its name in locations: a line "line LOCATION TAB SUM" for each of its lines that a frame is at. */
 void write_sums(FILE *file, const char *name, const char *path) {
+    if (!location_count) return;
     if (!is_sorted) qsort(locations, location_count, sizeof *locations, by_place);
     is_sorted = 1;
     u64 k = first_of(name), line = 1;
