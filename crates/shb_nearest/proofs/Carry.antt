@@ -4,7 +4,7 @@ use Rattle.std.specs.Prelude.{option_and_then, slice_get}
 use Rattle.std.proofs.lemmas.List.Elements.{All-weaker}
 use Rattle.shb_lines.specs.declared.event.Event.{Event}
 use Rattle.shb_lines.specs.events.Discipline.{IsDisciplined}
-use Rattle.shb_lines.specs.events.Events.{op_at, thread_at}
+use Rattle.shb_lines.specs.events.Events.{op_at, thread_at, variable_of}
 use Rattle.shb_lines.specs.events.Race.{Race}
 use Rattle.shb_lines.proofs.events.Longer.{op_longer, race_longer, thread_longer, time_longer}
 use Rattle.shb_nearest.specs.declared.access.FoundAccess.{FoundAccess}
@@ -81,14 +81,13 @@ module _ (past : List Event) (e : Event) (spots : List Spot) (s : Spot) (as_many
   tables_longer tables are = record {
     classes = record {
       own = λ c k at. (let h = are.classes.own c k at in (class_longer c k h.1 h.0, h.1));
-      newest = λ c i lt h. are.classes.newest c i lt (class_back c i lt h);
     };
     groups = record {
       each = λ x groups at. (let h = are.groups.each x groups at in record {
         each = All-weaker (IsGroup past spots x (length past)) (IsGroup (past ++ e ∷ []) (spots ++ s ∷ []) x (length past)) (group_longer x) groups.each.items h.each;
-        covers = h.covers;
+        covers = λ c k of_x is. h.covers c k of_x (record { own = class_back c k is.past is.own; past = is.past; last = λ i lt own. is.last i lt (class_longer c i lt own) });
       });
-      wide = are.groups.wide;
+      wide = λ i x lt is. are.groups.wide i x lt (ap (option_and_then variable_of) (sym (same_op_at i lt)) ∙ is);
     };
     places = record {
       each = λ p r at. nearest_longer p r (are.places.each p r at);

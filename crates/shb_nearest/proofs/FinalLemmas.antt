@@ -27,7 +27,7 @@ use Rattle.shb_nearest.specs.Places.{ArePlaces, IsNearestAt, PlaceEntry, same_pl
 use Rattle.shb_nearest.specs.Searched.{AreNearestRaces}
 use Rattle.shb_nearest.specs.Sorted.{IsInOrder, NotAfter}
 use Rattle.shb_nearest.proofs.Members.{member_map, member_of_map}
-use Rattle.shb_nearest.proofs.PlaceLemmas.{location_of_access}
+use Rattle.shb_nearest.proofs.ClassLemmas.{location_of_access}
 use Rattle.shb_nearest.proofs.PlaceTable.{one_place, place_same}
 
 -- races are compared by their later events, then by their earlier ones

@@ -1,14 +1,15 @@
 -- The groups of a variable, an access more.
-use Rattle.std.proofs.Common.{◌≡◌, ℕ, ◌+◌, inl, inr, Bool, true, false, cond, ◌&&◌, List, [], ◌∷◌, ◌++◌, None, Option, Some, length, get_or, arith, refl, sym, ap, subst, ◌∙◌}
+use Rattle.std.proofs.Common.{◌≡◌, ℕ, suc, ◌+◌, ◌<◌, ◌≤◌, inl, inr, Bool, true, false, cond, ◌&&◌, List, [], ◌∷◌, ◌++◌, None, Option, Some, length, take, filter, get_or, arith, refl, sym, ap, subst, ◌∙◌}
 use Rattle.std.specs.Bool.{beq}
 use Rattle.std.specs.Prelude.{All, AllPairs, Contains, nat_eq, slice_get}
 use Rattle.std.proofs.Math.ListN.{set}
-use Rattle.std.proofs.lemmas.Bool.{cases_Bool, eq-eqb, eqb-true}
+use Rattle.std.proofs.Math.Seq.{take-suc}
+use Rattle.std.proofs.lemmas.Bool.{cases_Bool, cases_eq, eq-eqb, eqb-true}
 use Rattle.std.proofs.lemmas.List.Elements.{All-contains, All-filter, All-nil, All-push, All-set, All-weaker, Contains-append_left, Contains-get_or, Contains-push, Contains-push_cases}
 use Rattle.std.proofs.lemmas.List.Kept.{AllPairs-filter}
 use Rattle.std.proofs.lemmas.List.Quantifiers.{all_pairs_push}
-use Rattle.std.proofs.lemmas.List.{get_or_push, length_push}
-use Rattle.std.proofs.lemmas.Option.{slice_get_read, slice_get_within}
+use Rattle.std.proofs.lemmas.List.{get_or-take, get_or_push, length-take, length_push}
+use Rattle.std.proofs.lemmas.Option.{get_or_from_slice_get, slice_get_read, slice_get_within}
 use Rattle.shb_lines.specs.declared.event.Event.{Event}
 use Rattle.shb_lines.specs.events.Discipline.{local_time}
 use Rattle.shb_nearest.specs.declared.access.FoundAccess.{FoundAccess}
@@ -16,9 +17,10 @@ use Rattle.shb_nearest.specs.declared.access.Spot.{Spot}
 use Rattle.shb_nearest.specs.declared.classes.Class.{Class}
 use Rattle.shb_nearest.specs.declared.groups.Group.{Group}
 use Rattle.shb_nearest.specs.declared.groups.Kept.{Kept}
-use Rattle.shb_nearest.specs.Classes.{HasPut, is_newest_in, newest_in, same_class}
+use Rattle.shb_nearest.specs.Classes.{HasPut, IsNewestOf, IsOfClass, is_newest_in, newest_in, same_class}
 use Rattle.shb_nearest.specs.Found.{IsFoundAccess}
-use Rattle.shb_nearest.specs.Groups.{AreGroups, HasGroupAt, HasKept, IsEarlier, IsGroup, IsKept, IsOfGroup, KeepsAccess, access_of, class_of, is_newest_kept}
+use Rattle.shb_nearest.specs.Groups.{AreGroups, HasGroupAt, HasKept, HasLast, IsEarlier, IsGroup, IsKept, IsOfGroup, KeepsAccess, access_of, class_of, is_newest_kept}
+use Rattle.shb_nearest.proofs.ClassLemmas.{class_own, newest_before, one_class_at}
 use Rattle.shb_nearest.proofs.Members.{member_at, member_filter, member_set, stays_or_is}
 
 -- equal classes are the same
@@ -77,15 +79,14 @@ module _ (trace : List Event) (spots : List Spot) (x n : ℕ) where
     rising = subst (λ (l : List Kept). AllPairs IsEarlier l) (sym none) (λ i j d lt within. absurd (omega (arith, lt, within)));
   }
 
-  -- no class of the variable changes
-  pub groups_later : (before newest : List (Class × ℕ)) (groups : List Group) → ((c : Class) → c.variable ≡ x → newest_in newest c ≡ newest_in before c) → AreGroups trace spots x n before groups → AreGroups trace spots x (n + 1) newest groups
-  groups_later before newest groups same are = record {
+  -- no access of the variable came
+  pub groups_later : (groups : List Group) → ((c : Class) → c.variable ≡ x → IsOfClass trace spots c n → ⊥) → AreGroups trace spots x n groups → AreGroups trace spots x (n + 1) groups
+  groups_later groups never are = record {
     each = All-weaker (IsGroup trace spots x n) (IsGroup trace spots x (n + 1)) group_later groups are.each;
-    covers = λ c k of_x is. are.covers c k of_x (sym (same c of_x) ∙ is);
+    covers = λ c k of_x is. are.covers c k of_x (newest_before trace spots n c k is (λ same. never c of_x (subst (λ (m : ℕ). IsOfClass trace spots c m) same is.own)));
   }
 
-  module _ (access : FoundAccess) (here : access.event ≡ n) (own : IsFoundAccess trace spots x access) (kept : Kept) (at_event : kept.event ≡ access.event) (at_spot : kept.spot ≡ access.spot) (time_is : kept.time ≡ local_time trace access.thread access.event)
-      (before newest : List (Class × ℕ)) (put : HasPut before newest (class_of x access) access.event) where
+  module _ (access : FoundAccess) (here : access.event ≡ n) (own : IsFoundAccess trace spots x access) (kept : Kept) (at_event : kept.event ≡ access.event) (at_spot : kept.spot ≡ access.spot) (time_is : kept.time ≡ local_time trace access.thread access.event) where
     own_kept : IsKept trace spots x (n + 1) access.thread access.writes kept
     own_kept = record {
       own = subst (λ (a : FoundAccess). IsFoundAccess trace spots x a) (sym (λ i. made (at_event i) (at_spot i))) own;
@@ -99,7 +100,7 @@ module _ (trace : List Event) (spots : List Spot) (x n : ℕ) where
     abbrev pub class_in : Group → Kept → Class
     class_in g a = class_of x (access_of g.thread g.writes a)
 
-    module _ (old new : Group) (is_of : IsOfGroup old access.thread access.writes) (h : HasKept newest x kept old new) (was : IsGroup trace spots x n old) where
+    module _ (old new : Group) (is_of : IsOfGroup old access.thread access.writes) (h : HasKept x kept old new) (was : IsGroup trace spots x n old) where
       abbrev pub pushed : List Kept
       pushed = old.kept.items ++ kept ∷ []
 
@@ -118,22 +119,23 @@ module _ (trace : List Event) (spots : List Spot) (x n : ℕ) where
           rising = subst (λ (l : List Kept). AllPairs IsEarlier l) (sym all) pushed_rising;
         }
         | inr some ↦ record {
-          each = subst (λ (l : List Kept). All (IsKept trace spots x (n + 1) new.thread new.writes) l) (sym some) (All-filter test (IsKept trace spots x (n + 1) new.thread new.writes) pushed pushed_each);
-          rising = subst (λ (l : List Kept). AllPairs IsEarlier l) (sym some) (AllPairs-filter IsEarlier test pushed pushed_rising);
+          each = subst (λ (l : List Kept). All (IsKept trace spots x (n + 1) new.thread new.writes) l) (sym some.items) (All-filter (is_newest_kept some.newest x old.thread old.writes) (IsKept trace spots x (n + 1) new.thread new.writes) pushed pushed_each);
+          rising = subst (λ (l : List Kept). AllPairs IsEarlier l) (sym some.items) (AllPairs-filter IsEarlier (is_newest_kept some.newest x old.thread old.writes) pushed pushed_rising);
         }
       ]
-        where
-          test : Kept → Bool
-          test = is_newest_kept newest x old.thread old.writes
 
-      -- the newest of a class is kept
-      pub newest_kept : (a : Kept) (k : ℕ) → Contains pushed a → newest_in newest (class_in old a) ≡ Some k → a.event ≡ k → Contains new.kept.items a
-      newest_kept a k there is same = elim h.items [
+      -- the last at a location is kept
+      pub newest_kept : (a : Kept) → Contains pushed a → ((b : Kept) → Contains pushed b → b.spot.location ≡ a.spot.location → b.event ≤ a.event) → Contains new.kept.items a
+      newest_kept a there last = elim h.items [
         | inl all ↦ subst (λ (l : List Kept). Contains l a) (sym all) there
-        | inr some ↦ subst (λ (l : List Kept). Contains l a) (sym some) (member_filter (is_newest_kept newest x old.thread old.writes) pushed a there (newest_passes newest (class_in old a) k a.event is same))
+        | inr some ↦ subst (λ (l : List Kept). Contains l a) (sym some.items) (member_filter (is_newest_kept some.newest x old.thread old.writes) pushed a there (newest_passes some.newest (class_in old a) a.event a.event (some.last pushed_rising a there last) refl))
       ]
 
-    pub noted : (groups mid : List Group) (at : ℕ) (old new : Group) → AreGroups trace spots x n before groups → HasGroupAt groups mid access.thread access.writes at → slice_get mid at ≡ Some old → HasKept newest x kept old new → AreGroups trace spots x (n + 1) newest (set mid at new)
+      -- each access of the group is of the class of its location
+      pub in_class : (b : Kept) → Contains pushed b → IsOfClass trace spots (class_in new b) b.event × (b.event < n + 1)
+      in_class b there = let k = All-contains (IsKept trace spots x (n + 1) new.thread new.writes) pushed b pushed_each there in (class_own trace spots x (access_of new.thread new.writes b) k.own, k.past)
+
+    pub noted : (groups mid : List Group) (at : ℕ) (old new : Group) → AreGroups trace spots x n groups → HasGroupAt groups mid access.thread access.writes at → slice_get mid at ≡ Some old → HasKept x kept old new → AreGroups trace spots x (n + 1) (set mid at new)
     noted groups mid at old new are found at_old h = record { each = All-set (IsGroup trace spots x (n + 1)) mid at new (group_kept old new is_of h was) mid_each; covers = covers }
       where
         is_of : IsOfGroup old access.thread access.writes
@@ -151,52 +153,95 @@ module _ (trace : List Event) (spots : List Spot) (x n : ℕ) where
         in_new : Contains (set mid at new) new
         in_new = member_set mid at new (slice_get_within mid at old at_old)
 
-        class_is : (c : Class) → class_of x access ≡ c → newest_in newest c ≡ Some access.event
-        class_is c same = put c ∙ ap (λ (b : Bool). cond b (Some access.event) (newest_in before c)) (subst (λ (d : Class). same_class (class_of x access) d ≡ true) same (class_self (class_of x access)))
+        -- what is in the group at the location of a newest access isn't after it
+        last_in : (c : Class) (k : ℕ) → IsNewestOf trace spots (n + 1) c k → c.variable ≡ x → new.thread ≡ c.thread → new.writes ≡ c.writes → (b : Kept) → Contains (old.kept.items ++ kept ∷ []) b → b.spot.location ≡ c.location → b.event ≤ k
+        last_in c k is of_x thread writes b there at =
+            let own_b = in_class old new is_of h was b there in
+            is.last b.event own_b.1 (subst (λ (d : Class). IsOfClass trace spots d b.event) (λ i. class_made (sym of_x i) (at i) (thread i) (writes i)) own_b.0)
+
+        new_thread : new.thread ≡ access.thread
+        new_thread = h.own.thread_is ∙ is_of.thread_is
+
+        new_writes : new.writes ≡ access.writes
+        new_writes = h.own.writes_is ∙ is_of.writes_is
 
         -- the access itself
-        own_class : (c : Class) (k : ℕ) → class_of x access ≡ c → newest_in newest c ≡ Some k → KeepsAccess (set mid at new) c k
-        own_class c k same is =
-            let e : access.event ≡ k = (let s : Some access.event ≡ Some k = sym (class_is c same) ∙ is in cc) in
+        own_class : (c : Class) (k : ℕ) → IsNewestOf trace spots (n + 1) c k → k ≡ n → c.variable ≡ x → KeepsAccess (set mid at new) c k
+        own_class c k is at_n of_x =
+            let e : access.event ≡ k = omega (arith, at_n, here) in
+            let same : class_of x access ≡ c = one_class_at trace spots (class_of x access) c access.event (class_own trace spots x access own) (subst (λ (m : ℕ). IsOfClass trace spots c m) (sym e) is.own) in
+            let location = ap (λ (s : Spot). s.location) at_spot ∙ ap (λ (d : Class). d.location) same in
+            let thread = new_thread ∙ ap (λ (d : Class). d.thread) same in
+            let writes = new_writes ∙ ap (λ (d : Class). d.writes) same in
+            let event : kept.event ≡ k = at_event ∙ e in
             record {
               group = new;
               there = in_new;
-              thread_is = h.own.thread_is ∙ (is_of.thread_is ∙ ap (λ (d : Class). d.thread) same);
-              writes_is = h.own.writes_is ∙ (is_of.writes_is ∙ ap (λ (d : Class). d.writes) same);
+              thread_is = thread;
+              writes_is = writes;
               kept = kept;
-              among = newest_kept old new is_of h was kept k (Contains-push old.kept.items kept) (subst (λ (d : Class). newest_in newest d ≡ Some k) (sym (class_in_is ∙ same)) is) (at_event ∙ e);
-              event_is = at_event ∙ e;
-              location_is = ap (λ (s : Spot). s.location) at_spot ∙ ap (λ (d : Class). d.location) same;
+              among = newest_kept old new is_of h was kept (Contains-push old.kept.items kept) (λ b there at_b. let le = last_in c k is of_x thread writes b there (at_b ∙ location) in omega (arith, le, event));
+              event_is = event;
+              location_is = location;
             }
-          where
-            class_in_is : class_in old kept ≡ class_of x access
-            class_in_is = λ i. class_made x (ap (λ (s : Spot). s.location) at_spot i) (is_of.thread_is i) (is_of.writes_is i)
 
         -- another class
-        other_class : (c : Class) (k : ℕ) → c.variable ≡ x → newest_in newest c ≡ Some k → KeepsAccess groups c k → KeepsAccess (set mid at new) c k
-        other_class c k of_x is keeps = elim (stays_or_is mid at old new at_old keeps.group (found.stay keeps.group keeps.there)) [
+        other_class : (c : Class) (k : ℕ) → IsNewestOf trace spots (n + 1) c k → c.variable ≡ x → KeepsAccess groups c k → KeepsAccess (set mid at new) c k
+        other_class c k is of_x keeps = elim (stays_or_is mid at old new at_old keeps.group (found.stay keeps.group keeps.there)) [
           | inr stays ↦ record { group = keeps.group; there = stays; thread_is = keeps.thread_is; writes_is = keeps.writes_is; kept = keeps.kept; among = keeps.among; event_is = keeps.event_is; location_is = keeps.location_is }
-          | inl same ↦ record {
-            group = new;
-            there = in_new;
-            thread_is = h.own.thread_is ∙ (sym (ap (λ (g : Group). g.thread) same) ∙ keeps.thread_is);
-            writes_is = h.own.writes_is ∙ (sym (ap (λ (g : Group). g.writes) same) ∙ keeps.writes_is);
-            kept = keeps.kept;
-            among = newest_kept old new is_of h was keeps.kept k (Contains-append_left old.kept.items (kept ∷ []) keeps.kept (subst (λ (g : Group). Contains g.kept.items keeps.kept) same keeps.among))
-                (subst (λ (d : Class). newest_in newest d ≡ Some k) (sym (class_in_is same)) is) keeps.event_is;
-            event_is = keeps.event_is;
-            location_is = keeps.location_is;
-          }
+          | inl same ↦ (
+              let thread = h.own.thread_is ∙ (sym (ap (λ (g : Group). g.thread) same) ∙ keeps.thread_is) in
+              let writes = h.own.writes_is ∙ (sym (ap (λ (g : Group). g.writes) same) ∙ keeps.writes_is) in
+              let event = keeps.event_is in
+              record {
+                group = new;
+                there = in_new;
+                thread_is = thread;
+                writes_is = writes;
+                kept = keeps.kept;
+                among = newest_kept old new is_of h was keeps.kept (Contains-append_left old.kept.items (kept ∷ []) keeps.kept (subst (λ (g : Group). Contains g.kept.items keeps.kept) same keeps.among))
+                    (λ b there at_b. let le = last_in c k is of_x thread writes b there (at_b ∙ keeps.location_is) in omega (arith, le, event));
+                event_is = keeps.event_is;
+                location_is = keeps.location_is;
+              })
         ]
-          where
-            class_in_is : keeps.group ≡ old → class_in old keeps.kept ≡ c
-            class_in_is same = λ i. class_made (sym of_x i) (keeps.location_is i) ((sym (ap (λ (g : Group). g.thread) same) ∙ keeps.thread_is) i) ((sym (ap (λ (g : Group). g.writes) same) ∙ keeps.writes_is) i)
 
-        covers : (c : Class) (k : ℕ) → c.variable ≡ x → newest_in newest c ≡ Some k → KeepsAccess (set mid at new) c k
-        covers c k of_x is = elim (cases_Bool (same_class (class_of x access) c)) [
-          | inl same ↦ own_class c k (one_class (class_of x access) c same) is
-          | inr other ↦ other_class c k of_x is (are.covers c k of_x (sym (put c ∙ ap (λ (b : Bool). cond b (Some access.event) (newest_in before c)) other) ∙ is))
+        covers : (c : Class) (k : ℕ) → c.variable ≡ x → IsNewestOf trace spots (n + 1) c k → KeepsAccess (set mid at new) c k
+        covers c k of_x is = elim (cases_eq k n) [
+          | inl same ↦ own_class c k is same of_x
+          | inr other ↦ other_class c k is of_x (are.covers c k of_x (newest_before trace spots n c k is other))
         ]
+
+-- a table of the last access at each location, an access more
+pub last_more : (x thread : ℕ) (writes : Bool) (old new : List (Class × ℕ)) (kept : List Kept) (m : ℕ) (y : Kept) → AllPairs IsEarlier kept → slice_get kept m ≡ Some y → HasPut old new (class_of x (access_of thread writes y)) y.event → HasLast old x thread writes (take m kept) → HasLast new x thread writes (take (m + 1) kept)
+last_more x thread writes old new kept m y rising at put h a there last = elim (Contains-push_cases (take m kept) y a (subst (λ (l : List Kept). Contains l a) more there)) [
+  | inr same ↦ subst (λ (b : Kept). newest_in new (class_of x (access_of thread writes b)) ≡ Some b.event) same (put (class_of x (access_of thread writes y)) ∙ ap (λ (b : Bool). cond b (Some y.event) (newest_in old (class_of x (access_of thread writes y)))) (class_self (class_of x (access_of thread writes y))))
+  | inl before ↦ put (class_of x (access_of thread writes a)) ∙ (ap (λ (b : Bool). cond b (Some y.event) (newest_in old (class_of x (access_of thread writes a)))) (other before) ∙ h a before (λ b in_front at_b. last b (subst (λ (l : List Kept). Contains l b) (sym more) (Contains-append_left (take m kept) (y ∷ []) b in_front)) at_b))
+]
+  where
+    more : take (m + 1) kept ≡ take m kept ++ y ∷ []
+    more = (let e : m + 1 ≡ suc m = omega arith in ap (λ (k : ℕ). take k kept) e) ∙ (take-suc kept m y (slice_get_within kept m y at) ∙ ap (λ (b : Kept). take m kept ++ b ∷ []) (get_or_from_slice_get kept m y y at))
+
+    earlier : Contains (take m kept) a → a.event < y.event
+    earlier before =
+        let long = length-take m kept in
+        let low = before.1 in
+        let lt : before.0 < m = omega (arith, long, low) in
+        let in_list = get_or-take m kept before.0 a lt in
+        let rise = rising before.0 m a lt (slice_get_within kept m y at) in
+        let at_a = ap (λ (b : Kept). b.event) (sym in_list ∙ before.2) in
+        let at_y = ap (λ (b : Kept). b.event) (get_or_from_slice_get kept m y a at) in
+        omega (arith, rise, at_a, at_y)
+
+    other : Contains (take m kept) a → same_class (class_of x (access_of thread writes y)) (class_of x (access_of thread writes a)) ≡ false
+    other before = elim (cases_Bool (same_class (class_of x (access_of thread writes y)) (class_of x (access_of thread writes a)))) [
+      | inr differs ↦ differs
+      | inl same ↦ absurd (
+          let location = ap (λ (d : Class). d.location) (one_class (class_of x (access_of thread writes y)) (class_of x (access_of thread writes a)) same) in
+          let le = last y (subst (λ (l : List Kept). Contains l y) (sym more) (Contains-push (take m kept) y)) location in
+          let lt = earlier before in
+          omega (arith, le, lt))
+    ]
 
 -- a group that is there, and one that is made
 pub group_found : (groups : List Group) (t : ℕ) (w : Bool) (at : ℕ) (g : Group) → slice_get groups at ≡ Some g → IsOfGroup g t w → HasGroupAt groups groups t w at
@@ -212,4 +257,19 @@ group_made old new t w at g at_end more of_t of_w empty = record {
     | inl before ↦ inl before
     | inr same ↦ inr (subst (λ (k : Group). k.kept.items ≡ []) same empty)
   ];
+}
+
+pub group_same : (g h : Group) → Some g ≡ Some h → g ≡ h
+group_same g h is = let e : g ≡ h = cc in e
+
+-- a group that kept an access and forgot others
+pub kept_some : (x : ℕ) (access : Kept) (old new : Group) → new.thread ≡ old.thread → new.writes ≡ old.writes → (pushed seen : List Kept) (newest : List (Class × ℕ)) → pushed ≡ old.kept.items ++ access ∷ [] → seen ≡ pushed
+    → (AllPairs IsEarlier seen → HasLast newest x old.thread old.writes seen) → new.kept.items ≡ filter (is_newest_kept newest x old.thread old.writes) pushed → HasKept x access old new
+kept_some x access old new of_t of_w pushed seen newest more same last forgot = record {
+  own = record { thread_is = of_t; writes_is = of_w };
+  items = inr (record {
+    newest = newest;
+    last = subst (λ (l : List Kept). AllPairs IsEarlier l → HasLast newest x old.thread old.writes l) (same ∙ more) last;
+    items = forgot ∙ ap (filter (is_newest_kept newest x old.thread old.writes)) more;
+  });
 }

@@ -1,4 +1,5 @@
 pub mod Carry
+pub mod ClassLemmas
 pub mod FinalLemmas
 pub mod GroupLemmas
 pub mod Members

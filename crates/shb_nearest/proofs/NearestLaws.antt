@@ -26,7 +26,7 @@ least P decide (suc n) = go (least P decide n) (decide n)
     go (inr none) (inl passes) = inl (n, omega arith, passes, none)
     go (inr none) (inr fails) = inr (λ k lt h. elim (cases_lt k n) [ inl low ↦ none k low h | inr high ↦ (let e : k ≡ n = omega (arith, lt, high) in fails (subst P e h)) ])
 
-greatest : (P : ℕ → Type 0) → ((k : ℕ) → Decided (P k)) → (n : ℕ) → ((m : ℕ) × (m < n) × P m × ((k : ℕ) → k < n → P k → k ≤ m)) ⊎ ((k : ℕ) → k < n → P k → ⊥)
+pub greatest : (P : ℕ → Type 0) → ((k : ℕ) → Decided (P k)) → (n : ℕ) → ((m : ℕ) × (m < n) × P m × ((k : ℕ) → k < n → P k → k ≤ m)) ⊎ ((k : ℕ) → k < n → P k → ⊥)
 greatest P decide zero = inr (λ k lt h. omega (arith, lt))
 greatest P decide (suc n) = go (greatest P decide n) (decide n)
   where

@@ -12,11 +12,11 @@ use Rattle.shb_stamps.proofs.Sources.{strictly_below_below}
 use Rattle.shb_nearest.specs.declared.access.FoundAccess.{FoundAccess}
 use Rattle.shb_nearest.specs.declared.access.FoundRace.{FoundRace}
 use Rattle.shb_nearest.specs.declared.access.Spot.{Spot}
-use Rattle.shb_nearest.specs.Classes.{IsOfClass}
 use Rattle.shb_nearest.specs.Found.{IsFoundAccess, location_in}
-use Rattle.shb_nearest.specs.Groups.{class_of}
+use Rattle.shb_nearest.specs.Groups.{IsSince}
 use Rattle.shb_nearest.specs.Places.{ArePlaces, IsNearestAt, PlaceEntry, offered_all, place_of, race_at, race_with}
 use Rattle.shb_nearest.specs.Rivals.{AreRivals}
+use Rattle.shb_nearest.proofs.ClassLemmas.{location_of_access}
 use Rattle.shb_nearest.proofs.PlaceTable.{AreOffered, IsCome, offered_are}
 
 below_pred_path : (trace : List Event) (a b e : ℕ) → ShbBelow trace a b → BelowPred trace b e → BelowPred trace a e
@@ -38,13 +38,6 @@ raced_before trace disciplined i before j t race of_before of_j op low high =
       earlier = low;
       unordered = λ below. race.unordered (below_pred_path trace i before j (strictly_below_below trace disciplined i before (inl below)) (thread_below_pred trace t before j high of_before of_j));
     }
-
-pub location_of_access : (trace : List Event) (spots : List Spot) (x : ℕ) (a : FoundAccess) → IsFoundAccess trace spots x a → location_in spots a.event ≡ Some a.spot.location
-location_of_access trace spots x a own = ap (option_and_then (λ (s : Spot). Some s.location)) own.spot_is
-
--- an event that was the newest of the class of the access, or none
-abbrev pub IsSince : List Event → List Spot → ℕ → FoundAccess → ℕ → Type 0
-IsSince trace spots x access since = (since ≡ 0) ⊎ (IsOfClass trace spots (class_of x access) since × (since < access.event))
 
 module _ (trace : List Event) (disciplined : IsDisciplined trace) (spots : List Spot) (x n : ℕ) (access : FoundAccess) (at_n : access.event ≡ n) (own : IsFoundAccess trace spots x access) (since : ℕ) (is_since : IsSince trace spots x access since)
     (rivals : List FoundAccess) (rivals_are : AreRivals trace spots x access since rivals) (old : List PlaceEntry) (are : ArePlaces trace spots n old) where

@@ -1,13 +1,12 @@
 -- The accesses that race with the next one, from what the groups keep.
-use Rattle.std.proofs.Common.{◌≡◌, ◌≢◌, ℕ, suc, ◌+◌, ◌-◌, ◌<◌, ◌≤◌, ◌⊎◌, inl, inr, Bool, true, false, List, [], ◌∷◌, ◌++◌, None, Option, Some, map, drop, take, get_or, arith, refl, sym, ap, subst, ◌∙◌}
+use Rattle.std.proofs.Common.{◌≡◌, ◌≢◌, ℕ, suc, ◌+◌, ◌-◌, ◌<◌, ◌≤◌, ◌⊎◌, inl, inr, Bool, true, false, List, [], ◌∷◌, ◌++◌, Some, map, drop, take, get_or, arith, refl, sym, ap, subst, ◌∙◌}
 use Rattle.std.specs.Prelude.{Contains, option_and_then, slice_get}
 use Rattle.std.proofs.Math.Seq.{take-suc}
 use Rattle.std.proofs.lemmas.Bool.{cases_eq, cases_lt}
 use Rattle.std.proofs.lemmas.List.Elements.{All-contains, Contains-append_cases, Contains-append_left, Contains-append_right, Contains-push_cases}
 use Rattle.std.proofs.lemmas.Option.{get_or_from_slice_get, slice_get-get_or, slice_get_within}
 use Rattle.shb_lines.specs.declared.event.Event.{Event}
-use Rattle.shb_lines.specs.declared.event.Op.{Op}
-use Rattle.shb_lines.specs.declared.event.Op.TheVariants.{Read, Write}
+use Rattle.shb_lines.specs.declared.event.Op.TheVariants.{Write}
 use Rattle.shb_lines.specs.events.Events.{op_at, thread_at, variable_of}
 use Rattle.shb_lines.specs.events.Order.{BelowPred, IsBelowPredCount, happens_before, same_thread}
 use Rattle.shb_lines.specs.events.Race.{Race, variable_at}
@@ -22,28 +21,11 @@ use Rattle.shb_nearest.specs.declared.access.Spot.{Spot}
 use Rattle.shb_nearest.specs.declared.classes.Class.{Class}
 use Rattle.shb_nearest.specs.declared.groups.Group.{Group}
 use Rattle.shb_nearest.specs.declared.groups.Kept.{Kept}
-use Rattle.shb_nearest.specs.Classes.{AreClasses}
 use Rattle.shb_nearest.specs.Found.{IsFoundAccess, access_op, location_in}
 use Rattle.shb_nearest.specs.Groups.{AreGroups, IsGroup, IsKept, access_of}
 use Rattle.shb_nearest.specs.Rivals.{AreMet, AreRivals, CanRace, HasMet, HasMetGroup, IsOver}
+use Rattle.shb_nearest.proofs.ClassLemmas.{kind_at, newest_exists, op_variable}
 use Rattle.shb_nearest.proofs.Members.{index_of, member_drop, member_map, member_of_drop, member_of_map}
-
--- the variable of an access, and whether it writes
-pub op_variable : (writes : Bool) (x : ℕ) → variable_of (access_op writes x) ≡ Some x
-op_variable true x = refl
-op_variable false x = refl
-
-pub access_kind : (op : Op) (x : ℕ) → variable_of op ≡ Some x → (writes : Bool) × (op ≡ access_op writes x)
-access_kind (Read y) x is = (false, ap (λ (z : ℕ). Read z) (let e : y ≡ x = cc in e))
-access_kind (Write y) x is = (true, ap (λ (z : ℕ). Write z) (let e : y ≡ x = cc in e))
-access_kind _ x is = absurd (let f : ⊥ = cc in f)
-
-pub kind_at : (trace : List Event) (i x : ℕ) → variable_at trace i ≡ Some x → (writes : Bool) × (op_at trace i ≡ Some (access_op writes x))
-kind_at trace i x is = go (op_at trace i) refl is
-  where
-    go : (o : Option Op) → op_at trace i ≡ o → option_and_then variable_of o ≡ Some x → (writes : Bool) × (op_at trace i ≡ Some (access_op writes x))
-    go (Some op) at h = let k = access_kind op x h in (k.0, at ∙ ap (λ (p : Op). Some p) k.1)
-    go None at h = absurd (let f : ⊥ = cc in f)
 
 write_is : (writes : Bool) (x y : ℕ) → access_op writes x ≡ Write y → writes ≡ true
 write_is true x y is = refl
@@ -195,8 +177,8 @@ module _ (trace : List Event) (spots : List Spot) (x : ℕ) where
         more = (let e : n + 1 ≡ suc n = omega arith in ap (λ (m : ℕ). take m groups) e) ∙ (take-suc groups n group (slice_get_within groups n group at) ∙ ap (λ (b : Group). take n groups ++ b ∷ []) (get_or_from_slice_get groups n group group at))
 
     -- all groups: each access that races has a rival at its location that isn't before it
-    pub rivals_are : (since : ℕ) (newest : List (Class × ℕ)) (groups : List Group) (rivals : List FoundAccess) → AreClasses trace spots access.event newest → AreGroups trace spots x access.event newest groups → AreMet trace spots x access since groups rivals → AreRivals trace spots x access since rivals
-    rivals_are since newest groups rivals classes are met = record { races = met.races; each = each }
+    pub rivals_are : (since : ℕ) (groups : List Group) (rivals : List FoundAccess) → AreGroups trace spots x access.event groups → AreMet trace spots x access since groups rivals → AreRivals trace spots x access since rivals
+    rivals_are since groups rivals are met = record { races = met.races; each = each }
       where
         each : (i l : ℕ) → Race trace i access.event → location_in spots i ≡ Some l → since ≤ i → (a : FoundAccess) × Contains rivals a × (a.spot.location ≡ l) × (i ≤ a.event)
         each i l race at from =
@@ -206,15 +188,15 @@ module _ (trace : List Event) (spots : List Spot) (x : ℕ) where
             let of_i = thread_is trace i e.0 e.1 in
             let kind = kind_at trace i x (c.first_accesses ∙ ap (λ (y : ℕ). Some y) one) in
             let class : Class = record { variable = x; location = l; thread = e.0.thread; writes = kind.0 } in
-            let new = classes.newest class i race.earlier (record { thread_is = of_i; op_is = kind.1; location_is = at }) in
+            let new = newest_exists trace spots access.event class i race.earlier (record { thread_is = of_i; op_is = kind.1; location_is = at }) in
             let k = new.0 in
-            let is = classes.own class k new.1 in
+            let is = new.1.own in
             let keeps = are.covers class k refl new.1 in
+            let le = new.1.last i race.earlier (record { thread_is = of_i; op_is = kind.1; location_is = at }) in
             let newer : Race trace k access.event = elim (cases_eq k i) [
               | inl same ↦ subst (λ (m : ℕ). Race trace m access.event) (sym same) race
-              | inr ne ↦ later_same_races trace i k access.event race (is.0.thread_is ∙ sym of_i) (is.0.op_is ∙ sym kind.1) (let le = new.2 in omega (arith, le, ne)) is.1
+              | inr ne ↦ later_same_races trace i k access.event race (is.thread_is ∙ sym of_i) (is.op_is ∙ sym kind.1) (omega (arith, le, ne)) new.1.past
             ] in
-            let le = new.2 in
             let at_k = keeps.event_is in (
               access_of keeps.group.thread keeps.group.writes keeps.kept,
               met.met keeps.group keeps.kept keeps.there keeps.among (omega (arith, from, le, at_k)) (subst (λ (m : ℕ). Race trace m access.event) (sym at_k) newer),

@@ -12,7 +12,7 @@ use Rattle.shb_nearest.specs.declared.access.Spot.{Spot}
 use Rattle.shb_nearest.specs.Found.{access_op}
 use Rattle.shb_nearest.specs.Rivals.{IsNextAccess}
 use Rattle.shb_nearest.specs.Searched.{IsNextEvent}
-use Rattle.shb_nearest.proofs.RivalLemmas.{access_kind}
+use Rattle.shb_nearest.proofs.ClassLemmas.{access_kind}
 
 pub last_at : {X : Type 0} (xs : List X) (x : X) (n : ℕ) → length xs ≡ n → slice_get (xs ++ x ∷ []) n ≡ Some x
 last_at {X} xs x n is = subst (λ (m : ℕ). slice_get (xs ++ x ∷ []) m ≡ Some x) is (go xs)

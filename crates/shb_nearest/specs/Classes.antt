@@ -29,7 +29,12 @@ pub record IsOfClass (trace : List Event) (spots : List Spot) (class : Class) (i
   pub op_is : op_at trace i ≡ Some (access_op class.writes class.variable)
   pub location_is : location_in spots i ≡ Some class.location
 
--- the table has the newest access of each class before n
+-- k is the newest access of the class before n
+pub record IsNewestOf (trace : List Event) (spots : List Spot) (n : ℕ) (class : Class) (k : ℕ) : Type 0 where
+  pub own : IsOfClass trace spots class k
+  pub past : k < n
+  pub last : (i : ℕ) → i < n → IsOfClass trace spots class i → i ≤ k
+
+-- what the table has of a class is an access of it before n
 pub record AreClasses (trace : List Event) (spots : List Spot) (n : ℕ) (entries : List (Class × ℕ)) : Type 0 where
   pub own : (c : Class) (k : ℕ) → newest_in entries c ≡ Some k → IsOfClass trace spots c k × (k < n)
-  pub newest : (c : Class) (i : ℕ) → i < n → IsOfClass trace spots c i → (k : ℕ) × (newest_in entries c ≡ Some k) × (i ≤ k)

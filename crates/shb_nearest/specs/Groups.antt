@@ -1,8 +1,8 @@
 -- The accesses that are kept of a variable, by thread and kind.
-use Rattle.std.specs.Prelude.{◌≡◌, ◌⊎◌, ◌<◌, ◌++◌, ◌∷◌, ℕ, Bool, List, [], Some, All, AllPairs, Contains, filter, slice_get}
+use Rattle.std.specs.Prelude.{◌≡◌, ◌⊎◌, ◌<◌, ◌≤◌, ◌++◌, ◌∷◌, ℕ, Bool, List, [], Some, All, AllPairs, Contains, filter, slice_get}
 use Rattle.shb_lines.specs.declared.event.Event.{Event}
 use Rattle.shb_lines.specs.events.Discipline.{local_time}
-use Rattle.shb_nearest.specs.Classes.{is_newest_in, newest_in}
+use Rattle.shb_nearest.specs.Classes.{IsNewestOf, IsOfClass, is_newest_in, newest_in}
 use Rattle.shb_nearest.specs.Found.{IsFoundAccess}
 use Rattle.shb_nearest.specs.declared.access.FoundAccess.{FoundAccess}
 use Rattle.shb_nearest.specs.declared.access.Spot.{Spot}
@@ -45,9 +45,9 @@ pub record KeepsAccess (groups : List Group) (class : Class) (k : ℕ) : Type 0 
   pub location_is : kept.spot.location ≡ class.location
 
 -- the groups of a variable, which keep the newest access of each of its classes
-pub record AreGroups (trace : List Event) (spots : List Spot) (x n : ℕ) (newest : List (Class × ℕ)) (groups : List Group) : Type 0 where
+pub record AreGroups (trace : List Event) (spots : List Spot) (x n : ℕ) (groups : List Group) : Type 0 where
   pub each : All (IsGroup trace spots x n) groups
-  pub covers : (c : Class) (k : ℕ) → c.variable ≡ x → newest_in newest c ≡ Some k → KeepsAccess groups c k
+  pub covers : (c : Class) (k : ℕ) → c.variable ≡ x → IsNewestOf trace spots n c k → KeepsAccess groups c k
 
 -- the group has the accesses by a thread of a kind
 pub record IsOfGroup (group : Group) (thread : ℕ) (writes : Bool) : Type 0 where
@@ -66,7 +66,25 @@ pub record HasGroupAt (old new : List Group) (thread : ℕ) (writes : Bool) (at 
 abbrev pub is_newest_kept : List (Class × ℕ) → ℕ → ℕ → Bool → Kept → Bool
 is_newest_kept newest x thread writes kept = is_newest_in newest (class_of x (access_of thread writes kept)) kept.event
 
--- the group keeps one access more, and perhaps only those that are the newest of their class
-pub record HasKept (newest : List (Class × ℕ)) (x : ℕ) (access : Kept) (old new : Group) : Type 0 where
+-- a table has the last of some kept accesses at each location
+abbrev pub HasLast : List (Class × ℕ) → ℕ → ℕ → Bool → List Kept → Type 0
+HasLast newest x thread writes kept = (a : Kept) → Contains kept a → ((b : Kept) → Contains kept b → b.spot.location ≡ a.spot.location → b.event ≤ a.event) → newest_in newest (class_of x (access_of thread writes a)) ≡ Some a.event
+
+-- of a group's accesses those stay that a table has, which has the last at each location
+pub record HasForgotten (x thread : ℕ) (writes : Bool) (old new : List Kept) : Type 0 where
+  pub newest : List (Class × ℕ)
+  pub last : AllPairs IsEarlier old → HasLast newest x thread writes old
+  pub items : new ≡ filter (is_newest_kept newest x thread writes) old
+
+-- the group keeps one access more, and perhaps forgets those that aren't the last at their location
+pub record HasKept (x : ℕ) (access : Kept) (old new : Group) : Type 0 where
   pub own : IsOfGroup new old.thread old.writes
-  pub items : (new.kept.items ≡ old.kept.items ++ access ∷ []) ⊎ (new.kept.items ≡ filter (is_newest_kept newest x old.thread old.writes) (old.kept.items ++ access ∷ []))
+  pub items : (new.kept.items ≡ old.kept.items ++ access ∷ []) ⊎ HasForgotten x old.thread old.writes (old.kept.items ++ access ∷ []) new.kept.items
+
+-- an access of the kept ones at a location, or 0
+abbrev pub IsAt : List Kept → ℕ → ℕ → Type 0
+IsAt kept location event = (event ≡ 0) ⊎ ((a : Kept) × Contains kept a × (a.spot.location ≡ location) × (a.event ≡ event))
+
+-- an earlier access of the class of the access, or 0
+abbrev pub IsSince : List Event → List Spot → ℕ → FoundAccess → ℕ → Type 0
+IsSince trace spots x access since = (since ≡ 0) ⊎ (IsOfClass trace spots (class_of x access) since × (since < access.event))

@@ -3,16 +3,16 @@ use Rattle.std.specs.Prelude.{◌≡◌, ◌++◌, ◌∷◌, [], ◌+◌, ◌<�
 use Rattle.shb_lines.specs.declared.event.Event.{Event}
 use Rattle.shb_lines.specs.declared.numbering.Step.{Step}
 use Rattle.shb_lines.specs.events.Discipline.{IsDisciplined}
+use Rattle.shb_lines.specs.events.Race.{variable_at}
 use Rattle.shb_stamps.specs.StreamClocks.{IsStreamed}
 use Rattle.shb_stamps.specs.declared.stream_clocks.StreamClocks.{StreamClocks}
-use Rattle.shb_nearest.specs.Classes.{AreClasses, newest_in}
+use Rattle.shb_nearest.specs.Classes.{AreClasses}
 use Rattle.shb_nearest.specs.Found.{IsFoundRace, ends_of, location_in}
 use Rattle.shb_nearest.specs.Groups.{AreGroups}
 use Rattle.shb_nearest.specs.Nearest.{AreNearest}
 use Rattle.shb_nearest.specs.Places.{ArePlaces}
 use Rattle.shb_nearest.specs.declared.access.FoundRace.{FoundRace}
 use Rattle.shb_nearest.specs.declared.access.Spot.{Spot}
-use Rattle.shb_nearest.specs.declared.classes.Class.{Class}
 use Rattle.shb_nearest.specs.declared.groups.Groups.{Groups}
 use Rattle.shb_nearest.specs.declared.search.NearestRaces.{NearestRaces}
 use Rattle.shb_nearest.specs.declared.tables.Tables.{Tables}
@@ -21,15 +21,15 @@ use Rattle.shb_nearest.specs.declared.tables.Tables.{Tables}
 abbrev pub HasRoom : List Event → Type 0
 HasRoom past = length past + 1 < 2 ^ 32
 
--- the groups of each variable, of those that have a class at least
-pub record AreAllGroups (trace : List Event) (spots : List Spot) (n : ℕ) (newest : List (Class × ℕ)) (all : List Groups) : Type 0 where
-  pub each : (x : ℕ) (groups : Groups) → slice_get all x ≡ Some groups → AreGroups trace spots x n newest groups.each.items
-  pub wide : (c : Class) (k : ℕ) → newest_in newest c ≡ Some k → c.variable < length all
+-- the groups of each variable, of those that have an access at least
+pub record AreAllGroups (trace : List Event) (spots : List Spot) (n : ℕ) (all : List Groups) : Type 0 where
+  pub each : (x : ℕ) (groups : Groups) → slice_get all x ≡ Some groups → AreGroups trace spots x n groups.each.items
+  pub wide : (i x : ℕ) → i < n → variable_at trace i ≡ Some x → x < length all
 
 -- the tables are those of the accesses before n
 pub record AreTables (trace : List Event) (spots : List Spot) (n : ℕ) (tables : Tables) : Type 0 where
   pub classes : AreClasses trace spots n tables.classes.newest.entries
-  pub groups : AreAllGroups trace spots n tables.classes.newest.entries tables.groups.items
+  pub groups : AreAllGroups trace spots n tables.groups.items
   pub places : ArePlaces trace spots n tables.places.races.entries
 
 -- the event is the next one of a stream, with its step, its number and its spot

@@ -1,4 +1,4 @@
-//! The newest access of each class: of a variable at a location by one thread, of one kind.
+//! Accesses by class: of a variable at a location by one thread, of one kind.
 
 ghost use Rattle.std.specs.Prelude.{◌≡◌, [], IfOk, unwrap_or};
 ghost use Rattle.shb_nearest.specs.Classes.{HasPut, is_newest_in, newest_in};
@@ -18,15 +18,16 @@ pub struct Class {
     pub writes: bool,
 }
 
-/// Of each class its newest access. The table is hashed under two random keys.
+/// Accesses of classes, of each class the one that was put last. The table is hashed under two random keys.
 pub struct Classes {
     pub newest: IndexMap<Class, u32, HashKeys>,
+    keys: HashKeys,
 }
 
 // By hand: a derived one stands in each function that drops it, with a step for each part of the table.
 impl Drop for Classes {
     fn drop(self) {
-        let Classes { newest: _ } = self;
+        let Classes { newest: _, keys: _ } = self;
     }
 }
 
@@ -39,12 +40,24 @@ impl Classes {
     pub fn new<R: RandomSource>(rt: &R, alloc: Global) -> Result<Classes, NoMemory>
         ensures { IfOk result (λ classes. classes.newest.entries ≡ []) }
     {
+        let keys = HashKeys::new(rt)?;
         Ok(Classes {
-            newest: IndexMap::with_hasher(alloc, HashKeys::new(rt)?),
+            newest: IndexMap::with_hasher(alloc, keys),
+            keys,
         })
     }
 
-    /// Takes an access as the newest one of its class, and answers the one before it, or 0 where it is the first.
+    /// No class, under the same keys.
+    pub fn emptied(&self, alloc: Global) -> Classes
+        ensures { result.newest.entries ≡ [] }
+    {
+        Classes {
+            newest: IndexMap::with_hasher(alloc, self.keys),
+            keys: self.keys,
+        }
+    }
+
+    /// Puts an access of a class, and answers the one that the table had of it, or 0 where it had none.
     ///
     /// # Errors
     ///
@@ -57,7 +70,7 @@ impl Classes {
         Ok(before.unwrap_or(0))
     }
 
-    /// Whether an access is the newest one of its class.
+    /// Whether this access of its class was put last.
     pub fn is_newest(&self, class: Class, event: u32) -> bool
         ensures { result ≡ is_newest_in self.now.newest.entries class event }
     {

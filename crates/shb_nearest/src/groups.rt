@@ -1,13 +1,12 @@
 //! The accesses that are kept of a variable, by thread and kind.
 
-ghost use Rattle.std.specs.Prelude.{◌≡◌, ◌+◌, ◌++◌, ◌∷◌, [], ℕ, true, List, IfOk, IfSome, OnOk, Some, filter, slice_get};
+ghost use Rattle.std.specs.Prelude.{AllPairs, ◌≡◌, ◌+◌, ◌++◌, ◌∷◌, [], ℕ, true, List, IfOk, IfSome, OnOk, Some, filter, slice_get};
 ghost use Rattle.shb_lines.specs.declared.event.Event.{Event};
 ghost use Rattle.shb_lines.specs.events.Discipline.{local_time};
-ghost use Rattle.shb_nearest.specs.Classes.{HasPut};
+ghost use Rattle.shb_nearest.specs.Classes.{AreClasses};
 ghost use Rattle.shb_nearest.specs.Found.{IsFoundAccess};
-ghost use Rattle.shb_nearest.specs.Groups.{AreGroups, HasGroupAt, HasKept, IsOfGroup, class_of, is_newest_kept};
+ghost use Rattle.shb_nearest.specs.Groups.{AreGroups, HasGroupAt, HasKept, HasLast, IsAt, IsEarlier, IsOfGroup, IsSince, is_newest_kept};
 ghost use Rattle.shb_nearest.specs.declared.access.Spot.{Spot as SpotData};
-ghost use Rattle.shb_nearest.specs.declared.classes.Class.{Class as ClassData};
 
 use crate::access::{FoundAccess, Spot};
 use crate::classes::{Class, Classes};
@@ -31,7 +30,7 @@ pub struct Group {
     pub thread: u32,
     pub writes: bool,
     pub kept: Vec<Kept>,
-    /// With more than so many it forgets those that aren't the newest of their class.
+    /// With more than so many it forgets those that aren't the last at their location.
     pub most: usize,
 }
 
@@ -44,7 +43,46 @@ pub struct Groups {
 /// How many accesses a group keeps before it forgets any.
 const FEW: usize = 16;
 
-/// Forgets those that aren't the newest of their class.
+/// Of some accesses by a thread, of a kind, the last one at each location.
+fn newest_of(
+    alloc: Global,
+    classes: &Classes,
+    variable: u32,
+    thread: u32,
+    writes: bool,
+    kept: &[Kept],
+) -> Result<Classes, NoMemory>
+    ensures { AllPairs IsEarlier kept.now → IfOk result (λ newest. HasLast newest.newest.entries variable thread writes kept.now) }
+{
+    let mut newest = classes.emptied(alloc);
+    for access in kept {
+        let class = Class {
+            variable,
+            location: access.spot.location,
+            thread,
+            writes,
+        };
+        newest.put(class, access.event)?;
+    }
+    Ok(newest)
+}
+
+/// The last kept access at a location, or 0 where there is none.
+fn last_at(kept: &[Kept], location: u32) -> u32
+    ensures { IsAt kept.now location result }
+{
+    let mut from = kept.len();
+    while from > 0 {
+        from -= 1;
+        let access = kept[from];
+        if access.spot.location == location {
+            return access.event;
+        }
+    }
+    0
+}
+
+/// Forgets those that a table doesn't have.
 fn forget(kept: &mut Vec<Kept>, classes: &Classes, variable: u32, thread: u32, writes: bool)
     ensures { kept.new.items ≡ filter (is_newest_kept classes.now.newest.entries variable thread writes) kept.old.items }
 {
@@ -72,14 +110,28 @@ impl Group {
     /// # Errors
     ///
     /// `NoMemory` where a growth was refused.
-    fn keep(&mut self, classes: &Classes, variable: u32, access: Kept) -> Result<(), NoMemory>
-        ensures { OnOk result (HasKept classes.now.newest.entries variable access self.old self.new) }
+    fn keep(
+        &mut self,
+        alloc: Global,
+        classes: &Classes,
+        variable: u32,
+        access: Kept,
+    ) -> Result<(), NoMemory>
+        ensures { OnOk result (HasKept variable access self.old self.new) }
     {
         push(&mut self.kept, access)?;
         if self.kept.len() <= self.most {
             return Ok(());
         }
-        forget(&mut self.kept, classes, variable, self.thread, self.writes);
+        let newest = newest_of(
+            alloc,
+            classes,
+            variable,
+            self.thread,
+            self.writes,
+            self.kept.as_slice(),
+        )?;
+        forget(&mut self.kept, &newest, variable, self.thread, self.writes);
         self.most = self.kept.len().saturating_mul(2).max(FEW);
         Ok(())
     }
@@ -121,7 +173,42 @@ impl Groups {
         Ok(at)
     }
 
-    /// Takes an access in, which is the newest of its class already, with how many events its thread had.
+    /// An earlier access of the class of an access, or 0: the last one, where its group keeps few; else the one that the
+    /// table of classes had, which takes this access.
+    ///
+    /// # Errors
+    ///
+    /// `NoMemory` where a growth was refused.
+    pub fn since(
+        &self,
+        classes: &mut Classes,
+        variable: u32,
+        access: FoundAccess,
+    ) -> Result<u32, NoMemory>
+        ensures since { (trace : List Event) (spots : List SpotData) → AreGroups trace spots variable access.event self.now.each.items
+            → AreClasses trace spots access.event classes.old.newest.entries → IfOk result (IsSince trace spots variable access) }
+        ensures classes { (trace : List Event) (spots : List SpotData) → IsFoundAccess trace spots variable access
+            → AreClasses trace spots access.event classes.old.newest.entries → OnOk result (AreClasses trace spots (access.event + 1) classes.new.newest.entries) }
+    {
+        let Some(at) = self.index_of(access.thread, access.writes) else {
+            return Ok(0);
+        };
+        let kept = self.each[at].kept.as_slice();
+        if kept.len() <= FEW {
+            let last = last_at(kept, access.spot.location);
+            return Ok(last);
+        }
+        let class = Class {
+            variable,
+            location: access.spot.location,
+            thread: access.thread,
+            writes: access.writes,
+        };
+        let before = classes.put(class, access.event)?;
+        Ok(before)
+    }
+
+    /// Takes an access in, with how many events its thread had. The classes lend their keys.
     ///
     /// # Errors
     ///
@@ -134,9 +221,8 @@ impl Groups {
         access: FoundAccess,
         time: u32,
     ) -> Result<(), NoMemory>
-        ensures { (trace : List Event) (spots : List SpotData) (before : List (ClassData × ℕ)) → AreGroups trace spots variable access.event before self.old.each.items
-            → HasPut before classes.now.newest.entries (class_of variable access) access.event → IsFoundAccess trace spots variable access
-            → time ≡ local_time trace access.thread access.event → OnOk result (AreGroups trace spots variable (access.event + 1) classes.now.newest.entries self.new.each.items) }
+        ensures { (trace : List Event) (spots : List SpotData) → AreGroups trace spots variable access.event self.old.each.items → IsFoundAccess trace spots variable access
+            → time ≡ local_time trace access.thread access.event → OnOk result (AreGroups trace spots variable (access.event + 1) self.new.each.items) }
     {
         let at = self.group_at(alloc, access.thread, access.writes)?;
         let kept = Kept {
@@ -144,7 +230,7 @@ impl Groups {
             time,
             spot: access.spot,
         };
-        self.each[at].keep(classes, variable, kept)?;
+        self.each[at].keep(alloc, classes, variable, kept)?;
         Ok(())
     }
 }

@@ -3,18 +3,18 @@
 //! A place is an ordered pair of locations. Its nearest race is that whose later event is the least that has a race at
 //! the place, and whose earlier event is the greatest with which that one races there (`specs/Nearest.antt`).
 //!
-//! A *class* is the accesses of a variable at one location by one thread, all writes or all reads; `classes` has the
-//! newest access of each. A *group* is the classes of a variable by one thread, of one kind; `groups` keeps of each
-//! group some accesses, the newest one of each class among them. An access looks at the groups of its variable by
-//! other threads, and at the accesses that a group keeps from the newest one back. It stops at the first that is below
-//! its predecessor, since those behind it are too, and at the first that is before the last access of its own class,
-//! since what is behind that and races with this access raced with that one, and its place is known. All that it went
-//! over race with it, and are offered to the table of places.
+//! A *class* is the accesses of a variable at one location by one thread, all writes or all reads. A *group* is the
+//! classes of a variable by one thread, of one kind; `groups` keeps of each group some accesses, the newest one of each
+//! class among them. An access looks at the groups of its variable by other threads, and at the accesses that a group
+//! keeps from the newest one back. It stops at the first that is below its predecessor, since those behind it are too,
+//! and at the first that is before an earlier access of its own class, since what is behind that and races with this
+//! access raced with that one, and its place is known. All that it went over race with it, and are offered to the table
+//! of places. The earlier access of its class is the last one, where the own group keeps a few; else `classes` has one.
 //!
 //! So an access costs a step for each group of its variable, and one for each kept access that races with it and came
-//! after the last access of its own class. A group forgets those that aren't the newest of their class when it keeps
-//! more than twice as many as were left the last time, and more than a few. Memory grows with names, classes, groups
-//! and places, and with no events.
+//! after the last access of its own class; where its group begins to keep more than a few, for once, one for each that
+//! races with it. A group forgets those that aren't the last at their location when it keeps more than twice as many as
+//! were left the last time, and more than a few. Memory grows with names, groups, classes and places, and with no events.
 #![tactic(auto)]
 
 mod access;

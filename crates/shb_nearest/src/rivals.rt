@@ -2,11 +2,9 @@
 
 ghost use Rattle.std.specs.Prelude.{◌≡◌, ◌<◌, ◌≤◌, ◌++◌, ◌∷◌, [], ℕ, false, true, List, IfOk, OnOk, map};
 ghost use Rattle.shb_lines.specs.declared.event.Event.{Event};
-ghost use Rattle.shb_nearest.specs.Classes.{AreClasses};
 ghost use Rattle.shb_nearest.specs.Groups.{AreGroups, IsGroup, access_of};
 ghost use Rattle.shb_nearest.specs.Rivals.{AreRivals, CanRace, HasMet, HasMetGroup, IsFrom, IsNextAccess, IsOver};
 ghost use Rattle.shb_nearest.specs.declared.access.Spot.{Spot as SpotData};
-ghost use Rattle.shb_nearest.specs.declared.classes.Class.{Class as ClassData};
 
 use crate::access::FoundAccess;
 use crate::groups::{Group, Kept};
@@ -114,8 +112,8 @@ pub fn rivals_of(
     access: FoundAccess,
     since: u32,
 ) -> Result<Vec<FoundAccess>, NoMemory>
-    ensures { (past : List Event) (e : Event) (spots : List SpotData) (x : ℕ) (newest : List (ClassData × ℕ)) → IsNextAccess past e spots x clocks.now access
-        → AreClasses (past ++ e ∷ []) spots access.event newest → AreGroups (past ++ e ∷ []) spots x access.event newest groups.now
+    ensures { (past : List Event) (e : Event) (spots : List SpotData) (x : ℕ) → IsNextAccess past e spots x clocks.now access
+        → AreGroups (past ++ e ∷ []) spots x access.event groups.now
         → IfOk result (λ rivals. AreRivals (past ++ e ∷ []) spots x access since rivals.items) }
 {
     let mut rivals = Vec::new(alloc);

@@ -8,7 +8,7 @@ ghost use Rattle.shb_nearest.specs.Wide.{HasSpace};
 ghost use Rattle.shb_nearest.specs.declared.access.Spot.{Spot as SpotData};
 
 use crate::access::FoundAccess;
-use crate::classes::{Class, Classes};
+use crate::classes::Classes;
 use crate::groups::Groups;
 use crate::places::Places;
 use crate::rivals::rivals_of;
@@ -17,7 +17,7 @@ use shb_stamps::StreamClocks;
 use std::alloc::Global;
 use std::random::RandomSource;
 
-/// The newest access of each class, the groups of each variable, and the places that are found.
+/// The groups of each variable, accesses by class where groups keep many, and the places that are found.
 #[derive(Drop)]
 pub struct Tables {
     pub classes: Classes,
@@ -71,14 +71,8 @@ impl Tables {
             → AreTables (past ++ e ∷ []) spots access.event self.old → OnOk result (AreTables (past ++ e ∷ []) spots (access.event + 1) self.new) }
     {
         make_space(&mut self.groups, alloc, variable)?;
-        let class = Class {
-            variable,
-            location: access.spot.location,
-            thread: access.thread,
-            writes: access.writes,
-        };
-        let since = self.classes.put(class, access.event)?;
         let groups = &mut self.groups[variable as usize];
+        let since = groups.since(&mut self.classes, variable, access)?;
         let rivals = rivals_of(alloc, clocks, groups.each.as_slice(), access, since)?;
         let time = clocks
             .below_next(access.thread, access.thread)

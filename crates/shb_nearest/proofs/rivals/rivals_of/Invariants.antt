@@ -4,9 +4,8 @@ use Rattle.shb_lines.specs.declared.event.Event.{Event}
 use Rattle.shb_nearest.specs.Groups.{AreGroups}
 use Rattle.shb_nearest.specs.Rivals.{AreMet, IsNextAccess}
 use Rattle.shb_nearest.specs.declared.access.Spot.{Spot}
-use Rattle.shb_nearest.specs.declared.classes.Class.{Class}
 use Rattle.shb_nearest.proofs.rivals.rivals_of.Given as goal
 
 abbrev pub invariant-loop-group : goal.invariant-loop-group
-invariant-loop-group l = (past : List Event) (e : Event) (spots : List Spot) (x : ℕ) (newest : List (Class × ℕ)) → IsNextAccess past e spots x l.clocks l.access → AreGroups (past ++ e ∷ []) spots x l.access.event newest l.groups
+invariant-loop-group l = (past : List Event) (e : Event) (spots : List Spot) (x : ℕ) → IsNextAccess past e spots x l.clocks l.access → AreGroups (past ++ e ∷ []) spots x l.access.event l.groups
     → AreMet (past ++ e ∷ []) spots x l.access l.since (take l.group-index l.groups) l.rivals.items

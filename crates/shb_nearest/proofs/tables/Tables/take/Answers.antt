@@ -6,7 +6,7 @@ use Rattle.shb_nearest.specs.declared.groups.Group.{Group}
 use Rattle.shb_nearest.specs.Groups.{AreGroups}
 use Rattle.shb_nearest.specs.Places.{ArePlaces, PlaceEntry, offered_all}
 use Rattle.shb_nearest.proofs.PlaceLemmas.{placed}
-use Rattle.shb_nearest.proofs.TableLemmas.{classes_put, groups_put, groups_space, since_is, time_next}
+use Rattle.shb_nearest.proofs.TableLemmas.{groups_put, groups_space, time_next}
 use Rattle.shb_nearest.proofs.tables.Tables.take.Goals as goal
 
 pub returns : goal.returns
@@ -15,23 +15,20 @@ returns c past e spots room next are =
     let x = c.args.variable in
     let access = c.args.access in
     let n = c.args.access.event in
-    let before = c.args.self.now.classes.newest.entries in
-    let newest = c.put.new.self.newest.entries in
     let mid = c.make_space.new.groups.items in
     let space = c.in_ok-make_space.ensures in
-    let put = c.in_ok-since.ensures.updates in
-    let all = groups_space trace spots n before c.args.self.now.groups.items mid space.more are.groups in
+    let all = groups_space trace spots n c.args.self.now.groups.items mid space.more are.groups in
     let at = slice_get_read mid (length mid) x c.index_mut-groups.result.now refl space.wide c.index_mut-groups.ensures.value in
     let groups = all.each x c.index_mut-groups.result.now at in
-    let rivals = c.in_ok-rivals.ensures past e spots x before next are.classes (subst (λ (l : List Group). AreGroups (past ++ e ∷ []) spots c.args.variable c.args.access.event c.args.self.now.classes.newest.entries l) (sym c.as_slice.ensures.value) groups) in
-    let since = since_is trace spots n before x c.in_ok-since.since access refl are.classes c.in_ok-since.ensures.before in
+    let rivals = c.in_ok-rivals.ensures past e spots x next (subst (λ (l : List Group). AreGroups (past ++ e ∷ []) spots c.args.variable c.args.access.event l) (sym c.as_slice.ensures.value) groups) in
+    let since = c.in_ok-since.ensures.since trace spots groups are.classes in
     let at_end = next.event_is in
     let time = time_next trace next.disciplined access.thread n c.below_next.result c.saturating_add-time.result next.own.thread_is (omega (arith, room, at_end))
     (subst (λ (m : ℕ). IsBelowPredCount (past ++ e ∷ []) c.args.access.thread m c.below_next.result) (sym next.event_is) (c.below_next.ensures past e next.thread_is next.disciplined next.streamed)) c.saturating_add-time.ensures in
-    let noted = c.in_ok-note.ensures trace spots before groups put next.own time in
+    let noted = c.in_ok-note.ensures trace spots groups next.own time in
     record {
-      classes = classes_put trace spots n before newest x access refl next.own put are.classes;
-      groups = groups_put trace spots n before newest x access put mid c.note.new.self space.wide all noted;
+      classes = c.in_ok-since.ensures.classes trace spots next.own are.classes;
+      groups = groups_put trace spots n x access refl next.own mid c.note.new.self space.wide all noted;
       places = subst (λ (l : List PlaceEntry). ArePlaces (past ++ e ∷ []) spots (c.args.access.event + 1) l)
           (sym (c.in_ok-offer_all.ensures ∙ ap (λ (l : List FoundAccess). offered_all c.args.variable c.args.access c.args.self.now.places.races.entries l) c.deref.ensures.value))
           (placed trace next.disciplined spots x n access refl next.own c.in_ok-since.since since c.in_ok-rivals.rivals.items rivals c.args.self.now.places.races.entries are.places);

@@ -1,0 +1,106 @@
+-- Classes: of each access one, and of each the newest access before an event.
+use Rattle.std.proofs.Common.{◌≡◌, ◌≢◌, ℕ, ◌+◌, ◌<◌, ◌≤◌, ◌⊎◌, inl, inr, Bool, true, false, List, None, Option, Some, arith, refl, sym, ap, ◌∙◌}
+use Rattle.std.specs.Prelude.{option_and_then}
+use Rattle.std.proofs.lemmas.Bool.{cases_eq}
+use Rattle.shb_lines.specs.declared.event.Event.{Event}
+use Rattle.shb_lines.specs.declared.event.Op.{Op}
+use Rattle.shb_lines.specs.declared.event.Op.TheVariants.{Read, Write}
+use Rattle.shb_lines.specs.events.Events.{op_at, thread_at, variable_of}
+use Rattle.shb_lines.specs.events.Race.{variable_at}
+use Rattle.shb_lines.proofs.events.Listed.{Decided}
+use Rattle.shb_nearest.specs.declared.access.FoundAccess.{FoundAccess}
+use Rattle.shb_nearest.specs.declared.access.Spot.{Spot}
+use Rattle.shb_nearest.specs.declared.classes.Class.{Class}
+use Rattle.shb_nearest.specs.Classes.{IsNewestOf, IsOfClass}
+use Rattle.shb_nearest.specs.Found.{IsFoundAccess, access_op, location_in}
+use Rattle.shb_nearest.specs.Groups.{class_of}
+use Rattle.shb_nearest.proofs.NearestLaws.{greatest}
+
+-- the variable of an access, and whether it writes
+pub op_variable : (writes : Bool) (x : ℕ) → variable_of (access_op writes x) ≡ Some x
+op_variable true x = refl
+op_variable false x = refl
+
+pub access_kind : (op : Op) (x : ℕ) → variable_of op ≡ Some x → (writes : Bool) × (op ≡ access_op writes x)
+access_kind (Read y) x is = (false, ap (λ (z : ℕ). Read z) (let e : y ≡ x = cc in e))
+access_kind (Write y) x is = (true, ap (λ (z : ℕ). Write z) (let e : y ≡ x = cc in e))
+access_kind _ x is = absurd (let f : ⊥ = cc in f)
+
+pub kind_at : (trace : List Event) (i x : ℕ) → variable_at trace i ≡ Some x → (writes : Bool) × (op_at trace i ≡ Some (access_op writes x))
+kind_at trace i x is = go (op_at trace i) refl is
+  where
+    go : (o : Option Op) → op_at trace i ≡ o → option_and_then variable_of o ≡ Some x → (writes : Bool) × (op_at trace i ≡ Some (access_op writes x))
+    go (Some op) at h = let k = access_kind op x h in (k.0, at ∙ ap (λ (p : Op). Some p) k.1)
+    go None at h = absurd (let f : ⊥ = cc in f)
+
+pub location_of_access : (trace : List Event) (spots : List Spot) (x : ℕ) (a : FoundAccess) → IsFoundAccess trace spots x a → location_in spots a.event ≡ Some a.spot.location
+location_of_access trace spots x a own = ap (option_and_then (λ (s : Spot). Some s.location)) own.spot_is
+
+kind_same : (v w : Bool) (x y : ℕ) → access_op v x ≡ access_op w y → (v ≡ w) × (x ≡ y)
+kind_same true true x y is = (refl, (let e : x ≡ y = cc in e))
+kind_same true false x y is = absurd (let f : ⊥ = cc in f)
+kind_same false true x y is = absurd (let f : ⊥ = cc in f)
+kind_same false false x y is = (refl, (let e : x ≡ y = cc in e))
+
+abbrev pub class_with : ℕ → ℕ → ℕ → Bool → Class
+class_with x l t w = record { variable = x; location = l; thread = t; writes = w }
+
+module _ (trace : List Event) (spots : List Spot) where
+  -- an event has one class
+  pub one_class_at : (c d : Class) (i : ℕ) → IsOfClass trace spots c i → IsOfClass trace spots d i → c ≡ d
+  one_class_at c d i a b =
+      let t : c.thread ≡ d.thread = (let s : Some c.thread ≡ Some d.thread = sym a.thread_is ∙ b.thread_is in cc) in
+      let l : c.location ≡ d.location = (let s : Some c.location ≡ Some d.location = sym a.location_is ∙ b.location_is in cc) in
+      let o : access_op c.writes c.variable ≡ access_op d.writes d.variable = (let s : Some (access_op c.writes c.variable) ≡ Some (access_op d.writes d.variable) = sym a.op_is ∙ b.op_is in cc) in
+      let k = kind_same c.writes d.writes c.variable d.variable o in
+      λ i. class_with (k.1 i) (l i) (t i) (k.0 i)
+
+  pub class_own : (x : ℕ) (access : FoundAccess) → IsFoundAccess trace spots x access → IsOfClass trace spots (class_of x access) access.event
+  class_own x access own = record { thread_is = own.thread_is; op_is = own.op_is; location_is = location_of_access trace spots x access own }
+
+number_or_not : (o : Option ℕ) (x : ℕ) → Decided (o ≡ Some x)
+number_or_not None x = inr (λ h. let f : ⊥ = cc in f)
+number_or_not (Some y) x = elim (cases_eq y x) [ inl same ↦ inl (ap (λ (z : ℕ). Some z) same) | inr other ↦ inr (λ h. other (let e : y ≡ x = cc in e)) ]
+
+kind_or_not : (v w : Bool) → (v ≡ w) ⊎ (v ≢ w)
+kind_or_not true true = inl refl
+kind_or_not true false = inr (λ h. let f : ⊥ = cc in f)
+kind_or_not false true = inr (λ h. let f : ⊥ = cc in f)
+kind_or_not false false = inl refl
+
+module _ (trace : List Event) (spots : List Spot) where
+  op_or_not : (i x : ℕ) (w : Bool) → Decided (op_at trace i ≡ Some (access_op w x))
+  op_or_not i x w = go (number_or_not (variable_at trace i) x)
+    where
+      by : (k : (writes : Bool) × (op_at trace i ≡ Some (access_op writes x))) → (k.0 ≡ w) ⊎ (k.0 ≢ w) → Decided (op_at trace i ≡ Some (access_op w x))
+      by k (inl same) = inl (k.1 ∙ ap (λ (v : Bool). Some (access_op v x)) same)
+      by k (inr other) = inr (λ h. other (kind_same k.0 w x x (let s : Some (access_op k.0 x) ≡ Some (access_op w x) = sym k.1 ∙ h in cc)).0)
+
+      go : Decided (variable_at trace i ≡ Some x) → Decided (op_at trace i ≡ Some (access_op w x))
+      go (inl accesses) = let k = kind_at trace i x accesses in by k (kind_or_not k.0 w)
+      go (inr fails) = inr (λ h. fails (ap (option_and_then variable_of) h ∙ op_variable w x))
+
+  class_or_not : (c : Class) (i : ℕ) → Decided (IsOfClass trace spots c i)
+  class_or_not c i = go (number_or_not (thread_at trace i) c.thread) (op_or_not i c.variable c.writes) (number_or_not (location_in spots i) c.location)
+    where
+      go : Decided (thread_at trace i ≡ Some c.thread) → Decided (op_at trace i ≡ Some (access_op c.writes c.variable)) → Decided (location_in spots i ≡ Some c.location) → Decided (IsOfClass trace spots c i)
+      go (inl a) (inl b) (inl d) = inl (record { thread_is = a; op_is = b; location_is = d })
+      go (inl a) (inl b) (inr f) = inr (λ h. f h.location_is)
+      go (inl a) (inr f) d = inr (λ h. f h.op_is)
+      go (inr f) b d = inr (λ h. f h.thread_is)
+
+  -- a class with an access has a newest one
+  pub newest_exists : (n : ℕ) (c : Class) (i : ℕ) → i < n → IsOfClass trace spots c i → (k : ℕ) × IsNewestOf trace spots n c k
+  newest_exists n c i lt h = go (greatest (IsOfClass trace spots c) (class_or_not c) n)
+    where
+      go : ((m : ℕ) × (m < n) × IsOfClass trace spots c m × ((k : ℕ) → k < n → IsOfClass trace spots c k → k ≤ m)) ⊎ ((k : ℕ) → k < n → IsOfClass trace spots c k → ⊥) → (k : ℕ) × IsNewestOf trace spots n c k
+      go (inl found) = (found.0, record { own = found.2; past = found.1; last = found.3 })
+      go (inr none) = absurd (none i lt h)
+
+  -- the newest access before n + 1 that isn't n is the newest before n
+  pub newest_before : (n : ℕ) (c : Class) (k : ℕ) → IsNewestOf trace spots (n + 1) c k → (k ≡ n → ⊥) → IsNewestOf trace spots n c k
+  newest_before n c k is other = record {
+    own = is.own;
+    past = (let lt = is.past in omega (arith, lt, other));
+    last = λ i lt h. is.last i (omega (arith, lt)) h;
+  }
