@@ -12,9 +12,10 @@
 //! of places. The earlier access of its class is the last one, where the own group keeps a few; else `classes` has one.
 //!
 //! So an access costs a step for each group of its variable, and one for each kept access that races with it and came
-//! after the last access of its own class; where its group begins to keep more than a few, for once, one for each that
-//! races with it. A group forgets those that aren't the last at their location when it keeps more than twice as many as
-//! were left the last time, and more than a few. Memory grows with names, groups, classes and places, and with no events.
+//! after the earlier access of its own class that is found. That is the last one, but where its group now keeps few
+//! accesses and now more: then it can be an older one, or none. A group forgets those that aren't the last at their
+//! location when it keeps more than twice as many as were left the last time, and more than a few. Memory grows with
+//! names, groups, classes and places, and with no events.
 #![tactic(auto)]
 
 mod access;
