@@ -27,6 +27,8 @@ mod reports;
 #[cfg(test)]
 mod runs;
 #[cfg(test)]
+mod scans;
+#[cfg(test)]
 mod traces;
 #[cfg(test)]
 mod words;
