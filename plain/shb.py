@@ -7,10 +7,20 @@ its fault on standard error.
 """
 
 import sys
+import typing
 
 WORDS = {b"r", b"w", b"acq", b"rel", b"fork", b"join", b"begin", b"end"}
 MARKS = {b"begin", b"end"}
-TEXT, LINE, EVENTS, THREADS = 1_073_741_824, 4_096, 4_194_304, 1_024
+
+
+class Limits(typing.NamedTuple):
+    text: float
+    line: int
+    events: int
+    threads: int
+
+
+LIMITS = Limits(text=1_073_741_824, line=4_096, events=4_194_304, threads=1_024)
 
 
 class Refused(Exception):
@@ -77,27 +87,27 @@ def discipline_fault(past, event):
     return None
 
 
-def read_trace(text):
+def read_trace(text, limits=LIMITS):
     """The events, each with the bytes of its line; or Refused with the first fault of the text."""
     pieces = text.split(b"\n")
     events, lines, threads, start = [], [], set(), 0
     for number, piece in enumerate(pieces, 1):
         end = start + len(piece)
-        if len(text) > TEXT and start <= TEXT < end + 1:
-            raise Refused(number, f"the text is longer than {TEXT} bytes")
+        if len(text) > limits.text and start <= limits.text < end + 1:
+            raise Refused(number, f"the text is longer than {limits.text} bytes")
         start = end + 1
-        if len(piece) > LINE:
-            raise Refused(number, f"the line is longer than {LINE} bytes")
+        if len(piece) > limits.line:
+            raise Refused(number, f"the line is longer than {limits.line} bytes")
         line = piece[:-1] if piece.endswith(b"\r") else piece
         event = read_line(line)
         if event is None:
             continue
         if isinstance(event, str):
             raise Refused(number, event)
-        if len(events) == EVENTS:
-            raise Refused(number, f"there are more than {EVENTS} events")
-        if len(threads | set(names_of(event))) > THREADS:
-            raise Refused(number, f"there are more than {THREADS} threads")
+        if len(events) == limits.events:
+            raise Refused(number, f"there are more than {limits.events} events")
+        if len(threads | set(names_of(event))) > limits.threads:
+            raise Refused(number, f"there are more than {limits.threads} threads")
         fault = discipline_fault(events, event)
         if fault is not None:
             raise Refused(number, fault)

@@ -16,19 +16,19 @@ class Devices(program.Case):
 
     def writers(self):
         """The words that write, and what each is given."""
-        return (["races", self.trace], b""), (["races", "--list"], TRACE), ([], TRACE), (["places", self.trace], b""), (["check", self.trace], self.report), (["--help"], b"")
+        return (["races", self.trace], b""), (["races", "--list"], TRACE), ([], TRACE), (["places", self.trace], b""), (["scan", self.trace], b""), (["scan"], TRACE), (["check", self.trace], self.report), (["--help"], b"")
 
     def test_a_missing_file(self):
         for name in (self.folder / "none", "", self.trace / "below"):
-            for command in ("races", "check"):
+            for command in ("races", "check", "scan"):
                 self.expect(program.run([command, name], self.report), 4, b"", b"cannot open\n")
 
     def test_a_directory(self):
-        for command in ("races", "check"):
+        for command in ("races", "check", "scan"):
             self.expect(program.run([command, self.folder], self.report), 4, b"", b"cannot read\n")
 
     def test_a_directory_as_standard_input(self):
-        for words in (["races"], [], ["check", self.trace]):
+        for words in (["races"], [], ["check", self.trace], ["scan"]):
             folder = os.open(self.folder, os.O_RDONLY)
             self.addCleanup(os.close, folder)
             self.expect(program.run_over(words, folder), 4, b"", b"cannot read\n")

@@ -73,6 +73,10 @@ class Refusals(Refusing):
                 self.refuse_in_turn(["places", "--workers", workers, "--list"], given)
         self.refuse_in_turn(["places"], REFUSED)
 
+    def test_memory_for_a_scan(self):
+        for given in (LOCKED, racing(5), REFUSED):
+            self.refuse_in_turn(["scan"], given)
+
     def test_memory_for_a_refused_trace(self):
         self.refuse_in_turn(["races"], REFUSED)
         self.refuse_in_turn(["check", self.file(REFUSED)], b"")
@@ -106,7 +110,7 @@ class Refusals(Refusing):
     def test_numbers_of_workers(self):
         """Each worker is a thread where pairs are made of the races that were kept, and one when schedules are made; 4 where no
         number is named. A list of more races than events is searched for by workers when it is written. `places` finds its
-        races without workers."""
+        races without workers, and so does `scan`."""
         trace, few = self.file(racing(64)), self.file(LOCKED, "few.std")
         for words, wanted in (
             (["races", "--list", few], 4),
@@ -119,12 +123,13 @@ class Refusals(Refusing):
             (["places", trace], 4),
             (["places", "--workers", "1", trace], 1),
             (["places", "--workers", "3", trace], 3),
+            (["scan", trace], 0),
         ):
             self.assertEqual(self.threads_started(words, b""), wanted)
         self.assertEqual(self.threads_started([], racing(64)), 4)
 
     def test_nothing_is_read_after_the_end(self):
         trace, report = self.file(LOCKED), program.run(["races"], LOCKED).out
-        for words, given in (([], LOCKED), (["races"], b""), (["races", trace], b""), (["check", trace], report), (["check", trace], b"")):
+        for words, given in (([], LOCKED), (["races"], b""), (["races", trace], b""), (["scan"], LOCKED), (["scan", trace], b""), (["check", trace], report), (["check", trace], b"")):
             answer, is_refused = self.run_refused(words, given, WATCH_READS=1)
             self.assertEqual((answer, is_refused), (program.run(words, given), False))
