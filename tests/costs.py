@@ -53,7 +53,9 @@ class Cost(typing.NamedTuple):
     reads: typing.Optional[int] = None
 
 
-PLACES, RACES, SCHEDULES = ("places", "--list"), ("races", "--list"), ("races",)
+ONE_WORKER = "--workers", "1"
+PLACES, RACES, SCHEDULES = ("places", "--list", *ONE_WORKER), ("races", "--list", *ONE_WORKER), ("races", *ONE_WORKER)
+SCAN = ("scan",)
 
 
 def hot(shape, threads, per_event):
@@ -91,6 +93,7 @@ def costs():
     }
     for name, parts in ours.items():
         yield Cost(name, PLACES, parts, 20_000)
+        yield Cost(name, SCAN, parts, 20_000)
     for name in ("8 threads write under a lock", "256 threads write under a lock", "256 threads read under a lock"):
         yield Cost(name, RACES, ours[name], 20_000)
     yield Cost("few and many races by turns", RACES, shapes.few_and_many_races, 40_000, reads=FIRST)
@@ -104,6 +107,7 @@ def costs():
     for path in sorted(RECORDED.glob("*.std.xz")):
         yield Cost(path.name, PLACES, recorded(path), 0, grows=False)
         yield Cost(path.name, RACES, recorded(path), 0, grows=False)
+        yield Cost(path.name, SCAN, recorded(path), 0, grows=False)
 
 
 def instructions(program, cost, times):
@@ -112,7 +116,7 @@ def instructions(program, cost, times):
         trace = pathlib.Path(room) / "trace.std"
         with open(trace, "w", encoding="latin-1") as out:
             out.writelines(cost.parts(times * cost.events))
-        words = ["valgrind", "--tool=callgrind", "--callgrind-out-file=/dev/null", program, *cost.words, "--workers", "1", trace]
+        words = ["valgrind", "--tool=callgrind", "--callgrind-out-file=/dev/null", program, *cost.words, trace]
         with subprocess.Popen(words, stdout=subprocess.PIPE, stderr=open(pathlib.Path(room) / "said", "wb"), cwd=room) as ran:
             limit = threading.Timer(SECONDS, ran.kill)
             limit.start()
