@@ -1,9 +1,12 @@
 pub mod NewestLemmas
+pub mod RankLemmas
 pub mod MetLemmas
 pub mod RivalLemmas
 pub mod RacingLemmas
 pub mod FoundLemmas
 pub mod PastLemmas
+pub mod UnknownLemmas
 pub mod KeyOrder
 pub mod ListedLemmas
+pub mod BatchLemmas
 pub mod PieceLemmas

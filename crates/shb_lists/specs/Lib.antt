@@ -1,3 +1,5 @@
+pub mod Batches
 pub mod Listed
 pub mod Past
 pub mod Rivals
+pub mod Unknown

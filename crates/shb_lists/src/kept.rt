@@ -3,9 +3,9 @@
 ghost use Rattle.std.specs.Prelude.{◌≡◌, ◌≢◌, ◌<◌, ◌++◌, ℕ, false, Bool, List, None, Some, IfOk, IfSome, IsTrue, OnOk, length, map};
 ghost use Rattle.shb_lines.specs.declared.event.Event.{Event};
 ghost use Rattle.shb_lines.specs.events.Race.{IsRaceList, variable_at};
-ghost use Rattle.shb_lines.specs.events.Sizes.{IsNumberedByAccess};
 ghost use Rattle.shb_stamps.specs.Open.{is_open as is_open_in};
 ghost use Rattle.shb_pairs.specs.Open.{AreOpen};
+ghost use Rattle.shb_lists.specs.Batches.{IsBatch, races_between};
 ghost use Rattle.shb_lists.specs.Listed.{IsListOf, pair_in, race_of, races_before};
 
 use crate::past::Past;
@@ -74,9 +74,9 @@ fn add_races(
 }
 
 /// Some races in the order of the race list.
-fn in_list_order(races: Vec<ListedRace>) -> Vec<ListedRace>
-    ensures { (trace : List Event) (flags : List Bool) → IsNumberedByAccess trace → AreOpen trace flags
-        → IsListOf trace (races_before trace flags (length trace)) races.items → IsRaceList trace (map pair_in result.items) }
+pub(crate) fn in_list_order(races: Vec<ListedRace>) -> Vec<ListedRace>
+    ensures { (trace : List Event) (flags : List Bool) (from to : ℕ) → IsBatch trace flags from to
+        → IsListOf trace (races_before trace flags (length trace)) races.items → map pair_in result.items ≡ races_between trace from to }
 {
     let mut sorted = races;
     sorted.sort_unstable();
@@ -85,7 +85,7 @@ fn in_list_order(races: Vec<ListedRace>) -> Vec<ListedRace>
 
 /// The races of a trace in the order in which a sweep finds them, by their later events; or nothing, where there are more
 /// than `most`.
-fn found_races<'a>(
+pub(crate) fn found_races<'a>(
     alloc: Global,
     disciplined: &'a Disciplined<'a>,
     links: &'a Links<'a>,

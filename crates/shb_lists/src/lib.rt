@@ -8,14 +8,23 @@
 //! each race a step.
 //!
 //! [`kept_races`] keeps what the sweep finds, and sorts it into the order of the race list; workers make pairs of it in
-//! pieces ([`pairs_in_pieces`]).
+//! pieces ([`pairs_in_pieces`]). [`batch_from`] does the same for as many variables as have few enough races. [`Unknown`]
+//! counts the races of an access by the numbers of their locations, without a step for each of them.
 #![tactic(auto)]
 
+mod batches;
 mod kept;
 mod past;
 mod pieces;
 mod rivals;
 mod search;
+mod settled;
+mod unknown;
 
+pub use batches::{Batch, batch_from, narrowed};
 pub use kept::{ListedRace, kept_races};
+pub use past::{Past, access_at};
 pub use pieces::pairs_in_pieces;
+pub use search::Access;
+pub use settled::Settled;
+pub use unknown::Unknown;

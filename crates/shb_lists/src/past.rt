@@ -37,7 +37,7 @@ fn no_rivals(alloc: Global, variables: u32) -> Result<Vec<Rivals>, NoMemory>
 }
 
 /// The access that an event is, if it is one of an open variable.
-fn access_at<O: Order>(ordered: &Ordered<'_, O>, flags: &[bool], e: u32) -> Option<Access>
+pub fn access_at<O: Order>(ordered: &Ordered<'_, O>, flags: &[bool], e: u32) -> Option<Access>
     requires { e < length ordered.now.disciplined.now.events.now }
     ensures access { IfSome result (λ access. (access.event ≡ e) × IsAccess ordered.now.disciplined.now.events.now access × (is_open_in flags.now access.variable ≡ true)) }
     ensures none { result ≡ None → accesses_open flags.now ordered.now.disciplined.now.events.now e ≡ false }
@@ -66,9 +66,13 @@ impl Past {
         })
     }
 
-    /// Finds the races of an access, and takes it in.
-    fn take<O: Order>(
-        &mut self,
+    /// The earlier events that race with an access of an open variable, rising.
+    ///
+    /// # Errors
+    ///
+    /// `NoMemory` where a growth was refused.
+    pub fn find<O: Order>(
+        &self,
         ordered: &Ordered<'_, O>,
         access: Access,
         found: &mut Vec<u32>,
@@ -76,22 +80,52 @@ impl Past {
         requires access { IsAccess ordered.now.disciplined.now.events.now access }
         requires asked { O.asks ordered.now.order.now access.event ≡ true }
         requires past { (flags : List Bool) × (is_open_in flags access.variable ≡ true)
-            × IsPast ordered.now.disciplined.now.events.now flags access.event ordered.now.disciplined.now.sizes.variables self.old }
-        ensures found { OnOk result (found.new.items ≡ numbers_where (λ i. is_race ordered.now.disciplined.now.events.now i access.event) access.event) }
-        ensures past { (flags : List Bool) → is_open_in flags access.variable ≡ true
-            → IsPast ordered.now.disciplined.now.events.now flags access.event ordered.now.disciplined.now.sizes.variables self.old
-            → OnOk result (IsPast ordered.now.disciplined.now.events.now flags (access.event + 1) ordered.now.disciplined.now.sizes.variables self.new) }
+            × IsPast ordered.now.disciplined.now.events.now flags access.event ordered.now.disciplined.now.sizes.variables self.now }
+        ensures { OnOk result (found.new.items ≡ numbers_where (λ i. is_race ordered.now.disciplined.now.events.now i access.event) access.event) }
     {
-        let rivals = &mut self.rivals[access.variable as usize];
+        let rivals = &self.rivals[access.variable as usize];
         find_races(
             ordered,
             self.earlier.as_slice(),
             rivals.each.as_slice(),
             access,
             found,
-        )?;
+        )
+    }
+
+    /// Takes an access of an open variable in.
+    ///
+    /// # Errors
+    ///
+    /// `NoMemory` where a growth was refused; nothing is known of the accesses then.
+    pub fn note<O: Order>(
+        &mut self,
+        ordered: &Ordered<'_, O>,
+        access: Access,
+    ) -> Result<(), NoMemory>
+        requires access { IsAccess ordered.now.disciplined.now.events.now access }
+        requires past { (flags : List Bool) × (is_open_in flags access.variable ≡ true)
+            × IsPast ordered.now.disciplined.now.events.now flags access.event ordered.now.disciplined.now.sizes.variables self.old }
+        ensures { (flags : List Bool) → is_open_in flags access.variable ≡ true
+            → IsPast ordered.now.disciplined.now.events.now flags access.event ordered.now.disciplined.now.sizes.variables self.old
+            → OnOk result (IsPast ordered.now.disciplined.now.events.now flags (access.event + 1) ordered.now.disciplined.now.sizes.variables self.new) }
+    {
+        let rivals = &mut self.rivals[access.variable as usize];
         let newest = rivals.take(access.event, access.thread, access.writes)?;
         self.earlier.push(newest)?;
+        Ok(())
+    }
+
+    /// Goes past an event that accesses no open variable.
+    ///
+    /// # Errors
+    ///
+    /// `NoMemory` where a growth was refused; nothing is known of the accesses then.
+    pub fn skip(&mut self) -> Result<(), NoMemory>
+        ensures { (trace : List Event) (flags : List Bool) (e variables : ℕ) → accesses_open flags trace e ≡ false
+            → IsPast trace flags e variables self.old → OnOk result (IsPast trace flags (e + 1) variables self.new) }
+    {
+        self.earlier.push(Newest::none())?;
         Ok(())
     }
 
@@ -116,11 +150,13 @@ impl Past {
         ensures past { OnOk result (IsPast ordered.now.disciplined.now.events.now flags.now (e + 1) ordered.now.disciplined.now.sizes.variables self.new) }
     {
         match access_at(ordered, flags, e) {
-            Some(access) => self.take(ordered, access, found),
+            Some(access) => {
+                self.find(ordered, access, found)?;
+                self.note(ordered, access)
+            }
             None => {
                 found.clear();
-                self.earlier.push(Newest::none())?;
-                Ok(())
+                self.skip()
             }
         }
     }

@@ -1,4 +1,4 @@
-use Rattle.std.proofs.Common.{◌≡◌, ℕ, List, [], Global, Vec, ap, flat_map, length, map, ◌∙◌}
+use Rattle.std.proofs.Common.{ℕ, List, [], Global, Vec, ap, flat_map, length, map, ◌∙◌}
 use Rattle.std.specs.Prelude.{slice_index_or}
 use Rattle.std.proofs.lemmas.Result.{IfOk-weaker}
 use Rattle.shb_fan.specs.Values.{values_of}
