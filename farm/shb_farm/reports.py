@@ -81,8 +81,7 @@ def written(work, form, trace, out, read):
 
 def is_marked(trace):
     """Whether a trace begins with a byte order mark, which some editors write."""
-    trace.seek(0)
-    return trace.read(len(refused.MARK)) == refused.MARK
+    return os.pread(trace.fileno(), len(refused.MARK), 0) == refused.MARK
 
 
 def places_of(work, form, trace, read):
