@@ -83,6 +83,6 @@ ssize_t read(int file, void *buffer, size_t size) {
         return -1;
     }
     ssize_t count = next(file, buffer, size);
-    if (is_watched && count == 0) has_ended[file] = 1;
+    if (is_watched && size && count == 0) has_ended[file] = 1;     /* no byte is asked for where standard input is only looked at */
     return count;
 }
