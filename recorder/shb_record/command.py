@@ -40,7 +40,7 @@ class Options:
         if self.until_found and "--runs" in given:
             raise getopt.GetoptError("--runs and --until-found both say how often the program is run")
         if self.runs < 1:
-            raise getopt.GetoptError("--runs and --until-found take a number from 1")
+            raise getopt.GetoptError(f"{'--until-found' if self.until_found else '--runs'} takes a number from 1")
         self.program, self.arguments = (rest[0], rest[1:]) if rest else ("", [])
         self.seed = self.number(os.environ, "SHB_SEED", "1")
         self.folder = pathlib.Path(given.get("-o") or os.path.basename(self.program) + ".shb").absolute()
