@@ -147,7 +147,7 @@ class Command(recorder.Case):
     def test_a_race_that_no_window_has(self):
         program = self.program("far_apart.c")
         begin, end = (f"far_apart.c:{number}" for number, line in enumerate(
-            text_of(recorder.PROGRAMS / "far_apart.c").splitlines(), 1) if "RACE */" in line)
+            text_of(recorder.PROGRAMS / "far_apart.c").splitlines(), 1) if "RACE" in line and "far" in line)
         status, _, said = self.record("--window", "400", program)
         self.assertEqual(status, 66)
         reach = re.search(r"windows that cover races of accesses up to ([\d,]+) events apart; \d places with races", said)[1]

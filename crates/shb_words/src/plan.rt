@@ -29,10 +29,6 @@ pub enum Plan {
         list: bool,
         trace: Option<String>,
     },
-    /// Write the scan of a trace, of standard input where `trace` is `None`.
-    Scan {
-        trace: Option<String>,
-    },
     /// Check the report on standard input against a trace.
     Check {
         trace: String,
@@ -40,6 +36,10 @@ pub enum Plan {
     /// Print this help on standard output.
     Help {
         text: String,
+    },
+    /// Write the scan of a trace, of standard input where `trace` is `None`.
+    Scan {
+        trace: Option<String>,
     },
 }
 

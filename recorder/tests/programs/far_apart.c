@@ -7,14 +7,14 @@ sem_t go;
 static void *begin(void *unused) {
     far = 1; /* RACE */
     for (int i = 0; i < ROUNDS; i++) {
-        cell = i;
+        cell = i; /* RACE */
         sem_wait(&go);
     }
     return 0;
 }
 static void *end(void *unused) {
     for (int i = 0; i < ROUNDS; i++) {
-        cell = i;
+        cell = i; /* RACE */
         sem_post(&go);
     }
     far = 2; /* RACE */

@@ -8,7 +8,7 @@ static void *use(void *given) {
     q->count++;
     pthread_mutex_unlock(&q->door);
     pthread_rwlock_rdlock(&q->gate);
-    q->items[1]++;
+    q->items[1]++; /* RACE */
     pthread_rwlock_unlock(&q->gate);
     atomic_store_explicit(&q->tail, 1, memory_order_relaxed);
     return 0;
