@@ -15,6 +15,7 @@ from shb_common.files import NotRegular, open_regular, put, read_at_most
 from shb_common.known import BadLine, Known
 from shb_common.refused import explained
 from shb_common.report import BadReport, Report, in_order
+from shb_common.scan import Scan
 from shb_common.stacks import BadStacks, Stacks, Tables
 from shb_fix import lines
 from shb_fix.command import repaired
@@ -50,6 +51,22 @@ second T2|w(x)|b.c:2
 schedule 0:
 end
 """
+SCAN = b"""\
+shb-scan 1
+events 6 threads 3 locks 0 variables 2
+places 2
+place 1: 2 4
+at a.c:1
+and b.c:2|more
+first T1|w(x)|a.c:1
+second T2|r(x)|b.c:2|more
+place 2: 1 6
+at 
+and 
+first T1|w(y)
+second T3|w(y)|
+end
+"""
 KNOWN = b"# c\na.c:1\tb.c:2\tx\na.c:f()\t*\t*\n\\#a\tb\\*\tx[*]\n"
 
 
@@ -81,6 +98,14 @@ def read_report(text):
                 place = file.tell()
                 in_order(file, race, [race.first])
                 file.seek(place)
+    except BadReport as fault:
+        assert "\n" not in str(fault)
+
+
+def read_scan(text):
+    try:
+        for _ in Scan(io.BytesIO(text)).races():
+            pass
     except BadReport as fault:
         assert "\n" not in str(fault)
 
@@ -119,7 +144,7 @@ T2|vw(y)|a.c:8
 T1|wait(l)|a.c:9
 T1|acquire(l)
 """
-READERS = {"stacks": (read_stacks, STACKS), "report": (read_report, REPORT), "known": (read_known, KNOWN),
+READERS = {"stacks": (read_stacks, STACKS), "report": (read_report, REPORT), "scan": (read_scan, SCAN), "known": (read_known, KNOWN),
            "trace": (read_trace, b"T1|w(x)|1\nT2 | w(x)|2\n"), "fix": (read_trace_to_fix, FIX)}
 
 

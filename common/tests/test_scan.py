@@ -1,29 +1,12 @@
 """The reader of what `shb scan` writes: it takes what is whole, and says which line isn't."""
 
 import io
-import random
 
 import side_by_side
 from shb_common.report import BadReport, Counts
 from shb_common.scan import Scan
-from test_readers import mutated
+from test_readers import SCAN
 
-SCAN = b"""\
-shb-scan 1
-events 6 threads 3 locks 0 variables 2
-places 2
-place 1: 2 4
-at a.c:1
-and b.c:2|more
-first T1|w(x)|a.c:1
-second T2|r(x)|b.c:2|more
-place 2: 1 6
-at 
-and 
-first T1|w(y)
-second T3|w(y)|
-end
-"""
 BAD = [
     (b"shb-scan 1", b"shb-scan 2", "line 1 of the scan is `shb-scan 2`; it should be `shb-scan 1`"),
     (b"places 2", b"places 3", "line 14 of the scan is `end`; it should be `place 3: I J`"),
@@ -59,13 +42,3 @@ class Reading(side_by_side.Case):
                 with self.assertRaises(BadReport) as refused:
                     read(SCAN.replace(good, bad, 1))
                 self.assertEqual(str(refused.exception), words)
-
-    def test_some_changes(self):
-        pick = random.Random(67)
-        for _ in range(2000):
-            changed = mutated(pick, SCAN)
-            with self.subTest(text=changed):
-                try:
-                    read(changed)
-                except BadReport as fault:
-                    self.assertNotIn("\n", str(fault))
