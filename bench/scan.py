@@ -45,21 +45,28 @@ def round_of_steps():
 
 
 def feed(pipe, text, rounds):
-    with pipe:
-        pipe.write(FIRST)
-        for _ in range(rounds):
-            pipe.write(text)
-        pipe.write(LAST)
+    pipe.write(FIRST)
+    for _ in range(rounds):
+        pipe.write(text)
+    pipe.write(LAST)
+
+
+def megabytes(process):
+    """The most that a process had until now. (What the system says of an ended one counts this program, too, which started it.)"""
+    status = pathlib.Path(f"/proc/{process.pid}/status").read_text()
+    return int(re.search(r"VmHWM:\s+(\d+)", status)[1]) / 1024
 
 
 def scan(command, text, rounds, out):
-    """The processor seconds and the megabytes of a command on a stream of so many rounds."""
+    """The processor seconds of a command on a stream of so many rounds, and its megabytes when nearly all was read."""
     process = subprocess.Popen(command, stdin=subprocess.PIPE, stdout=out)
     feed(process.stdin, text, rounds)
+    most = megabytes(process)
+    process.stdin.close()
     _, status, usage = os.wait4(process.pid, 0)
     if status:
         raise SystemExit(f"{shlex.join(map(str, command))} ended with status {os.waitstatus_to_exitcode(status)}")
-    return usage.ru_utime + usage.ru_stime, usage.ru_maxrss / 1024
+    return usage.ru_utime + usage.ru_stime, most
 
 
 def places(file):
@@ -84,14 +91,14 @@ def main():
             out.seek(0)
             out.truncate()
             start = time.monotonic()
-            seconds, megabytes = scan(commands[0], text, rounds, out)
-            cells = [f"{rounds * count + 2}", f"{rounds * len(text) / 1e9:.2f}", f"{time.monotonic() - start:.1f}", f"{seconds:.1f}", f"{megabytes:.0f}"]
+            seconds, most = scan(commands[0], text, rounds, out)
+            cells = [f"{rounds * count + 2}", f"{rounds * len(text) / 1e9:.2f}", f"{time.monotonic() - start:.1f}", f"{seconds:.1f}", f"{most:.0f}"]
             if places(out) != wanted:
                 raise SystemExit(f"of {rounds} rounds it lists other places than of 2")
             if options.beside:
                 with open(os.devnull, "wb") as nowhere:
                     others = scan(commands[1], text, rounds, nowhere)
-                cells += [f"{seconds / others[0]:.2f}", f"{megabytes / others[1]:.2f}"]
+                cells += [f"{seconds / others[0]:.2f}", f"{most / others[1]:.2f}"]
             print(f"| {' | '.join(cells)} |", flush=True)
 
 
