@@ -135,7 +135,7 @@ class Surface(unittest.TestCase):
 
     def test_the_table_has_the_librarys_crates(self):
         crates = [it.strip() for it in surface.TABLE.read_text().split("\n") if it and not it.startswith(" ")]
-        wanted = "shb_io shb_lines shb_discipline shb_links shb_clocks shb_fan shb_pairs shb_witness shb_replay shb_report shb_run shb"
+        wanted = "shb_io shb_lines shb_discipline shb_links shb_clocks shb_nearest shb_scan shb_fan shb_pairs shb_witness shb_replay shb_report shb_run shb"
         self.assertEqual(crates, wanted.split())
 
 

@@ -116,7 +116,7 @@ class Tree(installing.Case):
             said = f"{command}: Python 3.8 or later is needed, and this is 3.7\n"
             self.assertEqual((ran.returncode, ran.stdout, ran.stderr.decode()), (status, b"", said))
 
-    def test_a_farm_cuts_a_long_trace(self):
+    def test_a_farm_scans_a_long_trace(self):
         self.need("python3", os.defpath)
         trace = self.folder / "traces" / "long.std"
         trace.parent.mkdir()
@@ -125,8 +125,8 @@ class Tree(installing.Case):
                 file.write(part)
         out = self.folder / "out"
         call(self.prefix / "bin" / "shb-farm", trace.parent, out, env={}, status=1)
-        self.assertEqual((out / "unknown.places").read_text(), "a.c:1\tb.c:2\tx\nk.c:1\tk.c:2\ty\n")
-        self.assertIn("\nlong.std\treport\t2\t2 windows\t", (out / "traces.tsv").read_text())
+        self.assertEqual((out / "unknown.places").read_text(), "a.c:1\tb.c:2\tx\na.c:1\tfar.c:9\tx\nk.c:1\tk.c:2\ty\n")
+        self.assertIn("\nlong.std\treport\t3\tevents 4194310 threads 5 locks 0 variables 2; ", (out / "traces.tsv").read_text())
 
     def test_nothing_names_the_checkout_or_a_folder_that_is_gone(self):
         for name, content in contents(self.prefix).items():

@@ -1,8 +1,10 @@
-//! `run_scan`, `scan_line` and `status_of_scan`: scans, refusals, and devices that fail.
+//! `run_scan` and its two parts, `scan_line`, `scan_message` and `status_of_scan`: scans, refusals, and devices that fail.
 use crate::asserting::{Host, holds, same, same_bytes};
 use shb_io::{NoMemory, Page, Text};
 use shb_lines::Fault;
-use shb_scan::{ScanError, run_scan, scan_line, status_of_scan};
+use shb_scan::{
+    ScanError, read_scan, run_scan, scan_line, scan_message, status_of_scan, write_found,
+};
 use std::test::Fail;
 
 /// Two threads read what a third wrote: one place, whose nearest race is that of the first reader.
@@ -32,6 +34,21 @@ fn lists_the_nearest_race(rt: HostRuntime) -> Result<(), Fail> {
         same(&rt, &status_of_scan(&answer), &0, "the status");
         same_bytes(&rt, page.bytes(), SCAN_OF_READERS.as_bytes(), "the scan");
     }
+    Ok(())
+}
+
+#[test]
+fn reads_and_then_writes(rt: HostRuntime) -> Result<(), Fail> {
+    let mut source = Text::new(READERS.as_bytes(), 5, None);
+    let mut sink = Page::new(rt.alloc(), 4096, 5, None)?;
+    let Ok(found) = read_scan(&rt, rt.alloc(), &mut source) else {
+        return Err("a trace without a fault was refused".into());
+    };
+    holds(&rt, write_found(&mut sink, &found).is_ok(), "it is written");
+    same_bytes(&rt, sink.bytes(), SCAN_OF_READERS.as_bytes(), "the scan");
+    let words = scan_message(Fault::TooManyThreads);
+    let said = "there are more than 65535 threads";
+    same_bytes(&rt, words.as_bytes(), said.as_bytes(), "the words");
     Ok(())
 }
 

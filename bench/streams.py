@@ -1,7 +1,7 @@
 #!/usr/bin/env python3
 """Measures `shb scan` on streams of any length, which are made meanwhile, and prints time and memory.
 
-    scan.py [--events N,..] [--beside COMMAND] [PROGRAM]
+    streams.py [--events N,..] [--beside COMMAND] [PROGRAM]
 
 A stream is one round of a made-up program again and again: threads take locks, use what these protect and memory of their own, and now
 and then what nothing protects. Its first and its last event race. So its places are those of two rounds and one more, whatever its
