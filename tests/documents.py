@@ -42,7 +42,7 @@ MADE = {
 }
 
 # The most lines of a document, and the most words of a sentence in it.
-LENGTHS = {"README.md": (110, 35), "recorder/README.md": (133, 35)}
+LENGTHS = {"README.md": (110, 25), "docs/GUIDE.md": (190, 25), "recorder/README.md": (133, 35)}
 
 IS_OUTSIDE = {word for words in OUTSIDE.values() for word in words.split()}
 IS_MADE = {name for names in MADE.values() for name in names.split()}
@@ -224,14 +224,14 @@ PLANTED = (
     "| `one/src/read.rt` | 1 |", "1 files, 3 lines:\n\n| `one/src/read.rt` | 2 |\n", "    crates/three/src\n",
     "    read_some\n\n`read_some`", "```\nread_some\n```\n\n`read_some`",
     "## Reading: `one/specs`\n\n| `read_all` | what it is | `Reads` |", "## Lists: `two/specs`\n\n| `IsRead` | what it is | `Reads` |",
-    "a.\n" * 110, "One.\n- " + "word " * 35 + "end. More.", "| `read_all` | " + "word, " * 36 + "|",
+    "a.\n" * 110, "One.\n- " + "word " * 25 + "end. More.", "| `read_all` | " + "word, " * 26 + "|",
 )
 RIGHT = (
     "`read_all`", "`read_a*`", "`*_all`", "`one::read_all`", "`src/read.rt`", "`crates/NAME/src/*.rt`",
     "[one](docs/A.md#the-first-one)", "`1234567`", "`src/read.rt` (2 lines)", "[x](https://x.y/z)",
     "1 files, 2 lines:\n\n| `one/src/read.rt` | 2 |\n", "    read_some crates/two/src\n", "```\nread_some\n```\n",
     "## Reading: `one/specs`\n\n| Definition | Is | File |\n| `IsRead x` | what it is | `Reads` |\n| `read_all` | what it does | `src/read.rt` |",
-    "## Lists: `two/specs`\n\n| `IsRead` | what it is | `Reads` of `one` |", "a.\n" * 109, "One.\n- " + "word " * 34 + "end. More.", "| " + "word " * 30 + "| " + "word " * 30 + "|", "    " + "word " * 40 + "\n",
+    "## Lists: `two/specs`\n\n| `IsRead` | what it is | `Reads` of `one` |", "a.\n" * 109, "One.\n- " + "word " * 24 + "end. More.", "| " + "word " * 20 + "| " + "word " * 20 + "|", "    " + "word " * 40 + "\n",
 )
 
 

@@ -1,4 +1,4 @@
-"""What README and docs/FORMATS.md show and list, followed on the built program."""
+"""What README, docs/GUIDE.md and docs/FORMATS.md show and list, followed on the built program."""
 
 import re
 import subprocess
@@ -7,6 +7,7 @@ import program
 
 TOP = program.HERE.parent
 README = (TOP / "README.md").read_text()
+GUIDE = (TOP / "docs" / "GUIDE.md").read_text()
 FORMATS = (TOP / "docs" / "FORMATS.md").read_text()
 AROUND = """\
 #include <pthread.h>
@@ -66,7 +67,7 @@ class Documents(program.Case):
         self.assertTrue(report.endswith("\n" + block_from(README, "race 1: ")))
 
     def test_the_log_of_another_language(self):
-        head, body = block_from(README, "static FILE *out;").split("\n\n")
+        head, body = block_from(GUIDE, "static FILE *out;").split("\n\n")
         source, binary = self.file(AROUND.format(head=head, body=body).encode(), "log.c"), self.folder / "log"
         subprocess.run(["cc", "-Wall", "-Werror", "-pthread", "-o", binary, source], check=True)
         trace = subprocess.run([binary], stdout=subprocess.PIPE, check=True).stdout
