@@ -1,7 +1,6 @@
 #!/usr/bin/env python3
 """Finds in the documents what the repository doesn't have: names in back quotes, files, links, headings, commits,
-numbers of lines, and definitions in the file that is named for them. Also finds where README is too long. Ends with the line
-'N passed, N failed'.
+and numbers of lines. Also finds where a document or a sentence in it is too long. Ends with the line 'N passed, N failed'.
 
 Documents are the files *.md. A word in back quotes has to occur in another file of the repository, in the name of one,
 or in OUTSIDE, and `crate::word` in that crate. A path has to be the end of a file's or folder's path, or stand in MADE;
@@ -169,23 +168,6 @@ def faults_of_counts(repository, text):
     return faults
 
 
-def faults_of_definitions(repository, text):
-    """The definitions that aren't in the file that their row names, in the crates of the row and the heading above."""
-    crates, faults = [], []
-    for line in text.splitlines():
-        crates = re.findall(r"`(\w+)/specs", line) if line.startswith("## ") else crates
-        cells = [re.findall(r"`([\w./]+)", cell) for cell in line.split("|")[1:4]]
-        if not crates or len(cells) < 3 or not cells[2]:
-            continue
-        names, files = ([name for name in cell if name not in repository.of_crate] for cell in (cells[0], cells[2]))
-        begins = tuple(f"crates/{name}/" for name in crates + cells[0] + cells[2])
-        ends = tuple(f"/{file}" if "/" in file else f"/{file}.antt" for file in files)
-        found = [path for path in repository.paths if path.startswith(begins) and path.endswith(ends)]
-        words = {word for path in found for word in WORD.findall((repository.root / path).read_text())}
-        faults += [f"not in {' or '.join(files)}: {name}" for name in names if name not in words]
-    return faults
-
-
 def sentences(text):
     """The sentences of a text, each as its words, without its blocks of code."""
     parts = PART.split(BLOCK.sub("\n\n", text))
@@ -211,27 +193,24 @@ def faults_of(repository, document):
     for path in re.findall(rf"(?<![\w./-])(?:{tops})/[\w.*{{}}<>/-]+", QUOTED.sub("", text)):
         if not repository.has_path(path.rstrip("."), document):
             faults.append(f"no file or folder: {path}")
-    faults += faults_of_counts(repository, text) + faults_of_definitions(repository, text) + faults_of_length(document, text)
+    faults += faults_of_counts(repository, text) + faults_of_length(document, text)
     return sorted(set(faults))
 
 
 # Texts in which a fault has to be found, and texts in which none is, in a repository of the files below.
-FILES = {"crates/one/src/read.rt": "fn read_all() {}\n\n", "crates/two/src/list.rt": "fn list_all() {}\n",
-         "crates/one/specs/Reads.antt": "IsRead : Prop\n", "crates/two/specs/Lists.antt": "IsList : Prop\n", "docs/A.md": "# The first one\n"}
+FILES = {"crates/one/src/read.rt": "fn read_all() {}\n\n", "crates/two/src/list.rt": "fn list_all() {}\n", "docs/A.md": "# The first one\n"}
 PLANTED = (
     "`read_some`", "`read_some*`", "`one::list_all`", "`src/write.rt`", "`write.rt`", "see crates/three/src", "`docs/B.md`",
     "`docs/OTHER.md`", "[one](docs/B.md)", "[a](docs/A.md#second)", "`abcdef1`", "`src/read.rt` (3 lines)",
     "| `one/src/read.rt` | 1 |", "1 files, 3 lines:\n\n| `one/src/read.rt` | 2 |\n", "    crates/three/src\n",
     "    read_some\n\n`read_some`", "```\nread_some\n```\n\n`read_some`",
-    "## Reading: `one/specs`\n\n| `read_all` | what it is | `Reads` |", "## Lists: `two/specs`\n\n| `IsRead` | what it is | `Reads` |",
     "a.\n" * 110, "One.\n- " + "word " * 25 + "end. More.", "| `read_all` | " + "word, " * 26 + "|",
 )
 RIGHT = (
     "`read_all`", "`read_a*`", "`*_all`", "`one::read_all`", "`src/read.rt`", "`crates/NAME/src/*.rt`",
     "[one](docs/A.md#the-first-one)", "`1234567`", "`src/read.rt` (2 lines)", "[x](https://x.y/z)",
     "1 files, 2 lines:\n\n| `one/src/read.rt` | 2 |\n", "    read_some crates/two/src\n", "```\nread_some\n```\n",
-    "## Reading: `one/specs`\n\n| Definition | Is | File |\n| `IsRead x` | what it is | `Reads` |\n| `read_all` | what it does | `src/read.rt` |",
-    "## Lists: `two/specs`\n\n| `IsRead` | what it is | `Reads` of `one` |", "a.\n" * 109, "One.\n- " + "word " * 24 + "end. More.", "| " + "word " * 20 + "| " + "word " * 20 + "|", "    " + "word " * 40 + "\n",
+    "a.\n" * 109, "One.\n- " + "word " * 24 + "end. More.", "| " + "word " * 20 + "| " + "word " * 20 + "|", "    " + "word " * 40 + "\n",
 )
 
 
