@@ -152,7 +152,7 @@ class Text(program.Case):
         answer = run(["--all", "--check", EXAMPLES / "places.std", self.file(bad, "t.report")])
         self.assertEqual((answer.status, answer.err), (1, b""))
         said = answer.out.decode().splitlines()
-        self.assertEqual(said[0], "`shb check` finds the report bad: bad race 1. What follows is only what the report says.")
+        self.assertEqual(said[0], "`shb check` finds the report bad: bad race 1. What follows rests on this report alone.")
         self.assertEqual(said[1], "places.std: 6 races at 3 places, in 1 group (4 events, 4 threads, 0 locks, 1 variable)")
         self.assertIn("     No schedule of this race is at hand: events are shown in the order of the trace.", said)
         self.assertNotIn("come next", answer.out.decode())

@@ -183,7 +183,7 @@ exec REAL "$@"
         out = run_here([self.file(b"\xef\xbb\xbfA|w(x)\nA|w(x)\n")])[1]
         self.assertEqual(out.splitlines()[1], "The trace begins with a byte order mark, which is a part of the first thread's name.")
         out = run_here([self.file(b"A|w(x)|a\rB|w(x)|b\r")])[1]
-        self.assertEqual(out.splitlines()[1], "In the trace a carriage return stands alone: lines end with a line feed, or with both.")
+        self.assertEqual(out.splitlines()[1], "In the trace a carriage return without a line feed: lines end with a line feed, or with both.")
 
     def test_a_killed_program(self):
         self.assertEqual(self.said(["--shb", self.fake("kill -9 $$\n"), TRACE]), "`shb races --list` was ended by signal 9")
@@ -209,7 +209,7 @@ exec REAL "$@"
         script = "[ $1 = check ] && exit 5; exec REAL \"$@\"\n"
         status, out, _ = run_here(["--check", "--shb", self.fake(script), TRACE, REPORT])
         self.assertEqual((status, out.splitlines()[0]), (
-            1, "`shb check` finds the report bad: it ended with status 5 and no word. What follows is only what the report says."))
+            1, "`shb check` finds the report bad: it ended with status 5 and no word. What follows rests on this report alone."))
 
     def test_a_verdict_of_many_words(self):
         """Also where the program writes more than a pipe holds, to both."""

@@ -205,7 +205,7 @@ class Pages(program.Case):
         words = ["--html", path, "--check", EXAMPLES / "places.std", self.file(report, "t.report")]
         self.assertEqual(run_here(words), (1, "", ""))
         page = Page(path.read_text(encoding="utf-8"))
-        said = "shb check finds the report bad: bad race 1. What follows is only what the report says."
+        said = "shb check finds the report bad: bad race 1. What follows rests on this report alone."
         self.assertEqual(page.all("p")[0], ({"class": "verdict bad"}, said))
         self.assertTrue(page.all("header")[0][1].startswith(said))
         self.assertNotIn("come next", page.all("body")[0][1])

@@ -107,7 +107,7 @@ class Refused(program.Case):
             (b"at 3", b"at 4", "the places that the report begins with aren't those of its races"),
             (b"end\n", b"end", "line 12 of the report is cut off: `end`; it should be `end`"),
             (b"end\n", b"", "line 12 of the report is missing; it should be `end`"),
-            (b"end\n", b"end\n\n", "line 13 of the report stands after `end`"),
+            (b"end\n", b"end\n\n", "line 13 of the report comes after `end`"),
             (b"shb-report 2", b"shb-report 3", "line 1 of the report is `shb-report 3`; it should be `shb-report 2`"),
             (b"shb-report 2", b"\x1b[31m\xff", "line 1 of the report is `\\x1b[31m\\xff`; it should be `shb-report 2`"),
             (b"shb-report 2", b"x" * 70, f"line 1 of the report is `{'x' * 58}..`; it should be `shb-report 2`"),

@@ -34,7 +34,7 @@ REPAIRS = {         # of faults between lines
 }
 LIMITS = "there are more than 4194304 events", "there are more than 1024 threads", "the text is longer than 1073741824 bytes"
 SCAN = "`shb scan` lists the places of a trace of any length, and `shb-windows` cuts windows of it for pages"
-CARRIAGE_RETURNS = "a carriage return stands alone: lines end with a line feed, or with both"
+CARRIAGE_RETURNS = "a carriage return without a line feed: lines end with a line feed, or with both"
 
 
 def without_note(said):

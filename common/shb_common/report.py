@@ -109,7 +109,7 @@ class Lines:
         """Takes the last line, after which nothing stands."""
         self.next(END, "end")
         if self.line:
-            raise BadReport(f"line {self.number + 1} of the {self.name} stands after `end`")
+            raise BadReport(f"line {self.number + 1} of the {self.name} comes after `end`")
 
     def pass_schedule(self):
         """Where the schedule of the next line begins. The line may be long, and isn't kept; `shb check` judges it."""

@@ -18,7 +18,7 @@ BAD = [
     (b"T3", b"T1", "place 2 of the scan: the events 1 and 6 don't conflict"),
     (b"w(x)", b"r(x)", "place 1 of the scan: the events 2 and 4 don't conflict"),
     (b"end\n", b"", "line 14 of the scan is missing; it should be `end`"),
-    (b"end\n", b"end\nend\n", "line 15 of the scan stands after `end`"),
+    (b"end\n", b"end\nend\n", "line 15 of the scan comes after `end`"),
     (SCAN[SCAN.index(b"place 2"):], SCAN[SCAN.index(b"place 1:"):SCAN.index(b"place 2:")].replace(b"place 1", b"place 2") + b"end\n",
      "place 2 of the scan is there twice"),
 ]

@@ -46,7 +46,7 @@ Known places:
   the variable, with tabs between; * stands for any text, and \\* for the sign
   itself. A line with two fields is of every variable. Empty lines, and lines
   that begin with #, are skipped; \\# begins a field with this sign. Functions
-  are known where the recorder's NAME.stacks stands beside NAME.std. Lines that
+  are known where the recorder's NAME.stacks is beside NAME.std. Lines that
   match nothing are reported.
 
 Exit status:

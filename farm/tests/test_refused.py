@@ -22,7 +22,7 @@ LINES = (
     (b"\xfd7zXZ\0\n", "the line has no operation field", "\\xfd7zXZ\\x00", "the file is packed by xz: unpack it first"),
     ("\ufeffT1|w(x)\n".encode("utf-16-le")[:-1], OPERATION, "\\xff\\xfeT\\x001\\x00|\\x00w\\x00(\\x00x\\x00)\\x00", "the file is UTF-16: save it as UTF-8"),
     ("T1|w(x)\n".encode("utf-16-be"), OPERATION, "\\x00T\\x001\\x00|\\x00w\\x00(\\x00x\\x00)\\x00", "the file is UTF-16, or no text: save it as UTF-8"),
-    (b"T1|w(x)|1\rT2|w(x)|2\r", OPERATION, "T1|w(x)|1\\rT2|w(x)|2", "a carriage return stands alone: lines end with a line feed, or with both"),
+    (b"T1|w(x)|1\rT2|w(x)|2\r", OPERATION, "T1|w(x)|1\\rT2|w(x)|2", "a carriage return without a line feed: lines end with a line feed, or with both"),
     (b"T1,w(x),1\n", "the line has no operation field", "T1,w(x),1", "a line is THREAD|OPERATION|LOCATION, with bars between, not commas; there are no comments"),
     (b"# a comment\n", "the line has no operation field", "# a comment", "a line is THREAD|OPERATION|LOCATION, with bars between; there are no comments"),
     (b"T1|rel(l)| | x\n", "the thread does not hold the lock", "T1|rel(l)| | x", ""),

@@ -60,7 +60,7 @@ def policy(style, script):
 def header(view):
     verdict = []
     if view.verdict.is_good is False:
-        words = f": {view.verdict.words}. What follows is only what the report says."
+        words = f": {view.verdict.words}. What follows rests on this report alone."
         verdict = [element("p", element("code", "shb check"), " finds the report bad", words, class_="verdict bad")]
     races, size = summary(view)
     notes = [element("p", note, class_="verdict good" if view.verdict.is_good and not number else "faint")

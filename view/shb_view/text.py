@@ -45,7 +45,7 @@ def flat(parts):
 def text_lines(view, colours, is_whole):
     """The lines of the whole text. `is_whole` adds the report for an issue and the events before the accesses."""
     if view.verdict.is_good is False:
-        yield colours.red(f"`shb check` finds the report bad: {view.verdict.words}. What follows is only what the report says.")
+        yield colours.red(f"`shb check` finds the report bad: {view.verdict.words}. What follows rests on this report alone.")
     races, size = summary(view)
     yield f"{colours.bold(f'{view.title}: {races}')} ({size})"
     yield from map(colours.red, view.notes)
