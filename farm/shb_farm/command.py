@@ -68,7 +68,7 @@ Exit status:
 
 Environment:
   SHB       the program to run, if not the one that came with this command
-  SHB_VIEW  the same of shb-view, which says what is known of a place
+  SHB_VIEW  the same for shb-view, which describes the places
 """
 class Farm(typing.NamedTuple):
     engine: str
@@ -92,9 +92,9 @@ class Parser(argparse.ArgumentParser):
 
 def arguments(words):
     parser = Parser(prog="shb-farm", description=ABOUT, epilog=with_version(NOTES), formatter_class=argparse.RawDescriptionHelpFormatter)
-    parser.add_argument("--known", metavar="FILE", help="places to pass over")
+    parser.add_argument("--known", metavar="FILE", help="a file of known places, to be ignored")
     parser.add_argument("--fail-on-stale", action="store_true", help="end with status 1 where a line of --known matched nothing")
-    parser.add_argument("--since", metavar="OLD", help="say which places are new, gone and the same since an earlier result: the folder "
+    parser.add_argument("--since", metavar="OLD", help="report which places are new, gone and the same since an earlier result: the folder "
                         "OUT of a farm, or a places.json")
     parser.add_argument("--links", action="store_true", help="follow links that lead out of TRACES")
     parser.add_argument("--source", metavar="DIR", help="the repository, whose files places.sarif names where it finds them")
@@ -108,7 +108,7 @@ def arguments(words):
     parser.add_argument("--size", metavar="MIB", type=number, default=1024,
                         help="most of a report, and of the text of a packed trace (%(default)s)")
     parser.add_argument("--sbatch", metavar="WORDS", type=shell_words, default=[], help="with slurm: further words for sbatch")
-    parser.add_argument("--version", action="version", version=version_of("shb-farm"), help="say of which package this is")
+    parser.add_argument("--version", action="version", version=version_of("shb-farm"), help="print the version of the package")
     parser.add_argument("traces", metavar="TRACES", help="the folder of the traces")
     parser.add_argument("out", metavar="OUT", help="the folder for outcomes and tables")
     return parser.parse_args(joined(words))

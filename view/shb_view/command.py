@@ -18,7 +18,7 @@ from shb_view.page import page_parts
 from shb_view.view import make_view
 
 ABOUT = """\
-Explains the races of a trace: runs `shb` for them, and says for each group of lines
+Explains the races of a trace: runs `shb` for them, and shows for each group of lines
 that share a variable which lines use it, in which threads and under which locks."""
 STATUS = """\
 Exit status: 0 shown; 1 the report is bad; 2 nothing could be shown: the trace is refused,
@@ -36,8 +36,8 @@ class Parser(argparse.ArgumentParser):
 
 def arguments(words, program):
     parser = Parser(prog="shb-view", description=ABOUT, epilog=with_version(STATUS), formatter_class=argparse.RawDescriptionHelpFormatter)
-    parser.add_argument("--html", metavar="PAGE", help="write a page to this file, not text to standard output")
-    parser.add_argument("--text", action="store_true", help="beside the page, write the text too")
+    parser.add_argument("--html", metavar="PAGE", help="write a page to this file, in place of text to standard output")
+    parser.add_argument("--text", action="store_true", help="write the text besides the page")
     parser.add_argument("--only", metavar="FILE", help="in the text, show only the groups with a place of this file, which has the form of "
                         "a file of known places (docs/FORMATS.md)")
     parser.add_argument("--title", metavar="TEXT", help="the title, if it isn't to be the trace's name")
@@ -45,18 +45,18 @@ def arguments(words, program):
                         help="show lines of the source files below this folder; may be given again")
     parser.add_argument("--all", action="store_true", help="in the text, add a race of each group and what comes before it")
     parser.add_argument("--note", metavar="TEXT", action="append", default=[],
-                        help="say this of the trace below the title, as that it isn't the whole run; may be given again")
+                        help="a note on the trace, shown below the title; may be given again")
     parser.add_argument("--about", metavar="TEXT", action="append", default=[],
-                        help="say this among what is known of the trace, as that a library wasn't recorded; may be given again")
+                        help="a fact on the trace, as that a library wasn't recorded; may be given again")
     parser.add_argument("--json", metavar="FILE", help="write the places to this file, for programs (docs/FORMATS.md has the form)")
     parser.add_argument("--stacks", metavar="FILE", help="show call stacks and names of locals, as `shb-std --stacks` wrote them")
     parser.add_argument("--recorded-source", action="store_true", help="show lines of the source files that the file of --stacks names")
     parser.add_argument("--shift", metavar="N", type=int, default=0,
                         help="the trace is a window of a run: its event E is event E + N of the file of stacks")
-    parser.add_argument("--window", action="store_true", help="the trace is a window of a longer one: say so in each fact")
+    parser.add_argument("--window", action="store_true", help="the trace is a window of a longer one; each fact mentions that")
     parser.add_argument("--check", action="store_true", help="run `shb check` on the REPORT that is given")
     parser.add_argument("--shb", metavar="PROGRAM", default=os.environ.get("SHB") or program, help="the `shb` to run")
-    parser.add_argument("--version", action="version", version=version_of("shb-view"), help="say of which package this is")
+    parser.add_argument("--version", action="version", version=version_of("shb-view"), help="print the version of the package")
     parser.add_argument("trace", metavar="TRACE", help="a trace, as `shb` reads it")
     parser.add_argument("report", metavar="REPORT", nargs="?",
                         help="a report of it (- is standard input), if `shb` isn't to make one")
