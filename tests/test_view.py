@@ -519,7 +519,7 @@ class Groups(program.Case):
             report.write(program_said)
         said = run_here([EXAMPLES / "places.std", self.folder / "t.report"])[1].splitlines()
         self.assertEqual(said[0], "places.std: 3 of 6 races at 3 places, in 1 group (4 events, 4 threads, 0 locks, 1 variable)")
-        self.assertEqual(said[2:5], ["The report has not all races of the trace; the counts are the report's.", "",
+        self.assertEqual(said[2:5], ["The report doesn't list all races of the trace; the counts are the report's.", "",
                                      "1. total: 3 threads write (3 races, 3 places)"])
 
     def test_two_hundred_groups_are_shown(self):

@@ -45,7 +45,7 @@ def with_waits(events, repairs):
         if event.thread in waiting:
             yield waiting.pop(event.thread)
         if event.word == b"wait":
-            repairs.note(event.line, "waits", "a wait gives the lock up here, and takes it before the thread's next event")
+            repairs.note(event.line, "waits", "a wait releases the lock here, and acquires it before the thread's next event")
             waiting[event.thread] = event.like(b"acq", event.name)
             yield event.like(b"rel", event.name)
         elif event.word in (b"notify", b"notifyall"):
@@ -95,9 +95,9 @@ class Sections:
     def take_release(self, event):
         """A release by a thread that hasn't the lock: the log may have begun behind its acquire. Says whether it stays."""
         if event.name in self.known or event.thread in self.forked:
-            self.repairs.note(event.line, "gives up a lock that it hasn't", "the thread hasn't this lock: dropped")
+            self.repairs.note(event.line, "releases a lock that it doesn't hold", "the thread doesn't hold this lock: dropped")
             return False
-        self.repairs.note(event.line, "gives up a lock that was held when the log began", "the lock was held when the log began: its holder takes it before the first line")
+        self.repairs.note(event.line, "releases a lock that was held when the log began", "the lock was held when the log began: its holder takes it before the first line")
         self.begun.append(Event(0, event.thread, b"acq", event.name, event.location))
         self.holder[event.name], self.depth[event.name] = event.thread, 1
         return True
@@ -106,12 +106,12 @@ class Sections:
         lock, held = event.name, self.holder.get(event.name)
         if event.word == b"join":
             for kept in [it for it, holder in self.holder.items() if holder == lock]:
-                self.repairs.note(event.line, "joins a thread that has a lock", "the thread has a lock, whose release wasn't logged: it is given up right before")
+                self.repairs.note(event.line, "joins a thread that holds a lock", "the thread holds a lock, and its release wasn't logged: it is released right before")
                 self.give_up(kept, event.location)
         if event.word == b"rel" and held != event.thread and not self.take_release(event):
             return
         if event.word == b"acq" and held not in (None, event.thread):
-            self.repairs.note(event.line, "takes a lock that another thread has", "another thread has this lock, whose release wasn't logged: it is given up right before")
+            self.repairs.note(event.line, "acquires a lock that another thread holds", "another thread holds this lock, and its release wasn't logged: it is released right before")
             self.give_up(lock, event.location)
         if event.word in (b"acq", b"rel"):
             self.known.add(lock)

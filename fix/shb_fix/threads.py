@@ -64,7 +64,7 @@ def with_early_forks(events, repairs):
             else:
                 moved.add(fork)
                 before[place].append(fork)
-                repairs.note(fork.line, "was logged late", "the fork stood behind the first event of its thread, and was moved before it")
+                repairs.note(fork.line, "was logged late", "the fork came after the first event of its thread, and was moved before it")
         events = [it for k, event in enumerate(events) for it in [*before.get(k, ()), *([] if event in late else [event])]]
         late = late_forks(events)
     return events

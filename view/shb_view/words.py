@@ -106,7 +106,7 @@ def notes_of(view):
     if view.sections and isinstance(view.stacks, Stacks):
         yield "Counts are of the trace, where the recorder leaves out repeats: a loop may count as two accesses."
     if view.listed < view.races:
-        yield "The report has not all races of the trace; the counts are the report's."
+        yield "The report doesn't list all races of the trace; the counts are the report's."
     if view.is_sample:
         yield ("The trace has too many races to look at each. Call stacks are those of one race of each variable at each place"
                + (", and some variables aren't named." if view.is_sample == SOME else "."))
