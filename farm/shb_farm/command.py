@@ -92,7 +92,7 @@ class Parser(argparse.ArgumentParser):
 
 def arguments(words):
     parser = Parser(prog="shb-farm", description=ABOUT, epilog=with_version(NOTES), formatter_class=argparse.RawDescriptionHelpFormatter)
-    parser.add_argument("--known", metavar="FILE", help="a file of known places, to be ignored")
+    parser.add_argument("--known", metavar="FILE", help="places to pass over")
     parser.add_argument("--fail-on-stale", action="store_true", help="end with status 1 where a line of --known matched nothing")
     parser.add_argument("--since", metavar="OLD", help="report which places are new, gone and the same since an earlier result: the folder "
                         "OUT of a farm, or a places.json")
@@ -108,7 +108,7 @@ def arguments(words):
     parser.add_argument("--size", metavar="MIB", type=number, default=1024,
                         help="most of a report, and of the text of a packed trace (%(default)s)")
     parser.add_argument("--sbatch", metavar="WORDS", type=shell_words, default=[], help="with slurm: further words for sbatch")
-    parser.add_argument("--version", action="version", version=version_of("shb-farm"), help="print the version of the package")
+    parser.add_argument("--version", action="version", version=version_of("shb-farm"), help="say of which package this is")
     parser.add_argument("traces", metavar="TRACES", help="the folder of the traces")
     parser.add_argument("out", metavar="OUT", help="the folder for outcomes and tables")
     return parser.parse_args(joined(words))

@@ -28,7 +28,7 @@ class Parser(argparse.ArgumentParser):
 def arguments(words):
     parser = Parser(prog="shb-fix", description=ABOUT, epilog=with_version(STATUS), formatter_class=argparse.RawDescriptionHelpFormatter)
     parser.add_argument("--quiet", action="store_true", help="don't list the repairs, only how many there are")
-    parser.add_argument("--version", action="version", version=version_of("shb-fix"), help="print the version of the package")
+    parser.add_argument("--version", action="version", version=version_of("shb-fix"), help="say of which package this is")
     parser.add_argument("trace", metavar="TRACE", nargs="?", help="a trace; standard input where none is named")
     return parser.parse_args(words)
 

@@ -36,8 +36,8 @@ class Parser(argparse.ArgumentParser):
 
 def arguments(words, program):
     parser = Parser(prog="shb-view", description=ABOUT, epilog=with_version(STATUS), formatter_class=argparse.RawDescriptionHelpFormatter)
-    parser.add_argument("--html", metavar="PAGE", help="write a page to this file, in place of text to standard output")
-    parser.add_argument("--text", action="store_true", help="write the text besides the page")
+    parser.add_argument("--html", metavar="PAGE", help="write a page to this file, not text to standard output")
+    parser.add_argument("--text", action="store_true", help="beside the page, write the text too")
     parser.add_argument("--only", metavar="FILE", help="in the text, show only the groups with a place of this file, which has the form of "
                         "a file of known places (docs/FORMATS.md)")
     parser.add_argument("--title", metavar="TEXT", help="the title, if it isn't to be the trace's name")
@@ -56,7 +56,7 @@ def arguments(words, program):
     parser.add_argument("--window", action="store_true", help="the trace is a window of a longer one; each fact mentions that")
     parser.add_argument("--check", action="store_true", help="run `shb check` on the REPORT that is given")
     parser.add_argument("--shb", metavar="PROGRAM", default=os.environ.get("SHB") or program, help="the `shb` to run")
-    parser.add_argument("--version", action="version", version=version_of("shb-view"), help="print the version of the package")
+    parser.add_argument("--version", action="version", version=version_of("shb-view"), help="say of which package this is")
     parser.add_argument("trace", metavar="TRACE", help="a trace, as `shb` reads it")
     parser.add_argument("report", metavar="REPORT", nargs="?",
                         help="a report of it (- is standard input), if `shb` isn't to make one")
