@@ -56,7 +56,7 @@ before_strict trace p q race_p race_q before after =
     go x y (inr a) (inl b) = let e = a.0 in omega arith
     go x y (inr a) (inr b) = pair_strict p q a.1 b.1
 
-accessed_within : (trace : List Event) (x j : ℕ) → variable_at trace j ≡ Some x → j < length trace
+pub accessed_within : (trace : List Event) (x j : ℕ) → variable_at trace j ≡ Some x → j < length trace
 accessed_within trace x j h = let e = event_at_access trace j x h in slice_get_within trace j e.0 e.1
 
 -- a race of a variable is among its races

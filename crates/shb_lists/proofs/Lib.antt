@@ -10,3 +10,10 @@ pub mod KeyOrder
 pub mod ListedLemmas
 pub mod BatchLemmas
 pub mod PieceLemmas
+pub mod NumberLemmas
+pub mod GrownLemmas
+pub mod StartLemmas
+pub mod CountLemmas
+pub mod TotalLemmas
+pub mod AloneLemmas
+pub mod PlaceLemmas

@@ -1,4 +1,5 @@
 pub mod Batches
+pub mod Counted
 pub mod Listed
 pub mod Past
 pub mod Rivals

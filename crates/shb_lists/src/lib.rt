@@ -12,8 +12,12 @@
 //! counts the races of an access by the numbers of their locations, without a step for each of them.
 #![tactic(auto)]
 
+mod alone;
 mod batches;
+mod counted;
+mod counter;
 mod kept;
+mod numbering;
 mod past;
 mod pieces;
 mod rivals;
@@ -22,6 +26,7 @@ mod settled;
 mod unknown;
 
 pub use batches::{Batch, batch_from, narrowed};
+pub use counted::{RaceCount, counted_races};
 pub use kept::{ListedRace, kept_races};
 pub use past::{Past, access_at};
 pub use pieces::pairs_in_pieces;

@@ -1,0 +1,64 @@
+-- What is counted of the race list is what the report says of its places.
+use Rattle.std.proofs.Common.{◌≡◌, ℕ, ◌<◌, List, [], length, map, get_or, All, subst, sym, ap, ◌∙◌, arith}
+use Rattle.std.specs.List.{IsDistinct}
+use Rattle.std.specs.Str.{bytes_eq}
+use Rattle.std.proofs.lemmas.List.Elements.{All-map, Contains-get_or}
+use Rattle.shb_lines.specs.declared.event.Event.{Event}
+use Rattle.shb_lines.specs.declared.event.Pair.{Pair}
+use Rattle.shb_lines.specs.events.Race.{IsRaceList, ends}
+use Rattle.shb_lines.specs.text.TraceData.{TraceData}
+use Rattle.shb_lines.proofs.events.RaceLists.{race_list_unique}
+use Rattle.shb_format.specs.Keyed.{Keyed}
+use Rattle.shb_format.specs.Leading.{AreLeading}
+use Rattle.shb_format.specs.Places.{IsPairOf, counts_in, places_of_pairs}
+use Rattle.shb_format.specs.Report.{LeadingRaces, pair_of}
+use Rattle.shb_format.specs.declared.places.PlaceCount.{PlaceCount}
+use Rattle.shb_format.proofs.LeadingLemmas.{leading_listed, pairs_back}
+use Rattle.shb_lists.specs.Counted.{AreNumbered, HasCounted}
+use Rattle.shb_lists.specs.Unknown.{AreBelow}
+use Rattle.shb_lists.specs.declared.counter.RaceCounter.{RaceCounter}
+use Rattle.shb_lists.proofs.BatchLemmas.{accessed_within}
+use Rattle.shb_lists.proofs.NumberLemmas.{number_below}
+use Rattle.shb_lists.proofs.StartLemmas.{leading_counts}
+
+-- the race list has pairs of events of the trace
+listed_within : (trace : TraceData) (races : List (ℕ × ℕ)) → IsRaceList trace.events races → All (IsPairOf trace) (map pair_of races)
+listed_within trace races listed = All-map (IsPairOf trace) pair_of races (λ k d lt.
+    let p = get_or races k d in
+    let race = (listed.all p.0 p.1).0 (Contains-get_or races k d lt) in
+    let within = accessed_within trace.events race.conflict.variable p.1 race.conflict.second_accesses in
+    let low = race.earlier in
+    record { first = omega (arith, low, within); second = within })
+
+leads_of : (trace : TraceData) (leading : List Pair) (lists : LeadingRaces trace (map ends leading)) → AreLeading trace (map pair_of lists.races) leading
+leads_of trace leading lists = subst (AreLeading trace (map pair_of lists.races)) (pairs_back leading) lists.leading_are
+
+pub leading_within : (trace : TraceData) (n : ℕ) (leading : List Pair) → n ≡ length trace.events → LeadingRaces trace (map ends leading) → All (λ (p : Pair). (p.first < n) × (p.second < n)) leading
+leading_within trace n leading many lists k d lt =
+    let lead = get_or leading k d in
+    let there = leading_listed trace (map pair_of lists.races) leading (leads_of trace leading lists) lead (Contains-get_or leading k d lt) in
+    let pair = subst (IsPairOf trace) there.2 (listed_within trace lists.races lists.races_are there.0 lead there.1) in
+    let first = pair.first in
+    let second = pair.second in (
+      omega (arith, first, many),
+      omega (arith, second, many),
+    )
+
+pub numbers_below : (trace : TraceData) (events : List Event) (numbers seen : List ℕ) (locations : List (List ℕ)) (classes : ℕ) → events ≡ trace.events → AreNumbered trace (length trace.events) numbers locations → seen ≡ numbers → classes ≡ length locations
+    → AreBelow events seen classes
+numbers_below trace events numbers seen locations classes same are is many =
+    let long = ap length same in
+    record {
+      as_many = ap length is ∙ (are.as_many ∙ sym long);
+      below = λ e lt.
+          let low = number_below trace e (length trace.events) numbers locations are (omega (arith, long, lt)) in
+          let here = ap (λ (l : List ℕ). get_or l e 0) is in
+          omega (arith, low, here, many);
+    }
+
+pub counted_places : (trace : TraceData) (numbers : List ℕ) (locations : List (List ℕ)) (leading : List Pair) (listed : List (ℕ × ℕ)) (counter : RaceCounter) (places : List PlaceCount) → IsDistinct bytes_eq locations
+    → AreNumbered trace (length trace.events) numbers locations → IsRaceList trace.events listed → LeadingRaces trace (map ends leading) → HasCounted numbers leading listed counter → places ≡ map (λ (place : Keyed). place.1) counter.places
+    → places ≡ counts_in (places_of_pairs trace (map pair_of listed))
+counted_places trace numbers locations leading listed counter places differ are lists leads has is =
+    let of_listed = subst (λ (l : List (ℕ × ℕ)). AreLeading trace (map pair_of l) leading) (race_list_unique trace.events leads.races listed leads.races_are lists) (leads_of trace leading leads) in
+    is ∙ (ap (map (λ (place : Keyed). place.1)) has.places ∙ leading_counts trace numbers locations differ are (map pair_of listed) (listed_within trace listed lists) leading of_listed)

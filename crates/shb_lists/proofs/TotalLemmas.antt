@@ -1,0 +1,242 @@
+-- The races of all variables, one after the other: how many there are, and that they are the race list.
+use Rattle.std.proofs.lemmas.Grind.{common_steps}
+use Rattle.std.proofs.Common.{◌≡◌, ℕ, zero, suc, ◌+◌, ◌-◌, ◌*◌, ◌<◌, ◌≤◌, inl, inr, Bool, true, false, List, [], ◌∷◌, ◌++◌, Option, Some, None, All, get_or, length, map, not, refl, arith, ap, sym, subst, ◌∙◌, append_assoc, append-nil}
+use Rattle.std.specs.Prelude.{cond, ◌==◌, Contains, flat_map, nat_lt}
+use Rattle.std.proofs.lemmas.Bool.{cases_Bool, cases_lt, eqb-true}
+use Rattle.std.proofs.lemmas.List.{get_or-map, length-append, length-map}
+use Rattle.std.proofs.lemmas.List.Concat.{flat_map-append}
+use Rattle.std.proofs.lemmas.List.Elements.{Contains-get_or}
+use Rattle.shb_lines.specs.declared.event.Event.{Event}
+use Rattle.shb_lines.specs.declared.event.Sizes.{Sizes}
+use Rattle.shb_lines.specs.events.Race.{IsRaceList, variable_at}
+use Rattle.shb_lines.specs.events.Reach.{numbers_where}
+use Rattle.shb_lines.specs.events.Sizes.{IsNumberedByAccess, IsWithin}
+use Rattle.shb_links.proofs.Owners.{variable_sized}
+use Rattle.shb_stamps.specs.Open.{accesses_open, is_open}
+use Rattle.shb_pairs.specs.Accesses.{accesses_at, accesses_in, variables_in}
+use Rattle.shb_pairs.specs.Races.{races_with}
+use Rattle.shb_pairs.proofs.ByThread.{numbers_all}
+use Rattle.shb_pairs.proofs.Counting.{access_from_test, numbers_more_no, numbers_more_yes, test_from_access, variable_within}
+use Rattle.shb_pairs.proofs.FlatMaps.{flat_map_parts}
+use Rattle.shb_pairs.proofs.Listing.{all_is_race_list, races_on_parts}
+use Rattle.shb_pairs.proofs.Ranged.{races_few}
+use Rattle.shb_lists.specs.Batches.{AreNarrowed, races_below, races_between, races_on}
+use Rattle.shb_lists.specs.Counted.{OpensOnly}
+use Rattle.shb_lists.specs.Listed.{pair_in, races_before}
+use Rattle.shb_lists.specs.declared.kept.ListedRace.{ListedRace}
+use Rattle.shb_lists.proofs.BatchLemmas.{accessed_within, below_between, below_next}
+use Rattle.shb_lists.proofs.ListedLemmas.{open_access, open_variable}
+use Rattle.shb_lists.proofs.RankLemmas.{numbers_alike}
+
+-- ---- 64 bits count them: each access is one of a single variable, and has fewer races than there are numbers of 32 bits
+
+-- how many of the first m events access a variable below x
+unfoldable accesses_below : List Event → ℕ → ℕ → ℕ
+accesses_below trace zero m = 0
+accesses_below trace (suc x) m = accesses_below trace x m + length (numbers_where (accesses_at trace x) m)
+
+-- a number below n is equal to y at most once, and not at all where y isn't below n
+equal_once : (y n : ℕ) → (length (numbers_where (λ x. y == x) n) ≤ 1) × (n ≤ y → length (numbers_where (λ x. y == x) n) ≡ 0)
+unfolding numbers_where
+equal_once y zero = (omega arith, λ le. refl)
+equal_once y (suc n) =
+    let before = equal_once y n in
+    let size = length-append (numbers_where (λ x. y == x) n) (cond (y == n) (n ∷ []) []) in
+    elim (cases_Bool (y == n)) [
+      | inl same ↦ (let is = eqb-true y n same in let none = before.1 (omega (arith, is)) in let here : length (cond {A = List ℕ} (y == n) (n ∷ []) []) ≡ 1 = rw same refl in (omega (arith, size, none, here), λ le. absurd (omega (arith, le, is))))
+      | inr other ↦ (let here : length (cond {A = List ℕ} (y == n) (n ∷ []) []) ≡ 0 = rw other refl in let first = before.0 in (omega (arith, size, first, here), λ le. let none = before.1 (omega (arith, le)) in omega (arith, size, none, here)))
+    ]
+
+none_pass : (n : ℕ) → length (numbers_where (λ x. false) n) ≤ 1
+unfolding numbers_where
+none_pass zero = omega arith
+none_pass (suc n) = let size = length-append (numbers_where (λ x. false) n) [] in let rest = none_pass n in omega (arith, size, rest)
+
+accessed_once : (o : Option ℕ) (n : ℕ) → length (numbers_where (λ x. elim o [ Some y ↦ y == x | None ↦ false ]) n) ≤ 1
+accessed_once (Some y) n = (equal_once y n).0
+accessed_once None n = none_pass n
+
+-- an event accesses one variable at most
+one_variable : (trace : List Event) (m n : ℕ) → length (numbers_where (λ x. accesses_at trace x m) n) ≤ 1
+unfolding accesses_at
+one_variable trace m n = accessed_once (variable_at trace m) n
+
+same_long : (b : Bool) (m x : ℕ) → length (cond {A = List ℕ} b (m ∷ []) []) ≡ length (cond {A = List ℕ} b (x ∷ []) [])
+same_long b m x = grind (arith, common_steps)
+
+-- one event more
+next_event : (trace : List Event) (n m : ℕ) → accesses_below trace n (suc m) ≡ accesses_below trace n m + length (numbers_where (λ x. accesses_at trace x m) n)
+unfolding accesses_below numbers_where
+next_event trace zero m = refl
+next_event trace (suc x) m =
+    let before = next_event trace x m in
+    let events = length-append (numbers_where (accesses_at trace x) m) (cond (accesses_at trace x m) (m ∷ []) []) in
+    let variables = length-append (numbers_where (λ y. accesses_at trace y m) x) (cond (accesses_at trace x m) (x ∷ []) []) in
+    let same = same_long (accesses_at trace x m) m x in
+    omega (arith, before, events, variables, same)
+
+no_events : (trace : List Event) (n : ℕ) → accesses_below trace n 0 ≡ 0
+unfolding accesses_below numbers_where
+no_events trace zero = refl
+no_events trace (suc x) = let rest = no_events trace x in omega (arith, rest)
+
+-- no more events access variables than there are
+accesses_few : (trace : List Event) (n m : ℕ) → accesses_below trace n m ≤ m
+accesses_few trace n zero = let none = no_events trace n in omega (arith, none)
+accesses_few trace n (suc m) =
+    let next = next_event trace n m in
+    let one = one_variable trace m n in
+    let rest = accesses_few trace n m in
+    omega (arith, next, one, rest)
+
+below_few : (trace : List Event) (n : ℕ) → length trace ≤ 4294967296 → length (races_below trace n) ≤ 4294967296 * accesses_below trace n (length trace)
+unfolding accesses_below numbers_where
+below_few trace zero small = omega arith
+below_few trace (suc x) small =
+    let next = ap length (ap (races_below trace) (let e : suc x ≡ x + 1 = omega arith in e) ∙ below_next trace x) in
+    let size = length-append (races_below trace x) (races_on trace x) in
+    let here = races_few trace (accesses_in trace x) (numbers_all (λ j. j < 4294967296) (accesses_at trace x) (length trace) (λ k lt t. omega (arith, lt, small))) in
+    let rest = below_few trace x small in
+    omega (arith, next, size, here, rest)
+
+pub few_below : (trace : List Event) (n : ℕ) → length trace < 4294967296 → length (races_below trace n) < 18446744073709551616
+few_below trace n small =
+    let few = below_few trace n (omega (arith, small)) in
+    let events = accesses_few trace n (length trace) in
+    omega (arith, few, events, small)
+
+-- ---- they are the race list
+
+nowhere : (f : ℕ → Bool) (n : ℕ) → ((k : ℕ) → k < n → f k ≡ false) → numbers_where f n ≡ []
+unfolding numbers_where
+nowhere f zero none = refl
+nowhere f (suc n) none = rw (nowhere f n (λ k lt. none k (omega (arith, lt))), none n (omega arith)) refl
+
+no_races_on : (trace : List Event) (x : ℕ) → ((k : ℕ) → variable_at trace k ≡ Some x → ⊥) → races_on trace x ≡ []
+no_races_on trace x none = ap (λ (ks : List ℕ). flat_map (races_with trace) ks) (nowhere (accesses_at trace x) (length trace)
+    (λ k lt. elim (cases_Bool (accesses_at trace x k)) [ inl t ↦ absurd (none k (access_from_test trace x k t)) | inr f ↦ f ]))
+
+beyond : (trace : List Event) (n d : ℕ) → ((k x : ℕ) → variable_at trace k ≡ Some x → x < n) → races_below trace (n + d) ≡ races_below trace n
+beyond trace n zero within = ap (races_below trace) (let z : n + 0 ≡ n = omega arith in z)
+beyond trace n (suc d) within =
+    ap (races_below trace) (let e : n + suc d ≡ (n + d) + 1 = omega arith in e)
+    ∙ (below_next trace (n + d)
+    ∙ (ap (λ (l : List (ℕ × ℕ)). races_below trace (n + d) ++ l) (no_races_on trace (n + d) (λ k access. (let low = within k (n + d) access in let bad : ⊥ = omega (arith, low) in bad)))
+    ∙ (append-nil (races_below trace (n + d)) ∙ beyond trace n d within)))
+
+same_below : (trace : List Event) (n m : ℕ) → ((k x : ℕ) → variable_at trace k ≡ Some x → x < n) → ((k x : ℕ) → variable_at trace k ≡ Some x → x < m) → races_below trace n ≡ races_below trace m
+same_below trace n m in_n in_m = elim (cases_lt n m) [
+  | inl less ↦ sym (ap (races_below trace) (let e : m ≡ n + (m - n) = omega (arith, less) in e) ∙ beyond trace n (m - n) in_n)
+  | inr most ↦ ap (races_below trace) (let e : n ≡ m + (n - m) = omega (arith, most) in e) ∙ beyond trace m (n - m) in_m
+]
+
+pub all_below : (trace : List Event) (sizes : Sizes) → IsNumberedByAccess trace → IsWithin trace sizes → IsRaceList trace (races_below trace sizes.variables)
+all_below trace sizes numbered within =
+    subst (IsRaceList trace)
+    (same_below trace (variables_in trace) sizes.variables (λ k x access. variable_within trace k (length trace) x (accessed_within trace x k access) access) (λ k x access. (variable_sized trace sizes k x within access).1))
+    (all_is_race_list trace numbered)
+
+-- ---- the races of one variable in the order of the trace
+
+pub opens_alone : (trace : List Event) (sizes : Sizes) (x : ℕ) (flags : List Bool) → x < sizes.variables → IsWithin trace sizes → AreNarrowed [] sizes.variables x (x + 1) flags → OpensOnly trace flags x
+opens_alone trace sizes x flags low within are = record {
+  opens = are.inside x low (omega arith) (omega arith);
+  only = λ k passes.
+      let v = open_variable trace flags k passes in
+      let small = (variable_sized trace sizes k v.0 within v.1).1 in
+      elim (cases_lt v.0 x) [
+        | inl less ↦ absurd (let f : true ≡ false = sym v.2 ∙ are.outside v.0 small (inl less) in let bad : ⊥ = cc in bad)
+        | inr most ↦ elim (cases_lt x v.0) [
+          | inl more ↦ absurd (let f : true ≡ false = sym v.2 ∙ are.outside v.0 small (inr (omega (arith, more))) in let bad : ⊥ = cc in bad)
+          | inr least ↦ v.1 ∙ ap Some (let e : v.0 ≡ x = omega (arith, most, least) in e)
+        ]
+      ];
+}
+
+pub before_all : (trace : List Event) (flags : List Bool) (x : ℕ) → OpensOnly trace flags x → races_before trace flags (length trace) ≡ races_on trace x
+before_all trace flags x h = ap (λ (ks : List ℕ). flat_map (races_with trace) ks) (numbers_alike (accesses_open flags trace) (accesses_at trace x) (length trace)
+    (λ k lt. elim (cases_Bool (accesses_open flags trace k)) [
+      | inl t ↦ t ∙ sym (test_from_access trace x k (h.only k t))
+      | inr f ↦ elim (cases_Bool (accesses_at trace x k)) [
+        | inl a ↦ absurd (let bad : true ≡ false = sym (open_access trace flags k x (access_from_test trace x k a) h.opens) ∙ f in let g : ⊥ = cc in g)
+        | inr b ↦ f ∙ sym b
+      ]
+    ]))
+
+-- the races of one event more
+abbrev pub next_races : List Event → List Bool → ℕ → List (ℕ × ℕ)
+next_races trace flags e = cond (accesses_open flags trace e) (races_with trace e) []
+
+pub before_next : (trace : List Event) (flags : List Bool) (e : ℕ) → races_before trace flags (e + 1) ≡ races_before trace flags e ++ next_races trace flags e
+before_next trace flags e = elim (cases_Bool (accesses_open flags trace e)) [
+  | inl passes ↦ ap (λ (ks : List ℕ). flat_map (races_with trace) ks) (numbers_more_yes (accesses_open flags trace) e passes)
+      ∙ (flat_map-append (races_with trace) (numbers_where (accesses_open flags trace) e) (e ∷ [])
+      ∙ ap (λ (l : List (ℕ × ℕ)). races_before trace flags e ++ l) (append-nil (races_with trace e) ∙ sym (ap (λ (b : Bool). cond b (races_with trace e) []) passes)))
+  | inr fails ↦ ap (λ (ks : List ℕ). flat_map (races_with trace) ks) (numbers_more_no (accesses_open flags trace) e fails)
+      ∙ (sym (append-nil (races_before trace flags e)) ∙ ap (λ (l : List (ℕ × ℕ)). races_before trace flags e ++ l) (sym (ap (λ (b : Bool). cond b (races_with trace e) []) fails)))
+]
+
+before_mono : (trace : List Event) (flags : List Bool) (n d : ℕ) → length (races_before trace flags n) ≤ length (races_before trace flags (n + d))
+before_mono trace flags n zero = let e = ap (λ (m : ℕ). length (races_before trace flags m)) (let z : n + 0 ≡ n = omega arith in z) in omega (arith, e)
+before_mono trace flags n (suc d) =
+    let rest = before_mono trace flags n d in
+    let next = ap length (ap (races_before trace flags) (let e : n + suc d ≡ (n + d) + 1 = omega arith in e) ∙ before_next trace flags (n + d)) in
+    let size = length-append (races_before trace flags (n + d)) (next_races trace flags (n + d)) in
+    omega (arith, rest, next, size)
+
+pub next_room : (trace : List Event) (flags : List Bool) (e n : ℕ) → e < n → length (races_before trace flags e) + length (next_races trace flags e) ≤ length (races_before trace flags n)
+next_room trace flags e n lt =
+    let mono = before_mono trace flags (e + 1) (n - (e + 1)) in
+    let same = ap (λ (m : ℕ). length (races_before trace flags m)) (let e : (e + 1) + (n - (e + 1)) ≡ n = omega (arith, lt) in e) in
+    let next = ap length (before_next trace flags e) in
+    let size = length-append (races_before trace flags e) (next_races trace flags e) in
+    omega (arith, mono, same, next, size)
+
+pub before_none : (trace : List Event) (flags : List Bool) → races_before trace flags 0 ≡ []
+unfolding numbers_where
+before_none trace flags = refl
+
+-- ---- the races of a batch
+
+between_within : (trace : List Event) (from to : ℕ) (p : ℕ × ℕ) → Contains (races_between trace from to) p → (p.0 < length trace) × (p.1 < length trace)
+between_within trace from to p c =
+    let there = flat_map_parts (races_on trace) (numbers_where (λ k. not (nat_lt k from)) to) p c in
+    let parts = races_on_parts trace there.0 p there.2 in
+    let within = accessed_within trace there.0 p.1 parts.0 in
+    let low = parts.1.earlier in (
+      omega (arith, low, within),
+      within,
+    )
+
+pub kept_within : (trace : List Event) (from to n : ℕ) (races : List ListedRace) → n ≡ length trace → map pair_in races ≡ races_between trace from to → All (λ (r : ListedRace). (r.first < n) × (r.second < n)) races
+kept_within trace from to n races many is k d lt =
+    let long = length-map races pair_in in
+    let there = subst (λ (l : List (ℕ × ℕ)). Contains l (get_or (map pair_in races) k (pair_in d))) is (Contains-get_or (map pair_in races) k (pair_in d) (omega (arith, long, lt))) in
+    let within = between_within trace from to (get_or (map pair_in races) k (pair_in d)) there in
+    let same = get_or-map pair_in races k d (pair_in d) lt in
+    let both = subst (λ (p : ℕ × ℕ). (p.0 < length trace) × (p.1 < length trace)) same within in
+    let low = both.0 in
+    let high = both.1 in (
+      omega (arith, low, many),
+      omega (arith, high, many),
+    )
+
+pub batch_room : (trace : List Event) (from to n : ℕ) (races : List ListedRace) → length trace < 4294967296 → from ≤ to → n ≡ length (races_below trace from) → map pair_in races ≡ races_between trace from to → n + length races < 18446744073709551616
+batch_room trace from to n races small le is same =
+    let few = few_below trace to small in
+    let parts = ap length (below_between trace from to le) in
+    let size = length-append (races_below trace from) (races_between trace from to) in
+    let long = length-map races pair_in in
+    let as_many = ap length same in
+    omega (arith, few, parts, size, long, as_many, is)
+
+pub alone_room : (trace : List Event) (x n : ℕ) → length trace < 4294967296 → n ≡ length (races_below trace x) → n + length (races_on trace x) < 18446744073709551616
+alone_room trace x n small is =
+    let few = few_below trace (x + 1) small in
+    let parts = ap length (below_next trace x) in
+    let size = length-append (races_below trace x) (races_on trace x) in
+    omega (arith, few, parts, size, is)
+
+pub below_none : (trace : List Event) → races_below trace 0 ≡ []
+unfolding numbers_where
+below_none trace = refl

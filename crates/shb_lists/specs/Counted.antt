@@ -1,0 +1,89 @@
+-- What is counted of races by the numbers of their locations.
+use Rattle.std.specs.Prelude.{◌≡◌, ◌+◌, ◌<◌, ◌≤◌, ℕ, Bool, true, zero, suc, List, [], ◌∷◌, Some, None, IfSome, cond, fold, length, map, slice_get, slice_index_or}
+use Rattle.std.specs.List.{AllByRecursion}
+use Rattle.shb_lines.specs.declared.event.Event.{Event}
+use Rattle.shb_lines.specs.declared.event.Pair.{Pair}
+use Rattle.shb_lines.specs.declared.event.Sizes.{Sizes}
+use Rattle.shb_lines.specs.events.Race.{variable_at}
+use Rattle.shb_lines.specs.text.TraceData.{TraceData}
+use Rattle.shb_format.specs.Keyed.{Key, Keyed, counted_of, counting, same_key, with_keyed, with_new}
+use Rattle.shb_format.specs.Places.{location_at}
+use Rattle.shb_format.specs.Report.{pair_of}
+use Rattle.shb_stamps.specs.Open.{accesses_open, is_open}
+use Rattle.shb_lists.specs.Past.{IsPast}
+use Rattle.shb_lists.specs.Unknown.{Accessed, IsUnknown, number_in}
+use Rattle.shb_lists.specs.declared.alone.Alone.{Alone}
+use Rattle.shb_lists.specs.declared.alone.Racing.{Racing}
+use Rattle.shb_lists.specs.declared.counter.RaceCounter.{RaceCounter}
+use Rattle.shb_lists.specs.declared.unknown.Unknown.{Unknown}
+
+-- each of the first `count` events has the number of its location
+pub record AreNumbered (trace : TraceData) (count : ℕ) (numbers : List ℕ) (locations : List (List ℕ)) : Type 0 where
+  pub as_many : length numbers ≡ count
+  pub few : length locations ≤ count
+  pub located : (e : ℕ) → e < count → slice_get locations (slice_index_or numbers e 0) ≡ Some (location_at trace e)
+
+-- the numbers of a pair's two locations
+abbrev pub key_in : List ℕ → Pair → Key
+key_in numbers pair = (number_in numbers pair.first, number_in numbers pair.second)
+
+-- these places, and then each pair in its turn
+abbrev pub keyed_after : List ℕ → List Keyed → List Pair → List Keyed
+keyed_after numbers before pairs = fold (λ places pair. with_keyed places (key_in numbers pair) pair) before pairs
+
+-- these places, and then each new place of the pairs with its first pair, of which none is counted yet
+abbrev pub with_places : List ℕ → List Keyed → List Pair → List Keyed
+with_places numbers before pairs = fold (λ places pair. with_new places (key_in numbers pair) (record { pair = pair; count = 0 })) before pairs
+
+-- how many of the pairs have this place
+abbrev pub times : List ℕ → List Pair → Key → ℕ
+times numbers [] key = 0
+times numbers (pair ∷ pairs) key = cond (same_key (key_in numbers pair) key) 1 0 + times numbers pairs key
+
+-- the places with so many pairs more of each
+abbrev pub grown : (Key → ℕ) → List Keyed → List Keyed
+grown more places = map (λ place. (place.0, counting place.1 (more place.0))) places
+
+-- so many for this place, and none for others
+abbrev pub only : Key → ℕ → Key → ℕ
+only key more other = cond (same_key key other) more 0
+
+-- so many for the place of each of the first numbers and the second location
+abbrev pub by_number : ℕ → List ℕ → ℕ → Key → ℕ
+by_number second counts zero key = 0
+by_number second counts (suc r) key = by_number second counts r key + only (r, second) (slice_index_or counts r 0) key
+
+-- no two places have the same numbers
+abbrev pub Differ : List Keyed → Type 0
+Differ [] = Unit {0}
+Differ (place ∷ places) = (counted_of places place.0 ≡ None) × Differ places
+
+-- n races are counted, so many of each place
+pub record IsCounted (start : List Keyed) (more : Key → ℕ) (n : ℕ) (counter : RaceCounter) : Type 0 where
+  pub differ : Differ start
+  pub empty : AllByRecursion (λ place. place.1.count ≤ 0) start
+  pub few : (key : Key) → more key ≤ n
+  pub count : counter.races ≡ n
+  pub places : counter.places ≡ grown more start
+
+-- these races are counted, each at its place, among the places of the leading races
+abbrev pub HasCounted : List ℕ → List Pair → List (ℕ × ℕ) → RaceCounter → Type 0
+HasCounted numbers leading races counter = IsCounted (with_places numbers [] leading) (times numbers (map pair_of races)) (length races) counter
+
+-- what the accesses of x of one kind conflict with
+abbrev pub side_of : Bool → Racing → Unknown
+side_of writes racing = cond writes racing.with_writes racing.with_reads
+
+abbrev pub AreRacing : List Event → ℕ → List ℕ → ℕ → ℕ → ℕ → Racing → Type 0
+AreRacing trace x numbers classes threads n racing = (writes : Bool) → IsUnknown (record { trace = trace; x = x; writes = writes }) numbers classes threads n (side_of writes racing)
+
+-- the flags open x, and no other variable that is accessed
+pub record OpensOnly (trace : List Event) (flags : List Bool) (x : ℕ) : Type 0 where
+  pub opens : is_open flags x ≡ true
+  pub only : (k : ℕ) → accesses_open flags trace k ≡ true → variable_at trace k ≡ Some x
+
+-- what is known of the accesses of x before n, which the flags open alone
+pub record IsAlone (trace : List Event) (sizes : Sizes) (flags : List Bool) (x : ℕ) (numbers : List ℕ) (classes n : ℕ) (alone : Alone) : Type 0 where
+  pub opened : OpensOnly trace flags x
+  pub past : IsPast trace flags n sizes.variables alone.past
+  pub racing : IfSome alone.racing (AreRacing trace x numbers classes sizes.threads n)
