@@ -1,17 +1,15 @@
 -- Places that grow, and why that is what counts each pair in its turn.
 use Rattle.std.proofs.lemmas.Grind.{common_steps}
-use Rattle.std.proofs.Common.{◌≡◌, ◌≢◌, ℕ, zero, suc, ◌+◌, ◌<◌, ◌≤◌, ◌&&◌, ◌++◌, Bool, true, false, cond, nat_eq, List, [], ◌∷◌, length, Option, None, Some, IfSome, is_some, get_or, take, refl, sym, ap, subst, ◌∙◌, inl, inr, arith, true≢false}
+use Rattle.std.proofs.Common.{◌≡◌, ◌≢◌, ℕ, zero, suc, ◌+◌, ◌≤◌, ◌&&◌, ◌++◌, Bool, true, false, cond, nat_eq, List, [], ◌∷◌, Option, None, Some, IfSome, is_some, get_or, refl, sym, ap, subst, ◌∙◌, inl, inr, arith, true≢false}
 use Rattle.std.specs.List.{AllByRecursion}
-use Rattle.std.proofs.lemmas.Bool.{cases_Bool, cases_lt}
+use Rattle.std.proofs.lemmas.Bool.{cases_Bool}
 use Rattle.std.proofs.lemmas.Bool.Decides.{eqb_tells}
-use Rattle.std.proofs.lemmas.List.{map-append, take_more}
-use Rattle.std.proofs.lemmas.List.Sums.{fold-append}
+use Rattle.std.proofs.lemmas.List.{map-append}
 use Rattle.indexmap.specs.IndexMap.{insert_entry}
 use Rattle.shb_lines.specs.declared.event.Pair.{Pair}
 use Rattle.shb_format.specs.Keyed.{Key, Keyed, counted_of, counting, same_key, with_keyed, with_more, with_new}
 use Rattle.shb_format.specs.Places.{with_one_more}
 use Rattle.shb_format.specs.declared.places.PlaceCount.{PlaceCount}
-use Rattle.shb_format.proofs.EachLemmas.{each-weaker}
 use Rattle.shb_format.proofs.KeyedLemmas.{put_last}
 use Rattle.shb_lists.specs.Counted.{Differ, by_number, grown, key_in, keyed_after, only, times, with_places}
 

@@ -1,6 +1,6 @@
 -- The races of all variables, one after the other: how many there are, and that they are the race list.
 use Rattle.std.proofs.lemmas.Grind.{common_steps}
-use Rattle.std.proofs.Common.{◌≡◌, ℕ, zero, suc, ◌+◌, ◌-◌, ◌*◌, ◌<◌, ◌≤◌, inl, inr, Bool, true, false, List, [], ◌∷◌, ◌++◌, Option, Some, None, All, get_or, length, map, not, refl, arith, ap, sym, subst, ◌∙◌, append_assoc, append-nil}
+use Rattle.std.proofs.Common.{◌≡◌, ℕ, zero, suc, ◌+◌, ◌-◌, ◌*◌, ◌<◌, ◌≤◌, inl, inr, Bool, true, false, List, [], ◌∷◌, ◌++◌, Option, Some, None, All, get_or, length, map, not, refl, arith, ap, sym, subst, ◌∙◌, append-nil}
 use Rattle.std.specs.Prelude.{cond, ◌==◌, Contains, flat_map, nat_lt}
 use Rattle.std.proofs.lemmas.Bool.{cases_Bool, cases_lt, eqb-true}
 use Rattle.std.proofs.lemmas.List.{get_or-map, length-append, length-map}
@@ -12,7 +12,7 @@ use Rattle.shb_lines.specs.events.Race.{IsRaceList, variable_at}
 use Rattle.shb_lines.specs.events.Reach.{numbers_where}
 use Rattle.shb_lines.specs.events.Sizes.{IsNumberedByAccess, IsWithin}
 use Rattle.shb_links.proofs.Owners.{variable_sized}
-use Rattle.shb_stamps.specs.Open.{accesses_open, is_open}
+use Rattle.shb_stamps.specs.Open.{accesses_open}
 use Rattle.shb_pairs.specs.Accesses.{accesses_at, accesses_in, variables_in}
 use Rattle.shb_pairs.specs.Races.{races_with}
 use Rattle.shb_pairs.proofs.ByThread.{numbers_all}

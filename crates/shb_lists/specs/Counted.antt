@@ -11,7 +11,7 @@ use Rattle.shb_format.specs.Places.{location_at}
 use Rattle.shb_format.specs.Report.{pair_of}
 use Rattle.shb_stamps.specs.Open.{accesses_open, is_open}
 use Rattle.shb_lists.specs.Past.{IsPast}
-use Rattle.shb_lists.specs.Unknown.{Accessed, IsUnknown, number_in}
+use Rattle.shb_lists.specs.Unknown.{IsUnknown, number_in}
 use Rattle.shb_lists.specs.declared.alone.Alone.{Alone}
 use Rattle.shb_lists.specs.declared.alone.Racing.{Racing}
 use Rattle.shb_lists.specs.declared.counter.RaceCounter.{RaceCounter}

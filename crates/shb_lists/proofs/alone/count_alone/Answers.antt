@@ -1,5 +1,4 @@
-use Rattle.std.proofs.Common.{◌≡◌, ◌++◌, Bool, ℕ, List, ap, arith, length, subst, sym}
-use Rattle.shb_lists.specs.Batches.{AreNarrowed}
+use Rattle.std.proofs.Common.{◌++◌, Bool, ℕ, List, ap, arith, length, subst, sym}
 use Rattle.shb_lists.specs.Counted.{HasCounted, OpensOnly}
 use Rattle.shb_lists.proofs.TotalLemmas.{before_all, opens_alone}
 use Rattle.shb_lists.proofs.alone.count_alone.Goals as goal

@@ -1,4 +1,4 @@
-use Rattle.std.proofs.Common.{[], List, ℕ, arith, length, map, refl, subst, sym}
+use Rattle.std.proofs.Common.{[], arith, length, map, refl, subst, sym}
 use Rattle.shb_format.specs.Report.{pair_of}
 use Rattle.shb_lines.proofs.events.Items.{thread_within}
 use Rattle.shb_lists.specs.Counted.{times, with_places}

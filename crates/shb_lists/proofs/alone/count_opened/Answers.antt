@@ -1,4 +1,4 @@
-use Rattle.std.proofs.Common.{◌≡◌, ◌++◌, ◌∙◌, ◌+◌, ℕ, List, ap, append-nil, append_assoc, arith, length, rules, subst, sym}
+use Rattle.std.proofs.Common.{◌≡◌, ◌++◌, ◌∙◌, ℕ, List, ap, append-nil, append_assoc, arith, length, rules, subst, sym}
 use Rattle.std.proofs.lemmas.List.{length-append}
 use Rattle.shb_lists.specs.Counted.{HasCounted}
 use Rattle.shb_lists.specs.Listed.{races_before}

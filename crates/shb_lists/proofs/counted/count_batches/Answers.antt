@@ -1,5 +1,5 @@
 -- The next batch, or the next variable.
-use Rattle.std.proofs.Common.{◌≡◌, ◌++◌, ◌∙◌, ◌<◌, ℕ, List, ap, arith, length, map, subst, sym}
+use Rattle.std.proofs.Common.{◌≡◌, ◌++◌, ◌∙◌, ℕ, List, ap, arith, length, map, subst, sym}
 use Rattle.shb_lists.specs.Batches.{races_below, races_between}
 use Rattle.shb_lists.specs.Counted.{HasCounted}
 use Rattle.shb_lists.specs.Listed.{pair_in}

@@ -1,5 +1,5 @@
 -- The race list is counted, and its places are those of the leading races.
-use Rattle.std.proofs.Common.{◌≡◌, ◌∙◌, ℕ, List, ap, length, subst, sym}
+use Rattle.std.proofs.Common.{◌∙◌, ℕ, List, ap, length, subst, sym}
 use Rattle.shb_lines.proofs.events.RaceLists.{race_list_unique}
 use Rattle.shb_lines.specs.events.Race.{IsRaceList}
 use Rattle.shb_lists.specs.Batches.{races_below}

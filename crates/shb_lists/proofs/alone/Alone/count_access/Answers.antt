@@ -1,4 +1,4 @@
-use Rattle.std.proofs.Common.{◌≡◌, ◌++◌, ◌∙◌, ◌^◌, ℕ, List, IfSome, Option, ap, arith, length, map, subst, sym}
+use Rattle.std.proofs.Common.{◌≡◌, ◌++◌, ◌∙◌, ℕ, List, IfSome, Option, ap, arith, subst, sym}
 use Rattle.shb_lines.proofs.events.Items.{thread_within}
 use Rattle.shb_pairs.specs.Races.{races_with}
 use Rattle.shb_lists.specs.Counted.{AreRacing, HasCounted}

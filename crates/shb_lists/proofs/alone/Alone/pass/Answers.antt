@@ -1,4 +1,4 @@
-use Rattle.std.proofs.Common.{◌+◌, refl}
+use Rattle.std.proofs.Common.{refl}
 use Rattle.std.proofs.lemmas.Result.{on_ok_weaker}
 use Rattle.shb_lists.proofs.AloneLemmas.{alone_skipped}
 use Rattle.shb_lists.proofs.alone.Alone.pass.Goals as goal

@@ -1,5 +1,5 @@
 -- The races so far are counted.
-use Rattle.std.proofs.Common.{◌≡◌, ◌+◌, ◌++◌, ℕ, List, length, map, take}
+use Rattle.std.proofs.Common.{◌++◌, ℕ, List, map, take}
 use Rattle.shb_lines.specs.declared.event.Pair.{Pair}
 use Rattle.shb_lists.specs.Counted.{HasCounted}
 use Rattle.shb_lists.proofs.counter.RaceCounter.count_racing.Given as goal
