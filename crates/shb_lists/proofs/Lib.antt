@@ -17,3 +17,4 @@ pub mod CountLemmas
 pub mod TotalLemmas
 pub mod AloneLemmas
 pub mod PlaceLemmas
+pub mod PartLemmas

@@ -34,11 +34,11 @@ open_variable trace flags e h = go (variable_at trace e) refl h
 pub open_access : (trace : List Event) (flags : List Bool) (e x : ℕ) → variable_at trace e ≡ Some x → is_open flags x ≡ true → accesses_open flags trace e ≡ true
 open_access trace flags e x access is = rw access is
 
-pairs_of_kept : (x e : ℕ) (found : List ℕ) → map pair_in (map (λ i. race_of x e i) found) ≡ map (λ i. (i, e)) found
+pub pairs_of_kept : (x e : ℕ) (found : List ℕ) → map pair_in (map (λ i. race_of x e i) found) ≡ map (λ i. (i, e)) found
 pairs_of_kept x e [] = refl
 pairs_of_kept x e (i ∷ found) = ap (λ (l : List (ℕ × ℕ)). (i, e) ∷ l) (pairs_of_kept x e found)
 
-races_more : (trace : List Event) (flags : List Bool) (e : ℕ) (found : List ℕ) → found ≡ cond (accesses_open flags trace e) (numbers_where (λ i. is_race trace i e) e) [] → races_before trace flags (e + 1) ≡ races_before trace flags e ++ map (λ i. (i, e)) found
+pub races_more : (trace : List Event) (flags : List Bool) (e : ℕ) (found : List ℕ) → found ≡ cond (accesses_open flags trace e) (numbers_where (λ i. is_race trace i e) e) [] → races_before trace flags (e + 1) ≡ races_before trace flags e ++ map (λ i. (i, e)) found
 unfolding races_with
 races_more trace flags e found is = elim (cases_Bool (accesses_open flags trace e)) [
   | inl passing ↦ ap (λ (ks : List ℕ). flat_map (races_with trace) ks) (numbers_more_yes (accesses_open flags trace) e passing)
@@ -69,7 +69,7 @@ unfolding numbers_where
 list_none trace flags kept is = rw is (record { pairs = refl; variables = λ k d lt. absurd (omega arith) })
 
 -- where no variable is open
-quiet_numbers : (f : ℕ → Bool) (n : ℕ) → ((k : ℕ) → f k ≡ true → ⊥) → numbers_where f n ≡ []
+pub quiet_numbers : (f : ℕ → Bool) (n : ℕ) → ((k : ℕ) → f k ≡ true → ⊥) → numbers_where f n ≡ []
 unfolding numbers_where
 quiet_numbers f zero fails = refl
 quiet_numbers f (suc n) fails = elim (cases_Bool (f n)) [

@@ -55,7 +55,7 @@ fn variable_of(events: &Events, e: u32) -> u32
 }
 
 /// Adds the races of some events with a later one, which accesses this variable.
-fn add_races(
+pub(crate) fn add_races(
     kept: &mut Vec<ListedRace>,
     variable: u32,
     second: u32,

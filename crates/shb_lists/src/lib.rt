@@ -8,8 +8,9 @@
 //! each race a step.
 //!
 //! [`kept_races`] keeps what the sweep finds, and sorts it into the order of the race list; workers make pairs of it in
-//! pieces ([`pairs_in_pieces`]). [`batch_from`] does the same for as many variables as have few enough races. [`Unknown`]
-//! counts the races of an access by the numbers of their locations, without a step for each of them.
+//! pieces ([`pairs_in_pieces`]). [`batch_from`] does the same for as many variables as have few enough races, and
+//! [`RaceParts`] finds those of one variable a part at a time. [`Unknown`] counts the races of an access by the numbers
+//! of their locations, without a step for each of them; [`counted_races`] counts all races, and those of each place.
 #![tactic(auto)]
 
 mod alone;
@@ -18,6 +19,7 @@ mod counted;
 mod counter;
 mod kept;
 mod numbering;
+mod parts;
 mod past;
 mod pieces;
 mod rivals;
@@ -28,6 +30,7 @@ mod unknown;
 pub use batches::{Batch, batch_from, narrowed};
 pub use counted::{RaceCount, counted_races};
 pub use kept::{ListedRace, kept_races};
+pub use parts::RaceParts;
 pub use past::{Past, access_at};
 pub use pieces::pairs_in_pieces;
 pub use search::Access;

@@ -1,0 +1,91 @@
+//! The races of one variable, a part at a time.
+
+ghost use Rattle.std.specs.Prelude.{◌≡◌, ◌<◌, ◌++◌, ℕ, IfOk, OnOk, length, map};
+ghost use Rattle.shb_lists.specs.Listed.{pair_in};
+ghost use Rattle.shb_lists.specs.Parts.{IsPartly, races_until};
+
+use crate::batches::narrowed;
+use crate::kept::{ListedRace, add_races};
+use crate::past::Past;
+use crate::settled::Settled;
+use shb_io::NoMemory;
+use shb_links::Linked;
+use shb_stamps::{Ordered, Sweep};
+use std::alloc::Global;
+
+/// A search for the races of one variable by a sweep, which can stop after each event.
+#[derive(Drop)]
+pub struct RaceParts<'a> {
+    variable: u32,
+    /// Flags that leave open this variable alone.
+    flags: Vec<bool>,
+    past: Past,
+    sweep: Sweep<'a>,
+    /// The events before this one are passed.
+    pub next: u32,
+}
+
+impl<'a> RaceParts<'a> {
+    /// A search for the races of this variable, before the first event. Memory: 24 bytes a variable, and what a sweep
+    /// takes.
+    ///
+    /// # Errors
+    ///
+    /// `NoMemory` where memory is refused.
+    pub fn new(
+        alloc: Global,
+        settled: &'a Settled<'a>,
+        variable: u32,
+    ) -> Result<RaceParts<'a>, NoMemory>
+        requires { variable < settled.now.disciplined.now.sizes.variables }
+        ensures search { IfOk result (IsPartly settled.now.disciplined.now.events.now settled.now.disciplined.now.sizes.variables variable) }
+        ensures start { IfOk result (λ parts. parts.next ≡ 0) }
+    {
+        let variables = settled.disciplined.sizes.variables;
+        let flags = narrowed(alloc, &[], variables, variable, variable + 1)?;
+        let past = Past::new(alloc, variables)?;
+        let sweep = Sweep::new(alloc, Linked::new(settled.disciplined, settled.links))?;
+        Ok(RaceParts {
+            variable,
+            flags,
+            past,
+            sweep,
+            next: 0,
+        })
+    }
+
+    /// The next races of the variable in the order of the race list: those of the next events, up to the event that
+    /// brings them to `most`, or the last one.
+    ///
+    /// # Errors
+    ///
+    /// `NoMemory` where a growth was refused; nothing is known of the search then.
+    pub fn next_part(
+        &mut self,
+        alloc: Global,
+        settled: &Settled<'_>,
+        most: u64,
+    ) -> Result<Vec<ListedRace>, NoMemory>
+        requires search { (x : ℕ) × IsPartly settled.now.disciplined.now.events.now settled.now.disciplined.now.sizes.variables x self.old }
+        ensures search { (x : ℕ) → IsPartly settled.now.disciplined.now.events.now settled.now.disciplined.now.sizes.variables x self.old
+            → OnOk result (IsPartly settled.now.disciplined.now.events.now settled.now.disciplined.now.sizes.variables x self.new) }
+        ensures races { (x : ℕ) → IsPartly settled.now.disciplined.now.events.now settled.now.disciplined.now.sizes.variables x self.old
+            → IfOk result (λ part. races_until settled.now.disciplined.now.events.now x self.new.next
+            ≡ races_until settled.now.disciplined.now.events.now x self.old.next ++ map pair_in part.items) }
+        ensures more { OnOk result (self.old.next < length settled.now.disciplined.now.events.now → self.old.next < self.new.next) }
+    {
+        let mut part = Vec::new(alloc);
+        let mut found = Vec::new(alloc);
+        for e in self.next..settled.disciplined.events.len() as u32 {
+            let ordered = Ordered::new(&self.sweep, settled.disciplined, settled.links);
+            self.past.pass(&ordered, &self.flags, e, &mut found)?;
+            add_races(&mut part, self.variable, e, found.as_slice())?;
+            self.sweep.pass(alloc)?;
+            self.next = e + 1;
+            if part.len() as u64 >= most {
+                return Ok(part);
+            }
+        }
+        Ok(part)
+    }
+}
