@@ -1,11 +1,8 @@
 -- What a check says of a report that a run wrote with schedules.
 use Rattle.std.proofs.Common.{◌≡◌, inl, ℕ, ◌≤◌, true, List, length, Option, None, sym, ap, subst, ◌∙◌, arith}
 use Rattle.std.specs.List.{AllByRecursion}
-use Rattle.std.specs.Prelude.{Contains}
 use Rattle.std.proofs.lemmas.List.{length-map}
 use Rattle.std.proofs.lemmas.Slice.Zip.{AllZip-long}
-use Rattle.shb_lines.specs.events.Discipline.{IsDisciplined}
-use Rattle.shb_lines.specs.events.Race.{Race}
 use Rattle.shb_lines.specs.text.Faults.{HasNoLineFaultBefore}
 use Rattle.shb_lines.specs.text.Text.{IsLineText, lines_of}
 use Rattle.shb_lines.specs.text.TraceData.{IsTraceOf, TraceData}

@@ -1,14 +1,11 @@
 -- The races of a report.
-use Rattle.std.proofs.Common.{◌≡◌, ℕ, ◌<◌, Bool, true, inl, inr, List, length, map, get_or, All, Contains, Option, sym, subst}
-use Rattle.std.proofs.lemmas.Bool.{cases_Bool}
+use Rattle.std.proofs.Common.{◌≡◌, ℕ, ◌<◌, Bool, List, length, map, get_or, All, Contains, Option, sym, subst}
 use Rattle.std.proofs.lemmas.List.{get_or-map, length-map}
 use Rattle.std.proofs.lemmas.List.Elements.{Contains-get_or, All-from_get_or}
 use Rattle.shb_lines.specs.declared.event.Event.{Event}
 use Rattle.shb_lines.specs.declared.event.Pair.{Pair}
 use Rattle.shb_lines.specs.events.Race.{Race, ends}
 use Rattle.shb_lines.specs.text.TraceData.{TraceData}
-use Rattle.shb_stamps.specs.Open.{is_open}
-use Rattle.shb_pairs.specs.Open.{AreOpen, AsksOpen}
 use Rattle.shb_format.specs.Report.{IsReportOn}
 use Rattle.shb_format.proofs.LeadingReports.{leading_are_races}
 use Rattle.shb_judging.proofs.WrittenGood.{all_are_races}
@@ -35,16 +32,6 @@ races_listed choice trace events races same lists =
   where
     none : Pair
     none = record { first = 0; second = 0 }
-
--- an order that can be asked about each access of an open variable can be asked about both events of a race
-pub asks_race : (trace : List Event) (flags : List Bool) (asks : ℕ → Bool) (i j : ℕ) → AreOpen trace flags → AsksOpen asks flags trace → Race trace i j → (asks i ≡ true) × (asks j ≡ true)
-asks_race trace flags asks i j free asked race = (asked i race.conflict.variable race.conflict.first_accesses listed, asked j race.conflict.variable race.conflict.second_accesses listed)
-  where
-    listed : is_open flags race.conflict.variable ≡ true
-    listed = elim (cases_Bool (is_open flags race.conflict.variable)) [
-      | inl opened ↦ opened
-      | inr shut ↦ absurd (free race.conflict.variable shut i j race.conflict.second_accesses race)
-    ]
 
 -- a report on these races is one on the races of which they are known to be
 module _ (Lists : TraceData → List (ℕ × ℕ) → Type 0) (ws : Bool) (trace : TraceData) (races : List (ℕ × ℕ)) (lists : Lists trace races) where

@@ -14,7 +14,6 @@ pub mod laws;
 mod leading;
 mod pipeline;
 mod places;
-mod screened;
 mod settings;
 mod statuses;
 

@@ -1,6 +1,6 @@
 -- The blocks of some races after those of others.
 use Rattle.std.proofs.Common.{◌≡◌, ◌⊎◌, inl, inr, ℕ, ◌+◌, ◌<◌, ◌≤◌, Bool, true, false, List, [], ◌∷◌, ◌++◌, length, map, take, drop, get_or, Option, Result, Ok, Err, refl, sym, ap, subst, ◌∙◌, append_assoc, append-nil, arith}
-use Rattle.std.specs.Prelude.{IfErr, IfOk, OnErr, OnOk, if◌then◌else◌}
+use Rattle.std.specs.Prelude.{OnErr, if◌then◌else◌}
 use Rattle.std.proofs.lemmas.Bool.{cases_lt}
 use Rattle.std.proofs.lemmas.List.{length-append, map-append, map_more, map_push, take_all, take-append-drop}
 use Rattle.std.proofs.lemmas.List.Elements.{All-map}
@@ -78,10 +78,6 @@ pub blocks_front : (trace : TraceData) (n : ℕ) (xs rest all : List ShownRace) 
 blocks_front trace n xs rest all old new is front =
     subst (AppendsFront old new) (sym (ap (blocks_from trace n) is ∙ blocks-append trace n (length xs + n) xs rest refl)) (front_more old new (blocks_from trace n xs) (blocks_from trace (length xs + n) rest) front)
 
--- the same of races without schedules
-pub found_front : (trace : TraceData) (all xs rest : List (ℕ × ℕ)) (old new : Option (List ℕ)) → all ≡ xs ++ rest → AppendsFront old new (blocks_from trace 1 (map alone xs)) → AppendsFront old new (blocks_of false trace all)
-found_front trace all xs rest old new is front = blocks_front trace 1 (map alone xs) (map alone rest) (map alone all) old new (ap (map alone) is ∙ map-append alone xs rest) front
-
 -- ---- blocks one after the other
 
 module _ {K : Type 0} (taken : K → Option (List ℕ)) (failures : K → ℕ) where
@@ -158,15 +154,3 @@ left_after P left found holds same = subst P (sym same) holds
 pub on_err : {T E : Type 0} (r : Result T E) (P : Type 0) → P → OnErr r P
 on_err (Ok x) P p = tt
 on_err (Err e) P p = p
-
--- one piece more
-module _ {K : Type 0} (taken : K → Option (List ℕ)) (failures : K → ℕ) where
-  pub written_piece : {T E : Type 0} (r : Result T E) (start before after : BlockWriter K) (xs ys all : List ShownRace) → all ≡ xs ++ ys → HasWritten taken failures start xs before → OnOk r (HasWritten taken failures before ys after)
-      → IfOk r (λ _. HasWritten taken failures start all after)
-  written_piece (Ok x) start before after xs ys all is has more = written_then taken failures start before after xs ys all is has more
-  written_piece (Err e) start before after xs ys all is has more = tt
-
-  pub stopped_piece : {T : Type 0} (r : Result T WriteError) (start before after : BlockWriter K) (xs ys all : List ShownRace) → all ≡ xs ++ ys → HasWritten taken failures start xs before
-      → IfErr r (λ e. HasStopped taken failures before ys e after) → IfErr r (λ e. HasStopped taken failures start all e after)
-  stopped_piece (Ok x) start before after xs ys all is has more = tt
-  stopped_piece (Err e) start before after xs ys all is has more = stopped_then taken failures start before after xs ys [] all e (is ∙ sym (append-nil (xs ++ ys))) has more

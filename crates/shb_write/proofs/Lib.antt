@@ -1,5 +1,5 @@
 pub mod Blocks
 pub mod Counting
-pub mod Pieces
+pub mod Listing
 pub mod Reports
 pub mod Scheduling

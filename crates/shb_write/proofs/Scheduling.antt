@@ -86,3 +86,7 @@ pub came_all : (trace : TraceData) (events : List Event) (races : List Pair) (as
 came_all trace events races asked same is given old new first written =
     subst (λ l. Appends old new (blocks_from trace 1 (map (scheduled trace) (map ends l)))) (take_all (length asked.races) races (omega (arith, ap (λ (a : Asked). length a.races) is)))
     (subst (λ l. Appends old new (blocks_from trace 1 l)) (came_shown trace events races asked same is (length asked.races) given (omega arith) first) written)
+
+-- one schedule more
+pub values_next : {V M : Type 0} (meaning : V → M) (f : ℕ → M) (k : ℕ) (given : List V) (out : V) → map meaning given ≡ values_of f k → meaning out ≡ f k → map meaning (given ++ out ∷ []) ≡ values_of f (k + 1)
+values_next meaning f k given out first next = map_push meaning given out ∙ ap (λ l. l ++ meaning out ∷ []) first ∙ ap (λ x. values_of f k ++ x ∷ []) next ∙ ap (values_of f) (let e : suc k ≡ k + 1 = omega arith in e)

@@ -1,24 +1,20 @@
--- What is counted and listed where the races of a search come piece by piece.
-use Rattle.std.specs.Prelude.{◌≡◌, ℕ, ◌^◌, ◌<◌, List, All, length, map}
-use Rattle.shb_fan.specs.Values.{values_of}
+-- What is listed where the races of a trace are found batch by batch.
+use Rattle.std.specs.Prelude.{ℕ, ◌+◌, ◌-◌, ◌^◌, ◌<◌, List, All, MatchResult, Option, Result, length, map}
 use Rattle.shb_lines.specs.text.TraceData.{TraceData}
-use Rattle.shb_stamps.specs.Open.{OpenTrace}
-use Rattle.shb_pairs.specs.Races.{joined, pieces_in, races_at}
-use Rattle.shb_format.specs.Places.{IsPlaceOf, counts_in, places_of_pairs}
-use Rattle.shb_format.specs.Report.{pair_of}
-use Rattle.shb_write.specs.declared.counted.Counted.{Counted}
-
--- the races that a search finds: those of all its pieces, in order
-abbrev pub races_found : OpenTrace → List (ℕ × ℕ)
-races_found search = joined (values_of (races_at search) (length (pieces_in search)))
+use Rattle.shb_write.specs.Blocks.{HasStopped, HasWritten, alone}
+use Rattle.shb_write.specs.declared.block_writer.BlockWriter.{BlockWriter}
+use Rattle.shb_write.specs.declared.errors.WriteError.{WriteError}
 
 -- both events of the race are events of the trace
 abbrev pub IsRaceOf : TraceData → ℕ × ℕ → Type 0
 IsRaceOf trace race = (race.0 < length trace.events) × (race.1 < length trace.events)
 
--- how many races there are, and their places
-pub record IsCountOf (trace : TraceData) (races : List (ℕ × ℕ)) (counted : Counted) : Type 0 where
-  pub count : counted.races ≡ length races
-  pub few : length races < 2 ^ 64
-  pub places_are : counted.places ≡ counts_in (places_of_pairs trace (map pair_of races))
-  pub in_range : All (IsPlaceOf trace) counted.places
+-- blocks of these races can be written: they can be numbered, they are of the trace, and the sink can count a failure
+pub record MayList {K : Type 0} (failures : K → ℕ) (start : BlockWriter K) (races : List (ℕ × ℕ)) : Type 0 where
+  pub countable : failures start.sink.now < 2 ^ 64 - 1
+  pub room : length races + start.written < 2 ^ 64
+  pub in_range : All (IsRaceOf start.trace.now) races
+
+-- the blocks of these races were written or, on an error, the front of them
+abbrev pub HasListed : {K T : Type 0} → (K → Option (List ℕ)) → (K → ℕ) → BlockWriter K → List (ℕ × ℕ) → Result T WriteError → BlockWriter K → Type 0
+HasListed taken failures start races r end = MatchResult r (λ _. HasWritten taken failures start (map alone races) end) (λ e. HasStopped taken failures start (map alone races) e end)

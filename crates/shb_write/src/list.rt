@@ -1,94 +1,105 @@
-//! The races that a search finds, counted, and listed without schedules.
-ghost use Rattle.std.specs.Prelude.{◌-◌, ◌^◌, ◌<◌, All, IfOk, false, length};
+//! The blocks of all races of a trace, which are found and written batch by batch.
+ghost use Rattle.std.specs.Prelude.{◌≡◌, ◌+◌, ◌-◌, ◌^◌, ◌<◌, All, false, length, map};
 ghost use Rattle.shb_io.specs.Devices.{CountsFailure};
+ghost use Rattle.shb_lists.specs.Batches.{races_below, races_on};
+ghost use Rattle.shb_lists.specs.Listed.{pair_in};
 ghost use Rattle.shb_write.specs.Blocks.{WritesBlocks};
-ghost use Rattle.shb_write.specs.Listed.{IsCountOf, IsRaceOf, races_found};
+ghost use Rattle.shb_write.specs.Listed.{HasListed, MayList};
 ghost use Rattle.shb_write.specs.Written.{write_failed};
 
 use crate::block_writer::BlockWriter;
-use crate::counted::Counted;
 use crate::errors::WriteError;
-use crate::piece_lister::PieceLister;
-use crate::race_search::RaceSearch;
-use shb_counts::{RaceCount, counted_races};
-use shb_fan::{Gate, StreamError, stream};
-use shb_io::{NoMemory, Sink};
-use shb_lines::{Pair, Trace};
-use shb_pairs::RangeJob;
-use shb_stamps::Order;
+use crate::plan::BlockPlan;
+use shb_fan::Gate;
+use shb_io::Sink;
+use shb_lists::{ListedRace, RaceParts, Settled, batch_from, pairs_in_pieces};
 use std::alloc::Global;
-use std::random::RandomSource;
 use std::sync::Wait;
 use std::thread::Threads;
 
-/// Counts the races that a search finds, and those of each place, and keeps none.
-pub(crate) fn count_many<R: RandomSource, O: Order>(
+/// Writes the blocks of some kept races, which workers make pairs of.
+fn write_kept<R: Threads + Wait + Sync, K: Sink, G: Gate + Sync>(
     rt: &R,
     alloc: Global,
-    trace: &Trace,
-    job: &RangeJob<'_, O>,
-) -> Result<Counted, NoMemory>
-    requires { All (IsRaceOf trace.now) (races_found job.now) }
-    ensures { IfOk result (IsCountOf trace.now (races_found job.now)) }
+    writer: &mut BlockWriter<'_, '_, K>,
+    races: &[ListedRace],
+    plan: &BlockPlan<'_, G>,
+) -> Result<(), WriteError>
+    requires { MayList K.failure_count writer.old (map pair_in races.now) }
+    ensures { HasListed K.taken K.failure_count writer.old (map pair_in races.now) result writer.new }
 {
-    let RaceCount { races, places } = counted_races(rt, alloc, trace, job)?;
-    Ok(Counted { races, places })
+    let pairs = pairs_in_pieces(rt, alloc, races, plan.gate, plan.workers)?;
+    writer.list(&pairs)?;
+    Ok(())
 }
 
-/// Makes a search, and writes the blocks of its races as they come. `room` is for the races of one
-/// later access at a time.
-fn write_found_in<R: Threads + Wait + Sync, K: Sink, O: Order + Sync, G: Gate + Sync>(
+/// Writes the blocks of the races of one variable. They are found by one sweep, and kept and written a part at a time:
+/// as many as the trace has events, and the races of one more access.
+fn write_variable<R: Threads + Wait + Sync, K: Sink, G: Gate + Sync>(
+    rt: &R,
+    alloc: Global,
+    writer: &mut BlockWriter<'_, '_, K>,
+    settled: &Settled<'_>,
+    variable: u32,
+    plan: &BlockPlan<'_, G>,
+) -> Result<(), WriteError>
+    requires variable { variable < settled.now.disciplined.now.sizes.variables }
+    requires races { MayList K.failure_count writer.old (races_on settled.now.disciplined.now.events.now variable) }
+    ensures { HasListed K.taken K.failure_count writer.old (races_on settled.now.disciplined.now.events.now variable) result writer.new }
+{
+    let events = settled.disciplined.events.len() as u32;
+    let mut parts = RaceParts::new(alloc, settled, variable)?;
+    while parts.next < events {
+        let races = parts.next_part(alloc, settled, u64::from(events))?;
+        write_kept(rt, alloc, &mut *writer, &races, plan)?;
+    }
+    Ok(())
+}
+
+/// Writes the blocks of all races of a trace, in batches of not more than it has events.
+fn write_batches<R: Threads + Wait + Sync, K: Sink, G: Gate + Sync>(
+    rt: &R,
+    alloc: Global,
+    writer: &mut BlockWriter<'_, '_, K>,
+    settled: &Settled<'_>,
+    plan: &BlockPlan<'_, G>,
+) -> Result<(), WriteError>
+    requires { MayList K.failure_count writer.old (races_below settled.now.disciplined.now.events.now settled.now.disciplined.now.sizes.variables) }
+    ensures { HasListed K.taken K.failure_count writer.old
+        (races_below settled.now.disciplined.now.events.now settled.now.disciplined.now.sizes.variables) result writer.new }
+{
+    let variables = settled.disciplined.sizes.variables;
+    let most = settled.disciplined.events.len() as u64;
+    let mut from = 0;
+    while from < variables {
+        let batch = batch_from(alloc, settled, from, variables, most)?;
+        match &batch.races {
+            Some(races) => write_kept(rt, alloc, &mut *writer, races, plan)?,
+            None => write_variable(rt, alloc, &mut *writer, settled, from, plan)?,
+        }
+        from = batch.to;
+    }
+    Ok(())
+}
+
+/// Writes the blocks of all races of a trace, numbered from 1.
+pub(crate) fn write_all<R: Threads + Wait + Sync, K: Sink, G: Gate + Sync>(
     rt: &R,
     alloc: Global,
     sink: &mut K,
-    trace: &Trace,
-    search: &RaceSearch<'_, '_, '_, '_, '_, O, G>,
-    room: &mut Vec<Pair>,
+    settled: &Settled<'_>,
+    plan: &BlockPlan<'_, G>,
 ) -> Result<(), WriteError>
     requires countable { K.failure_count sink.old < 2 ^ 64 - 1 }
-    requires room { length (races_found search.now.job.now) < 2 ^ 64 }
-    requires races { All (IsRaceOf trace.now) (races_found search.now.job.now) }
-    ensures blocks { WritesBlocks false trace.now (races_found search.now.job.now) (K.taken sink.old) (K.taken sink.new) result }
+    requires room { length (races_below settled.now.disciplined.now.events.now settled.now.disciplined.now.sizes.variables) < 2 ^ 64 }
+    ensures blocks { WritesBlocks false settled.now.disciplined.now.trace.now
+        (races_below settled.now.disciplined.now.events.now settled.now.disciplined.now.sizes.variables) (K.taken sink.old) (K.taken sink.new) result }
     ensures counted { CountsFailure write_failed (K.failure_count sink.old) (K.failure_count sink.new) result }
 {
-    let writer = BlockWriter {
+    let mut writer = BlockWriter {
         sink: &mut *sink,
-        trace,
+        trace: settled.disciplined.trace,
         written: 0,
     };
-    let mut taker = PieceLister {
-        writer,
-        room: &mut *room,
-        alloc,
-    };
-    match stream(
-        rt,
-        alloc,
-        search.job,
-        search.gate,
-        search.workers,
-        &mut taker,
-    ) {
-        Ok(_) => Ok(()),
-        Err(StreamError::Taker(error)) => Err(error),
-        Err(StreamError::Memory(refused)) => Err(WriteError::Memory(refused)),
-    }
-}
-
-/// Makes a search, and writes the blocks of its races as they come.
-pub(crate) fn write_found<R: Threads + Wait + Sync, K: Sink, O: Order + Sync, G: Gate + Sync>(
-    rt: &R,
-    alloc: Global,
-    sink: &mut K,
-    trace: &Trace,
-    search: &RaceSearch<'_, '_, '_, '_, '_, O, G>,
-) -> Result<(), WriteError>
-    requires countable { K.failure_count sink.old < 2 ^ 64 - 1 }
-    requires room { length (races_found search.now.job.now) < 2 ^ 64 }
-    requires races { All (IsRaceOf trace.now) (races_found search.now.job.now) }
-    ensures blocks { WritesBlocks false trace.now (races_found search.now.job.now) (K.taken sink.old) (K.taken sink.new) result }
-    ensures counted { CountsFailure write_failed (K.failure_count sink.old) (K.failure_count sink.new) result }
-{
-    let mut room = Vec::new(alloc);
-    write_found_in(rt, alloc, sink, trace, search, &mut room)
+    write_batches(rt, alloc, &mut writer, settled, plan)
 }

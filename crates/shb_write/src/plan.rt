@@ -1,11 +1,11 @@
-//! How the schedules of a report are made.
+//! How workers make the blocks of a report.
 use shb_fan::Workers;
 
-/// How the schedules of a report are made.
+/// How workers make the blocks of a report.
 #[derive(Drop)]
 pub struct BlockPlan<'g, G> {
-    /// How many workers make schedules. The report is the same for every number of them.
+    /// How many workers make schedules, or pairs of races. The report is the same for every number of them.
     pub workers: Workers,
-    /// What a worker passes before it makes a schedule.
+    /// What a worker passes before it makes a schedule, or the pairs of a piece.
     pub gate: &'g G,
 }

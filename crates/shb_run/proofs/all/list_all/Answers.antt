@@ -31,5 +31,5 @@ returns-in-Some g c =
     let lists = kept_listed trace.trace.now trace.events.now c.in-Some.kept.items c.deref-in-Some.result.now c.in_ok-races-in-Some.races.items pairs trace.of_trace kept c.deref-in-Some.ensures.value c.in_ok-races-in-Some.ensures c.deref-in-Some-3.ensures.value in
     c.list_known.ensures choices.All lists
 
-pub new-screened-requires-clause-settled : goal.new-screened-requires-clause-settled
-new-screened-requires-clause-settled g c = rw (c.new-ordered.ensures.disciplined, c.deref-in-None-2.ensures.value) c.in_ok-flags.ensures
+pub new-settled-requires-clause-settled : goal.new-settled-requires-clause-settled
+new-settled-requires-clause-settled g c = rw c.deref-in-None.ensures.value c.in_ok-flags.ensures

@@ -1,4 +1,4 @@
-use Rattle.std.proofs.Common.{List, All, ap, map, subst, sym, ◌∙◌}
+use Rattle.std.proofs.Common.{List, All, map, subst, sym}
 use Rattle.shb_lines.specs.declared.event.Event.{Event}
 use Rattle.shb_lines.specs.declared.event.Pair.{Pair}
 use Rattle.shb_lines.specs.events.Race.{Race, ends}

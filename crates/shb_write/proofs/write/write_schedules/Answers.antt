@@ -8,8 +8,7 @@ use Rattle.shb_write.specs.declared.errors.WriteError.{WriteError}
 use Rattle.shb_write.specs.declared.errors.WriteError.TheVariants as errors
 use Rattle.shb_write.proofs.Blocks.{left_after, whole_front}
 use Rattle.shb_write.proofs.Counting.{pairs_in_range}
-use Rattle.shb_write.proofs.Pieces.{values_next}
-use Rattle.shb_write.proofs.Scheduling.{came_all, came_front}
+use Rattle.shb_write.proofs.Scheduling.{came_all, came_front, values_next}
 use Rattle.shb_write.proofs.write.write_schedules.Goals as goal
 
 pub stream-requires-after_bounds : goal.stream-requires-after_bounds
