@@ -6,6 +6,4 @@
 #![tactic(auto)]
 
 pub use shb_orders::{ClockVersions, FullClocks, PlainOrder, full, plain, versions};
-pub use shb_stamps::{
-    EventRows, ListedRows, Order, Ordered, Sweep, at_events, by_event, is_open, laws,
-};
+pub use shb_stamps::{ListedRows, Order, Ordered, Sweep, at_events, is_open, laws};

@@ -1,16 +1,14 @@
 -- What the order answers for the own thread and for another, from the row before an event.
-use Rattle.std.proofs.Common.{◌≡◌, ◌≢◌, ℕ, ◌+◌, ◌<◌, ◌≤◌, inl, inr, Bool, true, List, [], Some, length, get_or, arith, subst, ap, sym, ◌∙◌}
+use Rattle.std.proofs.Common.{◌≡◌, ◌≢◌, ℕ, ◌+◌, ◌≤◌, inl, inr, List, [], Some, get_or, arith, subst, ap, sym, ◌∙◌}
 use Rattle.std.specs.Prelude.{count_by}
 use Rattle.std.proofs.lemmas.Bool.{cases_lt, cases_eq}
-use Rattle.std.proofs.lemmas.List.{get_or_read}
 use Rattle.shb_lines.specs.declared.event.Event.{Event}
 use Rattle.shb_lines.specs.events.Events.{thread_at}
 use Rattle.shb_lines.specs.events.Discipline.{IsDisciplined, is_of, local_time}
 use Rattle.shb_lines.specs.events.Order.{BelowPred, IsBelowPredCount, IsNumberOf}
 use Rattle.shb_lines.proofs.events.Listed.{number_same}
 use Rattle.shb_lines.proofs.events.Schedulable.{below_pred_earlier, thread_below_pred}
-use Rattle.shb_stamps.specs.Open.{accesses_open}
-use Rattle.shb_stamps.specs.Stamps.{HasOpenRows, IsRowFor}
+use Rattle.shb_stamps.specs.Stamps.{IsRowFor}
 use Rattle.shb_stamps.proofs.Fronts.{number_up_to, thread_in_range}
 use Rattle.shb_stamps.proofs.Locals.{time_rises, time_within}
 
@@ -20,10 +18,6 @@ count_other trace seen rows e u t r n row same h row_is ne is = subst (λ (tr : 
   (λ g. (g.0, (h.front.exact t k g.0 ne).0 g.1)),
   (λ g. (g.0, (h.front.exact t k g.0 ne).1 g.1)),
 )) (number_up_to trace t (get_or (get_or rows r []) t 0) (h.front.within t ne))))
-
--- the row before an event, as the code reads it
-pub row_read : (trace : List Event) (flags : List Bool) (rows : List (List ℕ)) (e t item : ℕ) (before : List ℕ) → e < length trace → accesses_open flags trace e ≡ true → thread_at trace e ≡ Some t → HasOpenRows trace flags rows before → item ≡ get_or before e item → IsRowFor trace rows t (λ k. BelowPred trace k e) item
-row_read trace flags rows e t item before lt asked of_e has is = let low = has.all e lt asked in subst (IsRowFor trace rows t (λ k. BelowPred trace k e)) (sym (get_or_read before e item low is 0)) (has.rows_before.each e t low asked of_e)
 
 -- the events of a thread below the predecessor of its own event are those before it
 pub count_own : (trace seen : List Event) → IsDisciplined trace → trace ≡ seen → (t u e n : ℕ) → thread_at trace e ≡ Some u → t ≡ u → n + 1 ≡ local_time trace u e → IsBelowPredCount seen t e n

@@ -4,7 +4,6 @@ pub mod Locals
 pub mod Renamed
 pub mod RowsLemmas
 pub mod MovedLemmas
-pub mod OpenItems
 pub mod Sources
 pub mod CopiesLemmas
 pub mod Counting

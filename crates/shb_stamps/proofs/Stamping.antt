@@ -1,10 +1,10 @@
 -- The sweep by stamps, an event at a time.
 use Rattle.std.proofs.lemmas.Grind.{common_steps}
-use Rattle.std.proofs.Common.{◌≡◌, ◌≢◌, ℕ, ◌+◌, ◌<◌, ◌≤◌, ◌⊎◌, inl, inr, Bool, true, false, List, [], ◌∷◌, ◌++◌, Option, Some, length, get_or, take, arith, subst, ap, sym, ◌∙◌, refl, get_or-set_same, get_or-set_other}
+use Rattle.std.proofs.Common.{◌≡◌, ◌≢◌, ℕ, ◌+◌, ◌<◌, ◌≤◌, ◌⊎◌, inl, inr, true, false, List, [], ◌∷◌, ◌++◌, Option, Some, length, get_or, take, arith, subst, ap, sym, ◌∙◌, refl, get_or-set_same, get_or-set_other}
 use Rattle.std.specs.Prelude.{◌↔◌, ◌==◌, count_by, max, option_and_then, replicate, slice_get}
 use Rattle.std.proofs.Math.ListN.{set, length-set, length-replicate, get_or-replicate}
 use Rattle.std.proofs.lemmas.Bool.{cases_lt, cases_eq, cases_order, cases_Bool, eqb-true, ne_eqb}
-use Rattle.std.proofs.lemmas.List.{get_or_append_left, get_or_push, length_push}
+use Rattle.std.proofs.lemmas.List.{get_or_append_left, length_push}
 use Rattle.shb_lines.specs.declared.event.Event.{Event}
 use Rattle.shb_lines.specs.declared.event.Op.{Op}
 use Rattle.shb_lines.specs.declared.event.Op.TheVariants.{Read, Write, Acquire, Release, Fork, Join}
@@ -17,9 +17,8 @@ use Rattle.shb_lines.proofs.events.Schedulable.{thread_below_pred, fork_below_pr
 use Rattle.shb_links.specs.Latest.{IsLatestBefore, OfThread, ReleasesLock}
 use Rattle.shb_links.proofs.Balance.{HasHolder, IsPassing, balanced, disciplined_below, holder_after, some_counted}
 use Rattle.shb_stamps.specs.Fronts.{IsFront, BelowRelease, Learns, StrictlyBelow, IsFrontBut}
-use Rattle.shb_stamps.specs.Open.{accesses_open}
 use Rattle.shb_stamps.specs.Rows.{AreMore, RowsData}
-use Rattle.shb_stamps.specs.Stamps.{AreCurrent, AreStamps, HasGrown, HasRowsBefore, IsKnown, IsLatestStamp, of_event, of_none, IsRowFor, IsSource, from_event, nothing_new, IsStampOf, WritesShared, empty_stamp}
+use Rattle.shb_stamps.specs.Stamps.{AreCurrent, AreStamps, HasGrown, IsKnown, IsLatestStamp, of_event, of_none, IsRowFor, IsSource, from_event, nothing_new, IsStampOf, WritesShared, empty_stamp}
 use Rattle.shb_stamps.specs.declared.stamp.Stamp.{Stamp}
 use Rattle.shb_stamps.proofs.Fronts.{front_but_same, front_whole, thread_same}
 use Rattle.shb_stamps.proofs.Sources.{acquire_learns, join_learns, latest_join, learns_read, read_learns, path_append, edge_path, strictly_below_below, below_cases}
@@ -50,21 +49,6 @@ module _ (trace : List Event) where
 
   pub row_same : (rows : List (List ℕ)) (t r : ℕ) (P Q : ℕ → Type 0) → ((s k : ℕ) → thread_at trace k ≡ Some s → s ≢ t → P k ↔ Q k) → IsRowFor trace rows t P r → IsRowFor trace rows t Q r
   row_same rows t r P Q same h = record { in_range = h.in_range; front = front_but_same trace t P Q (get_or rows r []) same h.front }
-
-  pub before_more : (flags : List Bool) (rows more : List (List ℕ)) (n : ℕ) (before : List ℕ) → AreMore rows more → HasRowsBefore trace flags rows n before → HasRowsBefore trace flags more n before
-  before_more flags rows more n before grown h = record { as_many = h.as_many; each = λ e t lt asked of_e. row_more rows more t _ _ grown (h.each e t lt asked of_e) }
-
-  pub before_push : (flags : List Bool) (rows : List (List ℕ)) (n r : ℕ) (before pushed : List ℕ) → ((t : ℕ) → accesses_open flags trace n ≡ true → thread_at trace n ≡ Some t → IsRowFor trace rows t (λ k. BelowPred trace k n) r) → pushed ≡ before ++ r ∷ [] → HasRowsBefore trace flags rows n before → HasRowsBefore trace flags rows (n + 1) pushed
-  before_push flags rows n r before pushed own is h = record {
-    as_many = ap length is ∙ (length_push before r ∙ ap (λ (m : ℕ). m + 1) h.as_many);
-    each = λ e t lt asked of_e. elim (cases_lt e n) [
-      | inl less ↦ subst (IsRowFor trace rows t (λ k. BelowPred trace k e)) (sym (ap (λ (xs : List ℕ). get_or xs e 0) is ∙ get_or_append_left before (r ∷ []) 0 e (let many = h.as_many in omega (arith, less, many)))) (h.each e t less asked of_e)
-      | inr past ↦
-          let at : e ≡ n = omega (arith, lt, past) in
-          let item = ap (λ (xs : List ℕ). get_or xs e 0) is ∙ get_or_push before r 0 e (let many = h.as_many in omega (arith, many, at)) in
-          subst (IsRowFor trace rows t (λ k. BelowPred trace k e)) (sym item) (subst (λ (m : ℕ). IsRowFor trace rows t (λ k. BelowPred trace k m) r) (sym at) (own t (subst (λ (m : ℕ). accesses_open flags trace m ≡ true) at asked) (subst (λ (m : ℕ). thread_at trace m ≡ Some t) at of_e)))
-    ];
-  }
 
   pub stamp_more : (rows more : List (List ℕ)) (e : ℕ) (stamp : Stamp) → AreMore rows more → IsStampOf trace rows e stamp → IsStampOf trace more e stamp
   stamp_more rows more e stamp grown h = record { of_thread = h.of_thread; time_is = h.time_is; row_is = row_more rows more stamp.thread stamp.row _ grown h.row_is }

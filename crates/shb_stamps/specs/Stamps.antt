@@ -1,5 +1,5 @@
 -- What the sweep by stamps keeps: rows of clocks, and stamps that name one and an event.
-use Rattle.std.specs.Prelude.{◌≡◌, ℕ, ◌+◌, ◌*◌, ◌<◌, ◌≤◌, ◌⊎◌, ◌↔◌, Bool, true, List, [], Some, length, slice_index_or}
+use Rattle.std.specs.Prelude.{◌≡◌, ℕ, ◌+◌, ◌*◌, ◌<◌, ◌≤◌, ◌⊎◌, ◌↔◌, List, [], Some, length, slice_index_or}
 use Rattle.shb_lines.specs.declared.event.Event.{Event}
 use Rattle.shb_lines.specs.declared.event.Op.TheVariants.{Fork, Write}
 use Rattle.shb_lines.specs.declared.event.Sizes.{Sizes}
@@ -9,7 +9,6 @@ use Rattle.shb_lines.specs.events.Order.{ShbBelow, BelowPred}
 use Rattle.shb_links.specs.Latest.{IsLatestBefore, ReleasesLock}
 use Rattle.shb_links.specs.Sharing.{IsShared}
 use Rattle.shb_stamps.specs.Fronts.{Learns, IsFrontBut}
-use Rattle.shb_stamps.specs.Open.{accesses_open}
 use Rattle.shb_stamps.specs.Rows.{AreMore, RowsData}
 use Rattle.shb_stamps.specs.declared.stamp.Stamp.{Stamp}
 use Rattle.shb_stamps.specs.declared.stamps.Stamps.{Stamps}
@@ -25,16 +24,6 @@ pub record IsKnown (trace : List Event) (t n k : ℕ) : Type 0 where
   pub earlier : event < n
   pub of_or_forks : (thread_at trace event ≡ Some t) ⊎ (op_at trace event ≡ Some (Fork t))
   pub below : ShbBelow trace k event
-
--- for each of the first n events that access a variable that is open by these flags, the row of what is below its predecessor
-pub record HasRowsBefore (trace : List Event) (flags : List Bool) (rows : List (List ℕ)) (n : ℕ) (before : List ℕ) : Type 0 where
-  pub as_many : length before ≡ n
-  pub each : (e t : ℕ) → e < n → accesses_open flags trace e ≡ true → thread_at trace e ≡ Some t → IsRowFor trace rows t (λ k. BelowPred trace k e) (slice_index_or before e 0)
-
--- for each access of a variable that is open by these flags, the row of what is below its predecessor
-pub record HasOpenRows (trace : List Event) (flags : List Bool) (rows : List (List ℕ)) (before : List ℕ) : Type 0 where
-  pub rows_before : HasRowsBefore trace flags rows (length before) before
-  pub all : (e : ℕ) → e < length trace → accesses_open flags trace e ≡ true → e < length before
 
 -- for each thread the row of what it knows after the first n events
 pub record AreCurrent (trace : List Event) (rows : List (List ℕ)) (n threads : ℕ) (current : List ℕ) : Type 0 where

@@ -1,28 +1,26 @@
 //! The rows that are kept for look-ups.
 
-ghost use Rattle.std.specs.Prelude.{◌≡◌, ℕ, ◌+◌, ◌<◌, ◌^◌, Bool, List, Some, IfOk, OnOk, length, slice_index_or};
+ghost use Rattle.std.specs.Prelude.{◌≡◌, ℕ, ◌+◌, ◌<◌, ◌^◌, List, Some, IfOk, OnOk, length, slice_index_or};
 ghost use Rattle.std.specs.List.Sorted.{IsStrictlyIncreasing};
 ghost use Rattle.shb_lines.specs.events.Events.{thread_at};
 ghost use Rattle.shb_lines.specs.events.Order.{BelowPred};
-ghost use Rattle.shb_stamps.specs.KeptRows.{AreKeptRows, AreListedRows};
+ghost use Rattle.shb_stamps.specs.KeptRows.{AreListedRows};
 ghost use Rattle.shb_stamps.specs.Moved.{AreCopies};
-ghost use Rattle.shb_stamps.specs.Stamps.{HasGrown, HasOpenRows, IsRowFor, IsSwept};
+ghost use Rattle.shb_stamps.specs.Stamps.{HasGrown, IsRowFor, IsSwept};
 
 use crate::clock::entry;
-use crate::copies::{forget_moved, note_copy};
-use crate::open::{asked_end, is_asked};
+use crate::copies::note_copy;
 use crate::rows::Rows;
 use crate::stamps::Stamps;
 use shb_io::NoMemory;
 use shb_links::Linked;
 use std::alloc::Global;
 
-/// What is kept for look-ups after some events.
+/// What is kept for look-ups of some listed events.
 #[derive(Drop)]
 pub struct KeptRows {
     pub rows: Rows,
-    /// For each event that can be asked about the number of the row of what its thread knew before
-    /// it, and 0 for any other.
+    /// For each of these events the number of the row of what its thread knew before it.
     pub before: Vec<u32>,
     /// For each row of the stamps the number of the kept row that is its copy, plus 1, or 0 where none
     /// is; none is past the end.
@@ -61,7 +59,6 @@ fn keep(
 impl KeptRows {
     /// What is kept before the first event.
     pub fn new(alloc: Global, linked: &Linked<'_>) -> Result<Self, NoMemory>
-        ensures by_flags { (flags : List Bool) → IfOk result (AreKeptRows linked.now.events.now flags 0 linked.now.sizes) }
         ensures listed { (events : List ℕ) → IfOk result (AreListedRows linked.now.events.now events 0 linked.now.sizes) }
         ensures copies { (rows : List (List ℕ)) → IfOk result (λ kept. AreCopies rows kept.rows.rows kept.copies.items) }
     {
@@ -70,30 +67,6 @@ impl KeptRows {
             before: Vec::new(alloc),
             copies: Vec::new(alloc),
         })
-    }
-
-    /// Keeps what the thread of e, the next event, knows before it, if e can be asked about.
-    pub fn note(
-        &mut self,
-        linked: &Linked<'_>,
-        flags: &[bool],
-        stamps: &Stamps,
-        e: u32,
-    ) -> Result<(), NoMemory>
-        requires in_range { e < length linked.now.events.now }
-        requires swept { IsSwept linked.now.events.now e linked.now.sizes stamps.now }
-        requires kept { AreKeptRows linked.now.events.now flags.now e linked.now.sizes self.old }
-        requires copies { AreCopies stamps.now.rows.rows self.old.rows.rows self.old.copies.items }
-        ensures kept { OnOk result (AreKeptRows linked.now.events.now flags.now (e + 1) linked.now.sizes self.new) }
-        ensures copies { OnOk result (AreCopies stamps.now.rows.rows self.new.rows.rows self.new.copies.items) }
-    {
-        if !is_asked(linked, flags, e) {
-            self.before.push(0)?;
-            return Ok(());
-        }
-        let number = keep(linked, e, stamps, &mut self.rows, &mut self.copies)?;
-        self.before.push(number)?;
-        Ok(())
     }
 
     /// Keeps what the thread of the listed event at a position knows before it, where it is the next event.
@@ -118,19 +91,4 @@ impl KeptRows {
         self.before.push(number)?;
         Ok(())
     }
-}
-
-/// What is kept of a whole trace, found by one forward pass up to the last access of an open variable.
-pub fn kept_rows(alloc: Global, linked: &Linked<'_>, flags: &[bool]) -> Result<KeptRows, NoMemory>
-    ensures width { IfOk result (λ kept. kept.rows.width ≡ linked.now.sizes.threads) }
-    ensures rows { IfOk result (λ kept. HasOpenRows linked.now.events.now flags.now kept.rows.rows kept.before.items) }
-{
-    let mut stamps = Stamps::new(alloc, linked)?;
-    let mut kept = KeptRows::new(alloc, linked)?;
-    for e in 0..asked_end(linked, flags) {
-        kept.note(linked, flags, &stamps, e)?;
-        let moved = stamps.pass(alloc, linked, e)?;
-        forget_moved(&mut kept.copies, moved);
-    }
-    Ok(kept)
 }

@@ -1,12 +1,11 @@
 //! Orders of a trace: how far each thread is SHB-below the predecessor of an event.
 //!
 //! The trait [`Order`] has one call, and its contract names paths of edges alone. An order says about
-//! which events it can be asked. Three orders serve the run. [`Sweep`] goes over the trace once and can be
-//! asked about the next event alone, so it keeps only what later events may need. [`EventRows`] can be
-//! asked about each access of an open variable, one whose flag isn't false, and finds a row of clocks by
-//! its number without a search. [`ListedRows`] can be asked about the events of a list, so it keeps rows
-//! for these alone, found by binary search. Orders that can be asked about each event are in `shb_orders`,
-//! for tests. [`Ordered`] is a trace with its links and an order of it, which are of one trace by its type.
+//! which events it can be asked. Two orders serve the run. [`Sweep`] goes over the trace once and can be
+//! asked about the next event alone, so it keeps only what later events may need. [`ListedRows`] can be
+//! asked about the events of a list, so it keeps rows for these alone, found by binary search. Orders that can be asked about each event are in
+//! `shb_orders`, for tests. [`Ordered`] is a trace with its links and an order of it, which are of one
+//! trace by its type.
 //!
 //! A vector clock of a property of events has for each thread the number of its events, from the
 //! first on, that have the property (`IsFront`). Clocks are rows of one flat list, and a row says
@@ -21,8 +20,8 @@
 //! the write's clock. The stamp of the write names that row from then on, so other readers take over its
 //! number, and no row is made for them. Rows are never changed. When there are many, `compact` moves those
 //! that these tables name to new ones, and the memory of the old ones is used the next time; `moving` says
-//! which these are and what numbers they get, here and for a stream. `kept_rows`
-//! copies the row before each access of an open variable to rows that stay. A table of copies has the
+//! which these are and what numbers they get, here and for a stream. `KeptRows`
+//! copies the row before each listed event to rows that stay. A table of copies has the
 //! number of each row's copy, so a row is copied once, whichever threads share it. When rows were moved
 //! the table is emptied.
 #![tactic(auto)]
@@ -31,7 +30,6 @@ mod answer;
 mod clock;
 mod compact;
 mod copies;
-mod event_rows;
 mod kept_rows;
 pub mod laws;
 mod listed_rows;
@@ -46,7 +44,6 @@ mod stamps;
 mod stream_clocks;
 mod sweep;
 
-pub use event_rows::{EventRows, by_event};
 pub use listed_rows::{ListedRows, at_events};
 pub use open::is_open;
 pub use order::Order;

@@ -82,9 +82,10 @@ fn listed_rows(alloc: Global, linked: &Linked<'_>, events: &[u32]) -> Result<Kep
 }
 
 /// The order of a trace at these events, in any order, found by one forward pass up to the last of
-/// them. Memory: eight bytes for each of them, and four bytes a thread for each row that is kept. Events
-/// share rows as in [`by_event`](crate::by_event). While it runs, also four bytes for each row in use, and
-/// what a [`Sweep`](crate::Sweep) takes.
+/// them. Memory: eight bytes for each of them, and four bytes a thread for each row that is kept. Events of
+/// one thread share a row where it learns nothing in between, and threads that read one write share a row where
+/// all that they knew is below the write. After a move of the rows in use each of them is kept anew. While it
+/// runs, also four bytes for each row in use, and what a [`Sweep`](crate::Sweep) takes.
 ///
 /// # Errors
 ///
