@@ -7,6 +7,8 @@ mod asserting;
 #[cfg(test)]
 mod checks;
 #[cfg(test)]
+mod counts;
+#[cfg(test)]
 mod devices;
 #[cfg(test)]
 mod fan;

@@ -1,0 +1,127 @@
+//! How many races there are, and how many of each place.
+use crate::asserting::{Host, same};
+use crate::traces::{Asks, ask_of};
+use shb_discipline::Disciplined;
+use shb_format::PlaceCount;
+use shb_lines::Pair;
+use shb_links::Links;
+use shb_lists::{Settled, counted_races};
+use shb_pairs::open_variables;
+use shb_search::leading_races;
+use std::test::Fail;
+
+/// The races of a text, where so many may be kept at once.
+#[derive(Clone, Copy)]
+struct CountsAre<'a> {
+    most: u64,
+    races: u64,
+    /// Of each place the first race, by its two positions from 0, and how many it has.
+    places: &'a [(u32, u32, u64)],
+}
+
+impl Asks for CountsAre<'_> {
+    fn ask<H: Host>(&self, rt: &H, trace: &Disciplined<'_>, links: &Links<'_>) -> Result<(), Fail> {
+        let alloc = rt.alloc();
+        let flags = open_variables(alloc, trace, links)?;
+        let settled = Settled::new(trace, links, &flags);
+        let leading = leading_races(rt, alloc, trace, links, &flags)?;
+        let counted = counted_races(rt, alloc, &settled, leading.as_slice(), self.most)?;
+        let mut wanted = Vec::new(alloc);
+        for (first, second, count) in self.places {
+            let pair = Pair {
+                first: *first,
+                second: *second,
+            };
+            wanted.push(PlaceCount {
+                pair,
+                count: *count,
+            })?;
+        }
+        same(rt, &counted.races, &self.races, "how many races");
+        same(
+            rt,
+            &counted.places.as_slice(),
+            &wanted.as_slice(),
+            "the places",
+        );
+        Ok(())
+    }
+}
+
+/// One batch, batches, and each variable alone.
+const KEPT: [u64; 4] = [1000, 9, 4, 0];
+
+/// Each access of T2 to x races with three writes of T1 (its read sees its own write), at two locations; and y has one race.
+const FEW_LOCATIONS: &str = "T1|w(x)|a\nT1|w(x)|a\nT1|w(x)|b\nT2|w(x)|a\nT2|r(x)|b\nT2|w(x)|b\nT1|w(y)|a\nT2|w(y)|a\n";
+
+#[test]
+fn many_races_at_few_locations(rt: HostRuntime) -> Result<(), Fail> {
+    let places: &[(u32, u32, u64)] = &[(0, 3, 3), (2, 3, 1), (0, 4, 4), (2, 4, 2)];
+    for most in KEPT {
+        let counts = CountsAre {
+            most,
+            races: 10,
+            places,
+        };
+        ask_of(&rt, FEW_LOCATIONS, &counts)?;
+    }
+    Ok(())
+}
+
+/// T2 reads x twice, and each later write of T1 races with both reads; reads don't race with reads.
+const READS: &str = "T1|r(x)|a\nT2|r(x)|a\nT2|r(x)|a\nT1|r(x)|a\nT1|w(x)|a\nT1|w(x)|b\n";
+
+#[test]
+fn reads_race_with_writes_alone(rt: HostRuntime) -> Result<(), Fail> {
+    let places: &[(u32, u32, u64)] = &[(1, 4, 2), (1, 5, 2)];
+    for most in KEPT {
+        let counts = CountsAre {
+            most,
+            races: 4,
+            places,
+        };
+        ask_of(&rt, READS, &counts)?;
+    }
+    Ok(())
+}
+
+/// Five threads write x, each at its own location: tables of threads and locations would take 80 bytes an event.
+const OWN_LOCATIONS: &str = "A|w(x)|a\nB|w(x)|b\nC|w(x)|c\nD|w(x)|d\nE|w(x)|e\n";
+
+#[test]
+fn each_race_has_a_place(rt: HostRuntime) -> Result<(), Fail> {
+    let places: &[(u32, u32, u64)] = &[
+        (0, 1, 1),
+        (0, 2, 1),
+        (1, 2, 1),
+        (0, 3, 1),
+        (1, 3, 1),
+        (2, 3, 1),
+        (0, 4, 1),
+        (1, 4, 1),
+        (2, 4, 1),
+        (3, 4, 1),
+    ];
+    for most in KEPT {
+        let counts = CountsAre {
+            most,
+            races: 10,
+            places,
+        };
+        ask_of(&rt, OWN_LOCATIONS, &counts)?;
+    }
+    Ok(())
+}
+
+#[test]
+fn no_race_has_no_place(rt: HostRuntime) -> Result<(), Fail> {
+    for most in KEPT {
+        let counts = CountsAre {
+            most,
+            races: 0,
+            places: &[],
+        };
+        ask_of(&rt, "T1|w(x)|a\nT1|w(x)|b\n", &counts)?;
+    }
+    Ok(())
+}
