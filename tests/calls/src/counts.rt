@@ -52,7 +52,8 @@ impl Asks for CountsAre<'_> {
 const KEPT: [u64; 4] = [1000, 9, 4, 0];
 
 /// Each access of T2 to x races with three writes of T1 (its read sees its own write), at two locations; and y has one race.
-const FEW_LOCATIONS: &str = "T1|w(x)|a\nT1|w(x)|a\nT1|w(x)|b\nT2|w(x)|a\nT2|r(x)|b\nT2|w(x)|b\nT1|w(y)|a\nT2|w(y)|a\n";
+const FEW_LOCATIONS: &str =
+    "T1|w(x)|a\nT1|w(x)|a\nT1|w(x)|b\nT2|w(x)|a\nT2|r(x)|b\nT2|w(x)|b\nT1|w(y)|a\nT2|w(y)|a\n";
 
 #[test]
 fn many_races_at_few_locations(rt: HostRuntime) -> Result<(), Fail> {
