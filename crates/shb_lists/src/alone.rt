@@ -18,12 +18,16 @@ use crate::search::Access;
 use crate::settled::Settled;
 use crate::unknown::Unknown;
 use shb_io::NoMemory;
+use shb_lines::Events;
 use shb_links::Linked;
-use shb_stamps::{Order, Ordered, Sweep};
+use shb_stamps::{Order, Ordered, Sweep, is_open};
 use std::alloc::Global;
 
 /// So many bytes an event the tables of [`Racing`] may take.
 const MOST_BYTES: u64 = 64;
+
+/// So many times the steps of a sweep without them they may take.
+const MOST_STEPS: u64 = 8;
 
 /// What races with the next access of a variable, by location.
 #[derive(Drop)]
@@ -168,24 +172,73 @@ fn note_access(racing: &mut Option<Racing>, numbers: &[u32], access: Access) -> 
     }
 }
 
+/// How many accesses of a variable there are, and the sum over them of how many threads had accessed it before.
+#[derive(Drop)]
+struct Steps {
+    accesses: u64,
+    rivals: u64,
+}
+
+/// Whether an event accesses an open variable.
+fn is_access(events: &Events, flags: &[bool], e: u32) -> bool
+    requires { e < length events.now }
+{
+    match events.op(e).variable() {
+        Some(x) => is_open(flags, x),
+        None => false,
+    }
+}
+
+/// The accesses of the one variable that is open by these flags.
+fn steps_of(alloc: Global, settled: &Settled<'_>, flags: &[bool]) -> Result<Steps, NoMemory> {
+    let events = settled.disciplined.events;
+    let mut seen = vec![in alloc; false; settled.disciplined.sizes.threads as usize]?;
+    let mut threads = 0u64;
+    let mut steps = Steps {
+        accesses: 0,
+        rivals: 0,
+    };
+    for e in 0..events.len() as u32 {
+        if is_access(events, flags, e) {
+            steps.accesses = steps.accesses.saturating_add(1);
+            steps.rivals = steps.rivals.saturating_add(threads);
+            if let Some(known) = seen.get_mut(events.thread(e) as usize) {
+                if !*known {
+                    threads = threads.saturating_add(1);
+                }
+                *known = true;
+            }
+        }
+    }
+    Ok(steps)
+}
+
+/// Whether a step for each thread at each access takes at most [`MOST_STEPS`] times what a sweep of so many events takes
+/// that looks at the threads that accessed the variable before. Only what takes less time depends on it.
+fn has_few_threads(steps: &Steps, threads: u32, events: usize) -> bool {
+    let all = steps.accesses.saturating_mul(u64::from(threads));
+    let least = steps.rivals.saturating_add(events as u64);
+    all <= least.saturating_mul(MOST_STEPS)
+}
+
 /// Whether the tables of so many threads and locations take at most [`MOST_BYTES`] an event. Only what takes less time
-/// depends on it.
+/// and memory depends on it.
 fn has_room(threads: u32, classes: usize, events: usize) -> bool {
     let each = (classes as u64).saturating_add(u64::from(threads));
     let bytes = u64::from(threads).saturating_mul(each).saturating_mul(8);
     bytes <= MOST_BYTES.saturating_mul(events as u64)
 }
 
-/// The tables of so many threads and locations, if they are small enough for a trace of so many events.
+/// The tables of so many threads and locations, if they are worth their time and memory.
 fn racing_of(
     alloc: Global,
     threads: u32,
     classes: usize,
-    events: usize,
+    are_worth: bool,
 ) -> Result<Option<Racing>, NoMemory>
     ensures { (trace : List Event) (x : ℕ) (numbers : List ℕ) → IfOk result (λ racing. IfSome racing (AreRacing trace x numbers classes threads 0)) }
 {
-    if !has_room(threads, classes, events) {
+    if !are_worth {
         return Ok(None);
     }
     Ok(Some(Racing::new(alloc, threads, classes)?))
@@ -269,15 +322,22 @@ impl Alone {
 }
 
 /// The accesses of one variable before the first event.
-fn alone_of(alloc: Global, settled: &Settled<'_>, classes: usize) -> Result<Alone, NoMemory>
-    ensures { (flags : List Bool) (x : ℕ) (numbers : List ℕ) → OpensOnly settled.now.disciplined.now.events.now flags x
-        → IfOk result (IsAlone settled.now.disciplined.now.events.now settled.now.disciplined.now.sizes flags x numbers classes 0) }
+fn alone_of(
+    alloc: Global,
+    settled: &Settled<'_>,
+    classes: usize,
+    flags: &[bool],
+) -> Result<Alone, NoMemory>
+    ensures { (x : ℕ) (numbers : List ℕ) → OpensOnly settled.now.disciplined.now.events.now flags.now x
+        → IfOk result (IsAlone settled.now.disciplined.now.events.now settled.now.disciplined.now.sizes flags.now x numbers classes 0) }
 {
     let variables = settled.disciplined.sizes.variables;
     let threads = settled.disciplined.sizes.threads;
     let events = settled.disciplined.events.len();
+    let steps = steps_of(alloc, settled, flags)?;
+    let are_worth = has_room(threads, classes, events) & has_few_threads(&steps, threads, events);
     let past = Past::new(alloc, variables)?;
-    let racing = racing_of(alloc, threads, classes, events)?;
+    let racing = racing_of(alloc, threads, classes, are_worth)?;
     Ok(Alone {
         past,
         racing,
@@ -301,7 +361,7 @@ fn count_opened(
     ensures { OnOk result ((leading : List Pair) (races : List (ℕ × ℕ)) → HasCounted numbers.now leading races counter.old
         → HasCounted numbers.now leading (races ++ races_before settled.now.disciplined.now.events.now flags.now (length settled.now.disciplined.now.events.now)) counter.new) }
 {
-    let mut alone = alone_of(alloc, settled, classes)?;
+    let mut alone = alone_of(alloc, settled, classes, flags)?;
     let mut sweep = Sweep::new(alloc, Linked::new(settled.disciplined, settled.links))?;
     for e in 0..settled.disciplined.events.len() as u32 {
         let ordered = Ordered::new(&sweep, settled.disciplined, settled.links);
@@ -315,7 +375,8 @@ fn count_opened(
 /// `classes`.
 ///
 /// The races of an access that has more of them than there are locations cost a step for each thread, and one for each
-/// location; those of another, or where the tables for this would take more than 64 bytes an event, a step each.
+/// location; those of another a step each. So do all where the tables for this would take more than 64 bytes an event, or
+/// the threads much more time than those that access the variable.
 ///
 /// # Errors
 ///

@@ -60,9 +60,10 @@ fn count_batches(
 /// race of the race list, in the order of that list; so the races can be counted in any order.
 ///
 /// The races of as many variables as have not more than `most` together are kept, and cost a step each; a variable that
-/// has more alone costs a sweep of its own, in which an access with more races than there are locations costs a step
-/// for each location and thread. Memory: 4 bytes an event, 12 a race that is kept, some 64 a location and place, and
-/// what a sweep takes; for a variable alone 8 bytes an event more, and tables of at most 64.
+/// has more alone costs a sweep of its own, in which an access with as many races as there are locations costs a step
+/// for each location and for each thread, and another a step for each race. Memory: 4 bytes an event, 12 a race that is
+/// kept, some 64 a location and place, and what a sweep takes; for a variable alone 8 bytes an event and at most 8 an
+/// access more, and tables of at most 64 an event.
 ///
 /// # Errors
 ///

@@ -1,7 +1,8 @@
 use Rattle.shb_lists.proofs.alone.alone_of.Goals as goal
 
 pub returns : goal.returns
-returns c flags x numbers only =
+returns c x numbers only =
+    let flags = c.args.flags.now in
     let trace = c.args.settled.now.disciplined.now.events.now in
     record {
       opened = only;

@@ -9,7 +9,7 @@ pub loop-e-init : goal.loop-e-init
 loop-e-init c = record {
   of_trace = search rules;
   next = search rules;
-  alone = λ x only. c.in_ok-alone.ensures c.args.flags.now x c.args.numbers.now only;
+  alone = λ x only. c.in_ok-alone.ensures x c.args.numbers.now only;
   counted = λ leading races has.
       subst (λ (l : List (ℕ × ℕ)). HasCounted c.args.numbers.now leading l c.args.counter.now)
       (sym (append-nil races) ∙ ap (λ (l : List (ℕ × ℕ)). races ++ l) (sym (before_none c.args.settled.now.disciplined.now.events.now c.args.flags.now))) has;
