@@ -9,7 +9,8 @@ from shb_common import variables
 from shb_common.refused import without_note
 from shb_common.report import BadReport
 
-MOST_WORDS = 500    # bytes of a reason that are kept
+MOST_SAID = 4_096   # bytes of what the program says that are kept
+MOST_WORDS = 500    # of these, those that are told as words of one line
 LIST, HEAD, FULL, SCAN = ["places", "--list"], ["races", "--list"], ["places"], ["scan"]
 REFUSED = 2         # the status of `shb` for a refused trace
 
@@ -18,9 +19,13 @@ class Answer(typing.NamedTuple):
     """How a run of the program ended: its status, what it said, the seconds of processor time and the KiB of memory that it took."""
 
     status: int
-    words: str
+    said: bytes
     seconds: float = 0.0
     kib: int = 0
+
+    @property
+    def words(self):
+        return words_in(self.said)
 
 
 class Failed(Exception):
@@ -41,20 +46,53 @@ class Place(typing.NamedTuple):
     has_more: bool
 
 
-def call(words, given, out, preexec=None, **how):
-    """Runs a command on an open file, from its beginning, to its end, its output to another open file."""
-    os.lseek(given.fileno(), 0, os.SEEK_SET)    # Python's own `seek` may move in its buffer alone
-    with tempfile.TemporaryFile() as said:
-        started = subprocess.Popen(words, stdin=given, stdout=out, stderr=said, preexec_fn=preexec, **how)
+class Run:
+    """A running command. `given` is an open file that it reads, and `out` one that it writes, or PIPE."""
+
+    def __init__(self, words, given, out, **how):
+        self.said = tempfile.TemporaryFile()
         try:
-            _, status, usage = os.wait4(started.pid, 0)
-            started.returncode = -os.WTERMSIG(status) if os.WIFSIGNALED(status) else os.WEXITSTATUS(status)
+            self.process = subprocess.Popen(words, stdin=given, stdout=out, stderr=self.said, **how)
         except BaseException:
-            started.kill()
-            started.wait()
+            self.said.close()
             raise
-        said.seek(0)
-        return Answer(started.returncode, words_in(said.read(MOST_WORDS)), usage.ru_utime + usage.ru_stime, usage.ru_maxrss)
+        self.out = self.process.stdout
+
+    def __enter__(self):
+        return self
+
+    def __exit__(self, *_):
+        self.close()
+
+    def answer(self):
+        """Waits for the end. What it writes to a pipe isn't read any more."""
+        if self.out:
+            self.out.close()
+        _, status, usage = os.wait4(self.process.pid, 0)
+        self.process.returncode = -os.WTERMSIG(status) if os.WIFSIGNALED(status) else os.WEXITSTATUS(status)
+        self.said.seek(0)
+        return Answer(self.process.returncode, self.said.read(MOST_SAID), usage.ru_utime + usage.ru_stime, usage.ru_maxrss)
+
+    def close(self):
+        """Ends the command where it still runs."""
+        if self.out:
+            self.out.close()
+        if self.process.returncode is None:
+            self.process.kill()
+            self.process.wait()
+        self.said.close()
+
+
+def rewound(file):
+    """An open file at its beginning, also for a process that gets it: Python's own `seek` may move in its buffer alone."""
+    os.lseek(file.fileno(), 0, os.SEEK_SET)
+    return file
+
+
+def call(words, given, out, **how):
+    """Runs a command on an open file, from its beginning, to its end, its output to another open file."""
+    with Run(words, rewound(given), out, **how) as run:
+        return run.answer()
 
 
 def words_in(said):

@@ -65,7 +65,7 @@ def run(work, words, given, out, **how):
     """Runs a command to its end, with open files as its input, from its beginning, and its output; gives its `Answer`."""
     check_machine(work)
     parent = os.getpid()
-    answer = analyser.call(words, given, out, preexec=lambda: set_limits(work, parent), **how)
+    answer = analyser.call(words, given, out, preexec_fn=lambda: set_limits(work, parent), **how)
     METER.add(answer.seconds, answer.kib)
     return answer
 
@@ -74,9 +74,9 @@ def end_of(work, status, said, written):
     """How a run of the program ended, by its status, its words and the bytes that it wrote."""
     if status == 0:
         return End("report", "")
-    if status == 2 and said:
+    if status == analyser.REFUSED and said:
         return End("refused", said)
-    if status == 2 or (status == 4 and said == "out of memory"):    # 2 without words: no memory was left for them
+    if status == analyser.REFUSED or (status == 4 and said == "out of memory"):    # refused without words: no memory was left for them
         return End("memory", str(work.memory))
     if status == -signal.SIGXCPU:
         return End("time", str(work.seconds))

@@ -5,10 +5,10 @@ What it reads has behind each location a bar and the variable, so each of its pl
 
 import contextlib
 import os
-import subprocess
 import tempfile
 
-from shb_common.analyser import MOST_WORDS, Place, words_in
+from shb_common import analyser
+from shb_common.analyser import Place
 from shb_common.report import BadReport
 from shb_common.scan import Scan
 from shb_common.stops import APART
@@ -21,10 +21,10 @@ class Scanning:
     started before `begun`, after which the scan ends when they have ended."""
 
     def __init__(self, room):
-        self.text, self.said = tempfile.TemporaryFile(dir=room), tempfile.TemporaryFile()
+        self.text = tempfile.TemporaryFile(dir=room)
         reading, self.descriptor = os.pipe()
         with open(reading, "rb") as pipe:
-            self.ran = subprocess.Popen([ANALYSER, "scan"], stdin=pipe, stdout=self.text, stderr=self.said, **APART)
+            self.run = analyser.Run([ANALYSER, *analyser.SCAN], pipe, self.text, **APART)
 
     def begun(self):
         os.close(self.descriptor)
@@ -34,17 +34,14 @@ class Scanning:
         """Ends what still runs, and lets go of what it wrote."""
         if self.descriptor is not None:
             self.begun()
-        self.ran.kill()
-        self.ran.wait()
+        self.run.close()
         self.text.close()
-        self.said.close()
 
     def places(self):
         """The places of the whole, with their variables, when all is read."""
-        status = self.ran.wait()
-        if status:
-            self.said.seek(0)
-            raise Failed(f"`shb scan` ended with status {status}: {words_in(self.said.read(MOST_WORDS))}")
+        answer = self.run.answer()
+        if answer.status:
+            raise Failed(f"`shb scan` ended with status {answer.status}: {answer.words}")
         self.text.seek(0)
         try:
             return places_of(Scan(self.text))

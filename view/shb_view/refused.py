@@ -10,10 +10,9 @@ MOST_SHOWN = 100  # columns
 ALONE = re.compile(rb"\r[^\n]")
 
 
-def refused_line(path, said):
-    """The line that the program's words name, below them, with a hint where one is known; nothing where they name none."""
-    with open(path, "rb") as file:
-        found = line_and_hint(said, file)
+def refused_line(file, said):
+    """The line of an open trace that the program's words name, below them, with a hint where one is known; nothing where they name none."""
+    found = line_and_hint(said, file)
     if not found:
         return ""
     line, hint = found
