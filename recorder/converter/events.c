@@ -4,7 +4,6 @@
 #include <string.h>
 #include "converter.h"
 
-enum { SHB_EVENTS = 4194304, SHB_LINE = 4096, SHB_BYTES = 1 << 30, SCAN_THREADS = 65535 };
 static const u64 SCAN_EVENTS = 4294967294;
 
 u64 event_limit = SHB_EVENTS, events;

@@ -16,7 +16,7 @@
 #include <unistd.h>
 #include "converter.h"
 
-enum { SHB_EVENTS = 4194304, NOT_WHOLE = 1 };   /* the status where the trace is a part of the run */
+enum { NOT_WHOLE = 1 };   /* the status where the trace is a part of the run */
 #define MAX_RANGE_STEPS (1ull << 28)   /* in a pass: seconds */
 
 static int is_of_stack(enum operation operation) { return operation >= OP_FRAME && operation <= OP_DEPTH; }

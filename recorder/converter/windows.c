@@ -5,20 +5,35 @@
 #include <stdio.h>
 #include <stdlib.h>
 #include <string.h>
+#include <sys/random.h>
 #include <sys/stat.h>
 #include <unistd.h>
 #include "converter.h"
 
-enum { SHB_LINE = 4096, SHB_THREADS = 1024, SHB_BYTES = 1 << 30, HALF_THREADS = SHB_THREADS / 2, HALF_BYTES = SHB_BYTES / 2 };
+enum { HALF_THREADS = SHB_THREADS / 2, HALF_BYTES = SHB_BYTES / 2 };
 
 /* ---- names: numbers from 1 in the order of asking ---- */
 typedef struct { char *text; u64 length, hash; } name;
 typedef struct { name *list; u64 count, capacity, slot_count; u32 *slots; } names;
 
+static const u64 prime = (1ull << 61) - 1;
+
+/* A random number, the same in the whole call. */
+static u64 random_point(void) {
+    static u64 point;
+    if (!point && getrandom(&point, sizeof point, 0) != sizeof point) die("cannot draw a random number: %s", strerror(errno));
+    return point & prime;
+}
+
+/* A text as a polynomial modulo the prime, at the random point: so nobody can choose texts that share a slot. */
 static u64 hash_of(const char *text, u64 length) {
-    u64 hash = length;
-    for (u64 i = 0; i < length; i++) hash = (hash ^ (unsigned char)text[i]) * 0x100000001b3ull;
-    return hash ^ hash >> 32;
+    u64 hash = length, point = random_point();
+    for (u64 i = 0; i < length; i++) {
+        unsigned __int128 product = (unsigned __int128)(hash + (unsigned char)text[i]) * point;
+        hash = (u64)(product & prime) + (u64)(product >> 61);
+        hash = (hash & prime) + (hash >> 61);
+    }
+    return hash;
 }
 
 static u32 *slot_of(const names *n, const char *text, u64 length, u64 hash) {

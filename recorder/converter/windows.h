@@ -7,6 +7,9 @@
 #include <stddef.h>
 #include <stdint.h>
 
+/* What shb takes of a trace, as common/shb_common/limits.py has it; the last is the most threads of shb scan. */
+enum { SHB_EVENTS = 4194304, SHB_THREADS = 1024, SHB_LINE = 4096, SHB_BYTES = 1 << 30, SCAN_THREADS = 65535 };
+
 typedef struct { const char *at; uint64_t length; } part;    /* of a text, without an end of its own */
 enum window_kind { WINDOW_ACCESS, WINDOW_ACQUIRE, WINDOW_RELEASE, WINDOW_FORK, WINDOW_JOIN, WINDOW_MARK, WINDOW_UNKNOWN };
 

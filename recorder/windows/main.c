@@ -6,7 +6,7 @@
 #include <string.h>
 #include "../converter/converter.h"
 
-enum { SHB_EVENTS = 4194304, REFUSED = 2, FAILED = 4, LINE_ROOM = 1 << 20 };
+enum { REFUSED = 2, FAILED = 4, LINE_ROOM = 1 << 20 };
 
 static const char help[] =
     "usage: shb-windows [-n EVENTS] [--one-by-one] -o DIR [TRACE]\n"
