@@ -316,7 +316,7 @@ class Files(Fake):
         self.addCleanup(resource.setrlimit, resource.RLIMIT_FSIZE, limit)
         with self.assertRaises(OSError) as fault, output.new_file(str(page), []) as out:
             resource.setrlimit(resource.RLIMIT_FSIZE, (4096, limit[1]))
-            output.write_parts(out, ["a" * 3000] * 5, "the page")
+            output.write_parts(out, [b"a" * 3000] * 5, "the page")
         self.assertEqual((fault.exception.filename, fault.exception.strerror), ("the page", "File too large"))
         self.assertEqual(list(self.folder.iterdir()), [page])
 

@@ -6,8 +6,8 @@ import program
 from test_view_page import Page
 from viewing import run_here
 
+from shb_common import sources
 from shb_view import names
-from shb_view import source as source_lines
 from shb_view.source import Source, excerpt
 
 CODE = b"""\
@@ -135,13 +135,13 @@ class Found(program.Case):
         self.assertEqual(list(source.missing([b"a.c:1", b"a.c:2", b"b.c:1", b"c.c:1", b"?"])),
                          [said + "2 of 3 files found, 1 newer than the trace."])
         self.assertEqual(list(source.missing([b"b.c:1", b"c.c:1"])), [said + "1 of 2 files found, none newer than the trace."])
-        kept, source_lines.MOST_FILES = source_lines.MOST_FILES, 2
-        self.addCleanup(setattr, source_lines, "MOST_FILES", kept)
+        kept, sources.MOST_FILES = sources.MOST_FILES, 2
+        self.addCleanup(setattr, sources, "MOST_FILES", kept)
         self.put("src/c.c")
         source = Source([self.folder / "src"], 2000, {})
-        self.assertEqual(source.files, 2)
+        self.assertEqual(source.index.count, 2)
         self.assertTrue(list(source.missing([b"b.c:1"]))[0].endswith(" Only 2 files were looked at."))
-        source_lines.MOST_FILES = kept
+        sources.MOST_FILES = kept
         self.assertEqual(list(Source([self.folder / "src"], 2000, {}).missing([b"b.c:1"])), [])
 
 

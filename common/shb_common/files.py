@@ -31,12 +31,14 @@ def read_at_most(path, most):
 
 @contextlib.contextmanager
 def temporary_file(folder):
-    """A new open file and its path; it is deleted at the end if it is still there."""
+    """A new open file and its path; it is deleted at the end if it is still there. What was written counts once it was flushed."""
     number, path = tempfile.mkstemp(dir=folder)
+    file = open(number, "w+b")
     try:
-        with open(number, "w+b") as file:
-            yield file, path
+        yield file, path
     finally:
+        with contextlib.suppress(OSError):
+            file.close()    # fails again where the disk is full
         with contextlib.suppress(FileNotFoundError):
             os.unlink(path)
 

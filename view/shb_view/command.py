@@ -74,10 +74,10 @@ def show(options, progress, is_open):
     with new_file(options.html, inputs) if options.html else contextlib.nullcontext() as out:
         view = make_view(options, progress)
         if out:
-            write_parts(out, page_parts(view), options.html)
+            write_parts(out, map(str.encode, page_parts(view)), options.html)
     if options.json:
         with new_file(options.json, inputs) as out:
-            write_parts(out, [result.document(view).decode()], options.json)
+            write_parts(out, [result.document(view)], options.json)
     progress.clear()
     if wants_text:
         write_text(text.text_lines(view, text.Colours(is_coloured(sys.stdout)), options.all))

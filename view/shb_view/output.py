@@ -1,10 +1,10 @@
-"""A page's file: written beside its place under another name, and renamed when it is whole."""
+"""The files that the view writes: each is whole or not there."""
 
 import contextlib
 import os
 import stat
-import tempfile
 
+from shb_common.files import put_file, temporary_file
 from shb_view.faults import Refused
 from shb_view.names import shown
 
@@ -17,43 +17,22 @@ def new_file(path, inputs):
             raise Refused(f"the page would take the place of {shown(os.fsencode(other))}")
     if os.path.exists(path) and not stat.S_ISREG(os.stat(path).st_mode):
         raise Refused(f"{shown(os.fsencode(path))} isn't a regular file")
-    folder, name = os.path.split(os.path.abspath(path))
-    try:
-        handle, temporary = tempfile.mkstemp(prefix=".shb-view-", dir=folder)
-    except OSError as fault:
-        raise OSError(fault.errno, fault.strerror, path) from None
-    out = open(handle, "w", encoding="utf-8", newline="\n")
-    try:
+    with contextlib.ExitStack() as stack:
+        try:
+            out, new = stack.enter_context(temporary_file(os.path.dirname(os.path.abspath(path))))
+        except OSError as fault:
+            raise OSError(fault.errno, fault.strerror, path) from None
         yield out
-        out.close()
-        os.chmod(temporary, mode_of_new_files())
-        os.replace(temporary, os.path.join(folder, name))
-    except BaseException:
-        with contextlib.suppress(OSError):
-            out.close()  # fails again, and without the page's name, where the disk is full
-        with contextlib.suppress(OSError):
-            os.unlink(temporary)
-        raise
+        put_file(new, path)
 
 
 def write_parts(out, parts, name):
-    """Writes texts one after the other. A fault of the file is said with this name."""
-    for part in parts:
-        try:
-            out.write(part)
-        except BrokenPipeError:
-            raise
-        except OSError as fault:
-            raise OSError(fault.errno, fault.strerror, name) from None
+    """Writes parts one after the other, and flushes the file. A fault of it is said with this name."""
     try:
+        for part in parts:
+            out.write(part)
         out.flush()
     except BrokenPipeError:
         raise
     except OSError as fault:
         raise OSError(fault.errno, fault.strerror, name) from None
-
-
-def mode_of_new_files():
-    mask = os.umask(0)
-    os.umask(mask)
-    return 0o666 & ~mask

@@ -1,22 +1,19 @@
 """Lines of the program's source, found by the locations of a trace. A location is never opened as a path: it is looked up in an
 index of the folders that were named, and where it was asked for in what the recorder wrote of the program's sources."""
 
-import contextlib
 import functools
 import os
 import re
-import stat
 import typing
 
+from shb_common import sources
+from shb_common.locations import line_of
 from shb_common.words import counted
 from shb_view.faults import Refused
 from shb_view.names import shown
 
-MOST_FILES = 200_000
-MOST_BYTES = 4_000_000  # of a file
 BEFORE, AFTER = 3, 2  # lines around one that is shown
 REACH = 12  # lines before one that is shown, back to the acquire of a lock
-LOCATION = re.compile(rb"(.+?):([0-9]{1,9})(?::[0-9]{1,9})?", re.S)
 HEAD = re.compile(rb"[A-Za-z_$]")  # what the first line of a function begins with
 
 
@@ -41,34 +38,19 @@ class Source:
     def __init__(self, folders, written, recorded):
         """`written` is when the trace was, `recorded` has files by their names in locations."""
         self.folders, self.written, self.recorded = folders, written, recorded
-        self.read = functools.lru_cache(maxsize=64)(read_lines)
-        self.paths = {}  # by base name: the paths in their folders, each with its file
-        self.files = 0
+        self.read = functools.lru_cache(maxsize=64)(sources.read_lines)
         for folder in folders:
             if not os.path.isdir(folder):
                 raise Refused(f"--source: {shown(os.fsencode(folder))} isn't a folder")
-            self.walk(os.fsencode(folder))
-
-    def walk(self, top):
-        """Puts the files below a folder into the index. Links aren't followed, hidden folders aren't looked into."""
-        pending = [top]
-        while pending and self.files < MOST_FILES:
-            with contextlib.suppress(OSError), os.scandir(pending.pop()) as entries:
-                for entry in entries:
-                    if entry.is_dir(follow_symlinks=False) and not entry.name.startswith(b"."):
-                        pending.append(entry.path)
-                    elif entry.is_file(follow_symlinks=False) and self.files < MOST_FILES:
-                        self.files += 1
-                        paths = self.paths.setdefault(entry.name, {})
-                        paths.setdefault(os.path.relpath(entry.path, top), entry.path)
+        self.index = sources.Index(folders)
 
     def place(self, location):
         """What is known of a location; None where it is no line of a file in the folders."""
-        found = LOCATION.fullmatch(location)
+        found = line_of(location)
         if not found:
             return None
-        path, number = found[1], int(found[2])
-        candidates = best(path, self.paths.get(path.split(b"/")[-1], {}))
+        path, number = found
+        candidates = best(path, self.index.named(path.split(b"/")[-1]))
         if len(candidates) != 1 and path in self.recorded:
             candidates = [(path, self.recorded[path])]
         if not candidates:
@@ -91,34 +73,14 @@ class Source:
     def missing(self, locations):
         """How many files of these locations are found and how many are newer than the trace, in words; nothing where all are as they
         should be."""
-        places = {match[1]: self.place(location) for location in locations for match in [LOCATION.fullmatch(location)] if match}
+        places = {found[0]: self.place(location) for location in locations for found in [line_of(location)] if found}
         found = [place for place in places.values() if place and place.lines]
         newer = sum(place.is_newer for place in found)
         folders = ", ".join([*(shown(os.fsencode(folder)) for folder in self.folders), *["the recorded program"] * bool(self.recorded)])
-        some = f" Only {MOST_FILES:,} files were looked at." if self.files >= MOST_FILES else ""
+        some = f" Only {sources.MOST_FILES:,} files were looked at." if self.index.is_full() else ""
         if newer or some or len(found) < len(places):
             yield (f"Source lines of {folders}: {len(found)} of {counted(len(places), 'file')} found, "
                    f"{newer or 'none'} newer than the trace.{some}")
-
-
-def read_lines(file):
-    """A file's lines, when it was changed, and why it can't be shown."""
-    try:
-        with open(os.open(file, os.O_RDONLY | os.O_NOFOLLOW | os.O_NONBLOCK), "rb") as opened:
-            status = os.fstat(opened.fileno())
-            if not stat.S_ISREG(status.st_mode):
-                return [], 0, "it isn't a regular file"
-            if status.st_size > MOST_BYTES:
-                return [], 0, f"the file is longer than {MOST_BYTES:,} bytes"
-            return lines_of(opened.read(MOST_BYTES)), status.st_mtime, ""
-    except OSError as fault:
-        return [], 0, f"the file can't be read ({fault.strerror})"
-
-
-def lines_of(text):
-    """The lines of a text, as compilers count them."""
-    lines = text.split(b"\n")
-    return lines if lines[-1] else lines[:-1]
 
 
 def best(path, candidates):
