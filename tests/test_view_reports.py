@@ -152,8 +152,8 @@ class Refused(program.Case):
 
     def test_a_report_that_is_too_long(self):
         """From a pipe, too: it is copied up to the same length."""
-        text, trace, kept = shb.report(self.TRACE, True), self.file(self.TRACE), view.MOST_BYTES
-        self.addCleanup(setattr, view, "MOST_BYTES", kept)
+        text, trace, kept = shb.report(self.TRACE, True), self.file(self.TRACE), view.MOST_TEXT
+        self.addCleanup(setattr, view, "MOST_TEXT", kept)
         self.assertEqual(kept, 1_073_741_824)
 
         def pipe():
@@ -164,10 +164,10 @@ class Refused(program.Case):
             return f"/dev/fd/{read_end}"
 
         file = self.file(text, "t.report")
-        view.MOST_BYTES = len(text)
+        view.MOST_TEXT = len(text)
         for report in file, pipe():
             self.assertEqual(run_here([trace, report])[0], 0)
-        view.MOST_BYTES = len(text) - 1
+        view.MOST_TEXT = len(text) - 1
         for report in file, pipe():
             self.assertEqual(self.refused([trace, report]), f"the report is longer than {len(text) - 1} bytes")
 

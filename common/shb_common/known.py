@@ -8,9 +8,11 @@ fields, as earlier versions wrote it, is of every variable.
 """
 
 import itertools
+import os
 import re
 import typing
 
+from shb_common.files import read_at_most
 from shb_common.refused import MARK
 from shb_common.shown import shown
 
@@ -194,6 +196,14 @@ def words_of_stale(lines, names):
         yield f"line {line.number}: no race matched `{shown(line.text)}`" + why + ", ".join(map(shown, several[0][1][:3] if several else ()))
     if len(lines) > MOST_STALE:
         yield f"{len(lines) - MOST_STALE:,} more lines: no race matched"
+
+
+def read(path):
+    """The places of the file that a user named. BadLine has its path."""
+    try:
+        return Known(read_at_most(path, MOST_BYTES))
+    except BadLine as fault:
+        raise BadLine(f"{shown(os.fsencode(path))}, {fault}") from None
 
 
 class Known:

@@ -4,13 +4,12 @@ traces each file has one name.
 """
 
 import posixpath
-import re
 import typing
 
 from shb_common.known import CALL, Side, written
+from shb_common.locations import parts_of
 from shb_common.stacks import Tables
 
-LOCATION = re.compile(rb"(.*?)((?::[0-9]+(?::[0-9]+)?|\+0x[0-9a-f]+)?)", re.S)
 MOST_PARTS = 12     # folders of a path that a name may have
 
 
@@ -52,7 +51,7 @@ class Origin:
 
     def location(self, text):
         """The location that a trace writes so. A file whose path isn't known belongs to the program."""
-        name, rest = LOCATION.fullmatch(text).groups()
+        name, rest = parts_of(text)
         path = self.tables.sources.get(name) or self.modules.get(name, b"")
         if not is_end(name, path):
             path = self.program + b"/" + name if self.program else name

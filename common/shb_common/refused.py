@@ -2,11 +2,11 @@
 
 import re
 
+from shb_common.limits import LINE_ROOM, MOST_EVENTS, MOST_TEXT, MOST_THREADS
 from shb_common.shown import shown
 
 NUMBER = re.compile(r"(?:.*: )?line ([1-9][0-9]{0,18}): ")
 LONGEST = 60        # columns of the line that are shown
-MOST_LINE = 4_200   # bytes of it that are looked at
 WORDS = {b"r", b"w", b"acq", b"rel", b"fork", b"join", b"begin", b"end"}
 KIN = {b"read": "r", b"write": "w", b"lock": "acq", b"acquire": "acq", b"unlock": "rel", b"release": "rel", b"start": "fork"}
 SEPARATORS = {b"\t": "tabs", b",": "commas", b";": "semicolons"}
@@ -32,7 +32,8 @@ REPAIRS = {         # of faults between lines
     "the thread was forked before": "the thread's name may be used again",
     "the forked thread was joined before": "the thread's name may be used again",
 }
-LIMITS = "there are more than 4194304 events", "there are more than 1024 threads", "the text is longer than 1073741824 bytes"
+LIMITS = (f"there are more than {MOST_EVENTS} events", f"there are more than {MOST_THREADS} threads",
+          f"the text is longer than {MOST_TEXT} bytes")
 SCAN = "`shb scan` lists the places of a trace of any length, and `shb-windows` cuts windows of it for pages"
 CARRIAGE_RETURNS = "a carriage return without a line feed: lines end with a line feed, or with both"
 
@@ -77,10 +78,10 @@ def line_in(file, number):
     """The beginning of a line of an open file, with its end if it is short."""
     file.seek(0)
     for _ in range(number - 1):
-        part = file.readline(MOST_LINE)
+        part = file.readline(LINE_ROOM)
         while part and not part.endswith(b"\n"):
-            part = file.readline(MOST_LINE)
-    return file.readline(MOST_LINE)
+            part = file.readline(LINE_ROOM)
+    return file.readline(LINE_ROOM)
 
 
 def hint_of(line):

@@ -6,6 +6,7 @@ A report is accepted only whole: its numbers count up, its places are those of i
 import re
 import typing
 
+from shb_common.limits import LINE_ROOM, MOST_LINE
 from shb_common.shown import shown
 
 NUMBER = rb"(0|[1-9][0-9]{0,19})"
@@ -14,13 +15,12 @@ COUNTS = re.compile(rb"events %b threads %b locks %b variables %b\n" % ((NUMBER,
 RACES = re.compile(rb"races %b\n" % NUMBER)
 PLACES = re.compile(rb"places %b\n" % NUMBER)
 PLACE = re.compile(rb"place %b: %b\n" % (NUMBER, NUMBER))
-AT, AND = (re.compile(word + rb" ([^\n]{0,4096})\n") for word in (rb"at", rb"and"))
+AT, AND = (re.compile(rb"%b ([^\n]{0,%d})\n" % (word, MOST_LINE)) for word in (b"at", b"and"))
 RACE = re.compile(rb"race %b: %b %b\n" % (NUMBER, NUMBER, NUMBER))
 FIRST, SECOND = (re.compile(word + rb" (([^\n|]+)\|([rw])\(([^\n|]+)\)(?:\|([^\n]*))?)\n") for word in (rb"first", rb"second"))
 SCHEDULE = re.compile(rb"schedule %b:" % NUMBER)
 END = re.compile(rb"end\n")
 LONGEST = 60        # columns of a line that a refusal shows
-MOST_LINE = 4_200   # bytes of a line that is no schedule
 
 
 class BadReport(Exception):
@@ -68,7 +68,7 @@ class Lines:
 
     def advance(self):
         self.start = self.bytes
-        self.line = self.file.readline(MOST_LINE)
+        self.line = self.file.readline(LINE_ROOM)
         self.bytes += len(self.line)
 
     def next(self, pattern, form):
@@ -131,7 +131,7 @@ def said(line):
         return "missing"
     if line.endswith(b"\n"):
         return f"`{shown(line[:-1], LONGEST)}`"
-    return f"{'too long' if len(line) == MOST_LINE else 'cut off'}: `{shown(line, LONGEST)}`"
+    return f"{'too long' if len(line) == LINE_ROOM else 'cut off'}: `{shown(line, LONGEST)}`"
 
 
 class Report:

@@ -10,6 +10,7 @@ import typing
 import urllib.parse
 
 from shb_common import known, version
+from shb_common.locations import line_of, parts_of
 from shb_common.programs import Location
 from shb_common.shown import shown
 from shb_common.stacks import bare
@@ -29,7 +30,6 @@ RULE = {
 BASE = "SRCROOT"        # the folder that relative file names in the traces start from
 TRACES = "TRACES"       # the folder of the traces
 BASES = {BASE: "The folder that relative file names start from: the repository.", TRACES: "The folder of the traces."}
-LOCATION = re.compile(rb"(.+?):([1-9][0-9]{0,8})(?::[0-9]+)?", re.DOTALL)
 FOUND, RELATIVE, ABSOLUTE, NAME = range(4)      # what is known of a location, from what a reader can open best
 
 
@@ -82,10 +82,10 @@ class Place(typing.NamedTuple):
 def place_of(name, sources, compiled=b""):
     """What is known of a location: a file with a line where it has this form, the repository's file where that is found.
     `compiled` is the path that the file had where its program was compiled."""
-    found = LOCATION.fullmatch(name)
-    if not found:
+    found = line_of(name)
+    if not found or not found[1]:    # lines count from 1
         return Place(name, NAME, b"", 0, None)
-    path, line = found[1], int(found[2])
+    path, line = found
     source = sources.find(path, compiled)
     if source:
         return Place(name, FOUND, source, line, sources.line(source, line))
@@ -151,7 +151,7 @@ def thread_flow(access, sources):
     name = shown(thread)
     steps = []
     for frame in reversed(access.frames):
-        place = place_of(frame.location, sources, access.files.get(frame.location.rpartition(b":")[0], b""))
+        place = place_of(frame.location, sources, access.files.get(parts_of(frame.location)[0], b""))
         if place.kind != NAME and not frame.in_system:
             steps.append({"location": location_of(place, message={"text": f"{name} in {plain(shown(bare(frame.function)) or 'a function')}"})})
     return {"id": name, "message": {"text": plain(f"{name}: {shown(operation)}")}, "locations": steps}

@@ -10,13 +10,13 @@ import sys
 import typing
 
 from shb_common.files import open_regular
+from shb_common.locations import line_of
 from shb_common.shown import shown
 
 BEGIN = re.compile(rb"shb-stacks 1 ([0-9]{20})\n")
 BEGIN_BYTES = 34
 NUMBER_BYTES = 4    # of an event's stack
 BLOCK = re.compile(rb".*#([0-9]{1,18})(?:\+[0-9]+)?", re.S)  # a variable in a block, as the recorder names it
-LOCATION = re.compile(rb"(.+):[0-9]+", re.S)
 QUALIFIERS = re.compile(rb"(?: const| volatile)+$")
 ORDERS = b"relaxed", b"acquire", b"release", b"both"
 USES = b"load", b"store", b"update"
@@ -210,7 +210,7 @@ class Tables:
 
 def add_function(functions, function, location):
     """Notes that a line of a file lies in a function."""
-    if function and LOCATION.fullmatch(location):
+    if function and line_of(location):
         functions.setdefault(location, set()).add(bare(function))
 
 

@@ -8,11 +8,11 @@ takes locations as they are, so the copy has the same races; its places are pair
 import re
 import typing
 
+from shb_common.limits import MOST_LINE
 from shb_common.report import Access, BadReport
 
 ACCESSES = b"r(", b"w("
 NUMBER = re.compile(rb"[0-9]{1,9}")
-MOST_LINE = 4_096       # bytes, as `shb` takes them
 MOST_VARIABLES = 1_000  # of a place, that are kept
 
 

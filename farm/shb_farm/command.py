@@ -10,8 +10,7 @@ import sys
 import traceback
 import typing
 
-from shb_common.files import read_at_most
-from shb_common.known import MOST_BYTES, BadLine, Known, words_of_old, words_of_stale
+from shb_common import known
 from shb_common.standard import leave_standard_output, open_standard_files, words_of
 from shb_common.version import version_of, with_version
 from shb_farm import engines, files, limits, merging, passes, since, tables, traces
@@ -174,13 +173,8 @@ def pass_of(options, room):
 
 
 def known_in(path):
-    if not path:
-        return Known()
-    try:
-        found = Known(read_at_most(path, MOST_BYTES))
-    except BadLine as fault:
-        raise Refused(f"{path}: {fault}")
-    for words in words_of_old(found):
+    found = known.read(path) if path else known.Known()
+    for words in known.words_of_old(found):
         engines.say(f"{path}, {words}")
     return found
 
@@ -241,7 +235,7 @@ def run(options):
         rows, files = merging.rows_of(endings, known_places, calls)
         rows = with_reports(farm, work, rows)
         found = found_of(options, rows, endings, known_places, len(calls.damaged), earlier)
-        for words in words_of_stale(found.stale, files):
+        for words in known.words_of_stale(found.stale, files):
             engines.say(f"{options.known}, {words}")
         write_out(tables.write(pathlib.Path(work.out), room, found, Sources(options.source), calls))
         return found.status
@@ -274,7 +268,7 @@ def main(words):
         return run(arguments(words))
     except BadWords as fault:
         status, said = 3, str(fault)
-    except (Refused, engines.NotInstalled, since.BadDocument) as refused:
+    except (Refused, engines.NotInstalled, known.BadLine, since.BadDocument) as refused:
         said = str(refused)
     except OSError as fault:
         said = words_of(fault)

@@ -2,9 +2,9 @@
 
 import os
 
+from shb_common.limits import MOST_EVENTS, MOST_TEXT
+
 MIB = 1 << 20
-MOST_EVENTS = 4_194_304
-MOST_BYTES = 1 << 30    # of a text that is kept whole
 SCAN_MIB = 128      # for a trace that is scanned, which keeps names alone
 
 
@@ -15,7 +15,7 @@ def memory_for(size):
     isn't known before the trace is read: a line is taken to have 32 bytes, and the rows to fit into 64 MiB. A trace that
     needs more is refused for its memory, and goes on to the next pass. Of a longer text than the program keeps names alone are kept.
     """
-    if size > MOST_BYTES:
+    if size > MOST_TEXT:
         return SCAN_MIB
     events = min(size // 32, MOST_EVENTS)
     return 64 + (size + 100 * events) // MIB

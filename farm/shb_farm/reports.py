@@ -5,11 +5,12 @@ import sys
 
 from shb_common import analyser, refused
 from shb_common.files import put_file, temporary_file
+from shb_common.limits import MOST_TEXT
 from shb_common.report import BadReport, Report
 from shb_common.scan import Scan
 from shb_common.variables import atomic_of
 from shb_farm import calls, passes, running, traces
-from shb_farm.limits import MOST_BYTES, memory_for
+from shb_farm.limits import memory_for
 from shb_farm.outcomes import Place
 from shb_farm.running import METER, End
 
@@ -32,7 +33,7 @@ def analysed(work, name, trace):
 
 def analysed_text(work, name, trace):
     """The same of a trace that isn't packed."""
-    if os.fstat(trace.fileno()).st_size <= MOST_BYTES:
+    if os.fstat(trace.fileno()).st_size <= MOST_TEXT:
         end, places = report_of(work, name, trace)
         if end.kind != "refused" or not end.words.endswith(refused.LIMITS):
             return end, places

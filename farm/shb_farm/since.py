@@ -10,6 +10,7 @@ import typing
 
 from shb_common import known, result
 from shb_common.files import open_regular
+from shb_common.locations import parts_of
 from shb_common.shown import shown
 
 MOST_BYTES = 1 << 30
@@ -68,7 +69,7 @@ def keys_of_entry(entry):
 def side_of(access):
     """What a location of an earlier result is called in a file of known places."""
     name = access["location"].encode("utf-8", "surrogatepass")
-    file = name.rpartition(b":")[0]
+    file, _ = parts_of(name)
     functions = sorted(function.encode("utf-8", "surrogatepass") for function in access["functions"])
     return known.side_of(name, [b"%b:%b%b" % (file, function, known.CALL) for function in functions])
 

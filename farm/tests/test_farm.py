@@ -126,7 +126,7 @@ class Tables(farm.Case):
                 (["--memory", "x"], 3, "argument --memory: invalid numbers value: 'x'"),
                 (["--known", self.folder / "none"], 4, f"{self.folder}/none: No such file or directory"),
                 (["--known", self.known(b"# one\nno tab\n")], 4,
-                 f"{self.folder}/known: line 2: a place is two locations or functions and a variable, with tabs between them")):
+                 f"{self.folder}/known, line 2: a place is two locations or functions and a variable, with tabs between them")):
             answer = self.farm(*words)
             self.assertEqual((answer.status, answer.out), (status, ""))
             self.assertTrue(answer.err.startswith(f"shb-farm: {said}"), answer.err)

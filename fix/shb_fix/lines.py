@@ -1,8 +1,8 @@
 """From lines to events: marks, blanks, comments and other spellings."""
 
+from shb_common.refused import MARK
 from shb_fix.events import Event
 
-MARK = b"\xef\xbb\xbf"
 NAMED = {b"r", b"w", b"acq", b"rel", b"fork", b"join"}
 MARKS = {b"begin", b"end"}
 FOREIGN = {b"vr", b"vw", b"rdlock", b"wrlock", b"rdunlock", b"wait", b"notify", b"notifyall"}

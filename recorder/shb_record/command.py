@@ -9,7 +9,6 @@ import shutil
 import signal
 
 from shb_common import known
-from shb_common.files import read_at_most
 from shb_common.stops import Stops
 from shb_common.version import version_of, with_version
 from shb_common.words import counted
@@ -59,9 +58,9 @@ class Options:
 
 def known_places(path):
     try:
-        found = known.Known(read_at_most(path, known.MOST_BYTES))
+        found = known.read(path)
     except known.BadLine as fault:
-        raise Failed(f"{path}, {fault}") from None
+        raise Failed(fault) from None
     for line in known.words_of_old(found):
         say(f"{path}, {line}")
     return found

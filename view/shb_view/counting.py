@@ -6,9 +6,10 @@ import collections
 import typing
 
 from shb_common.report import BadReport
+from shb_common.variables import without_end
 from shb_view.faults import Refused
 from shb_view.held import Held
-from shb_view.trace import CHANGED, OPENS, fields_of, without_end
+from shb_view.trace import CHANGED, OPENS, fields_of
 
 BEFORE = 6  # events of a thread right before its access
 MOST_KINDS = 200_000  # accesses that are told apart: by group, line, thread, word and locks held

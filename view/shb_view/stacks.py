@@ -1,15 +1,14 @@
 """What is shown of call stacks."""
 
 import os
-import re
 
+from shb_common.known import OFFSET
 from shb_common.stacks import BadStacks, Stacks, bare
 from shb_common.words import counted
 from shb_view.faults import Damaged
 from shb_view.names import shown
 from shb_view.words import Code, lock_parts, place
 
-BLOCK_PART = re.compile(rb"\+[0-9]+$")  # behind the name of a block
 WITH = {b"relaxed": "relaxed", b"acquire": "with acquire", b"release": "with release", b"both": "with acquire and release"}
 MOST_ATOMICS = 3  # that are named of a group
 MAKES_FIBER, HANDLER = b"__tsan_create_fiber", b"signal handler"
@@ -31,7 +30,7 @@ def origins(view, section):
     found = [(["thread ", Code(thread), " was created"], view.stacks.of_thread(thread)) for thread in threads]
     blocks = {}
     for name in section.group.variables:
-        blocks.setdefault(BLOCK_PART.sub(b"", name), view.stacks.of_variable(name))
+        blocks.setdefault(OFFSET.sub(b"", name), view.stacks.of_variable(name))
     found += [(["block ", Code(name), " was allocated"], frames) for name, frames in blocks.items()]
     window = section.window
     for shown in [window.events[access] for access in window.accesses] if window else []:

@@ -4,6 +4,7 @@ import bisect
 import os
 import typing
 
+from shb_common.variables import without_end
 from shb_view.faults import Refused
 
 BATCH = 65_536  # bytes of lines that are read at once
@@ -18,12 +19,6 @@ class Event(typing.NamedTuple):
     word: bytes
     name: bytes
     location: bytes
-
-
-def without_end(line):
-    """A line without the LF or CR LF that ends it."""
-    line = line[:-1] if line.endswith(b"\n") else line
-    return line[:-1] if line.endswith(b"\r") else line
 
 
 def fields_of(line):

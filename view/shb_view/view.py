@@ -7,9 +7,8 @@ import sys
 import tempfile
 import typing
 
-from shb_common.files import read_at_most
-from shb_common.known import MOST_BYTES as MOST_KNOWN
-from shb_common.known import BadLine, Known
+from shb_common import known
+from shb_common.limits import MOST_TEXT
 from shb_common.report import BadReport, Counts, Report, in_order
 from shb_common.result import text
 from shb_common.stacks import AtomicUse, NoStacks, Stacks
@@ -27,7 +26,6 @@ from shb_view.trace import CHANGED, Trace
 from shb_view.windows import Window, make_windows
 
 MOST_GROUPS = 200
-MOST_BYTES = 1_073_741_824  # of a given report
 MOST_REPORT = 100_000_000  # bytes of a report with schedules that the view asks for
 BLOCK = 65_536
 NUMBER = 7  # bytes of an event in a schedule, about
@@ -70,7 +68,7 @@ class View(typing.NamedTuple):
     stacks: typing.Union[Stacks, NoStacks]
     kinds: Kinds
     gathered: Gathered
-    only: typing.Optional[Known]
+    only: typing.Optional[known.Known]
 
     def variables(self, pair):
         """The variables that race at two lines, each with how many races it has."""
@@ -128,9 +126,9 @@ def make_view(options, progress):
 def places_of(path):
     """The places of a file of known places."""
     try:
-        return Known(read_at_most(path, MOST_KNOWN))
-    except BadLine as fault:
-        raise Damaged(f"--only: {shown(os.fsencode(path))}, {fault}") from None
+        return known.read(path)
+    except known.BadLine as fault:
+        raise Damaged(f"--only: {fault}") from None
 
 
 def open_regular(path):
@@ -157,8 +155,8 @@ def given_report(options, analyser, stack):
             file = copy_of(file, stack)
         except OSError as fault:
             raise OSError(fault.errno, fault.strerror, options.report) from None
-    if os.fstat(file.fileno()).st_size > MOST_BYTES:
-        raise BadReport(f"the report is longer than {MOST_BYTES} bytes")
+    if os.fstat(file.fileno()).st_size > MOST_TEXT:
+        raise BadReport(f"the report is longer than {MOST_TEXT} bytes")
     return Given(options.report, file, analyser.check(file) if options.check else NOT_ASKED, None)
 
 
@@ -169,7 +167,7 @@ def copy_of(source, stack):
     is_report = block.startswith(b"shb-report ")
     while block:
         file.write(block)
-        block = source.read(BLOCK) if is_report and file.tell() <= MOST_BYTES else b""
+        block = source.read(BLOCK) if is_report and file.tell() <= MOST_TEXT else b""
     file.seek(0)
     return file
 
