@@ -11,8 +11,8 @@ import traceback
 import typing
 
 from shb_common import known
+from shb_common.commands import Parser, number
 from shb_common.standard import leave_standard_output, open_standard_files, words_of
-from shb_common.version import version_of, with_version
 from shb_farm import engines, files, limits, merging, passes, since, tables, traces
 from shb_farm.calls import Calls
 from shb_farm.sources import Sources
@@ -69,6 +69,8 @@ Environment:
   SHB       the program to run, if not the one that came with this command
   SHB_VIEW  the same for shb-view, which describes the places
 """
+
+
 class Farm(typing.NamedTuple):
     engine: str
     jobs: int
@@ -80,17 +82,8 @@ class Refused(Exception):
     """The farm can't run; with the reason."""
 
 
-class BadWords(Exception):
-    """The command line is wrong; with the reason."""
-
-
-class Parser(argparse.ArgumentParser):
-    def error(self, message):
-        raise BadWords(f"{message}\n{self.format_usage().rstrip()}")
-
-
 def arguments(words):
-    parser = Parser(prog="shb-farm", description=ABOUT, epilog=with_version(NOTES), formatter_class=argparse.RawDescriptionHelpFormatter)
+    parser = Parser("shb-farm", ABOUT, NOTES)
     parser.add_argument("--known", metavar="FILE", help="places to pass over")
     parser.add_argument("--fail-on-stale", action="store_true", help="end with status 1 where a line of --known matched nothing")
     parser.add_argument("--since", metavar="OLD", help="report which places are new, gone and the same since an earlier result: the folder "
@@ -99,18 +92,17 @@ def arguments(words):
     parser.add_argument("--source", metavar="DIR", help="the repository, whose files places.sarif names where it finds them")
     parser.add_argument("--engine", choices=sorted(engines.ENGINES), default="xargs",
                         help="xargs: this machine (the default); slurm: a job array on a cluster whose nodes see the same folders")
-    parser.add_argument("--jobs", metavar="N", type=number, default=len(os.sched_getaffinity(0)),
+    parser.add_argument("--jobs", metavar="N", type=number(1), default=len(os.sched_getaffinity(0)),
                         help="with xargs: traces at once (as many as processors)")
     parser.add_argument("--memory", metavar="MIB,..", type=numbers, help="memory of each pass; a trace that needs more goes on to "
                         "the next (256,1024,4096, then with xargs what the machine has, with slurm 16384)")
-    parser.add_argument("--seconds", metavar="N", type=number, default=3600, help="processor time of a trace (%(default)s)")
-    parser.add_argument("--size", metavar="MIB", type=number, default=1024,
+    parser.add_argument("--seconds", metavar="N", type=number(1), default=3600, help="processor time of a trace (%(default)s)")
+    parser.add_argument("--size", metavar="MIB", type=number(1), default=1024,
                         help="most of a report, and of the text of a packed trace (%(default)s)")
     parser.add_argument("--sbatch", metavar="WORDS", type=shell_words, default=[], help="with slurm: further words for sbatch")
-    parser.add_argument("--version", action="version", version=version_of("shb-farm"), help="say of which package this is")
     parser.add_argument("traces", metavar="TRACES", help="the folder of the traces")
     parser.add_argument("out", metavar="OUT", help="the folder for outcomes and tables")
-    return parser.parse_args(joined(words))
+    return parser.parsed(joined(words))
 
 
 def joined(words):
@@ -127,15 +119,8 @@ def shell_words(text):
         raise argparse.ArgumentTypeError(f"{fault} in {text}") from None
 
 
-def number(text):
-    value = int(text)
-    if value < 1:
-        raise argparse.ArgumentTypeError("it takes numbers from 1 on")
-    return value
-
-
 def numbers(text):
-    return sorted(map(number, text.split(",")))
+    return sorted(map(number(1), text.split(",")))
 
 
 def memory_of(options):
@@ -263,11 +248,8 @@ def main(words):
     sys.stderr.reconfigure(errors="backslashreplace")
     for name in (signal.SIGTERM, signal.SIGHUP):
         signal.signal(name, lambda number, frame: sys.exit(128 + number))
-    status = 4
     try:
         return run(arguments(words))
-    except BadWords as fault:
-        status, said = 3, str(fault)
     except (Refused, engines.NotInstalled, known.BadLine, since.BadDocument) as refused:
         said = str(refused)
     except OSError as fault:
@@ -277,4 +259,4 @@ def main(words):
     except Exception:
         said = traceback.format_exc().rstrip()      # 1, with which Python would end, says that there is an unknown place
     print(f"shb-farm: {said}", file=sys.stderr)
-    return status
+    return 4

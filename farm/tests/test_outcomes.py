@@ -240,7 +240,7 @@ echo '17;loop'
         self.assertEqual(self.slurm("exit 0\n", None, "--sbatch", "--partition=night", LOST=3).status, 1)
         self.assertIn(" --partition=night --wrap ", (self.folder / "submitted").read_text())
         answer = self.slurm("exit 0\n", None, "--sbatch", "--comment='x")
-        self.assertEqual((answer.status, answer.err.splitlines()[0]),
+        self.assertEqual((answer.status, answer.err.splitlines()[-1]),
                          (3, "shb-farm: argument --sbatch: No closing quotation in --comment='x"))
 
     def test_a_controller_that_does_not_answer_is_said_once(self):

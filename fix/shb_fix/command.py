@@ -1,12 +1,10 @@
 """The words of the command, its files and its statuses."""
 
-import argparse
-import os
 import sys
 
-from shb_common.shown import shown
+from shb_common.commands import Parser
 from shb_common.standard import leave_standard_output, open_standard_files, words_of
-from shb_common.version import version_of, with_version
+from shb_common.words import counted
 from shb_fix import lines, locks, threads
 from shb_fix.events import Repairs
 
@@ -19,18 +17,11 @@ Exit status: 0 nothing had to be repaired; 1 the trace was repaired; 2 no line i
 nothing was written; 3 wrong command line; 4 a file can't be read or written."""
 
 
-class Parser(argparse.ArgumentParser):
-    def error(self, message):
-        self.print_usage(sys.stderr)
-        self.exit(3, f"{self.prog}: {shown(os.fsencode(message))}\n")
-
-
 def arguments(words):
-    parser = Parser(prog="shb-fix", description=ABOUT, epilog=with_version(STATUS), formatter_class=argparse.RawDescriptionHelpFormatter)
+    parser = Parser("shb-fix", ABOUT, STATUS)
     parser.add_argument("--quiet", action="store_true", help="don't list the repairs, only how many there are")
-    parser.add_argument("--version", action="version", version=version_of("shb-fix"), help="say of which package this is")
     parser.add_argument("trace", metavar="TRACE", nargs="?", help="a trace; standard input where none is named")
-    return parser.parse_args(words)
+    return parser.parsed(words)
 
 
 def repaired(read, repairs):
@@ -43,7 +34,7 @@ def say(repairs, quiet):
     if not quiet:
         for line in repairs.lines():
             print(line, file=sys.stderr)
-    print(f"shb-fix: {count} {'repair' if count == 1 else 'repairs'}", file=sys.stderr)
+    print(f"shb-fix: {counted(count, 'repair')}", file=sys.stderr)
 
 
 def main(words):

@@ -1,7 +1,7 @@
 """The words of the command, its runs and its statuses."""
 
+import argparse
 import ctypes
-import getopt
 import os
 import pathlib
 import shlex
@@ -9,8 +9,9 @@ import shutil
 import signal
 
 from shb_common import known
+from shb_common.commands import Parser, number
+from shb_common.limits import MOST_EVENTS
 from shb_common.stops import Stops
-from shb_common.version import version_of, with_version
 from shb_common.words import counted
 from shb_record.looking import Look, reason
 from shb_record.parts import LIBRARY, Failed, check_parts, say
@@ -20,40 +21,79 @@ from shb_record.tables import tables_of
 
 RACES, CUT, FAILED, CANNOT_RUN, NOT_THERE = 66, 124, 125, 126, 127
 BECOME_PARENT_OF_ORPHANS = 36  # of prctl
-FLAGS = "help", "version", "keep", "fail-on-stale"
-VALUES = "runs=", "until-found=", "known=", "source=", "strip=", "window=", "wait="
+USAGE = "shb-record [OPTION].. [--] PROGRAM [ARGUMENT].."
+ABOUT = f"""\
+Runs a program that was compiled with `-fsanitize=thread -g`, records it and every process
+that it starts, and explains the data races of the run on standard error. Programs built by
+gcc need nothing else. clang links a library of its own; link with
+-fno-sanitize-link-runtime -L{LIBRARY} -ltsan.
+
+A place is a pair of locations that race, that of the first access and that of the second,
+each of its own program's source file."""
+NOTES = """\
+The environment's SHB names another analyser. SHB_SEED, SHB_SLICE, SHB_RECORDS and SHB_STALL are the
+recorder's (recorder/README.md).
+
+SIGINT and SIGTERM end the program, are passed on to it unless the terminal did so, and end the runs; what
+was recorded is shown. Another one ends that at once, and records that weren't shown are kept.
+
+Exit status: 66 if there is a race of a variable that isn't known at its place, whatever the program's own status was;
+125 if nothing can be said or something failed, with the reason; 124 if not the whole run was recorded and
+there is no such race (where the program was killed, and its own status says so, that one); 126 or 127 if
+the program can't be run or isn't there; else the program's own, 128 + N if signal N ended it. What is said
+at the end has the program's own status and the path of the page."""
 
 
-class Options:
-    def __init__(self, words):
-        pairs, rest = getopt.getopt(words, "ho:", [*FLAGS, *VALUES])
-        given = dict(pairs)
-        self.source = [folder for option, folder in pairs if option == "--source"]
-        self.help, self.version = "-h" in given or "--help" in given, "--version" in given
-        self.until_found, self.wait = "--until-found" in given, self.number(given, "--wait", "10")
-        self.runs = self.number(given, "--until-found" if self.until_found else "--runs", "1")
-        self.window = self.number(given, "--window", "4194304")
-        self.keep, self.strip, self.fail_on_stale = "--keep" in given, given.get("--strip"), "--fail-on-stale" in given
-        if not rest and not self.help and not self.version:
-            raise getopt.GetoptError("no program is named")
-        if self.until_found and "--runs" in given:
-            raise getopt.GetoptError("--runs and --until-found both say how often the program is run")
-        if self.runs < 1:
-            raise getopt.GetoptError(f"{'--until-found' if self.until_found else '--runs'} takes a number from 1")
-        self.program, self.arguments = (rest[0], rest[1:]) if rest else ("", [])
-        self.seed = self.number(os.environ, "SHB_SEED", "1")
-        self.folder = pathlib.Path(given.get("-o") or os.path.basename(self.program) + ".shb").absolute()
-        self.known_path = given.get("--known")
-        self.known = known_places(self.known_path) if self.known_path else known.Known()
-        if "%p" in str(self.folder):
-            raise getopt.GetoptError("the folder of the results can't have %p in its name")
+def arguments(words):
+    """The options of these words. What stands after the program's name belongs to it."""
+    parser = Parser("shb-record", ABOUT, NOTES, FAILED, usage=USAGE)
+    parser.add_argument("-o", metavar="DIR", dest="folder",
+                        help="the folder of the results (PROGRAM.shb in this folder): for each process its trace, its report and a page with "
+                        "its races; places.tsv, places.json, places.sarif and unknown.places; and a list of what was made there. What the "
+                        "list of an earlier call names is replaced, and nothing else. While another call uses DIR, the results go to DIR-2, "
+                        "DIR-3 and so on. The places are those of the whole run, however long it is (shb help scan). The pages of a run that "
+                        "is longer than a trace may be are of overlapping windows (shb-windows --help says what they are); those that have no "
+                        "place that is shown are deleted")
+    how_often = parser.add_mutually_exclusive_group()
+    how_often.add_argument("--runs", metavar="N", type=number(1), help="run it N times, each with another interleaving (1); each place is shown once")
+    how_often.add_argument("--until-found", metavar="N", type=number(1),
+                           help="run it at most N times, and end after the first run with a race that isn't known")
+    parser.add_argument("--known", metavar="FILE", dest="known_path",
+                        help="places to pass over, as unknown.places has them: on a line two locations, FILE:LINE, or functions, "
+                        "FILE:FUNCTION(), in either order, and the variable, with tabs between; * stands for any text; a line that begins with "
+                        "# is a comment. A line with two fields is of every variable. Lines that match nothing are reported")
+    parser.add_argument("--fail-on-stale", action="store_true", help="such lines end with status 66 too")
+    parser.add_argument("--source", metavar="DIR", action="append", default=[],
+                        help="look for source files below this folder too; may be given again. Those of the debug information are found without it")
+    parser.add_argument("--strip", metavar="DIR", help="name files below this folder by their paths from it (shb-std --help)")
+    parser.add_argument("--window", metavar="N", type=number(0), default=MOST_EVENTS,
+                        help="the most events of a window (%(default)s, which is what a trace may have)")
+    parser.add_argument("--wait", metavar="N", type=number(0), default=10,
+                        help="wait up to N seconds for processes that outlive the program (%(default)s), and for those that SIGINT or SIGTERM "
+                        "is passed on to, before they are killed")
+    parser.add_argument("--keep", action="store_true", help="keep the records (16 bytes an access) and all windows")
+    parser.add_argument("words", metavar="PROGRAM", nargs=argparse.REMAINDER, help="the program, and the words that it is given")
+    found = parser.parsed(words)
+    if found.words[:1] == ["--"]:
+        del found.words[0]
+    if not found.words:
+        parser.error("no program is named")
+    found.program, *found.arguments = found.words
+    found.folder = pathlib.Path(found.folder or os.path.basename(found.program) + ".shb").absolute()
+    if "%p" in str(found.folder):
+        parser.error("the folder of the results can't have %p in its name")
+    return found
 
-    @staticmethod
-    def number(given, option, otherwise):
-        text = given.get(option) or otherwise
-        if not text.isdecimal() or len(text) > 18:
-            raise getopt.GetoptError(f"{option} takes a number")
-        return int(text)
+
+def completed(options):
+    """The options with what is read of the environment and of files."""
+    try:
+        options.seed = number(0)(os.environ.get("SHB_SEED") or "1")
+    except argparse.ArgumentTypeError as fault:
+        raise Failed(f"SHB_SEED: {fault}") from None
+    options.runs, options.until_found = options.runs or options.until_found or 1, bool(options.until_found)
+    options.known = known_places(options.known_path) if options.known_path else known.Known()
+    return options
 
 
 def known_places(path):
@@ -126,23 +166,15 @@ def conclude(look, own):
         say(f"{'pages' if more else 'page'}: {look.pages[0]}{more}")
 
 
-def main(words, about):
+def main(words):
     try:
-        options = Options(words)
-        if options.version:
-            print(version_of("shb-record"))
-            return 0
-        if options.help:
-            print(with_version(about.replace("{library}", str(LIBRARY))), end="")
-            return 0
+        options = completed(arguments(words))
         if not shutil.which(options.program):
             there = os.path.exists(options.program)
             say(f"{options.program}: " + ("can't be run" if there else "not found"))
             return CANNOT_RUN if there else NOT_THERE
         check_parts()
         return record(options)
-    except getopt.GetoptError as fault:
-        say(f"{fault}; shb-record --help says more")
     except (Failed, OSError) as fault:
         say(reason(fault))
     except KeyboardInterrupt:

@@ -244,8 +244,8 @@ class Command(recorder.Case):
     def test_what_cannot_be_run(self):
         (self.folder / "text").write_text("no program")
         for words, wanted, reason in (((self.folder / "none",), 127, "not found"), ((self.folder / "text",), 126, "can't be run"),
-                                      ((), 125, "no program is named"), (("--runs", "0", "true"), 125, "--runs takes a number from 1"),
-                                      (("--no",), 125, "option --no not recognized"),
+                                      ((), 125, "no program is named"), (("--runs", "0", "true"), 125, "--runs: it takes a number from 1"),
+                                      (("--no",), 125, "unrecognized arguments: --no"),
                                       (("--known", "none", "true"), 125, "none: No such file or directory")):
             status, _, said = self.record(*words)
             self.assertEqual((status, reason in said), (wanted, True), said)
@@ -725,7 +725,7 @@ class Command(recorder.Case):
 
     def test_a_seed_that_is_no_number(self):
         status, out, said = self.record(self.program(), "0", SHB_SEED="abc")
-        self.assertEqual((status, out, said), (125, "", "shb-record: SHB_SEED takes a number; shb-record --help says more\n"))
+        self.assertEqual((status, out, said), (125, "", "shb-record: SHB_SEED: it takes a number from 0\n"))
 
     def test_help(self):
         for word in ("-h", "--help"):

@@ -1,18 +1,16 @@
 """The words of the command, its files and its statuses."""
 
-import argparse
 import contextlib
 import os
 import sys
 import traceback
 
+from shb_common.commands import Parser
 from shb_common.progress import Progress
 from shb_common.report import BadReport
 from shb_common.standard import leave_standard_output, open_standard_files, words_of
-from shb_common.version import version_of, with_version
 from shb_view import result, text
 from shb_view.faults import Damaged, Refused
-from shb_view.names import shown
 from shb_view.output import new_file, write_parts
 from shb_view.page import page_parts
 from shb_view.view import make_view
@@ -28,14 +26,8 @@ or --only is damaged. SHB=PROGRAM names another `shb`.
 A place is a pair of locations that race, that of the first access and that of the second."""
 
 
-class Parser(argparse.ArgumentParser):
-    def error(self, message):
-        self.print_usage(sys.stderr)
-        self.exit(3, f"{self.prog}: {shown(os.fsencode(message))}\n")
-
-
 def arguments(words, program):
-    parser = Parser(prog="shb-view", description=ABOUT, epilog=with_version(STATUS), formatter_class=argparse.RawDescriptionHelpFormatter)
+    parser = Parser("shb-view", ABOUT, STATUS)
     parser.add_argument("--html", metavar="PAGE", help="write a page to this file, not text to standard output")
     parser.add_argument("--text", action="store_true", help="beside the page, write the text too")
     parser.add_argument("--only", metavar="FILE", help="in the text, show only the groups with a place of this file, which has the form of "
@@ -56,13 +48,10 @@ def arguments(words, program):
     parser.add_argument("--window", action="store_true", help="the trace is a window of a longer one; each fact mentions that")
     parser.add_argument("--check", action="store_true", help="run `shb check` on the REPORT that is given")
     parser.add_argument("--shb", metavar="PROGRAM", default=os.environ.get("SHB") or program, help="the `shb` to run")
-    parser.add_argument("--version", action="version", version=version_of("shb-view"), help="say of which package this is")
     parser.add_argument("trace", metavar="TRACE", help="a trace, as `shb` reads it")
     parser.add_argument("report", metavar="REPORT", nargs="?",
                         help="a report of it (- is standard input), if `shb` isn't to make one")
-    if any("\0" in word for word in words):
-        parser.error("a word has a NUL")
-    return parser.parse_args(words)
+    return parser.parsed(words)
 
 
 def show(options, progress, is_open):

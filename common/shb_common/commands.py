@@ -1,0 +1,36 @@
+"""What the command lines of the commands have in common."""
+
+import argparse
+import os
+import sys
+
+from shb_common.shown import shown
+from shb_common.version import version_of, with_version
+
+
+class Parser(argparse.ArgumentParser):
+    """The words of a command: what it is about, its options, and notes below these. Wrong words end it with `status`."""
+
+    def __init__(self, command, about, notes, status=3, **more):
+        super().__init__(prog=command, description=about, epilog=with_version(notes), formatter_class=argparse.RawDescriptionHelpFormatter, **more)
+        self.status = status
+
+    def error(self, message):
+        self.print_usage(sys.stderr)
+        self.exit(self.status, f"{self.prog}: {shown(os.fsencode(message))}\n")
+
+    def parsed(self, words):
+        """The options of these words."""
+        self.add_argument("--version", action="version", version=version_of(self.prog), help="say of which package this is")
+        if any("\0" in word for word in words):
+            self.error("a word has a NUL")
+        return self.parse_args(words)
+
+
+def number(least):
+    """Reads a number from `least` on."""
+    def read(text):
+        if not text.isdecimal() or len(text) > 18 or int(text) < least:
+            raise argparse.ArgumentTypeError(f"it takes a number from {least}")
+        return int(text)
+    return read
