@@ -37,7 +37,7 @@ def sections(text, report, is_good=True):
         given = view.Given("report", written, Verdict(is_good, ""), None)
         counts, gathered = Counts(*shb.counts_of(shb.read_trace(text)[0])), Gathered()
         view.read_report(given, counts, gathered, QUIET)
-        asked = view.Asked(True, "trace", view.Kinds(gathered, view.NoStacks()), gathered, counts.events)
+        asked = view.Asked(True, "trace", view.Kinds(gathered, view.Stacks()), gathered, counts.events)
         return view.make_sections(asked, Trace(file, QUIET), given, gathered.groups())[1]
 
 

@@ -4,6 +4,7 @@ import array
 import bisect
 import collections
 import functools
+import itertools
 import os
 import re
 import sys
@@ -58,38 +59,33 @@ class AtomicUse(typing.NamedTuple):
         return self.order in (b"acquire", b"both")
 
 
-class Stacks:
-    """The stacks of a trace, by their numbers. `shift` is how many events of the file come before the trace's first."""
+class Tables:
+    """Of a file of stacks what names places; without a path nothing."""
 
-    def __init__(self, path, shift, events):
-        self.frames, self.calls, self.threads, self.blocks = [None], {}, {}, {}
-        self.stores, self.loads = [], {}  # uses of atomics; the loads by name; an update is both
+    shift = 0
+
+    def __init__(self, path=None):
+        self.functions = {}  # by location those that it lies in, without parameters and arguments of templates
         self.sources, self.sums = {}, {}  # by the name in a location: the file's path; by location: a sum of its line's text
         self.locals = {}  # by variable on a stack: events, each with the name of the local that it is from there on
-        self.free_starts, self.free_ends, self.shift = array.array("Q"), array.array("Q"), shift
-        with open_regular(path) as file:
-            count = events_in(file)
-            self.numbers = numbers_of(file, shift, events) if 0 <= shift <= count - events else ()
-            if len(self.numbers) != events:
-                raise BadStacks(OTHER)
-            takers = {"frame": self.take_frame, "stack": self.take_stack, "thread": self.take_thread, "block": self.take_block,
-                      "atomic": self.add_use, "source": self.take_source, "line": self.take_line, "local": self.take_local,
-                      "free": self.take_free}
-            for kind, fields in entries_in(file, count):
-                takers[kind](*fields)
-        sort_locals(self.locals)
+        if path:
+            with open_regular(path) as file:
+                self.read(file, events_in(file))
 
-    def take_frame(self, function, location, in_system):
-        self.frames.append(Frame(function, location, in_system))
+    def read(self, file, count):
+        """Takes the lines of an open file with so many events."""
+        for kind, fields in entries_in(file, count):
+            take = getattr(self, f"take_{kind}", None)
+            if take:
+                take(*fields)
+        for names in self.locals.values():
+            names.sort(key=lambda it: it[0])  # of several at one event the last one holds
 
-    def take_stack(self, number, outer, frames):
-        self.calls[number] = outer, tuple(self.frames[frame] for frame in frames)
+    def take_frame(self, function, location):
+        if function and line_of(location):
+            self.functions.setdefault(location, set()).add(bare(function))
 
-    def take_thread(self, name, number):
-        self.threads[name] = number
-
-    def take_block(self, block, number):
-        self.blocks[block] = number
+    take_system_frame = take_frame
 
     def take_source(self, name, path):
         self.sources[name] = path
@@ -100,15 +96,57 @@ class Stacks:
     def take_local(self, event, variable, name):
         self.locals.setdefault(variable, []).append((event, name))
 
+    def local_of(self, variable, event):
+        """The local that a variable on a stack is at an event, or nothing."""
+        names = self.locals.get(variable, ())
+        number = bisect.bisect(names, (event + self.shift + 1,))
+        return names[number - 1][1] if number else b""
+
+
+class Stacks(Tables):
+    """The stacks of a trace, by their numbers, and what is told beside them. `shift` is how many events of the file come before the
+    trace's first. Without a path nothing is known of the trace."""
+
+    def __init__(self, path=None, shift=0, events=0):
+        super().__init__()
+        self.numbers, self.shift = (), shift
+        self.frames, self.calls, self.threads, self.blocks = [None], {}, {}, {}
+        self.stores, self.loads = [], {}  # uses of atomics; the loads by name; an update is both
+        self.free_starts, self.free_ends = array.array("Q"), array.array("Q")
+        if path:
+            with open_regular(path) as file:
+                count = events_in(file)
+                self.numbers = numbers_of(file, shift, events) if 0 <= shift <= count - events else ()
+                if len(self.numbers) != events:
+                    raise BadStacks(OTHER)
+                self.read(file, count)
+
+    def take_frame(self, function, location, in_system=False):
+        self.frames.append(Frame(function, location, in_system))
+        super().take_frame(function, location)
+
+    def take_system_frame(self, function, location):
+        self.take_frame(function, location, True)
+
+    def take_stack(self, number, outer, *frames):
+        self.calls[number] = outer, tuple(self.frames[frame] for frame in frames)
+
+    def take_thread(self, name, number):
+        self.threads[name] = number
+
+    def take_block(self, block, number):
+        self.blocks[block] = number
+
     def take_free(self, first, last):
         self.free_starts.append(first)
         self.free_ends.append(last)
 
-    def add_use(self, use):
+    def take_atomic(self, name, thread, location, how):
+        use = AtomicUse(name, thread, location, *how)
         if use.kind != b"load":
             self.stores.append(use)
         if use.kind != b"store":
-            self.loads.setdefault(use.name, []).append(use)
+            self.loads.setdefault(name, []).append(use)
 
     def stack(self, number):
         """The frames of a stack, the innermost first."""
@@ -119,14 +157,6 @@ class Stacks:
             number, frames = self.calls[number]
             found.extend(frames)
         return tuple(found[:MOST_FRAMES])
-
-    @functools.cached_property
-    def functions(self):
-        """By location the functions that it lies in, as `Tables` has them."""
-        found = {}
-        for frame in self.frames[1:]:
-            add_function(found, frame.function, frame.location)
-        return found
 
     @functools.cached_property
     def lasting_locals(self):
@@ -142,10 +172,6 @@ class Stacks:
         number = bisect.bisect(self.free_starts, event + self.shift) - 1
         return number if number >= 0 and event + self.shift <= self.free_ends[number] else None
 
-    def local_of(self, variable, event):
-        """The local that a variable on a stack is at an event, or nothing."""
-        return local_in(self.locals, variable, event + self.shift)
-
     def of_thread(self, name):
         """Where a thread was created."""
         return self.stack(self.threads.get(name, 0))
@@ -157,72 +183,8 @@ class Stacks:
 
     def counted(self, events, marked):
         """The stacks of some events, each with whether the event is a marked one, and how many are so, the most frequent first."""
-        return collections.Counter((self.of_event(event), event in marked) for event in sorted(events)).most_common()
-
-
-class NoStacks:
-    """Of a trace without such a file nothing is known."""
-
-    sources, sums, stores, loads, locals, lasting_locals, functions = {}, {}, (), {}, {}, {}, {}
-
-    def of_event(self, event):
-        return ()
-
-    of_thread = of_variable = of_event
-
-    def local_of(self, variable, event):
-        return b""
-
-    def free_of(self, event):
-        return None
-
-    def counted(self, events, marked):
-        return []
-
-
-class Tables:
-    """Of a file of stacks what names places: by location the functions that it lies in, without parameters and arguments of
-    templates, and a sum of its line's text; the path of each source file by its name in locations; and the locals, as `Stacks` has
-    them."""
-
-    def __init__(self, path=None):
-        self.functions, self.sums, self.sources, self.locals = {}, {}, {}, {}
-        if path:
-            self.read(path)
-            sort_locals(self.locals)
-
-    def read(self, path):
-        with open_regular(path) as file:
-            for kind, fields in entries_in(file, events_in(file)):
-                if kind == "frame":
-                    add_function(self.functions, *fields[:2])
-                elif kind == "source":
-                    self.sources[fields[0]] = fields[1]
-                elif kind == "line":
-                    self.sums[fields[0]] = fields[1]
-                elif kind == "local":
-                    self.locals.setdefault(fields[1], []).append((fields[0], fields[2]))
-
-    def local_of(self, variable, event):
-        """The local that a variable on a stack is at an event of the whole file, or nothing."""
-        return local_in(self.locals, variable, event)
-
-
-def add_function(functions, function, location):
-    """Notes that a line of a file lies in a function."""
-    if function and line_of(location):
-        functions.setdefault(location, set()).add(bare(function))
-
-
-def sort_locals(names_by_variable):
-    for names in names_by_variable.values():
-        names.sort(key=lambda it: it[0])  # of several at one event the last one holds
-
-
-def local_in(names_by_variable, variable, event):
-    names = names_by_variable.get(variable, ())
-    number = bisect.bisect(names, (event + 1,))
-    return names[number - 1][1] if number else b""
+        found = ((self.of_event(event), event in marked) for event in sorted(events) if self.numbers)
+        return collections.Counter(found).most_common()
 
 
 def events_in(file):
@@ -242,14 +204,25 @@ def entries_in(file, count):
         try:
             if not line.endswith(b"\n"):
                 raise ValueError
-            entry = FIELDS[kind](rest) if kind in FIELDS else None
-            if kind == b"stack" and not all(0 < frame <= frames for frame in entry[1][2]):
+            fields = fields_of(kind, rest)
+            if kind == b"stack" and not all(0 < frame <= frames for frame in fields[2:]):
                 raise ValueError
         except ValueError:
             raise BadStacks(f"is damaged in line {number}: `{shown(line[:80].rstrip())}`") from None
         frames += kind in FRAMES
-        if entry:
-            yield entry
+        if fields is not None:
+            yield kind.decode().replace("-", "_"), fields
+
+
+def fields_of(kind, rest):
+    """The fields of a line, read; None where its kind isn't known."""
+    if kind not in FORMS:
+        return None
+    between, *forms = FORMS[kind]
+    fields = rest.split(between)
+    if len(fields) != len(forms) and (kind != b"stack" or len(fields) < len(forms)):
+        raise ValueError
+    return [read(field) for read, field in itertools.zip_longest(forms, fields, fillvalue=whole)]
 
 
 def whole(text):
@@ -259,61 +232,24 @@ def whole(text):
     return int(text)
 
 
-def fields_of(rest, count):
-    fields = rest.split(b"\t")
-    if len(fields) != count:
-        raise ValueError
-    return fields
-
-
-def frame_fields(in_system):
-    return lambda rest: ("frame", (*fields_of(rest, 2), in_system))
-
-
-def stack_fields(rest):
-    number, outer, *frames = map(whole, rest.split())
-    return "stack", (number, outer, frames)
-
-
-def thread_fields(rest):
-    name, number = fields_of(rest, 2)
-    return "thread", (name, whole(number))
-
-
-def numbers_fields(kind):
-    def fields(rest):
-        first, second = map(whole, rest.split())
-        return kind, (first, second)
-    return fields
-
-
-def atomic_fields(rest):
-    name, thread, location, how = fields_of(rest, 4)
-    use, _, order = how.partition(b" ")
-    if order not in ORDERS or use not in USES:
-        raise ValueError
-    return "atomic", (AtomicUse(name, thread, location, use, order),)
-
-
-def source_fields(rest):
-    return "source", tuple(fields_of(rest, 2))
-
-
-def line_fields(rest):
-    location, text = fields_of(rest, 2)
+def sum_of(text):
+    """The sum of a line's text."""
     if not SUM.fullmatch(text):
         raise ValueError
-    return "line", (location, text)
+    return text
 
 
-def local_fields(rest):
-    event, variable, name = fields_of(rest, 3)
-    return "local", (whole(event), variable, name)
+def use_of(text):
+    """How an atomic is used, and with which order."""
+    use, _, order = text.partition(b" ")
+    if order not in ORDERS or use not in USES:
+        raise ValueError
+    return use, order
 
 
-FIELDS = {b"frame": frame_fields(False), b"system-frame": frame_fields(True), b"stack": stack_fields, b"thread": thread_fields,
-          b"block": numbers_fields("block"), b"free": numbers_fields("free"), b"atomic": atomic_fields, b"source": source_fields,
-          b"local": local_fields, b"line": line_fields}
+FORMS = {b"frame": (b"\t", bytes, bytes), b"system-frame": (b"\t", bytes, bytes), b"thread": (b"\t", bytes, whole),
+         b"stack": (None, whole, whole), b"block": (None, whole, whole), b"free": (None, whole, whole), b"atomic": (b"\t", bytes, bytes, bytes, use_of),
+         b"source": (b"\t", bytes, bytes), b"line": (b"\t", bytes, sum_of), b"local": (b"\t", whole, bytes, bytes)}
 
 
 def numbers_of(file, first, count):

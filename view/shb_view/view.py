@@ -11,7 +11,7 @@ from shb_common import known
 from shb_common.limits import MOST_TEXT
 from shb_common.report import BadReport, Counts, Report, in_order
 from shb_common.result import text
-from shb_common.stacks import AtomicUse, NoStacks, Stacks
+from shb_common.stacks import AtomicUse, Stacks
 from shb_common.words import counted
 from shb_view.analyser import MOST_LISTED, Analyser, Verdict
 from shb_view.counting import Counting, Kinds
@@ -65,7 +65,7 @@ class View(typing.NamedTuple):
     source: Source
     notes: typing.List[str]
     about: typing.List[str]
-    stacks: typing.Union[Stacks, NoStacks]
+    stacks: Stacks
     kinds: Kinds
     gathered: Gathered
     only: typing.Optional[known.Known]
@@ -109,7 +109,7 @@ def make_view(options, progress):
             given = given._replace(verdict=NO_SCHEDULES)
         is_whole = bool(options.html or options.all)
         whole = "window" if options.window else "trace"
-        stacks = stacks_of(options.stacks, options.shift, head.counts.events) if options.stacks else NoStacks()
+        stacks = stacks_of(options.stacks, options.shift, head.counts.events) if options.stacks else Stacks()
         gathered.name_locals(stacks)
         groups = gathered.groups()
         asked = Asked(is_whole, whole, Kinds(gathered, stacks), gathered, head.counts.events)

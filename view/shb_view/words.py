@@ -1,7 +1,6 @@
 """Words that the text and the page share. What is said is a list of parts: plain text, and names as `Code`. A place is a pair of lines
 that race, that of the first access and that of the second; a group is the places that share a variable."""
 
-from shb_common.stacks import Stacks
 from shb_common.words import counted
 from shb_view.held import read_lock
 from shb_view.names import by_numbers, short
@@ -103,7 +102,7 @@ def notes_of(view):
         yield view.verdict.words
     if not view.races:
         yield "Any two conflicting accesses are ordered in this trace. A run with another interleaving may have races."
-    if view.sections and isinstance(view.stacks, Stacks):
+    if view.sections and view.stacks.numbers:
         yield "Counts are of the trace, where the recorder leaves out repeats: a loop may count as two accesses."
     if view.listed < view.races:
         yield "The report doesn't list all races of the trace; the counts are the report's."
