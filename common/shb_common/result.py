@@ -25,6 +25,33 @@ def access(name, location, in_trace, event=None, read=None):
     return found
 
 
+def entry(row, found, reads=((), ()), **more):
+    """A row as an entry. `found` is the view's entry of it, nothing where it has none; `reads` are of each access its event and its
+    fields there."""
+    there = {one["in_trace"]: one for one in found.get("accesses", ())}
+    races = {one["name"]: {"races": one["races"]} for one in found.get("variables", ())}
+    accesses = [{**there.get(text(in_trace), {}), **access(name, location, in_trace, *read)}
+                for name, location, in_trace, read in zip(row.names, row.key, row.texts, reads)]
+    variables = [{"name": text(name), "state": "known" if is_known else "unknown", **races.get(text(name), {})} for name, is_known in row.variables]
+    return {"state": row.state(), "places": row.places, "accesses": accesses, "variables": variables, "has_more_variables": row.has_more,
+            **{name: found[name] for name in ("races", "headline", "facts") if name in found}, **more}
+
+
+def entries_of(trace, found):
+    """The entries of what the view found in a trace, by the trace and the two locations as it has them."""
+    return {(trace, frozenset(one["in_trace"] for one in place["accesses"])): place for place in found["places"]}
+
+
+def entry_of(entries, row):
+    """Of these entries that of a row, nothing where there is none."""
+    return entries.get((row.example, frozenset(map(text, row.texts))), {})
+
+
+def stale_of(lines):
+    """Lines of known places that matched nothing."""
+    return [{"line": line.number, "text": text(line.text)} for line in lines]
+
+
 def document(command, summary, places, **more):
     """The whole as bytes of ASCII. `summary` has numbers by their names."""
     installed = version.installed()

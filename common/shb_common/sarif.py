@@ -11,7 +11,7 @@ import urllib.parse
 
 from shb_common import known, version
 from shb_common.locations import line_of, parts_of
-from shb_common.programs import Location
+from shb_common.places import Row
 from shb_common.shown import shown
 from shb_common.stacks import bare
 
@@ -37,20 +37,20 @@ MOST_NAMED = 3          # variables in a message
 
 
 class Alert(typing.NamedTuple):
-    """A place for review. `names` are its two locations as they are called over all programs, `locations` whose they are,
-    `variables` those that race there; `facts` is what is known of their locks, `seen` where the place was seen, both as
-    sentences; `example` is the path of a trace that has it, from the folder of the traces; `accesses` are those of a race there
-    with their call stacks; `properties` are further facts."""
+    """A place for review. `facts` is what is known of its locks, `seen` where it was seen, both as sentences; `example` is the path of
+    a trace that has it, from the folder of the traces; `accesses` are those of a race there with their call stacks; `properties` are
+    further facts."""
 
-    names: typing.Tuple[bytes, bytes]
-    locations: typing.Tuple[Location, Location]
-    variables: typing.List[bytes]
+    row: Row
     facts: str
     seen: str
-    is_known: bool
     example: bytes
     accesses: tuple
     properties: dict
+
+    def variables(self):
+        """Those that race there."""
+        return [name for name, _ in self.row.variables]
 
 
 class Access(typing.NamedTuple):
@@ -121,12 +121,12 @@ def named(place):
 
 def variables_of(alert):
     """The variables of a place, in a name that lasts from run to run."""
-    return known.lasting_names(alert.variables)
+    return known.lasting_names(alert.variables())
 
 
 def fingerprint(alert):
     """Names a place by its two locations, whichever comes first, and its variables, so it changes only with these."""
-    parts = [*sorted(map(known.written, alert.names)), *variables_of(alert)]
+    parts = [*sorted(alert.row.names), *variables_of(alert)]
     return hashlib.blake2b(b"\t".join(parts), digest_size=16).hexdigest()
 
 
@@ -159,8 +159,8 @@ def thread_flow(access, sources):
 
 def message_of(alert, first, second):
     """The variables, the two locations, the locks, and where the place was seen."""
-    names = [f"`{shown(name)}`" for name in alert.variables[:MOST_NAMED]]
-    more = len(alert.variables) - len(names)
+    names = [f"`{shown(name)}`" for name in alert.variables()[:MOST_NAMED]]
+    more = len(alert.variables()) - len(names)
     on = " and ".join([", ".join(names), *([f"{more} more"] if more > 0 else [])]) if names else "a variable"
     text = f"Data race on {plain(on)} between {plain(named(first))} and [{plain(named(second))}](1)"
     return ". ".join([text, *(plain(part.rstrip(".")) for part in (alert.facts, alert.seen) if part)]) + "."
@@ -168,7 +168,7 @@ def message_of(alert, first, second):
 
 def result_of(alert, sources, seen):
     """The result of one place. `seen` counts the fingerprints of lines before it."""
-    first, second = sorted((place_of(name, sources, location.path) for name, location in zip(alert.names, alert.locations)),
+    first, second = sorted((place_of(name, sources, location.path) for name, location in zip(alert.row.names, alert.row.key)),
                            key=lambda place: (place.kind, place.text))
     prints = {"places/v2": fingerprint(alert)}
     by_lines = line_fingerprint(first, second, alert)
@@ -183,8 +183,8 @@ def result_of(alert, sources, seen):
         "locations": [primary_of(first, alert.example)],
         "relatedLocations": [location_of(second, id=1, message={"text": "The other access."})],
         "partialFingerprints": prints,
-        "suppressions": [{"kind": "external", "justification": "It is in the file of known places."}] if alert.is_known else [],
-        "properties": {**alert.properties, "variables": [shown(name) for name in alert.variables]},
+        "suppressions": [{"kind": "external", "justification": "It is in the file of known places."}] if alert.row.is_known else [],
+        "properties": {**alert.properties, "variables": [shown(name) for name in alert.variables()]},
         **code_flows(alert, sources),
     }
 

@@ -82,10 +82,17 @@ def atomic_of(first, second):
     return base if base and thread == write.thread else None
 
 
-def name_of(found, local_of):
-    """The variable of a race as the program has it: an atomic, a local of a function, or as the trace has it. `local_of` gives the
-    local that a variable is at an event."""
-    atomic = atomic_of(*found.accesses)
-    variable = atomic or found.accesses[0].name
-    names = {local_of(variable, event) for event in found.events}
+def variable_of(found):
+    """The variable of a race: an atomic is one, whatever its writers' names."""
+    return atomic_of(*found.accesses) or found.accesses[0].name
+
+
+def local_name(variable, events, local_of):
+    """A variable as the program has it: the local of a function that it is at all these events, as `local_of` gives it for one."""
+    names = {local_of(variable, event) for event in events}
     return names.pop() or variable if len(names) == 1 else variable
+
+
+def name_of(found, local_of):
+    """The variable of a race as the program has it."""
+    return local_name(variable_of(found), found.events, local_of)

@@ -6,7 +6,7 @@ import os
 import pathlib
 import sys
 
-from shb_common import known, stacks
+from shb_common import known, result, stacks
 from shb_common.programs import Origin
 from shb_common.report import BadReport, Report
 from shb_common.sarif import Access
@@ -117,8 +117,7 @@ def entries_of(rows, out):
         path = passes.found_path(out, example)
         try:
             if path.stat().st_size <= MOST_FOUND:
-                places = json.loads(path.read_text(encoding="ascii"))["places"]
-                found.update(((example, frozenset(access["in_trace"] for access in entry["accesses"])), entry) for entry in places)
+                found.update(result.entries_of(example, json.loads(path.read_text(encoding="ascii"))))
         except (OSError, ValueError, KeyError, TypeError):
             continue    # the view didn't take it: then it is a place without facts
     return found

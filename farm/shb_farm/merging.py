@@ -5,29 +5,9 @@ import pathlib
 import stat
 import typing
 
-from shb_common import known
-from shb_common.programs import Names, pair_of, sorting
+from shb_common.places import Places, in_order
+from shb_common.variables import local_name
 from shb_farm import files, outcomes, passes, traces
-
-
-class Row(typing.NamedTuple):
-    """Two locations that race, whichever comes first."""
-
-    key: tuple          # the two, each of its own program
-    names: typing.Tuple[bytes, bytes]   # what they are called over all programs
-    texts: typing.Tuple[bytes, bytes]   # as the example has them
-    sides: tuple        # what they may be called in a file of known places
-    places: int         # in how many orders they race
-    variables: tuple    # the names of those that race there, each with whether it is known
-    has_more: bool      # whether there are more
-    traces: int         # how many have it
-    is_known: bool
-    example: str        # the smallest of them: a schedule is nearly as long as its trace
-    report: str         # its report with schedules, below the folder of the outcomes, or why there is none
-
-    def unknown(self):
-        """The variables that aren't known."""
-        return [name for name, is_known in self.variables if not is_known]
 
 
 class Ending(typing.NamedTuple):
@@ -70,45 +50,22 @@ def ending_of(work, name, outside=()):
     return Ending("missing", why, [], size)
 
 
-class Found:
-    """What is known of two locations: how each trace that has them writes them, their variables, and the orders in which they race."""
-
-    def __init__(self):
-        self.traces, self.variables, self.has_more, self.orders = {}, set(), False, set()
-
-    def add(self, name, order, place, local_of):
-        self.traces.setdefault(name, dict(zip(order, place[:2])))
-        self.orders.add(order)
-        self.has_more = self.has_more or place.has_more
-        for variable, events in place.variables:
-            names = {local_of(variable, event) for event in events}
-            self.variables.add(names.pop() or variable if len(names) == 1 else variable)
-
-
 def rows_of(endings, known_places, calls):
-    """A row for each two locations that race (endings are by name): unknown ones first, and of these what most traces have. Functions
-    and source files are those of a trace's own call stacks, which `calls` has. Gives the names of source files too."""
-    found, names = {}, Names()
+    """A row for each two locations that race (endings are by name), with the smallest trace that has them, since a schedule is nearly as
+    long as its trace: unknown ones first, and of these what most traces have. Functions and source files are those of a trace's own
+    call stacks, which `calls` has. Gives the names of source files too."""
+    found = Places(known_places)
     for name, ending in endings.items():
-        if not ending.places:
-            continue
-        origin = calls.origin_of(name)
-        orders = [tuple(map(origin.location, place[:2])) for place in ending.places]
-        names.add_all(origin)
-        for order, place in zip(orders, ending.places):
-            found.setdefault(pair_of(order), Found()).add(name, order, place, origin.tables.local_of)
-    rows = [row_of(key, one, endings, known_places, names) for key, one in found.items()]
-    return sorted(rows, key=lambda row: (row.is_known, -row.traces, row.names, *map(sorting, row.key))), names
+        if ending.places:
+            origin = calls.origin_of(name)
+            found.add(name, origin, [named(place, origin.tables.local_of) for place in ending.places])
+    rows = [found.row(key, min(seen.traces, key=lambda name: (endings[name].size, name))) for key, seen in found.seen.items()]
+    return sorted(in_order(rows), key=lambda row: (row.is_known, -row.traces)), found.names
 
 
-def row_of(key, found, endings, known_places, names):
-    example = min(found.traces, key=lambda name: (endings[name].size, name))
-    key = tuple(sorted(key, key=lambda location: (names.name(location), sorting(location))))
-    sides = tuple(map(names.side, key))
-    variables = tuple((name, known_places.has(sides, name)) for name in sorted(found.variables))
-    is_known = known_places.has_all(sides, found.variables, found.has_more)
-    return Row(key, tuple(known.written(names.name(location)) for location in key), tuple(found.traces[example][location] for location in key),
-               sides, len(found.orders), variables, found.has_more, len(found.traces), is_known, example, "")
+def named(place, local_of):
+    """A place of an outcome, with its variables as the program has them."""
+    return place._replace(variables={local_name(variable, events, local_of): events for variable, events in place.variables})
 
 
 def facts_of(rows, endings, stale, damaged, since):

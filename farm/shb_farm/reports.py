@@ -8,7 +8,7 @@ from shb_common.files import put_file, temporary_file
 from shb_common.limits import MOST_TEXT
 from shb_common.report import BadReport, Report
 from shb_common.scan import Scan
-from shb_common.variables import atomic_of
+from shb_common.variables import variable_of
 from shb_farm import calls, passes, running, traces
 from shb_farm.limits import memory_for
 from shb_farm.outcomes import Place
@@ -104,7 +104,7 @@ def place_of(place):
     """A place as an outcome has it: atomics are named as one variable."""
     by_name = {}
     for found in place.variables.values():
-        by_name.setdefault(atomic_of(*found.accesses) or found.accesses[0].name, found.events)
+        by_name.setdefault(variable_of(found), found.events)
     return Place(place.first, place.second, tuple(by_name.items()), place.has_more)
 
 

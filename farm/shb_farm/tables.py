@@ -5,6 +5,7 @@ import typing
 
 from shb_common import known, result, sarif
 from shb_common.files import put
+from shb_common.places import unknown_places
 from shb_common.shown import shown
 from shb_farm import calls
 
@@ -29,10 +30,6 @@ def field(text):
     return known.written(os.fsencode(text))
 
 
-def state_of(row):
-    return "known" if row.is_known else "unknown"
-
-
 def variables_of(row):
     """The variables of a row as one field: the unknown ones first."""
     names = [name for name, _ in sorted(row.variables, key=lambda one: one[1])]
@@ -45,7 +42,7 @@ def places_table(found):
     orders they race, their variables, and whether that is new."""
     lines = [b"traces\tstate\tfirst\tsecond\texample\treport\tplaces\tvariables\tsince\n"]
     for row in found.rows:
-        fields = [b"%d" % row.traces, field(state_of(row)), *row.names, field(row.example), field(row.report), b"%d" % row.places,
+        fields = [b"%d" % row.traces, field(row.state()), *row.names, field(row.example), field(row.report), b"%d" % row.places,
                   variables_of(row), field(found.since.state_of(row) if found.since else "")]
         lines.append(b"\t".join(fields) + b"\n")
     return b"".join(lines)
@@ -64,11 +61,6 @@ def traces_table(endings):
 def facts_table(facts):
     """A line for each fact: its name and its number."""
     return "".join(f"{name}\t{count}\n" for name, count in facts.items()).encode()
-
-
-def unknown_places(rows):
-    """The unknown places as a file of known places has them."""
-    return b"".join(known.lines_of((row.sides, row.unknown(), row.has_more) for row in rows if not row.is_known))
 
 
 def why(ending):
@@ -99,7 +91,7 @@ def text(found):
     lines += [f"since {found.since.name}: new {facts['new']} gone {facts['gone']} same {facts['same']}"] if found.since else []
     if rows:
         head = [b"traces", b"state", b"first", b"second", b"variables", b"example", *[b"since"] * bool(found.since)]
-        table = [[b"%d" % row.traces, field(state_of(row)), *row.names, variables_of(row), field(row.example),
+        table = [[b"%d" % row.traces, field(row.state()), *row.names, variables_of(row), field(row.example),
                   *[field(found.since.state_of(row)) for _ in [0] if found.since]] for row in rows]
         lines += ["", *aligned([head, *table])]
     if found.since and found.since.gone:
@@ -115,37 +107,24 @@ def text(found):
     return "".join(line + "\n" for line in lines)
 
 
-def entry_of(row, entries, since):
-    """A row as `places.json` has it, with what the view says of it in its example."""
-    said = entries.get((row.example, frozenset(map(result.text, row.texts))), {})
-    shown_there = {access["in_trace"]: access for access in said.get("accesses", ())}
-    accesses = [{**shown_there.get(result.text(text), {}), **result.access(name, location, text)}
-                for name, location, text in zip(row.names, row.key, row.texts)]
-    variables = [{"name": result.text(name), "state": "known" if is_known else "unknown"} for name, is_known in row.variables]
-    more = {name: said[name] for name in ("races", "headline", "facts") if name in said}
-    return {"state": state_of(row), "places": row.places, "accesses": accesses, "variables": variables, "has_more_variables": row.has_more,
-            **more, "traces": row.traces, "example": result.text(os.fsencode(row.example)), **({"since": since.state_of(row)} if since else {})}
-
-
 def document(found, entries):
     """What programs read."""
     traces = [{"trace": result.text(os.fsencode(name)), "outcome": ending.kind, "words": ending.words,
                **({"seconds": ending.cost.seconds, "MiB": ending.cost.kib // 1024} if ending.cost else {})}
               for name, ending in found.endings.items()]
-    stale = [{"line": line.number, "text": result.text(line.text)} for line in found.stale]
-    places = [entry_of(row, entries, found.since) for row in found.rows]
-    return result.document("shb-farm", {**found.facts, "status": found.status}, places, stale=stale, traces=traces)
+    places = [result.entry(row, result.entry_of(entries, row), traces=row.traces, example=result.text(os.fsencode(row.example)),
+                           **({"since": found.since.state_of(row)} if found.since else {})) for row in found.rows]
+    return result.document("shb-farm", {**found.facts, "status": found.status}, places, stale=result.stale_of(found.stale), traces=traces)
 
 
 def log(found, sources, entries, accesses):
     """The log for code review tools. `accesses` has those of a race at each place, where their stacks are known."""
     endings, alerts = found.endings, []
     for row in found.rows:
-        said = entries.get((row.example, frozenset(map(result.text, row.texts))), {})
+        facts = " ".join(result.entry_of(entries, row).get("facts", ()))
         have = "1 of {} traces has it" if row.traces == 1 else f"{row.traces} of {{}} traces have it"
         seen = f"{have.format(len(endings))}, for example {shown(field(row.example))}"
-        alerts.append(sarif.Alert(row.names, row.key, [name for name, _ in row.variables], " ".join(said.get("facts", ())), seen, row.is_known,
-                                  os.fsencode(row.example), accesses.get(row.key, ()), {"traces": row.traces}))
+        alerts.append(sarif.Alert(row, facts, seen, os.fsencode(row.example), accesses.get(row.key, ()), {"traces": row.traces}))
     return sarif.log(alerts, sources, [notification_of(name, ending) for name, ending in endings.items() if ending.kind != "report" or note_of(ending)],
                      found.status != 2, found.status)
 

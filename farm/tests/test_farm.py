@@ -122,14 +122,14 @@ class Tables(farm.Case):
         self.trace("race.std", RACE)
         for words, status, said in (
                 (["--engine", "none"], 3, "argument --engine: invalid choice: 'none'"),
-                (["--memory", "0"], 3, "argument --memory: it takes numbers from 1 on"),
+                (["--memory", "0"], 3, "argument --memory: it takes a number from 1"),
                 (["--memory", "x"], 3, "argument --memory: invalid numbers value: 'x'"),
                 (["--known", self.folder / "none"], 4, f"{self.folder}/none: No such file or directory"),
                 (["--known", self.known(b"# one\nno tab\n")], 4,
                  f"{self.folder}/known, line 2: a place is two locations or functions and a variable, with tabs between them")):
             answer = self.farm(*words)
             self.assertEqual((answer.status, answer.out), (status, ""))
-            self.assertTrue(answer.err.startswith(f"shb-farm: {said}"), answer.err)
+            self.assertIn(f"shb-farm: {said}", answer.err)
         answer = self.farm(shb=self.folder / "none")
         self.assertEqual(answer, (4, "", f"shb-farm: {self.folder}/none: no such program\n"))
 

@@ -15,6 +15,7 @@ from shb_common.stops import Stops
 from shb_common.words import counted
 from shb_record.looking import Look, reason
 from shb_record.parts import LIBRARY, Failed, check_parts, say
+from shb_record.places import count
 from shb_record.results import Results
 from shb_record.running import Run
 from shb_record.tables import tables_of
@@ -148,8 +149,9 @@ def status_of(look, own):
 
 def conclude(look, own):
     """Says what was found, and what that means."""
-    unknown = look.places.count(look.places.unknown())
-    passed_over = look.places.count(look.places.seen) - unknown
+    rows = look.places.rows()
+    unknown = count(row for row in rows if not row.is_known)
+    passed_over = count(rows) - unknown
     for words in known.words_of_stale(look.stale(), look.places.names):
         say(f"{look.options.known_path}, {words}")
     say(counted(unknown, "unknown place" if look.options.known_path else "place") + " with races"

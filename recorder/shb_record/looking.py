@@ -169,7 +169,7 @@ class Look:
             origin = Origin(tables_in(looked.stacks), process.program)
             origin.add_modules(process.modules)
             self.modules.add(process.modules)
-        looked.new = [(one, self.places.add(process, one.trace, origin, one.places, one.report is not None)) for one in looked.analysed]
+        looked.new = [(one, self.places.add_new(process, one.trace, origin, one.places, one.report is not None)) for one in looked.analysed]
 
     def show(self, process, looked):
         """Shows a process, and says how much it has."""
@@ -209,9 +209,9 @@ class Look:
         words = [f"--title={process.command} ({process.name}, {self.started})", *(f"--note={note}" for note in notes), *stacks,
                  *(f"--about={line}" for line in self.meaning()),
                  *(f"--source={folder}" for folder in self.options.source), *["--window"] * one.is_window]
-        self.show_trace(one.trace, unknown, words)
+        self.show_trace(process, one.trace, unknown, words)
 
-    def show_trace(self, trace, unknown, words):
+    def show_trace(self, process, trace, unknown, words):
         """The view's page and text of a trace, and what it found; where it fails, the new places alone."""
         only, found = self.results.work / "new.places", self.results.work / "found.json"
         page = self.results.path(trace.path.with_suffix(".html").relative_to(self.results.folder))
@@ -222,7 +222,7 @@ class Look:
             print(lines.decode(errors="backslashreplace"), end="", file=sys.stderr)
             return
         self.pages.append(page)
-        self.found[trace.path] = json.loads(found.read_text(encoding="ascii"))
+        self.found[process.name, trace] = json.loads(found.read_text(encoding="ascii"))
 
 
 def show_apart(unknown, reach):
