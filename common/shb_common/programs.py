@@ -59,6 +59,15 @@ class Origin:
         return Location(normal(path), rest, frozenset(self.tables.functions.get(text, ())), self.tables.sums.get(text, b""))
 
 
+def naming(tables, locations):
+    """Where some locations of one trace come from, and what its source files are called."""
+    origin, names = Origin(tables), Names()
+    for location in locations:
+        origin.location(location)
+    names.add_all(origin)
+    return origin, names
+
+
 def normal(path):
     return posixpath.normpath(path) if path.startswith(b"/") else path
 

@@ -3,7 +3,6 @@
 import collections
 import hashlib
 import json
-import os
 import posixpath
 import re
 import typing

@@ -27,6 +27,6 @@ def leave_standard_output():
 
 
 def words_of(fault):
-    """What an OSError says, with the file that it names."""
-    words = fault.strerror or str(fault)
-    return f"{shown(os.fsencode(fault.filename))}: {words}" if isinstance(fault.filename, (str, bytes)) else words
+    """What a fault says; one of the system with the file that it names."""
+    words, name = getattr(fault, "strerror", None) or str(fault), getattr(fault, "filename", None)
+    return f"{shown(os.fsencode(name))}: {words}" if isinstance(name, (str, bytes, os.PathLike)) else words

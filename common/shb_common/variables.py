@@ -9,7 +9,7 @@ import re
 import typing
 
 from shb_common.limits import MOST_LINE
-from shb_common.report import Access, BadReport
+from shb_common.report import BadReport
 
 ACCESSES = b"r(", b"w("
 NUMBER = re.compile(rb"[0-9]{1,9}")

@@ -12,6 +12,7 @@ import typing
 
 from shb_common import known
 from shb_common.commands import Parser, number
+from shb_common.faults import Refused
 from shb_common.standard import leave_standard_output, open_standard_files, words_of
 from shb_farm import engines, files, limits, merging, passes, since, tables, traces
 from shb_farm.calls import Calls
@@ -76,10 +77,6 @@ class Farm(typing.NamedTuple):
     jobs: int
     memory: typing.List[int]    # the MiB of each pass
     sbatch: typing.List[str]    # further words
-
-
-class Refused(Exception):
-    """The farm can't run; with the reason."""
 
 
 def arguments(words):
@@ -250,9 +247,7 @@ def main(words):
         signal.signal(name, lambda number, frame: sys.exit(128 + number))
     try:
         return run(arguments(words))
-    except (Refused, engines.NotInstalled, known.BadLine, since.BadDocument) as refused:
-        said = str(refused)
-    except OSError as fault:
+    except (Refused, engines.NotInstalled, known.BadLine, since.BadDocument, OSError) as fault:
         said = words_of(fault)
     except KeyboardInterrupt:
         return 130

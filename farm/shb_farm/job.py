@@ -67,8 +67,7 @@ def main(words):
             kind = make_outcome(work, name)
         except (OSError, running.NotHere) as fault:
             kind = "failed"
-            said = words_of(fault) if isinstance(fault, OSError) else str(fault)
-            print(f"shb-farm: {name}: {said}", file=sys.stderr)
+            print(f"shb-farm: {name}: {words_of(fault)}", file=sys.stderr)
         note_done(work)
         if kind == "failed":
             status = 1

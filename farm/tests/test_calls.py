@@ -2,7 +2,6 @@
 
 import struct
 
-import farm
 from farm import RACE
 from shb_common.shown import shown
 from test_sarif import Base

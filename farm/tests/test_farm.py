@@ -123,7 +123,7 @@ class Tables(farm.Case):
         for words, status, said in (
                 (["--engine", "none"], 3, "argument --engine: invalid choice: 'none'"),
                 (["--memory", "0"], 3, "argument --memory: it takes a number from 1"),
-                (["--memory", "x"], 3, "argument --memory: invalid numbers value: 'x'"),
+                (["--memory", "x"], 3, "argument --memory: it takes a number from 1"),
                 (["--known", self.folder / "none"], 4, f"{self.folder}/none: No such file or directory"),
                 (["--known", self.known(b"# one\nno tab\n")], 4,
                  f"{self.folder}/known, line 2: a place is two locations or functions and a variable, with tabs between them")):

@@ -7,8 +7,10 @@ import subprocess
 import sys
 import tempfile
 
+from shb_common.faults import Refused
+from shb_common.files import put
+from shb_common.standard import words_of
 from shb_install import machine, package, placing, sources, tree
-from shb_install.faults import Refused, words_of
 
 EPILOG = """\
 Exit status: 0; 1 if it can't be done, with the reason. Then an older installation stays as it was, or is listed so that
@@ -71,7 +73,7 @@ def dist(options):
         (made / "share/doc/shb/PROVED.md").write_text(package.proved_text(made, name, commit, seconds))
         content = package.archive(made, top, seconds)
     path = options.out / f"{top}.tar.xz"
-    package.put(path, content)
+    put(path, content)
     print(path)
 
 
@@ -82,9 +84,7 @@ def main(words):
     try:
         {"install": install, "uninstall": uninstall, "dist": dist}[options.what](options)
         return 0
-    except Refused as refused:
-        said = str(refused)
-    except OSError as fault:
+    except (Refused, OSError) as fault:
         said = words_of(fault)
     except subprocess.CalledProcessError as fault:
         said = f"{fault.cmd[0]} ended with status {fault.returncode}"

@@ -6,7 +6,6 @@ import lzma
 import os
 import re
 import tarfile
-import tempfile
 
 from shb_install import machine
 from shb_install.placing import files_in
@@ -57,12 +56,3 @@ def archive(tree, top, seconds):
                 entry.size, entry.mode = len(content), 0o755 if os.access(path, os.X_OK) else 0o644
                 tar.addfile(entry, io.BytesIO(content))
     return lzma.compress(packed.getvalue(), preset=9)
-
-
-def put(path, content):
-    """Writes a file that is whole or not there."""
-    with tempfile.TemporaryDirectory(dir=path.parent) as room:
-        new = os.path.join(room, "new")
-        with open(new, "xb") as file:
-            file.write(content)
-        os.replace(new, path)

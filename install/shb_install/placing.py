@@ -12,7 +12,7 @@ import pathlib
 import shutil
 import typing
 
-from shb_install.faults import Refused
+from shb_common.faults import Refused
 
 LISTED = "lib/shb/installed"
 FOLDER = "/"                # the last sign of a line that names a folder

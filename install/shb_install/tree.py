@@ -6,8 +6,8 @@ import shutil
 import subprocess
 import tempfile
 
+from shb_common.faults import Refused
 from shb_install import completions, helptext, manual
-from shb_install.faults import Refused
 from shb_install.sources import TOP
 
 FOLDERS = ("recorder", "view", "farm", "fix", "common")      # where commands (shb-NAME) and packages (shb_NAME) are, beside the program

@@ -1,8 +1,8 @@
 """What programs need of a machine."""
 
 import installing
+from shb_common.faults import Refused
 from shb_install import machine
-from shb_install.faults import Refused
 
 WORDS = "this program was built with --cpu x86-64-v2, which asks for popcnt"
 

@@ -7,8 +7,8 @@ from unittest import mock
 
 import installing
 from installing import contents
+from shb_common.faults import Refused
 from shb_install import placing
-from shb_install.faults import Refused
 
 FIRST = {"bin/shb": "first", "bin/old": "old", "lib/shb/pack/part.py": "part", "share/gone/page": "page"}
 SECOND = {"bin/shb": "second", "bin/new": "new", "lib/shb/pack/part.py": "part 2", "share/more/page": "page"}

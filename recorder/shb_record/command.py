@@ -11,9 +11,10 @@ import signal
 from shb_common import known
 from shb_common.commands import Parser, number
 from shb_common.limits import MOST_EVENTS
+from shb_common.standard import words_of
 from shb_common.stops import Stops
 from shb_common.words import counted
-from shb_record.looking import Look, reason
+from shb_record.looking import Look
 from shb_record.parts import LIBRARY, Failed, check_parts, say
 from shb_record.places import count
 from shb_record.results import Results
@@ -178,7 +179,7 @@ def main(words):
         check_parts()
         return record(options)
     except (Failed, OSError) as fault:
-        say(reason(fault))
+        say(words_of(fault))
     except KeyboardInterrupt:
         say("stopped")
     return FAILED

@@ -11,6 +11,7 @@ from shb_common.programs import Origin
 from shb_common.report import BadReport, Report
 from shb_common.shown import shown
 from shb_common.stacks import BadStacks, Tables
+from shb_common.standard import words_of
 from shb_common.stops import APART
 from shb_common.words import counted
 from shb_record.converting import CRASHED, KILLED, Conversion, Trace, check_room, order_of, processes
@@ -116,7 +117,7 @@ class Look:
             yield "One interleaving of many was seen; --runs N tries others."
 
     def fail(self, fault):
-        say(reason(fault))
+        say(words_of(fault))
         self.has_failed = True
 
     def analyse(self, process, looked):
@@ -271,7 +272,3 @@ def window_note(trace, reach):
     """What the page and the text of a window begin with."""
     return (f"This is {trace.path.stem.replace('-', ' ')} of a long run, events {trace.first:,} to {trace.last:,} of it: event N here is event N + "
             f"{trace.number(0):,} of the run. Races of accesses that are more than {reach:,} events apart may not be listed.")
-
-
-def reason(fault):
-    return f"{fault.filename}: {fault.strerror}" if isinstance(fault, OSError) else str(fault)

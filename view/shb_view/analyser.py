@@ -6,10 +6,10 @@ import tempfile
 import typing
 
 from shb_common.analyser import FULL, HEAD, LIST, REFUSED, Run, rewound
+from shb_common.faults import Refused
 from shb_common.refused import without_note
 from shb_common.report import BadReport, Race, Report
 from shb_common.variables import TooLong, variables_in, write_copy
-from shb_view.faults import Refused
 from shb_view.names import short
 from shb_view.refused import refused_line
 from shb_view.words import EACH, SOME

@@ -6,11 +6,12 @@ import sys
 import traceback
 
 from shb_common.commands import Parser
+from shb_common.faults import Refused
 from shb_common.progress import Progress
 from shb_common.report import BadReport
 from shb_common.standard import leave_standard_output, open_standard_files, words_of
 from shb_view import result, text
-from shb_view.faults import Damaged, Refused
+from shb_view.faults import Damaged
 from shb_view.output import new_file, write_parts
 from shb_view.page import page_parts
 from shb_view.view import make_view
@@ -95,11 +96,9 @@ def main(words, program=None):
         return 2
     except BadReport as fault:
         status, said = 1, str(fault)
-    except Refused as fault:
-        status, said = 2, str(fault)
     except Damaged as fault:
         status, said = 4, str(fault)
-    except OSError as fault:
+    except (Refused, OSError) as fault:
         status, said = 2, words_of(fault)
     except MemoryError:
         status, said = 2, "out of memory"

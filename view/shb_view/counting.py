@@ -5,9 +5,9 @@ import array
 import collections
 import typing
 
+from shb_common.faults import Refused
 from shb_common.report import BadReport
 from shb_common.variables import without_end
-from shb_view.faults import Refused
 from shb_view.held import Held
 from shb_view.trace import CHANGED, OPENS, fields_of
 

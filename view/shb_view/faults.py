@@ -1,8 +1,4 @@
-"""What every part answers where something can't be shown; `BadReport` of shb_common says what is wrong with a report."""
-
-
-class Refused(Exception):
-    """The words say what is wrong with the trace, a file, the analyser or the words of the command."""
+"""What a part answers besides `Refused` and `BadReport`, which shb_common has."""
 
 
 class Damaged(Exception):

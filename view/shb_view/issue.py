@@ -3,14 +3,13 @@
 from shb_common.words import counted
 from shb_view.names import code_line, short
 from shb_view.stacks import caller_lines, sentences
-from shb_view.words import KINDS, NO_LOCK, Code, lock_parts, place
+from shb_view.words import KINDS, NO_LOCK, Code, flat_in, lock_parts, place
 
 NAME = 120  # columns
 MOST_FRAMES = 16  # of a stack
 
 
-def flat(parts):
-    return "".join(short(part, NAME) if isinstance(part, Code) else part for part in parts)
+flat = flat_in(NAME)
 
 
 def issue_lines(view, section):
@@ -36,9 +35,9 @@ def access_lines(view, window, access):
     shown, fork = window.events[access], window.forks[access]
     event = shown.event
     yield f"  {KINDS[view.kinds.of(access, event.word, event.name)]} by {flat([Code(event.thread), ' at ', place(event.location)])} (event {access})"
-    source = view.source.place(event.location)
-    if source and source.line() is not None:
-        yield f"      {code_line(source.line().strip(), NAME)}"
+    code = view.source.code(event.location)
+    if code is not None:
+        yield f"      {code_line(code, NAME)}"
     yield from stack_lines(view.stacks.of_event(access))
     for lock, acquire in shown.locks:
         at = place(window.events[acquire].event.location)

@@ -4,8 +4,8 @@ import contextlib
 import os
 import stat
 
+from shb_common.faults import Refused
 from shb_common.files import put_file, temporary_file
-from shb_view.faults import Refused
 from shb_view.names import shown
 
 

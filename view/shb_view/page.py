@@ -12,8 +12,8 @@ from shb_view.names import code_line, short
 from shb_view.picture import picture
 from shb_view.source import excerpt
 from shb_view.stacks import frame_parts, headline, origins, sentences
-from shb_view.words import (VERBS, MOST_SITES, MOST_THREADS, MOST_VARIABLES, NO_LOCK, Code, accesses_text, listed,
-                            lock_parts, lock_words, notes_of, partner_parts, place, races_text, seen_parts, share, summary)
+from shb_view.words import (VERBS, MOST_SITES, MOST_VARIABLES, NO_LOCK, Code, accesses_text, listed, lock_parts, lock_words, notes_of,
+                            partner_parts, place, races_text, seen_parts, share, summary, thread_parts)
 
 HERE = pathlib.Path(__file__).resolve().parent
 NAME = 80  # columns
@@ -159,14 +159,12 @@ def site_table(view, section):
 
 
 def site_cells(view, section, site, heads):
-    place_of = view.source.place(site.location) if site.location else None
-    line = place_of.line() if place_of else None
-    threads = sorted(site.threads, key=lambda thread: (-site.threads[thread], thread))
+    line = view.source.code(site.location)
     locks = [element("span", marked(parts, NAME), class_=kind) for kind, parts in lock_words(site, section.fact.lock)]
     cells = {"Line": "further lines" if site.location is None else marked([place(site.location)], NAME),
-             "Code": element("code", code_line(line.strip(), LINE)) if line is not None else "",
+             "Code": element("code", code_line(line, LINE)) if line is not None else "",
              "Accesses": accesses_text(site),
-             "Threads": marked(listed([[Code(thread)] for thread in threads if site.location is not None], MOST_THREADS), NAME),
+             "Threads": marked(thread_parts(site) if site.location is not None else [], NAME),
              "Locks": joined(locks, "; "),
              "Races with": marked(partner_parts(site), NAME) or "–"}
     return [element("td", element("span", cells[head]), data_head=head) for head in heads]

@@ -8,7 +8,7 @@ import typing
 
 from shb_view.markup import element, joined
 from shb_view.names import columns, short
-from shb_view.words import NO_LOCK, Code, lock_parts, operation_text
+from shb_view.words import NO_LOCK, flat_in, lock_parts, operation_text
 
 ROW, HEAD, BAND = 36, 20, 76  # heights of an event, of a thread's name, of the last row
 LEFT, GAP, STEP = 14, 18, 7  # left edge, room beside a lane, room for a bar or an arrow more
@@ -188,7 +188,7 @@ def access_parts(drawing, anchor):
 def tip(window, event):
     """What a browser says of an event that is pointed at."""
     shown = window.events[event]
-    names = ["".join(short(part, TEXT) if isinstance(part, Code) else part for part in lock_parts(lock)) for lock, _ in shown.locks]
+    names = [flat_in(TEXT)(lock_parts(lock)) for lock, _ in shown.locks]
     more = [f"{shown.held - len(names):,} more"] if shown.held > len(names) else []
     return element("title", f"{short(shown.line, TIP)}\nholds {', '.join(names + more) or NO_LOCK}")
 

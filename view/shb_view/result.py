@@ -1,7 +1,7 @@
 """What is shown, in the form that programs read."""
 
 from shb_common import result
-from shb_common.programs import Names, Origin
+from shb_common.programs import naming
 from shb_view.issue import flat
 from shb_view.stacks import headline, sentences
 from shb_view.words import KINDS, notes_of
@@ -11,11 +11,8 @@ MOST_STACKS, MOST_FRAMES = 8, 40    # of an access
 
 def document(view):
     """The places of the groups that are shown, as `result.document` has them."""
-    origin, names = Origin(view.stacks), Names()
     pairs = [(section, pair) for section in view.sections for pair in section.group.pairs]
-    for location in {location for _, pair in pairs for location in pair.locations}:
-        origin.location(location)
-    names.add_all(origin)
+    origin, names = naming(view.stacks, {location for _, pair in pairs for location in pair.locations})
     places = [entry(view, section, pair, origin, names) for section, pair in pairs]
     summary = {"races": view.races, "places": view.pairs, "groups": view.groups, **view.counts._asdict()}
     notes = [*view.notes, *notes_of(view), *view.about]
@@ -29,9 +26,9 @@ def entry(view, section, pair, origin, names):
     for location in pair.locations:
         its = origin.location(location)
         found = result.access(names.name(its), its, location)
-        source = view.source.place(location)
-        if source and source.line() is not None:
-            found["code"] = result.text(source.line().strip())
+        code = view.source.code(location)
+        if code is not None:
+            found["code"] = result.text(code)
         if location in sites:
             found.update(site_entry(sites[location]))
         found["stacks"] = [stack_entry(frames, count) for (frames, _), count in section.callers.get(location, ())[:MOST_STACKS] if frames]

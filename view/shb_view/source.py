@@ -7,9 +7,9 @@ import re
 import typing
 
 from shb_common import sources
+from shb_common.faults import Refused
 from shb_common.locations import line_of
 from shb_common.words import counted
-from shb_view.faults import Refused
 from shb_view.names import shown
 
 BEFORE, AFTER = 3, 2  # lines around one that is shown
@@ -66,6 +66,11 @@ class Source:
         elif is_newer:
             fault = "the file is newer than the trace; its lines may have moved"
         return Place(name, number, lines, fault, is_newer)
+
+    def code(self, location):
+        """The text of a location's line, without blanks around it; None where it isn't known."""
+        found = self.place(location) if location else None
+        return found.line().strip() if found and found.line() is not None else None
 
     def has_files(self):
         return bool(self.folders or self.recorded)

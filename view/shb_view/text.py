@@ -3,14 +3,14 @@
 import collections
 
 from shb_common import known
-from shb_common.programs import Names, Origin
+from shb_common.programs import naming
 from shb_common.words import counted
 from shb_view.groups import group_name
 from shb_view.issue import issue_lines
 from shb_view.names import code_line, columns, padded, short
 from shb_view.stacks import caller_lines, headline, origins, sentences
-from shb_view.words import (MOST_SITES, MOST_THREADS, MOST_VARIABLES, Code, accesses_text, listed, lock_words, notes_of,
-                            operation_text, partner_parts, place, races_text, seen_parts, share, summary)
+from shb_view.words import (MOST_SITES, MOST_VARIABLES, Code, accesses_text, flat_in, listed, lock_words, notes_of, operation_text,
+                            partner_parts, place, races_text, seen_parts, share, summary, thread_parts)
 
 NAME = 80  # columns of a name or a location
 LINE = 100  # columns of a line of code
@@ -37,9 +37,7 @@ class Colours:
         return self.coded("2", text)
 
 
-def flat(parts):
-    """Parts as one text."""
-    return "".join(short(part, NAME) if isinstance(part, Code) else part for part in parts)
+flat = flat_in(NAME)
 
 
 def text_lines(view, colours, is_whole):
@@ -68,12 +66,10 @@ def text_lines(view, colours, is_whole):
 
 def chosen_sections(view):
     """The groups that have a place which is asked for, with their numbers."""
-    numbered, origin, names = list(enumerate(view.sections, 1)), Origin(view.stacks), Names()
+    numbered = list(enumerate(view.sections, 1))
     if view.only is None:
         return numbered
-    for location in {location for section in view.sections for location in section.group.locations()}:
-        origin.location(location)
-    names.add_all(origin)
+    origin, names = naming(view.stacks, set().union(*(section.group.locations() for section in view.sections)))
     return [(number, section) for number, section in numbered if any(is_asked_for(view.only, origin, names, pair, section.group)
                                                                      for pair in section.group.places())]
 
@@ -102,12 +98,11 @@ def section_lines(view, number, section, colours):
 def site_lines(view, section, site, colours):
     """A line that uses the variables."""
     location = "(further lines)" if site.location is None else flat([place(site.location)])
-    threads = sorted(site.threads, key=lambda thread: (-site.threads[thread], thread))
-    by = flat([" by ", *listed([[Code(thread)] for thread in threads], MOST_THREADS)]) if site.location is not None else ""
+    by = flat([" by ", *thread_parts(site)]) if site.location is not None else ""
     yield f"   {colours.red(location) if site.partners else location}: {accesses_text(site)}{by}"
-    source = view.source.place(site.location) if site.location else None
-    if source and source.line() is not None:
-        yield f"     | {code_line(source.line().strip(), LINE)}"
+    code, source = view.source.code(site.location), view.source.place(site.location) if site.location else None
+    if code is not None:
+        yield f"     | {code_line(code, LINE)}"
     if source and source.fault:
         yield f"     | ({source.fault})"
     yield "     " + "; ".join(flat(parts) for _, parts in lock_words(site, section.fact.lock))

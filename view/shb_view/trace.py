@@ -4,8 +4,8 @@ import bisect
 import os
 import typing
 
+from shb_common.faults import Refused
 from shb_common.variables import without_end
-from shb_view.faults import Refused
 
 BATCH = 65_536  # bytes of lines that are read at once
 OPENS = ord("(")  # the second byte of `r(X)` and `w(X)` alone

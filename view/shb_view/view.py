@@ -8,6 +8,7 @@ import tempfile
 import typing
 
 from shb_common import known
+from shb_common.faults import Refused
 from shb_common.limits import MOST_TEXT
 from shb_common.report import BadReport, Counts, Report, in_order
 from shb_common.result import text
@@ -16,7 +17,7 @@ from shb_common.words import counted
 from shb_view.analyser import MOST_LISTED, Analyser, Verdict
 from shb_view.counting import Counting, Kinds
 from shb_view.facts import Fact, Site, fact_of, sites_of
-from shb_view.faults import Damaged, Refused
+from shb_view.faults import Damaged
 from shb_view.groups import Gathered, Group, joined_groups, object_of
 from shb_view.names import by_numbers, shown
 from shb_view.refused import warnings

@@ -48,6 +48,16 @@ def listed(items, most):
     return found
 
 
+def flat_in(most):
+    """Makes parts one text, with names of at most so many columns."""
+    return lambda parts: "".join(short(part, most) if isinstance(part, Code) else part for part in parts)
+
+
+def thread_parts(site):
+    """The threads that use a line, those with most accesses first."""
+    return listed([[Code(thread)] for thread in sorted(site.threads, key=lambda thread: (-site.threads[thread], thread))], MOST_THREADS)
+
+
 def lock_words(site, lock):
     """What is said of the locks held at a line: pairs of `held`, `some` or `none`, and parts. `lock` is the one that the group's
     fact is about, or None."""

@@ -1,0 +1,5 @@
+"""What every part of a command answers where something can't be done."""
+
+
+class Refused(Exception):
+    """The words say why, and what to do about it where that is known."""
