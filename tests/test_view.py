@@ -641,18 +641,18 @@ class Names(program.Case):
                            ("x\u0301".encode(), "x\u0301"), ("\u0301x".encode(), r"\u0301x"), (b"\xed\xa0\x80", r"\xed\xa0\x80"),
                            ("x".encode() + "\u0301".encode() * 5, "x" + "\u0301" * 3 + r"\u0301\u0301"),
                            ("\U000e0041".encode(), r"\U000e0041")):
-            self.assertEqual(names.shown(name), said)
+            self.assertEqual(names.readable(name), said)
 
     def test_what_cannot_be_seen(self):
         for character in "\u200b\u2060\u3164\u115f\u1160\u2800\uffa0\ufe0f\ufe00\u034f\u180b\u17b4\u00ad\ufeff\u2028":
-            self.assertEqual(names.shown(f"a{character}b".encode()), f"a\\u{ord(character):04x}b")
-        self.assertEqual(names.shown("a\U000e0100b".encode()), r"a\U000e0100b")
+            self.assertEqual(names.readable(f"a{character}b".encode()), f"a\\u{ord(character):04x}b")
+        self.assertEqual(names.readable("a\U000e0100b".encode()), r"a\U000e0100b")
 
     def test_letters_that_look_the_same(self):
         """Of two ways to write an accented letter the shorter one is shown as it is."""
-        self.assertEqual(names.shown("\u00e9".encode()), "\u00e9")
-        self.assertEqual(names.shown("e\u0301".encode()), r"e\u0301")
-        self.assertEqual(names.shown("\u212b".encode()), r"\u212b")
+        self.assertEqual(names.readable("\u00e9".encode()), "\u00e9")
+        self.assertEqual(names.readable("e\u0301".encode()), r"e\u0301")
+        self.assertEqual(names.readable("\u212b".encode()), r"\u212b")
 
     def test_names_are_told_apart(self):
         pick, parts = random.Random(7), [b"\xff", b"\\xff", b"\\", b"\x9b", "\u009b".encode(), b"x9b", b"a", "e\u0301".encode(),
@@ -660,12 +660,12 @@ class Names(program.Case):
         found = {}
         for _ in range(2000):
             name = b"".join(pick.choices(parts, k=pick.randrange(1, 4)))
-            self.assertEqual(found.setdefault(names.shown(name), name), name)
+            self.assertEqual(found.setdefault(names.readable(name), name), name)
 
     def test_names_from_right_to_left_are_kept_apart(self):
-        self.assertEqual(names.shown("\u05d0\u05d1".encode()), "\u2068\u05d0\u05d1\u2069")
-        self.assertEqual(names.shown("x\u0627".encode()), "\u2068x\u0627\u2069")
-        self.assertEqual(names.columns(names.shown("\u05d0\u05d1".encode())), 2)
+        self.assertEqual(names.readable("\u05d0\u05d1".encode()), "\u2068\u05d0\u05d1\u2069")
+        self.assertEqual(names.readable("x\u0627".encode()), "\u2068x\u0627\u2069")
+        self.assertEqual(names.columns(names.readable("\u05d0\u05d1".encode())), 2)
 
     def test_short(self):
         for name, most, said in (
@@ -683,7 +683,7 @@ class Names(program.Case):
         for _ in range(300):
             name = "".join(pick.choices("ab漢x\u0301\u202e\u05d0\x00\udcff(", k=pick.randrange(60))).encode("utf-8", "surrogateescape")
             most = pick.randrange(8, 40)
-            said, whole = names.short(name, most), names.shown(name)
+            said, whole = names.short(name, most), names.readable(name)
             self.assertLessEqual(names.columns(said), most)
             if names.columns(whole) <= most:
                 self.assertEqual(said, whole)

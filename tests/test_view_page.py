@@ -282,7 +282,7 @@ class Pictures(program.Case):
             for event, (x, y) in at.items():
                 here = [lock for (left, top, height), lock in drawn
                         if top < y <= top + height and min(lane for lane in lanes if lane > left) == x]
-                held = [names.shown(lock) for lock, _ in window.events[event].locks]
+                held = [names.readable(lock) for lock, _ in window.events[event].locks]
                 self.assertEqual(sorted(here), sorted(held))
             bars += len(drawn)
         self.assertGreater(bars, 50)

@@ -4,7 +4,7 @@ import argparse
 import os
 import sys
 
-from shb_common.shown import shown
+from shb_common.printable import printable
 from shb_common.version import version_of, with_version
 
 
@@ -17,7 +17,7 @@ class Parser(argparse.ArgumentParser):
 
     def error(self, message):
         self.print_usage(sys.stderr)
-        self.exit(self.status, f"{self.prog}: {shown(os.fsencode(message))}\n")
+        self.exit(self.status, f"{self.prog}: {printable(os.fsencode(message))}\n")
 
     def parsed(self, words):
         """The options of these words."""

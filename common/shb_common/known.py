@@ -13,8 +13,8 @@ import re
 import typing
 
 from shb_common.files import read_at_most
+from shb_common.printable import printable
 from shb_common.refused import MARK
-from shb_common.shown import shown
 
 STAR = re.compile(rb"\\\*|\*")
 MOST_BYTES = 64 << 20       # of a file of known places
@@ -192,8 +192,8 @@ def words_of_stale(lines, names):
     """What is said of lines that matched nothing. `names` are those of the source files (`programs.Names`)."""
     for line in lines[:MOST_STALE]:
         several = [files for _, pieces in line.sides for files in [names.several(pieces[0].rpartition(b":")[0])] if files]
-        why = f"; {shown(several[0][0])} is the end of {len(several[0][1])} source files' paths: " if several else ""
-        yield f"line {line.number}: no race matched `{shown(line.text)}`" + why + ", ".join(map(shown, several[0][1][:3] if several else ()))
+        why = f"; {printable(several[0][0])} is the end of {len(several[0][1])} source files' paths: " if several else ""
+        yield f"line {line.number}: no race matched `{printable(line.text)}`" + why + ", ".join(map(printable, several[0][1][:3] if several else ()))
     if len(lines) > MOST_STALE:
         yield f"{len(lines) - MOST_STALE:,} more lines: no race matched"
 
@@ -203,7 +203,7 @@ def read(path):
     try:
         return Known(read_at_most(path, MOST_BYTES))
     except BadLine as fault:
-        raise BadLine(f"{shown(os.fsencode(path))}, {fault}") from None
+        raise BadLine(f"{printable(os.fsencode(path))}, {fault}") from None
 
 
 class Known:

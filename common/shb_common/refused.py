@@ -3,7 +3,7 @@
 import re
 
 from shb_common.limits import LINE_ROOM, MOST_EVENTS, MOST_TEXT, MOST_THREADS
-from shb_common.shown import shown
+from shb_common.printable import printable
 
 NUMBER = re.compile(r"(?:.*: )?line ([1-9][0-9]{0,18}): ")
 LONGEST = 60        # columns of the line that are shown
@@ -50,7 +50,7 @@ def explained(words, file):
     if not found:
         return words
     line, hint = found
-    return f"{words}; it is `{shown(line, LONGEST)}`" + (f": {hint}" if hint else "")
+    return f"{words}; it is `{printable(line, LONGEST)}`" + (f": {hint}" if hint else "")
 
 
 def line_and_hint(words, file):

@@ -7,7 +7,7 @@ import re
 import typing
 
 from shb_common.limits import LINE_ROOM, MOST_LINE
-from shb_common.shown import shown
+from shb_common.printable import printable
 
 NUMBER = rb"(0|[1-9][0-9]{0,19})"
 VERSION = re.compile(rb"shb-report ([12])\n")
@@ -130,8 +130,8 @@ def said(line):
     if not line:
         return "missing"
     if line.endswith(b"\n"):
-        return f"`{shown(line[:-1], LONGEST)}`"
-    return f"{'too long' if len(line) == LINE_ROOM else 'cut off'}: `{shown(line, LONGEST)}`"
+        return f"`{printable(line[:-1], LONGEST)}`"
+    return f"{'too long' if len(line) == LINE_ROOM else 'cut off'}: `{printable(line, LONGEST)}`"
 
 
 class Report:

@@ -11,7 +11,7 @@ import urllib.parse
 from shb_common import known, version
 from shb_common.locations import line_of, parts_of
 from shb_common.places import Row
-from shb_common.shown import shown
+from shb_common.printable import printable
 from shb_common.stacks import bare
 
 SCHEMA = "https://docs.oasis-open.org/sarif/sarif/v2.1.0/errata01/os/schemas/sarif-schema-2.1.0.json"
@@ -115,7 +115,7 @@ def primary_of(place, example):
 
 
 def named(place):
-    return shown(place.text) or "no location"
+    return printable(place.text) or "no location"
 
 
 def variables_of(alert):
@@ -147,18 +147,18 @@ def code_flows(alert, sources):
 def thread_flow(access, sources):
     """The calls of a thread that lead to its access, the outermost first. What is no line of the program's own isn't shown."""
     thread, operation, *_ = access.line.split(b"|")
-    name = shown(thread)
+    name = printable(thread)
     steps = []
     for frame in reversed(access.frames):
         place = place_of(frame.location, sources, access.files.get(parts_of(frame.location)[0], b""))
         if place.kind != NAME and not frame.in_system:
-            steps.append({"location": location_of(place, message={"text": f"{name} in {plain(shown(bare(frame.function)) or 'a function')}"})})
-    return {"id": name, "message": {"text": plain(f"{name}: {shown(operation)}")}, "locations": steps}
+            steps.append({"location": location_of(place, message={"text": f"{name} in {plain(printable(bare(frame.function)) or 'a function')}"})})
+    return {"id": name, "message": {"text": plain(f"{name}: {printable(operation)}")}, "locations": steps}
 
 
 def message_of(alert, first, second):
     """The variables, the two locations, the locks, and where the place was seen."""
-    names = [f"`{shown(name)}`" for name in alert.variables()[:MOST_NAMED]]
+    names = [f"`{printable(name)}`" for name in alert.variables()[:MOST_NAMED]]
     more = len(alert.variables()) - len(names)
     on = " and ".join([", ".join(names), *([f"{more} more"] if more > 0 else [])]) if names else "a variable"
     text = f"Data race on {plain(on)} between {plain(named(first))} and [{plain(named(second))}](1)"
@@ -183,7 +183,7 @@ def result_of(alert, sources, seen):
         "relatedLocations": [location_of(second, id=1, message={"text": "The other access."})],
         "partialFingerprints": prints,
         "suppressions": [{"kind": "external", "justification": "It is in the file of known places."}] if alert.row.is_known else [],
-        "properties": {**alert.properties, "variables": [shown(name) for name in alert.variables()]},
+        "properties": {**alert.properties, "variables": [printable(name) for name in alert.variables()]},
         **code_flows(alert, sources),
     }
 

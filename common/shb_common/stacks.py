@@ -12,7 +12,7 @@ import typing
 
 from shb_common.files import open_regular
 from shb_common.locations import line_of
-from shb_common.shown import shown
+from shb_common.printable import printable
 
 BEGIN = re.compile(rb"shb-stacks 1 ([0-9]{20})\n")
 BEGIN_BYTES = 34
@@ -208,7 +208,7 @@ def entries_in(file, count):
             if kind == b"stack" and not all(0 < frame <= frames for frame in fields[2:]):
                 raise ValueError
         except ValueError:
-            raise BadStacks(f"is damaged in line {number}: `{shown(line[:80].rstrip())}`") from None
+            raise BadStacks(f"is damaged in line {number}: `{printable(line[:80].rstrip())}`") from None
         frames += kind in FRAMES
         if fields is not None:
             yield kind.decode().replace("-", "_"), fields

@@ -3,7 +3,7 @@
 import os
 import sys
 
-from shb_common.shown import shown
+from shb_common.printable import printable
 
 
 def open_standard_files():
@@ -29,4 +29,4 @@ def leave_standard_output():
 def words_of(fault):
     """What a fault says; one of the system with the file that it names."""
     words, name = getattr(fault, "strerror", None) or str(fault), getattr(fault, "filename", None)
-    return f"{shown(os.fsencode(name))}: {words}" if isinstance(name, (str, bytes, os.PathLike)) else words
+    return f"{printable(os.fsencode(name))}: {words}" if isinstance(name, (str, bytes, os.PathLike)) else words

@@ -7,10 +7,10 @@ import pathlib
 import sys
 
 from shb_common import known, result, stacks
+from shb_common.printable import printable
 from shb_common.programs import Origin
 from shb_common.report import BadReport, Report
 from shb_common.sarif import Access
-from shb_common.shown import shown
 from shb_farm import passes
 from shb_farm.traces import SUFFIXES
 
@@ -41,7 +41,7 @@ class Calls:
         if path not in self.damaged:
             self.damaged.add(path)
             said = fault.strerror if isinstance(fault, OSError) else fault
-            print(f"shb-farm: {shown(os.fsencode(path))}: {said}; its call stacks are left out", file=sys.stderr)
+            print(f"shb-farm: {printable(os.fsencode(path))}: {said}; its call stacks are left out", file=sys.stderr)
 
     def accesses_of(self, rows, out):
         """By the key of each row whose example has stacks and a report: the two accesses of a race there."""

@@ -11,7 +11,7 @@ import typing
 from shb_common import known, result
 from shb_common.files import open_regular
 from shb_common.locations import parts_of
-from shb_common.shown import shown
+from shb_common.printable import printable
 
 MOST_BYTES = 1 << 30
 NAME = "places.json"
@@ -57,7 +57,7 @@ def read(path):
         return [(keys_of_entry(entry), gone_of(entry)) for entry in found["places"]]
     except (ValueError, KeyError, TypeError, AttributeError, RecursionError) as fault:
         said = str(fault) if isinstance(fault, ValueError) else "a part of it is missing, or of another kind"
-        raise BadDocument(f"{shown(os.fsencode(path))}: {said}") from None
+        raise BadDocument(f"{printable(os.fsencode(path))}: {said}") from None
 
 
 def keys_of_entry(entry):

@@ -6,7 +6,7 @@ import typing
 from shb_common import known, result, sarif
 from shb_common.files import put
 from shb_common.places import unknown_places
-from shb_common.shown import shown
+from shb_common.printable import printable
 from shb_farm import calls
 
 WIDEST = 60         # columns of the text's tables; a longer field moves what stands after it
@@ -78,7 +78,7 @@ def note_of(ending):
 
 def aligned(lines):
     """Lines of fields, each column as wide as its longest field up to WIDEST; the last one is left as it is."""
-    lines = [[shown(part) for part in line] for line in lines]
+    lines = [[printable(part) for part in line] for line in lines]
     widths = [min(max(map(len, column)), WIDEST) for column in zip(*lines)]
     return ["  ".join(part.ljust(width) for part, width in zip(line, widths)).rstrip() for line in lines]
 
@@ -123,7 +123,7 @@ def log(found, sources, entries, accesses):
     for row in found.rows:
         facts = " ".join(result.entry_of(entries, row).get("facts", ()))
         have = "1 of {} traces has it" if row.traces == 1 else f"{row.traces} of {{}} traces have it"
-        seen = f"{have.format(len(endings))}, for example {shown(field(row.example))}"
+        seen = f"{have.format(len(endings))}, for example {printable(field(row.example))}"
         alerts.append(sarif.Alert(row, facts, seen, os.fsencode(row.example), accesses.get(row.key, ()), {"traces": row.traces}))
     return sarif.log(alerts, sources, [notification_of(name, ending) for name, ending in endings.items() if ending.kind != "report" or note_of(ending)],
                      found.status != 2, found.status)
@@ -134,7 +134,7 @@ LEVELS = {"missing": "error", "report": "note"}
 
 def notification_of(name, ending):
     """What is said of a trace that has no report, or of whose report something is to know."""
-    return LEVELS.get(ending.kind, "warning"), f"{shown(field(name))}: {shown(field(note_of(ending) or why(ending)))}"
+    return LEVELS.get(ending.kind, "warning"), f"{printable(field(name))}: {printable(field(note_of(ending) or why(ending)))}"
 
 
 def write(out, room, found, sources, stacks):

@@ -3,7 +3,7 @@
 import struct
 
 from farm import RACE
-from shb_common.shown import shown
+from shb_common.printable import printable
 from test_sarif import Base
 
 TRACE = b"main|fork(T1)|a.c:30\nT1|w(x)|a.c:5\nmain|w(x)|a.c:7\n"
@@ -94,7 +94,7 @@ class Calls(Base):
             self.trace("good.std", b"T1|w(y)|z.c:10\nT2|w(y)|z.c:11\n")
             answer = self.farm("--known", self.known(b"*\t*\t*\n"))
             self.assertEqual((answer.status, len(self.table("places.tsv"))), (6, 2), answer.err)
-            self.assertIn(f"a.stacks: is damaged in line 3: `{shown(lines.rstrip())}`; its call stacks are left out\n", answer.err)
+            self.assertIn(f"a.stacks: is damaged in line 3: `{printable(lines.rstrip())}`; its call stacks are left out\n", answer.err)
             self.assertIn("damaged\t1\n", (self.out / "facts.tsv").read_text())
         self.trace("a.stacks", b"shb-stacks 1 " + b"9" * 20 + b"\n")
         self.assertEqual(self.farm("--known", self.known(b"*\t*\t*\n")).status, 6)

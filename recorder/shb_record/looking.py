@@ -7,9 +7,9 @@ import tempfile
 import typing
 
 from shb_common import analyser, known
+from shb_common.printable import printable
 from shb_common.programs import Origin
 from shb_common.report import BadReport, Report
-from shb_common.shown import shown
 from shb_common.stacks import BadStacks, Tables
 from shb_common.standard import words_of
 from shb_common.stops import APART
@@ -233,8 +233,8 @@ def show_apart(unknown, reach):
         say(f"{counted(len(unknown), 'place')} of the whole run without a page, since {why}:")
     for new in unknown:
         for name in sorted(set(new.place.variables) & new.variables):
-            first, second = (f"{shown(access.location)} {KINDS[access.word]} by {shown(access.thread)}" for access in new.place.variables[name].accesses)
-            say(f"  {shown(name)}: {first}, and {second}")
+            first, second = (f"{printable(access.location)} {KINDS[access.word]} by {printable(access.thread)}" for access in new.place.variables[name].accesses)
+            say(f"  {printable(name)}: {first}, and {second}")
 
 
 def lines_of_new(new):

@@ -6,7 +6,7 @@ import re
 import struct
 
 from shb_common.files import open_regular
-from shb_common.shown import shown
+from shb_common.printable import printable
 from shb_record.parts import LIBRARY
 
 # The C library's own, whose functions the recorder stands for, and the loader.
@@ -37,7 +37,7 @@ class Modules:
 
 
 def named(paths):
-    names = sorted({shown(os.path.basename(path)) for path in paths})
+    names = sorted({printable(os.path.basename(path)) for path in paths})
     more = [f"{len(names) - MOST_NAMED} more"] if len(names) > MOST_NAMED else []
     return ", ".join([*names[:MOST_NAMED], *more])
 

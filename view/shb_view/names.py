@@ -15,7 +15,7 @@ ISOLATE, END = "\u2068", "\u2069"  # around a name with letters that are read fr
 
 
 @functools.lru_cache(maxsize=1024)
-def shown(name):
+def readable(name):
     """The whole name as text."""
     return isolated(characters(name))
 

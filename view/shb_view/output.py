@@ -6,7 +6,7 @@ import stat
 
 from shb_common.faults import Refused
 from shb_common.files import put_file, temporary_file
-from shb_view.names import shown
+from shb_view.names import readable
 
 
 @contextlib.contextmanager
@@ -14,9 +14,9 @@ def new_file(path, inputs):
     """A file that takes the place of `path` when it is whole, and goes if it isn't. It never takes the place of an input."""
     for other in inputs:
         if os.path.exists(path) and os.path.exists(other) and os.path.samefile(path, other):
-            raise Refused(f"the page would take the place of {shown(os.fsencode(other))}")
+            raise Refused(f"the page would take the place of {readable(os.fsencode(other))}")
     if os.path.exists(path) and not stat.S_ISREG(os.stat(path).st_mode):
-        raise Refused(f"{shown(os.fsencode(path))} isn't a regular file")
+        raise Refused(f"{readable(os.fsencode(path))} isn't a regular file")
     with contextlib.ExitStack() as stack:
         try:
             out, new = stack.enter_context(temporary_file(os.path.dirname(os.path.abspath(path))))

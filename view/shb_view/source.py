@@ -10,7 +10,7 @@ from shb_common import sources
 from shb_common.faults import Refused
 from shb_common.locations import line_of
 from shb_common.words import counted
-from shb_view.names import shown
+from shb_view.names import readable
 
 BEFORE, AFTER = 3, 2  # lines around one that is shown
 REACH = 12  # lines before one that is shown, back to the acquire of a lock
@@ -41,7 +41,7 @@ class Source:
         self.read = functools.lru_cache(maxsize=64)(sources.read_lines)
         for folder in folders:
             if not os.path.isdir(folder):
-                raise Refused(f"--source: {shown(os.fsencode(folder))} isn't a folder")
+                raise Refused(f"--source: {readable(os.fsencode(folder))} isn't a folder")
         self.index = sources.Index(folders)
 
     def place(self, location):
@@ -56,7 +56,7 @@ class Source:
         if not candidates:
             return None
         if len(candidates) > 1:
-            base = shown(path.split(b"/")[-1])
+            base = readable(path.split(b"/")[-1])
             return Place(path, number, [], f"{len(candidates)} files are named {base}; --source can name the folder of one of them", False)
         [(name, file)] = candidates
         lines, modified, fault = self.read(file)
@@ -81,7 +81,7 @@ class Source:
         places = {found[0]: self.place(location) for location in locations for found in [line_of(location)] if found}
         found = [place for place in places.values() if place and place.lines]
         newer = sum(place.is_newer for place in found)
-        folders = ", ".join([*(shown(os.fsencode(folder)) for folder in self.folders), *["the recorded program"] * bool(self.recorded)])
+        folders = ", ".join([*(readable(os.fsencode(folder)) for folder in self.folders), *["the recorded program"] * bool(self.recorded)])
         some = f" Only {sources.MOST_FILES:,} files were looked at." if self.index.is_full() else ""
         if newer or some or len(found) < len(places):
             yield (f"Source lines of {folders}: {len(found)} of {counted(len(places), 'file')} found, "

@@ -6,7 +6,7 @@ from shb_common.known import OFFSET
 from shb_common.stacks import BadStacks, Stacks, bare
 from shb_common.words import counted
 from shb_view.faults import Damaged
-from shb_view.names import shown
+from shb_view.names import readable
 from shb_view.words import Code, lock_parts, place
 
 WITH = {b"relaxed": "relaxed", b"acquire": "with acquire", b"release": "with release", b"both": "with acquire and release"}
@@ -20,7 +20,7 @@ def stacks_of(path, shift, events):
     try:
         return Stacks(path, shift, events)
     except BadStacks as fault:
-        raise Damaged(f"{shown(os.fsencode(path))} {fault}") from None
+        raise Damaged(f"{readable(os.fsencode(path))} {fault}") from None
 
 
 def origins(view, section):

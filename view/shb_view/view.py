@@ -19,7 +19,7 @@ from shb_view.counting import Counting, Kinds
 from shb_view.facts import Fact, Site, fact_of, sites_of
 from shb_view.faults import Damaged
 from shb_view.groups import Gathered, Group, joined_groups, object_of
-from shb_view.names import by_numbers, shown
+from shb_view.names import by_numbers, readable
 from shb_view.refused import warnings
 from shb_view.source import Source
 from shb_view.stacks import publications, stacks_of
@@ -115,10 +115,10 @@ def make_view(options, progress):
         groups = gathered.groups()
         asked = Asked(is_whole, whole, Kinds(gathered, stacks), gathered, head.counts.events)
         count, sections = make_sections(asked, Trace(file, progress), given, groups)
-        title = shown(os.fsencode(options.title or os.path.basename(options.trace)))
+        title = readable(os.fsencode(options.title or os.path.basename(options.trace)))
         pairs = sum(group.count() for group in groups)
         source = Source(options.source, os.fstat(file.fileno()).st_mtime, stacks.sources if options.recorded_source else {})
-        notes, about = ([shown(os.fsencode(line)) for line in lines] for lines in (options.note, options.about))
+        notes, about = ([readable(os.fsencode(line)) for line in lines] for lines in (options.note, options.about))
         return View(title, head.counts, head.count, listed if options.report else head.count, pairs, count, sections, given.verdict,
                     is_sample, source, [*notes, *warnings(options.trace)], about, stacks, asked.kinds, gathered,
                     places_of(options.only) if options.only else None)
@@ -135,7 +135,7 @@ def places_of(path):
 def open_regular(path):
     """A file that can be read as often as is needed."""
     if not stat.S_ISREG(os.stat(path).st_mode):
-        raise Refused(f"{shown(os.fsencode(path))} isn't a regular file: the trace is read more than once")
+        raise Refused(f"{readable(os.fsencode(path))} isn't a regular file: the trace is read more than once")
     return open(path, "rb")
 
 

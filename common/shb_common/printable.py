@@ -1,7 +1,7 @@
 """Bytes of a trace or of a file's name as a reader sees them."""
 
 
-def shown(text, most=None):
+def printable(text, most=None):
     """The text on a terminal: what doesn't print is escaped. Of more than `most` columns the first ones, and two dots."""
     found = text.decode("utf-8", "backslashreplace")
     found = "".join(sign if sign.isprintable() else sign.encode("unicode_escape").decode() for sign in found)
