@@ -28,7 +28,7 @@ FORMS = ("edits.py", "layout.py", "documents.py", "surface.py", "refusals.py", "
 TEST_CRATES = ("shb_run_tests", "shb_tests")
 # Which folders' changes are tested by which tests, all on the built program.
 SUITES = {
-    "tests": ("tests/", "view/", "common/", "plain/", "examples/", "crates/"),
+    "tests": ("tests/", "view/", "common/", "farm/", "fix/", "plain/", "examples/", "crates/"),
     "recorder/tests": ("recorder/", "view/", "common/", "tests/side_by_side.py"),
     "common/tests": ("common/", "tests/side_by_side.py"),
     "farm/tests": ("farm/", "common/", "tests/side_by_side.py"),
