@@ -157,7 +157,7 @@ class Facts(farm.Case):
         [place] = found["places"]
         self.assertEqual((found["form"], found["version"], found["command"], found["summary"]["status"]), ("shb-places", 1, "shb-farm", 1))
         self.assertEqual((place["state"], place["places"], place["traces"], place["example"], place["variables"]),
-                         ("unknown", 1, 1, "race.std", [{"name": "x", "state": "unknown"}]))
+                         ("unknown", 1, 1, "race.std", [{"name": "x", "state": "unknown", "races": 1}]))
         self.assertEqual([(access["location"], access["uses"], access["threads"], access["without_lock"]) for access in place["accesses"]],
                          [("a.c:1", {"write": 1}, {"T1": 1}, 1), ("b.c:2", {"write": 1}, {"T2": 1}, 1)])
         self.assertEqual(place["facts"], ["In this trace 2 threads write, and no lock is held at any access."])
