@@ -21,21 +21,12 @@ import os
 import pathlib
 import typing
 
+from shb_common.analyser import Place
 from shb_common.known import written
 from shb_farm import files
 
 FIRST = b"shb-farm 2\n"
 HEAD = b"name", b"program", b"trace", b"stamp", b"cost"
-
-
-class Place(typing.NamedTuple):
-    """A place of a trace: its locations, the first access's first; its variables, each with the events of one race; and whether it
-    has more of them."""
-
-    first: bytes
-    second: bytes
-    variables: tuple
-    has_more: bool = False
 
 
 class Cost(typing.NamedTuple):
@@ -52,7 +43,7 @@ class Outcome(typing.NamedTuple):
     cost: Cost
     kind: str
     words: str
-    places: typing.List[Place]
+    places: typing.List[Place]      # by variable the events of one race
 
 
 def text_of(outcome):
@@ -63,7 +54,7 @@ def text_of(outcome):
     lines += "".join(line + "\n" for line in head).encode("utf-8", "surrogateescape")
     for place in outcome.places:
         lines += b"at %s\nand %s\n" % place[:2]
-        lines += b"".join(b"on %d %d %s\n" % (*events, variable) for variable, events in place.variables)
+        lines += b"".join(b"on %d %d %s\n" % (*events, variable) for variable, events in place.variables.items())
         lines += b"more\n" * place.has_more
     return lines + f"sum {files.checksum_of(lines)}\n".encode()
 
@@ -94,12 +85,12 @@ def outcome_in(lines, name):
     for line in lines[len(HEAD) + 1:]:
         word, _, rest = line.partition(b" ")
         if word == b"at":
-            places.append(Place(rest, b"", ()))
+            places.append(Place(rest, b"", {}, False))
         elif word == b"and":
             places[-1] = places[-1]._replace(second=rest)
         elif word == b"on":
             first, second, variable = rest.split(b" ", 2)
-            places[-1] = places[-1]._replace(variables=(*places[-1].variables, (variable, (int(first), int(second)))))
+            places[-1].variables[variable] = int(first), int(second)
         elif word == b"more":
             places[-1] = places[-1]._replace(has_more=True)
         else:

@@ -11,7 +11,6 @@ from shb_common.scan import Scan
 from shb_common.variables import variable_of
 from shb_farm import calls, passes, running, traces
 from shb_farm.limits import memory_for
-from shb_farm.outcomes import Place
 from shb_farm.running import METER, End
 
 SCANNED = "it is longer than a report may be of: its places are those of `shb scan`, without schedules"
@@ -105,7 +104,7 @@ def place_of(place):
     by_name = {}
     for found in place.variables.values():
         by_name.setdefault(variable_of(found), found.events)
-    return Place(place.first, place.second, tuple(by_name.items()), place.has_more)
+    return place._replace(variables=by_name)
 
 
 def put_found(work, trace, report, name):

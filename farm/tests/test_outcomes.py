@@ -35,7 +35,7 @@ sum """
 
 class Files(farm.Case):
     def test_the_text_of_an_outcome(self):
-        places = [Place(b"a", b"b c", ((b"x y", (1, 2)), (b"z", (3, 4))), True), Place(b"", b"", ((b"v", (5, 6)),))]
+        places = [Place(b"a", b"b c", {b"x y": (1, 2), b"z": (3, 4)}, True), Place(b"", b"", {b"v": (5, 6)}, False)]
         outcome = Outcome("d/x\ty.std", "p1", "t1", "12:34", COST, "report", "events 2", places)
         text = outcomes.text_of(outcome)
         self.assertEqual(text[:-65], TEXT)
@@ -46,7 +46,7 @@ class Files(farm.Case):
 
     def test_what_is_not_whole_is_no_outcome(self):
         path = self.folder / "outcome"
-        text = outcomes.text_of(Outcome("n", "p", "t", "1:2", COST, "refused", "words", [Place(b"sum ", b"end", ((b"v", (1, 2)),))]))
+        text = outcomes.text_of(Outcome("n", "p", "t", "1:2", COST, "refused", "words", [Place(b"sum ", b"end", {b"v": (1, 2)}, False)]))
         for number in range(len(text)):
             path.write_bytes(text[:number])
             self.assertIsNone(outcomes.read(path, "n"))
