@@ -46,8 +46,8 @@ the program can't be run or isn't there; else the program's own, 128 + N if sign
 at the end has the program's own status and the path of the page."""
 
 
-def arguments(words):
-    """The options of these words. What stands after the program's name belongs to it."""
+def parser_of_words():
+    """The words that the command takes. What stands after the program's name belongs to it."""
     parser = Parser("shb-record", ABOUT, NOTES, FAILED, usage=USAGE)
     parser.add_argument("-o", metavar="DIR", dest="folder",
                         help="the folder of the results (PROGRAM.shb in this folder): for each process its trace, its report and a page with "
@@ -75,6 +75,12 @@ def arguments(words):
                         "is passed on to, before they are killed")
     parser.add_argument("--keep", action="store_true", help="keep the records (16 bytes an access) and all windows")
     parser.add_argument("words", metavar="PROGRAM", nargs=argparse.REMAINDER, help="the program, and the words that it is given")
+    return parser
+
+
+def arguments(words):
+    """The options of these words."""
+    parser = parser_of_words()
     found = parser.parsed(words)
     if found.words[:1] == ["--"]:
         del found.words[0]
