@@ -6,9 +6,10 @@
    stand how many entries there are and the sum of their entry_sum (hexadecimal), so that a copy that was cut or changed is
    known; not where an exec ended the recording, for another thread may have added some meanwhile.
    Then records of 16 bytes in the order in which things happened, until one of zeros or the file's end. */
+#pragma once
 #include <stdint.h>
 
-#define RECORD_MAGIC "shb-record 7\n"
+#define RECORD_MAGIC "shb-record 8\n"
 #define LINE_END_IN_PATH 1
 #define HEADER_BYTES 65536
 #define ENDED_BYTES 256
@@ -28,6 +29,9 @@
 #define PLACE_BITS 24                  /* of each of the two numbers of a record OP_PLACE */
 #define NAME_PIECE 12                  /* so many bytes of a thread's name stand in a record OP_NAME, as in piece_of_name */
 #define HAS_ADDRESS 128                /* above the numbers of signals */
+/* A position is before which entry (of this number, from 0), and which one of those that were held back there, from 1: ORDER_BITS. */
+#define POSITION_BITS 40
+#define ORDER_BITS 12
 #define ATOMIC_SIZE_BITS 5             /* of an atomic access: the memory order stands above the size, as __ATOMIC_.. */
 
 struct record {
@@ -74,5 +78,7 @@ enum operation {
                                           and NAME_PIECE in another right behind it, where there is more */
     OP_CRASH,                          /* the last record of a thread that a signal ends with the program: the size is its number, and
                                           HAS_ADDRESS where the kernel told the address. It was behind the caller that it came */
+    OP_LATE,                           /* the read or write that is in the next entry was made earlier: in the place of the address
+                                          is its position, of POSITION_BITS. It may come again, with the same position */
     OPERATIONS
 };

@@ -3,6 +3,7 @@
 #include <errno.h>
 #include <fcntl.h>
 #include <stdio.h>
+#include <stdlib.h>
 #include <string.h>
 #include <sys/mman.h>
 #include <sys/stat.h>
@@ -47,6 +48,7 @@ int meet_fork(u64 i) {
 
 static int size_follows(u64 i) { return records[i].what >> 54 == SIZE_FOLLOWS; }
 static int is_access(u64 i) { return operation_of(i) == OP_READ || operation_of(i) == OP_WRITE; }
+static int is_late(u64 i) { return operation_of(i) == OP_LATE; }
 
 u64 size_of(u64 i) {
     u64 inside = records[i].what >> 54;
@@ -64,7 +66,7 @@ u64 depth_inside(u64 i) {
 
 static int is_good(u64 i) {
     enum operation operation = operation_of(i);
-    if (operation == OP_NONE || operation >= OPERATIONS) return 0;
+    if (operation == OP_NONE || operation >= OP_LATE) return 0;
     if (records[i].where >> 48 >= THREAD_NUMBERS && operation != OP_SIZE) return 0;
     if (operation == OP_SIZE) return i > 0 && size_follows(i - 1) && !size_follows(i);
     if (is_access(i) && size_of(i) > 16 && !(records[i].what >> 54 & IS_RANGE)) return 0;
@@ -78,8 +80,12 @@ static int is_good(u64 i) {
 static u64 whole_count, whole_sum, met_sum;
 static int has_sum;
 
+static int is_whole(u64 i) {           /* or is cut in two */
+    return records[i].what && (!(size_follows(i) || is_late(i)) || (i + 1 < record_count && records[i + 1].what));
+}
+
 int is_record(u64 i) {
-    if (!records[i].what || (size_follows(i) && (i + 1 == record_count || !records[i + 1].what))) return 0;   /* or is cut in two */
+    if (!is_whole(i)) return 0;
     if (!is_good(i)) die("record %lu of %s is damaged", i + 1, record_path);
     met_sum += entry_sum(i, records[i]);
     return 1;
@@ -88,6 +94,70 @@ int is_record(u64 i) {
 void check_sum(void) {
     if (has_sum && record_count < whole_count) die("%s was cut: %lu of its %lu records are there", record_path, record_count, whole_count);
     if (has_sum && (record_count > whole_count || met_sum != whole_sum)) die("%s was changed after it was recorded", record_path);
+}
+
+/* ---- what is late: each access goes where it was made ---- */
+typedef struct { u64 position; struct record access; } late;
+
+static int by_position(const void *a, const void *b) {
+    u64 one = ((const late *)a)->position, other = ((const late *)b)->position;
+    return one < other ? -1 : one > other;
+}
+
+/* How many there are in the record, whose entries it counts up to the first that isn't one. */
+static u64 count_late(u64 *end) {
+    u64 count = 0, i = 0;
+    for (; i < record_count && is_whole(i); i++) {
+        if (!size_follows(i) && !is_late(i)) continue;
+        count += is_late(i);
+        i++;
+    }
+    *end = i;
+    return count;
+}
+
+static late *sorted_late(u64 count, u64 end) {
+    late *all = zeroed(count, sizeof *all);
+    u64 k = 0;
+    for (u64 i = 0; i < end; i += 1 + (size_follows(i) || is_late(i))) {
+        if (!is_late(i)) continue;
+        all[k] = (late){records[i].where, records[i + 1]};
+        if (all[k].position >> ORDER_BITS > i || !is_access(i + 1) || size_follows(i + 1)) die("record %lu of %s is damaged", i + 1, record_path);
+        k++;
+    }
+    qsort(all, count, sizeof *all, by_position);
+    return all;
+}
+
+static int is_merged;
+
+/* The same record with these in their places. */
+static void merge(const late *all, u64 count, u64 end) {
+    struct record *merged = zeroed(end - count, sizeof *merged);
+    u64 at = 0, next = 0;
+    for (u64 i = 0; i < end; i++) {
+        for (; next < count && all[next].position >> ORDER_BITS == i; next++)
+            if (!next || all[next].position != all[next - 1].position) merged[at++] = all[next].access;
+        if (!is_late(i)) merged[at++] = records[i];
+        if (size_follows(i)) merged[at++] = records[i + 1];
+        i += is_late(i) || size_follows(i);
+    }
+    if (next < count) die("record of %s is damaged: an access that is late has no place", record_path);
+    records = merged;
+    record_count = at;
+    is_merged = 1;
+}
+
+static void put_late_in_place(void) {
+    u64 end, count = count_late(&end);
+    if (!count) return;
+    for (u64 i = 0; i < end; i++) met_sum += entry_sum(i, records[i]);
+    record_count = end;
+    check_sum();
+    has_sum = 0;
+    late *all = sorted_late(count, end);
+    merge(all, count, end);
+    free(all);
 }
 
 static char *map_file(const char *path, u64 *size) {
@@ -131,11 +201,14 @@ void open_record(const char *path) {
     memcpy(header, file, HEADER_BYTES);
     note_how_it_ended(header + ENDED_AT);
     header[ENDED_AT] = 0;
+    put_late_in_place();
     read_modules(header);
 }
 
 /* A pass has gone by these: they needn't stay in memory. */
-void forget_records(u64 from, u64 end) { madvise(&records[from], (end - from) * sizeof *records, MADV_DONTNEED); }
+void forget_records(u64 from, u64 end) {
+    if (!is_merged) madvise(&records[from], (end - from) * sizeof *records, MADV_DONTNEED);
+}
 
 /* ---- what a record accesses ---- */
 int is_atomic(u64 i) { return operation_of(i) >= OP_ATOMIC_LOAD && operation_of(i) <= OP_ATOMIC_UPDATE; }

@@ -93,7 +93,7 @@ static void after_atomic(thread *t) { if (t) leave(t); }
 /* Whether a compare-and-exchange is an update or a load is known after it: so its record has room before it is made. */
 static thread *before_exchange(void) {
     thread *t = enter(MAY_YIELD);
-    if (t && others) make_room(t, ROOM);
+    if (t && others) make_room(t, ROOM_OF_ATOMIC);
     return t;
 }
 

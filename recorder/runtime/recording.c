@@ -9,7 +9,9 @@
 #include <sys/mman.h>
 #include <sys/syscall.h>
 #include <unistd.h>
+#include <malloc.h>
 #include "runtime.h"
+#include "cells.h"
 
 #define STEP_BYTES (4 << 20)           /* the file grows by so much; the record of a child has so much in memory */
 
@@ -20,6 +22,8 @@ static uint64_t written, most_records;
 static uint64_t changes = 1;           /* records so far of anything but reads */
 static _Atomic uint64_t room;          /* records that the file has disk space for */
 static int in_memory;                  /* it has no file yet */
+static uint64_t held_at, held_there;   /* how many accesses were held back since there were so many records */
+static uint64_t most_cells;
 static char command[COMMAND_BYTES];    /* its line of the header */
 
 static void grow(void) {
@@ -89,9 +93,16 @@ static uint64_t inside_of(thread *t, enum operation operation, uint64_t size) {
     return size < SIZE_FOLLOWS ? size : SIZE_FOLLOWS;
 }
 
-/* Afterwards t has the turn, its functions are recorded and there is room for so many records, or it answers 0.  The
-   thread may sleep in grow, and then the turn may be taken over: so it is asked for after that. */
-int make_room(thread *t, int count) {
+enum { ROOM_OF_LATE = 1024 };          /* of a copy's read */
+
+/* With the turn. */
+static int has_room(uint64_t count, uint64_t more) {
+    return written + count <= most_records && written + count + more <= atomic_load_explicit(&room, memory_order_relaxed);
+}
+
+/* Afterwards t has the turn, its functions are recorded and there is room for so many records, and of the file's for more, or it
+   answers 0.  The thread may sleep in grow, and then the turn may be taken over: so it is asked for after that. */
+static int make_room_and_more(thread *t, uint64_t count, uint64_t more) {
     int of_frames = room_of_frames(t);
     count += of_frames;
     for (;;) {
@@ -101,12 +112,14 @@ int make_room(thread *t, int count) {
             stop_recording("SHB_RECORDS is reached");
             return 0;
         }
-        if (written + count <= atomic_load(&room)) break;
+        if (written + count + more <= atomic_load(&room)) break;
         grow();
     }
     if (of_frames) add_frames(t);
     return 1;
 }
+
+int make_room(thread *t, uint64_t count) { return make_room_and_more(t, count, 0); }
 
 /* Is it a read that the thread made before, with nothing but reads of any thread in between?  Then it got the same value, by
    the same order. */
@@ -123,11 +136,92 @@ static int is_repeated(thread *t, enum operation operation, struct record r) {
     return 0;
 }
 
+/* ---- what is held back (cells.c) ---- */
+void put_late(struct record r, uint64_t position) {
+    records[written++] = (struct record){position, (uint64_t)OP_LATE << 48};
+    records[written++] = r;
+}
+
+/* That of an access that is made now. */
+static uint64_t position_now(void) {
+    enum { MOST_HELD = (1 << ORDER_BITS) - 1 };
+    if (held_at != written) held_there = 0;
+    held_at = written;
+    if (held_there == MOST_HELD || written >> (POSITION_BITS - ORDER_BITS)) return NO_POSITION;
+    return written << ORDER_BITS | (held_there + 1);
+}
+
+/* What the cells have to know of a record: how many bytes it accesses, or are new. */
+static uint64_t bytes_of(enum operation operation, const volatile void *address, uint64_t size) {
+    enum { MOST_FREED = 1024 };
+    if (is_plain(operation) || operation == OP_ALLOC || operation == OP_START) return size;
+    if (operation >= OP_ATOMIC_LOAD && operation <= OP_ATOMIC_UPDATE) return size & ((1 << ATOMIC_SIZE_BITS) - 1);
+    if (operation != OP_FREE) return 1;
+    uint64_t usable = malloc_usable_size((void *)address);
+    return usable < MOST_FREED ? usable : MOST_FREED;
+}
+
+static uint64_t room_of_late(const thread *t, enum operation operation, const volatile void *address, uint64_t bytes) {
+    return has_cells ? 2 * count_late(t->serial, record_of(t, operation, (uint64_t)address, 0, 0), bytes) : 0;
+}
+
+/* Room for a record and for those that are late and come before it. Others may come while the thread sleeps for room, so it looks
+   again. After a write hook there may be that of the copy's read, which must not sleep. */
+static int make_room_for(thread *t, enum operation operation, const volatile void *address, uint64_t bytes) {
+    uint64_t late = 0, found, more = operation == OP_WRITE ? ROOM_OF_LATE : 0, count = operation == OP_WRITE ? ROOM_OF_COPY : ROOM;
+    for (;; late = found) {
+        if (room_of_frames(t) || !has_room(count + late, more)) {
+            if (!make_room_and_more(t, count + late, more)) return 0;
+        }
+        found = room_of_late(t, operation, address, bytes);
+        if (found <= late) return 1;
+    }
+}
+
+void make_room_of_copy(thread *t, const void *to, const void *from, uint64_t size) {
+    uint64_t late = 0, found;
+    for (; make_room(t, ROOM_OF_COPY + late); late = found) {
+        found = room_of_late(t, OP_WRITE, to, size) + (from ? room_of_late(t, OP_READ, from, size) : 0);
+        if (found <= late) return;
+    }
+}
+
+static int is_held_back(thread *t, struct record r, uint64_t bytes) {
+    if (!has_cells || !hold_back(t->serial, r, bytes, position_now())) return 0;
+    held_there++;
+    return 1;
+}
+
+/* The same for most accesses, and quick: of some of the bytes of one cell, which the thread alone used lately. It gives 1 where the
+   access is held back or recorded. */
+static int put_in_own_cell(thread *t, enum operation operation, uint64_t address, uint64_t size, uint64_t caller) {
+    if (size > GRAIN || size & (size - 1) || address % GRAIN + size > GRAIN || address >= CELL_ADDRESSES) return 0;
+    uint32_t depth = t->depth;
+    cell *c = has_cells && t->first_new >= depth && depth < DEPTH_BEFORE ? find_cell(address) : 0;
+    if (!c || c->owner != t->serial) return 0;
+    uint64_t position = position_now();
+    struct record r = record_of(t, operation, address, __builtin_ctzl(size) | depth << LOGARITHM_BITS, caller);
+    int is_held = position && hold_again(c, find_use(r.what, address % GRAIN), position);
+    if (!is_held && !has_room(ROOM_OF_COPY, ROOM_OF_LATE)) return 0;
+    if (!is_held) is_held = hold_in_cell(c, address, r.what, address % GRAIN, position);
+    held_there += is_held;
+    changes += is_held && operation == OP_WRITE;
+    if (!is_held && !is_repeated(t, operation, r)) records[written++] = r;
+    return 1;
+}
+
 void put(thread *t, enum operation operation, const volatile void *address, uint64_t size, uint64_t caller) {
-    int count = operation == OP_WRITE ? ROOM_OF_COPY : ROOM;
-    if (!make_room(t, count)) return;
+    if (!keep_turn(t)) take_turn(t);
+    if (!recording) return;
+    if (is_plain(operation) && put_in_own_cell(t, operation, (uint64_t)address, size, caller)) return;
+    uint64_t bytes = bytes_of(operation, address, size);
+    if (!make_room_for(t, operation, address, bytes)) return;
     uint64_t inside = inside_of(t, operation, size);
     struct record r = record_of(t, operation, (uint64_t)address, inside, caller);
+    if (is_held_back(t, r, bytes)) {
+        changes += operation == OP_WRITE;
+        return;
+    }
     if (is_repeated(t, operation, r)) return;
     uint64_t way = is_plain(operation) ? 0 : way_to(t, t->depth, caller);
     if (way) add(t, OP_WAY, 0, 0, way);
@@ -215,16 +309,18 @@ static int use_map(void *map) {
     return 1;
 }
 
-int open_recording(const char *path, uint64_t most) {
+int open_recording(const char *path, uint64_t most, uint64_t cells) {
     begin_messages();
     if (!can_look_at_threads()) return 0;
     if (!keep_path(path)) return refuse(path);
     read_command();
     if (!open_file(command, HEADER_BYTES + STEP_BYTES)) return 0;
     most_records = most;
+    most_cells = cells;
     if (!use_map(map_file(0, map_bytes()))) return refuse(path);
     note_text(RECORD_MAGIC);
     note_text(command);
+    begin_cells(most_cells);
     return 1;
 }
 
@@ -240,6 +336,8 @@ int leave_recording(void) {
     if (going_on) strcpy(header, parents);
     written = 0;
     has_strangers = 0;
+    end_cells();
+    if (going_on) begin_cells(most_cells);
     forget_places();
     changes++;                         /* the new record has no read */
     atomic_store(&room, STEP_BYTES / sizeof *records);
@@ -281,7 +379,10 @@ void close_recording(void) {
 }
 
 /* What a program locks in memory is its own, and not the room for the record. */
-void unlock_record(void) { if (header) munlock(header, map_bytes()); }
+void unlock_record(void) {
+    if (header) munlock(header, map_bytes());
+    unlock_cells();
+}
 
 /* After the recording has ended: gives the room back, but for a page or two in which another thread's last record may be
    on its way. */

@@ -20,6 +20,7 @@ enum { RECENT_READS = 4 };             /* a loop that waits reads no more */
 
 typedef struct thread {
     uint32_t number;                   /* in the order of creation, from 0; or that of one that was joined */
+    uint32_t serial;                   /* no other's ever, from 1 */
     pid_t system_id;
     pthread_t handle;
     _Atomic int wakes;                 /* futex: raised to make the thread look at the turn again */
@@ -109,7 +110,7 @@ int read_task_file(pid_t system_id, const char *leaf, char *text, int size);
 
 /* recording.c: the record. */
 extern int stall_seconds;
-int open_recording(const char *path, uint64_t most_records);
+int open_recording(const char *path, uint64_t most_records, uint64_t most_cells);     /* bytes of cells: see cells.h */
 int leave_recording(void);             /* in a process made by fork; does it go on in memory? */
 int move_to_file(void);
 void close_recording(void);
@@ -120,8 +121,10 @@ void note_stranger(void);              /* a hook met a thread that nobody saw be
 void note_text(const char *line);      /* adds a line to the header */
 void unlock_record(void);
 void give_back_room(void);
-enum { ROOM = 5, ROOM_OF_COPY = 10 };  /* records of one access, its depth and its way, with sizes; of a copy's read and write */
-int make_room(thread *t, int count);
+/* Records of one access, its depth and its way, with sizes; of an atomic one, with those that are late; of a copy's read and write. */
+enum { ROOM = 5, ROOM_OF_ATOMIC = 40, ROOM_OF_COPY = 10 };
+int make_room(thread *t, uint64_t count);
+void make_room_of_copy(thread *t, const void *to, const void *from, uint64_t size);
 void put(thread *t, enum operation operation, const volatile void *address, uint64_t size, uint64_t caller);
 void note(enum operation operation, const volatile void *object, uint64_t caller);
 void put_name(thread *t, const thread *named, const char *name);

@@ -12,6 +12,7 @@
 #include "runtime.h"
 
 typedef const struct timespec *deadline;
+enum { CELL_MEGABYTES = 1024 };        /* without SHB_CELLS */
 volatile int others;
 
 /* ---- the program ---- */
@@ -96,7 +97,8 @@ __attribute__((constructor(101))) static void begin(void) {
     stall_seconds = setting("SHB_STALL", 60);
     const char *stacks = getenv("SHB_STACKS");
     records_calls = !stacks || strcmp(stacks, "0");
-    if (!open_recording(path, setting("SHB_RECORDS", 64000000))) return;
+    const char *cells = getenv("SHB_CELLS");
+    if (!open_recording(path, setting("SHB_RECORDS", 64000000), (cells ? strtoull(cells, 0, 10) : CELL_MEGABYTES) << 20)) return;
     if (!has_number()) unsetenv("SHB_RECORD");               /* a program started by this one would write over it */
     note_modules();
     if (is_behind_the_c_library()) {

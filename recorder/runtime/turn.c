@@ -57,7 +57,7 @@ static _Atomic int guard;
 static thread *waiting[THREAD_NUMBERS];
 static volatile int waiters;
 static thread *threads[THREAD_NUMBERS];
-static uint32_t thread_count;
+static uint32_t thread_count, serials;
 static uint32_t joined_numbers[THREAD_NUMBERS], joined_count;          /* to be used again; with the turn */
 static uint64_t random_state = 88172645463325252ull;
 static int slice, last_slice, slices, given_slice;
@@ -361,6 +361,7 @@ int number_thread(thread *t) {         /* with the turn */
     if (thread_count == THREAD_NUMBERS && !joined_count) return 0;
     if (thread_count <= MOST_STARTS) begin_slices();
     t->may_be_held = are_slices_short() && draw() & 1;
+    t->serial = ++serials;
     t->number = thread_count < THREAD_NUMBERS ? thread_count++ : joined_numbers[--joined_count];
     threads[t->number] = t;
     return 1;

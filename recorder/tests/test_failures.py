@@ -30,7 +30,7 @@ class Failures(recorder.Case):
 
     def test_a_limit_of_the_size_of_files_that_is_reached_later(self):
         path, limit = self.folder / "app.rec", (5000000, 5000000)
-        ran = recorder.must(recorder.call(self.program("long_run.c"), env=recorder.settings(path),
+        ran = recorder.must(recorder.call(self.program("long_run.c"), env=recorder.settings(path, SHB_CELLS="0"),
                                           preexec_fn=lambda: resource.setrlimit(resource.RLIMIT_FSIZE, limit)))
         self.assertIn(b"the limit of a file's size is reached (ulimit -f); the recording ends here", ran.stderr)
         self.assertIn(b"is not the whole run: the limit of a file's size", recorder.part(recorder.convert(path)).stderr)
@@ -41,7 +41,7 @@ class Failures(recorder.Case):
         recorder.must(recorder.call("gcc", "-O1", "-fno-builtin", "-fPIC", "-shared", source, "-o", refuse))
         program = self.program("long_run.c")
         for request, records in ((2, 0), (3, (4 << 20) // 16)):  # the first is the header's
-            how = recorder.settings(path, LD_PRELOAD=str(refuse), REFUSE_SPACE=str(request))
+            how = recorder.settings(path, LD_PRELOAD=str(refuse), REFUSE_SPACE=str(request), SHB_CELLS="0")
             ran = recorder.must(recorder.call(program, env=how))
             self.assertIn(b"no disk space for the record (No space left on device); the recording ends here", ran.stderr)
             answer = recorder.part(recorder.convert(path))

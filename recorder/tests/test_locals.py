@@ -42,7 +42,7 @@ class Programs(recorder.Case):
         linked = [f"-B{library}/"] if compiler == "gcc" else ["-fno-sanitize-link-runtime", f"-L{library}", "-ltsan"]
         recorder.must(recorder.call(compiler, "-w", "-g", option, "-fsanitize=thread", "-pthread", recorder.PROGRAMS / source, *linked,
                                     "-o", program))
-        recorder.must(recorder.call(program, env=recorder.settings(record)))
+        recorder.must(recorder.call(program, env=recorder.settings(record, SHB_CELLS="0")))
         return record
 
     def found(self, compiler, option):
@@ -115,7 +115,7 @@ class MadeByHand(recorder.Case):
         local = END - gap + self.at + inside
         entries = [entry(0, "START", END - 8192, 0, 8192), entry(0, "FORK", 1, 0x101), entry(1, "START", 0x30000000, 0x500, 4096), before,
                    frames, entry(0, "WRITE", local, self.main + 20, 4), entry(1, "WRITE", local, 0x200, 4), behind]
-        header = b"shb-record 7\n0 ffffff 0 " + os.fsencode(self.program) + b"\n"
+        header = b"shb-record 8\n0 ffffff 0 " + os.fsencode(self.program) + b"\n"
         self.record.write_bytes(header.ljust(65536 - 256, b"\0") + b"whole".ljust(256, b"\0") + b"".join(entries))
 
     def names(self, converter=None):

@@ -28,15 +28,17 @@ class Drawn:
     """A record. A thread goes on for a while, at few places, so that accesses repeat. Threads are joined by any other, also those that did
     nothing, and numbers of joined ones are used again."""
 
+    all_words, sizes, longest_run = WORDS, (4, 4, 8, 16), 8
+
     def __init__(self, seed):
         self.draw = random.Random(seed)
         self.cells = [0x5000 + 8 * k for k in range(self.draw.randrange(1, 4))]
-        self.places, self.words = self.draw.randrange(1, 5), self.draw.choice(WORDS)
+        self.places, self.words = self.draw.randrange(1, 5), self.draw.choice(self.all_words)
         self.owners, self.readers, self.running, self.entries = {}, set(), [0], []
         self.unused = list(range(1, self.draw.randrange(2, 7)))
         for _ in range(self.draw.randrange(10, 100)):
             self.thread = self.draw.choice(self.running)
-            for _ in range(self.draw.randrange(1, 8)):
+            for _ in range(self.draw.randrange(1, self.longest_run)):
                 self.step(self.draw.choice(self.words))
             self.begin_or_end_a_thread()
 
@@ -47,7 +49,7 @@ class Drawn:
     def step(self, word):
         cell = self.draw.choice(self.cells)
         if word in "RW":
-            self.add("READ" if word == "R" else "WRITE", cell, self.draw.choice((4, 4, 8, 16)))
+            self.add("READ" if word == "R" else "WRITE", cell, self.draw.choice(self.sizes))
         elif word == "A":
             self.add(self.draw.choice(ATOMICS), cell, 4 | self.draw.choice(ORDERS) << 5)
         elif word == "F":

@@ -69,7 +69,7 @@ class Order(recorder.Case):
         program, path = self.folder / "order", self.folder / "order.rec"
         recorder.build(recorder.PROGRAMS / "order.c", option, program, built)
         for seed in range(len(SLICES)):
-            settings = recorder.settings(path, seed + 1, SLICES[seed])
+            settings = recorder.settings(path, seed + 1, SLICES[seed], SHB_CELLS="0")
             ran = recorder.must(recorder.call(*before, program, env=settings))
             text = recorder.must(recorder.convert(path, "-a")).stdout.decode()
             pairs = list(reads(steps(text), ran.stdout.decode()))
@@ -89,7 +89,7 @@ class Order(recorder.Case):
         """The trace with all accesses, and what the program printed."""
         program, path = self.folder / "app", self.folder / "app.rec"
         recorder.build(recorder.PROGRAMS / name, option, program)
-        ran = recorder.must(recorder.call(program, env=recorder.settings(path, seed, slice)))
+        ran = recorder.must(recorder.call(program, env=recorder.settings(path, seed, slice, SHB_CELLS="0")))
         return recorder.must(recorder.convert(path, "-a")).stdout.decode(), ran.stdout.decode()
 
     def test_copies_of_structures(self):
@@ -123,7 +123,7 @@ class Order(recorder.Case):
         hasty = recorder.build_recorder(self.folder, "CFLAGS=-O2 -DHASTY")
         recorder.build(recorder.PROGRAMS / "forks.c", "-O2", program, hasty)
         for seed in range(8):
-            settings = recorder.settings(path, seed + 1, SLICES[seed % len(SLICES)])
+            settings = recorder.settings(path, seed + 1, SLICES[seed % len(SLICES)], SHB_CELLS="0")
             recorder.must(recorder.call(program, env=settings))
             trace = recorder.must(recorder.convert(path)).stdout
             self.assertGreater(len(set(re.findall(rb"\|fork\((\S+)\)", trace))), 400)

@@ -52,7 +52,7 @@ class OwnFiles(Unchanged):
                 self.assertEqual(self.racing_lines("own_files.c", answer), self.marked("own_files.c"))
 
     def test_a_record_that_is_gone_ends_the_recording(self):
-        ran = self.run_recorded(self.program("own_files.c"), "syscall", "moved.rec", "app.rec")
+        ran = self.run_recorded(self.program("own_files.c"), "syscall", "moved.rec", "app.rec", SHB_CELLS="0")
         self.assertEqual(ran.stdout, b"3: 1048576 of 1048576\n")
         self.assertEqual((self.folder / "other").read_bytes(), b"x" * (1 << 20))
         self.assertEqual(ran.stderr, b"shb recorder: no disk space for the record (No such file or directory); "
@@ -68,7 +68,7 @@ class OwnLimits(Unchanged):
         program = self.program("own_limits.c")
         if recorder.call(program, way, env=self.settings(SHB_RECORD="")).returncode:
             self.skipTest(f"{way} isn't possible here")
-        ran = self.run_recorded(program, way)
+        ran = self.run_recorded(program, way, SHB_CELLS="1024" if "mlockall" in way else "0")
         said = b"shb recorder: " + reason + b"; the recording ends here, the program goes on\n" if reason else b""
         self.assertEqual(ran.stderr, said)
         answer = recorder.convert(self.folder / "app.rec")

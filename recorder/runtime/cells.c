@@ -1,0 +1,270 @@
+/* Cells: what is known of each 8 bytes of memory, so that accesses which bring no race needn't be recorded.
+
+   A cell has the thread that alone used its bytes lately, the *owner*, and its latest uses of up to seven kinds. An
+   access that repeats a use of the owner is *held back*: its position is kept, and that of the one before is forgotten.
+   When another thread comes, or another kind needs the room, the last of each use goes to the record with its position
+   (OP_LATE), and the converter puts it there. For example, of x = 0; while (n--) x++; by a thread, and then x = 1 by
+   another, the record gets four accesses: x = 0, the last read and the last write of x++, and x = 1.
+
+   What is lost? Nothing that a race or its place needs:
+     - of accesses that are the same (thread, kind, place, bytes) and have no conflicting one of another thread between
+       them, the first and the last stand for all;
+     - in the first phase of a variable, when no other thread had used it yet, the last alone does: each race of an
+       earlier one with what comes behind has the same place as one of the last;
+     - a variable that one thread alone uses has no race.
+   A cell has no phase of several readers: each change of the owner ends a phase, so what conflicts stands between two.
+
+   More is recorded than needed where a cell has no free key, where an access covers several cells and isn't in the first
+   phase of each, and where memory for cells ends. */
+#define _GNU_SOURCE
+#include <string.h>
+#include <sys/mman.h>
+#include <sys/syscall.h>
+#include <unistd.h>
+#include "cells.h"
+
+#define POSITIONS ((1ull << POSITION_BITS) - 1)
+#define USED_BY_ALL (~0u)              /* an owner that no thread is */
+#define MAX_BLOCK (1ull << 32)         /* a longer one is no new variables, as the converter has it */
+enum { IS_FIRST = 1 << KEYS };         /* in `held`: no thread used it before this owner */
+enum { OVERFLOWS = 8 };                /* after so many an older use makes room */
+enum { MOST_USES = USE_SLOTS / 4 * 3 };
+enum { CHUNK_BYTES = 4 << 20, CHUNKS = 1 << 14 };            /* memory is asked for in chunks of cells */
+enum { REGION_BYTES = PAGES_OF_REGION * sizeof(cell *), PAGE_BYTES = CELLS_OF_PAGE * sizeof(cell) };
+enum { REGIONS_BYTES = REGIONS * sizeof(cell **), USES_BYTES = USE_SLOTS * sizeof(cell_use) };
+/* Where an access of several cells lies: the byte in its first one, and above it how many come before this one. */
+enum { GRAINS_BEFORE = 3, MOST_RANGE = 63 * GRAIN };
+
+int has_cells;
+cell ***cell_regions;
+cell_use *cell_uses;
+static uint64_t use_count, memory_left;
+static char *chunks[CHUNKS];
+static uint64_t chunk_count, chunk_left;
+
+/* ---- memory ---- */
+static void *new_memory(uint64_t bytes) {
+    void *p = (void *)syscall(SYS_mmap, 0, bytes, PROT_READ | PROT_WRITE, MAP_PRIVATE | MAP_ANONYMOUS | MAP_NORESERVE, -1, 0);
+    return p == MAP_FAILED ? 0 : p;
+}
+
+void begin_cells(uint64_t most_bytes) {
+    memory_left = most_bytes;
+    cell_regions = most_bytes ? new_memory(REGIONS_BYTES + USES_BYTES) : 0;
+    cell_uses = (cell_use *)(cell_regions + REGIONS);
+    has_cells = cell_regions != 0;
+}
+
+/* Each of its pieces of memory. */
+static void for_all_memory(int (*step)(void *, size_t)) {
+    for (uint64_t k = 0; k < chunk_count; k++) step(chunks[k], CHUNK_BYTES);
+    for (uint64_t k = 0; k < REGIONS; k++)
+        if (cell_regions[k]) step(cell_regions[k], REGION_BYTES);
+    step(cell_regions, REGIONS_BYTES + USES_BYTES);
+}
+
+static int unlock(void *at, size_t bytes) { return munlock(at, bytes); }
+
+void unlock_cells(void) { if (has_cells) for_all_memory(unlock); }
+
+void end_cells(void) {
+    if (has_cells) for_all_memory(munmap);
+    has_cells = 0;
+    use_count = chunk_count = chunk_left = 0;
+}
+
+/* Once there is no memory there never is again: a page whose first accesses were met without cells must not get any later. */
+static cell *out_of_memory(void) {
+    memory_left = chunk_left = 0;
+    return 0;
+}
+
+static cell *cells_of_new_page(void) {
+    if (chunk_left < PAGE_BYTES) {
+        char *chunk = memory_left >= CHUNK_BYTES && chunk_count < CHUNKS ? new_memory(CHUNK_BYTES) : 0;
+        if (!chunk) return out_of_memory();
+        memory_left -= CHUNK_BYTES;
+        chunks[chunk_count++] = chunk;
+        chunk_left = CHUNK_BYTES;
+    }
+    chunk_left -= PAGE_BYTES;
+    return (cell *)(chunks[chunk_count - 1] + chunk_left);
+}
+
+/* ---- pages: their cells, or a mark where all of one are in the same phase, and have no key ---- */
+static cell *mark_of(uint32_t serial, uint16_t number, int is_first) {
+    return (cell *)((uint64_t)number << 34 | (uint64_t)serial << 2 | (uint64_t)is_first << 1 | 1);
+}
+
+static uint32_t owner_of_mark(const cell *mark) { return (uint64_t)mark >> 2; }
+
+/* Where the cells of this page are noted; null where nothing is, or there is no memory for it. */
+static cell **page_at(uint64_t address, int make) {
+    cell ***region = &cell_regions[address >> REGION_BITS];
+    if (!*region && make) *region = memory_left ? new_memory(REGION_BYTES) : 0;
+    if (!*region && make) out_of_memory();
+    return *region ? &(*region)[address / CELL_PAGE % PAGES_OF_REGION] : 0;
+}
+
+static cell *make_cells(cell **page) {
+    cell *mark = *page, *cells = cells_of_new_page();
+    if (!cells) return 0;
+    for (int k = 0; mark && k < CELLS_OF_PAGE; k++) {
+        cells[k].owner = owner_of_mark(mark);
+        cells[k].number = (uint64_t)mark >> 34;
+        cells[k].held = (uint64_t)mark >> 1 & 1 ? IS_FIRST : 0;
+    }
+    return *page = cells;
+}
+
+/* Its cell, which is made; or null. */
+static cell *cell_at(uint64_t address) {
+    cell **page = page_at(address, 1), *cells = page ? *page : 0;
+    if (page && (!cells || is_page_mark(cells))) cells = make_cells(page);
+    return cells ? &cells[address / GRAIN % CELLS_OF_PAGE] : 0;
+}
+
+/* ---- phases ---- */
+static void put_held(const cell *c, int k, uint64_t address) {
+    const cell_use *use = &cell_uses[(c->keys[k] >> POSITION_BITS) - 1];
+    uint64_t first = address / GRAIN * GRAIN - (use->where >> GRAINS_BEFORE) * GRAIN + use->where % GRAIN;
+    put_late((struct record){first | (uint64_t)c->number << 48, use->what}, c->keys[k] & POSITIONS);
+}
+
+static void begin_phase(cell *c, uint64_t address, uint32_t serial, uint16_t number) {
+    for (int k = 0; k < KEYS; k++)
+        if (c->held >> k & 1) put_held(c, k, address);
+    *c = (cell){.owner = serial, .number = number, .held = c->owner ? 0 : IS_FIRST};
+}
+
+static void use_cell(uint64_t address, uint32_t serial, uint16_t number) {
+    cell *c = cell_at(address);
+    if (c && c->owner != serial) begin_phase(c, address, serial, number);
+}
+
+static int free_key(const cell *c) {
+    int k = 0;
+    while (k < KEYS && c->keys[k]) k++;
+    return k;
+}
+
+/* The owner's first use of this kind, in this phase or since it was forgotten. Where no key is free it is recorded, and now and
+   then takes the place of another one. */
+static int hold_new(cell *c, uint64_t address, uint64_t use, uint64_t position) {
+    int k = free_key(c), is_held = c->held & IS_FIRST && position;
+    if (k == KEYS) {
+        if (++c->overflows % OVERFLOWS) return 0;
+        k = c->overflows / OVERFLOWS % KEYS;
+        if (c->held >> k & 1) put_held(c, k, address);
+    }
+    c->keys[k] = use << POSITION_BITS | position;
+    c->held = (c->held & ~(1 << k)) | is_held << k;
+    return is_held;
+}
+
+/* The number of a use, which gets one; or 0. */
+static uint64_t number_of_use(uint64_t what, uint64_t where) {
+    uint64_t number = find_use(what, where);
+    if (cell_uses[number - 1].what) return number;
+    if (use_count == MOST_USES) return 0;
+    use_count++;
+    cell_uses[number - 1] = (cell_use){what, where};
+    return number;
+}
+
+int hold_in_cell(cell *c, uint64_t address, uint64_t what, uint64_t where, uint64_t position) {
+    uint64_t use = position ? number_of_use(what, where) : 0;
+    return use && (hold_again(c, use, position) || hold_new(c, address, use, position));
+}
+
+/* ---- accesses ---- */
+static int hold_in_one(uint32_t serial, struct record r, uint64_t address, uint64_t position) {
+    cell *c = cell_at(address);
+    if (!c) return 0;
+    if (c->owner != serial) begin_phase(c, address, serial, r.where >> 48);
+    return hold_in_cell(c, address, r.what, address % GRAIN, position);
+}
+
+/* A range over whole pages that have no cells needs none. */
+static void use_range(uint32_t serial, uint16_t number, uint64_t address, uint64_t end) {
+    for (uint64_t at = address / GRAIN * GRAIN; at < end; at += GRAIN) {
+        cell **page = at % CELL_PAGE || end - at < CELL_PAGE ? 0 : page_at(at, 1);
+        if (page && (!*page || is_page_mark(*page))) {
+            if (!*page || owner_of_mark(*page) != serial) *page = mark_of(serial, number, !*page);
+            at += CELL_PAGE - GRAIN;
+        } else use_cell(at, serial, number);
+    }
+}
+
+static uint64_t where_in(uint64_t address, uint64_t at) {
+    return (at / GRAIN - address / GRAIN) << GRAINS_BEFORE | address % GRAIN;
+}
+
+/* Is the cell in its first phase, of this thread, with a key for this? */
+static int may_hold(const cell *c, uint32_t serial, uint64_t use) {
+    if (!c || !use || (c->owner && (c->owner != serial || !(c->held & IS_FIRST)))) return 0;
+    int k = 0;
+    while (k < KEYS && c->keys[k] && c->keys[k] >> POSITION_BITS != use) k++;
+    return k < KEYS;
+}
+
+/* It is held back where each of its cells can: so it is whole when one of them puts it. */
+static int hold_in_several(uint32_t serial, struct record r, uint64_t address, uint64_t end, uint64_t position) {
+    int is_held = position && end - address / GRAIN * GRAIN <= MOST_RANGE;
+    for (uint64_t at = address; at < end && is_held; at = at / GRAIN * GRAIN + GRAIN)
+        is_held = may_hold(cell_at(at), serial, number_of_use(r.what, where_in(address, at)));
+    use_range(serial, r.where >> 48, address, end);
+    for (uint64_t at = address; at < end && is_held; at = at / GRAIN * GRAIN + GRAIN)
+        hold_in_cell(cell_at(at), at, r.what, where_in(address, at), position);
+    return is_held;
+}
+
+/* New variables are there: what was held back of the old ones is over. */
+static void renew(uint64_t address, uint64_t end) {
+    uint64_t at = (address + GRAIN - 1) / GRAIN * GRAIN, stop;
+    for (end = end / GRAIN * GRAIN; at < end; at = stop) {
+        uint64_t page_end = (at / CELL_PAGE + 1) * CELL_PAGE;
+        cell **page = page_at(at, 0), *cells = page ? *page : 0;
+        stop = page_end < end ? page_end : end;
+        if (cells && is_page_mark(cells) && stop - at < CELL_PAGE) cells = make_cells(page);
+        if (cells && is_page_mark(cells)) *page = 0;
+        else if (cells) memset(&cells[at / GRAIN % CELLS_OF_PAGE], 0, (stop - at) / GRAIN * sizeof *cells);
+    }
+}
+
+/* ---- what the recorder calls ---- */
+static enum operation operation_of(struct record r) { return r.what >> 48 & 63; }
+
+static int is_plain_access(enum operation operation) { return operation == OP_READ || operation == OP_WRITE; }
+
+/* An atomic access, or a use of an object: it is recorded, and may conflict with all others. */
+static int is_used_by_all(enum operation operation) {
+    return (operation >= OP_ATOMIC_LOAD && operation <= OP_ATOMIC_UPDATE) || (operation >= OP_LOCK_INIT && operation <= OP_DESTROY);
+}
+
+uint64_t count_late(uint32_t serial, struct record r, uint64_t bytes) {
+    enum operation operation = operation_of(r);
+    uint64_t address = r.where & LOW_48_BITS, end = address + bytes, count = 1;
+    if (operation == OP_ALLOC || operation == OP_START || end > CELL_ADDRESSES) return 0;
+    if (is_used_by_all(operation)) serial = USED_BY_ALL;
+    for (uint64_t at = address / GRAIN * GRAIN; at < end; at += GRAIN) {
+        cell **page = page_at(at, 0), *cells = page ? *page : 0;
+        const cell *c = cells && !is_page_mark(cells) ? &cells[at / GRAIN % CELLS_OF_PAGE] : 0;
+        if (!c) at |= CELL_PAGE - GRAIN;
+        else if (c->owner != serial) count += __builtin_popcount(c->held & (IS_FIRST - 1));
+    }
+    return count;
+}
+
+int hold_back(uint32_t serial, struct record r, uint64_t bytes, uint64_t position) {
+    enum operation operation = operation_of(r);
+    uint64_t address = r.where & LOW_48_BITS, end = address + bytes;
+    uint16_t number = r.where >> 48;
+    if (!bytes || end > CELL_ADDRESSES) return 0;
+    if (is_plain_access(operation) && address / GRAIN == (end - 1) / GRAIN) return hold_in_one(serial, r, address, position);
+    if (is_plain_access(operation)) return hold_in_several(serial, r, address, end, position);
+    if (operation == OP_FREE) use_range(serial, number, address, end);
+    else if (is_used_by_all(operation)) use_range(USED_BY_ALL, 0, address, end);
+    else if ((operation == OP_ALLOC || operation == OP_START) && bytes < MAX_BLOCK) renew(address, end);
+    return 0;
+}

@@ -1,0 +1,190 @@
+"""What is held back brings no race: records drawn at random have the same places with all their accesses and with those that the cells
+leave. Of a variable that races each thread's accesses at each place are there."""
+
+import types
+
+import recorder
+import test_open
+from test_record import entry
+
+RUNTIME = recorder.SOURCES / "runtime"
+HEADER_BYTES = 65536
+X, PAGE, BLOCK = 0x5000, 0x30000000, 0x20000000
+FORKS = [entry(0, "FORK", 1, 0x101), entry(0, "FORK", 2, 0x102)]
+
+
+def write(thread, place, address=X, size=4):
+    return entry(thread, "WRITE", address, place, size)
+
+
+def read(thread, place, address=X, size=4):
+    return entry(thread, "READ", address, place, size)
+
+
+def late(before, which, access):
+    """What was held back, as the entry with this number was to come; which one of those held back there."""
+    return entry(0, "LATE", before << 12 | which, 0) + access
+
+
+OTHER_USES = [write(1, 0x300 + k) for k in range(15)]
+CASES = {  # what a record has behind FORKS, and what is left of it
+    "of one thread": ([write(1, 0x201), read(1, 0x202), write(1, 0x201), write(1, 0x203, X + 4, 1)], []),
+    "a loop, and then another thread": (
+        [write(1, 0x201), *[read(1, 0x202), write(1, 0x203)] * 3, write(2, 0x204)],
+        [late(2, 1, write(1, 0x201)), late(2, 6, read(1, 0x202)), late(2, 7, write(1, 0x203)), write(2, 0x204)]),
+    "a later phase": (
+        [write(1, 0x201), *[write(2, 0x204)] * 4, read(1, 0x205)],
+        [late(2, 1, write(1, 0x201)), write(2, 0x204), late(5, 3, write(2, 0x204)), read(1, 0x205)]),
+    "a use once in a phase": ([read(1, 0x201), read(2, 0x204), read(1, 0x201)], [late(2, 1, read(1, 0x201)), read(2, 0x204), read(1, 0x201)]),
+    "parts of a cell": (
+        [write(1, 0x201), write(1, 0x201, X + 4), read(2, 0x204, X + 6, 1)],
+        [late(2, 1, write(1, 0x201)), late(2, 2, write(1, 0x201, X + 4)), read(2, 0x204, X + 6, 1)]),
+    "more uses than keys": (
+        [*OTHER_USES, write(2, 0x204)],
+        [*OTHER_USES[7:14], late(2, 2, OTHER_USES[1]), late(2, 1, OTHER_USES[0]), late(9, 1, OTHER_USES[14]),
+         *[late(2, k, OTHER_USES[k - 1]) for k in range(3, 8)], write(2, 0x204)]),
+    "an atomic access": (
+        [write(2, 0x204), read(1, 0x201), entry(2, "ATOMIC_STORE", X, 0x205, 4), read(1, 0x201), read(1, 0x201)],
+        [late(2, 1, write(2, 0x204)), read(1, 0x201), entry(2, "ATOMIC_STORE", X, 0x205, 4), read(1, 0x201)]),
+    "a lock": ([write(1, 0x201), entry(2, "LOCK", X, 0x205)], [late(2, 1, write(1, 0x201)), entry(2, "LOCK", X, 0x205)]),
+    "a range over two cells": (
+        [*[write(1, 0x201, X, 16)] * 2, write(2, 0x204, X + 8), write(2, 0x205)],
+        [late(2, 2, write(1, 0x201, X, 16)), write(2, 0x204, X + 8), late(2, 2, write(1, 0x201, X, 16)), write(2, 0x205)]),
+    "a range that was used by another thread": (
+        [write(2, 0x204), write(1, 0x201, X, 16), write(1, 0x201, X, 16)],
+        [late(2, 1, write(2, 0x204)), write(1, 0x201, X, 16), write(1, 0x201, X, 16)]),
+    "a page that one thread has": (
+        [write(1, 0x201, PAGE, 4096), read(1, 0x202, PAGE + 8), read(1, 0x202, PAGE + 8), read(2, 0x204, PAGE + 8)],
+        [write(1, 0x201, PAGE, 4096), late(4, 2, read(1, 0x202, PAGE + 8)), read(2, 0x204, PAGE + 8)]),
+    "a page that two threads have": (
+        [write(1, 0x201, PAGE, 4096), write(2, 0x204, PAGE, 4096), read(2, 0x205, PAGE + 8)],
+        [write(1, 0x201, PAGE, 4096), write(2, 0x204, PAGE, 4096), read(2, 0x205, PAGE + 8)]),
+    "a page that was another thread's": (
+        [write(1, 0x201, PAGE, 4096), write(2, 0x204, PAGE, 4096), read(1, 0x205, PAGE + 8)],
+        [write(1, 0x201, PAGE, 4096), write(2, 0x204, PAGE, 4096), read(1, 0x205, PAGE + 8)]),
+    "a block that is freed by another thread": (
+        [entry(1, "ALLOC", BLOCK, 0x201, 32), write(1, 0x202, BLOCK + 8), entry(2, "FREE", BLOCK, 0x204)],
+        [entry(1, "ALLOC", BLOCK, 0x201, 32), late(3, 1, write(1, 0x202, BLOCK + 8)), entry(2, "FREE", BLOCK, 0x204)]),
+    "a new block": (
+        [write(1, 0x201, BLOCK + 8), entry(2, "ALLOC", BLOCK, 0x204, 32), write(2, 0x205, BLOCK + 8)], [entry(2, "ALLOC", BLOCK, 0x204, 32)]),
+    "a block so long that it is none": (
+        [write(1, 0x201), entry(2, "ALLOC", 0x1000, 0x204, 1 << 32), write(2, 0x205)],
+        [entry(2, "ALLOC", 0x1000, 0x204, 1 << 32), late(2, 1, write(1, 0x201)), write(2, 0x205)]),
+    "a thread with the number of another one": (
+        [write(1, 0x201), entry(0, "JOIN", 1, 0x103), entry(2, "FORK", 1, 0x204), write(1, 0x201)],
+        [entry(0, "JOIN", 1, 0x103), entry(2, "FORK", 1, 0x204), late(2, 1, write(1, 0x201)), write(1, 0x201)]),
+}
+# What the threads of a record do: as in test_open, and blocks (B), and ranges over pages with accesses in them (G).
+WORDS = ["RW", "RWL", "RWA", "AR", "RAL", "RWLS", "RWLX", "RWLLLL", "RLLL", "WL", "RWB", "BL", "G", "GGL", "GL", "GLL"]
+FOUND_IN_DRAWN = 5  # of these faults so many are found in a few drawn records too, each of the others in a case
+FAULTS = {  # to plant: the file, what stands there, and what in its place
+    "each phase counts as the first": ("cells.c", ".held = c->owner ? 0 : IS_FIRST", ".held = IS_FIRST"),
+    "the last use of a phase isn't recorded": ("cells.c", "        if (c->held >> k & 1) put_held(c, k, address);\n    *c", "        ;\n    *c"),
+    "the position is that of the first use": ("cells.h", "c->keys[k] = use << POSITION_BITS | position;", "c->keys[k] |= 0;"),
+    "the position is where it is recorded": ("hold_back.c", "{position, (uint64_t)OP_LATE", "{written << ORDER_BITS | 1, (uint64_t)OP_LATE"),
+    "bytes of a cell are one use": ("cells.c", "hold_in_cell(c, address, r.what, address % GRAIN, position)", "hold_in_cell(c, address, r.what, 0, position)"),
+    "a use that makes room isn't recorded": ("cells.c", "        if (c->held >> k & 1) put_held(c, k, address);\n    }", "    }"),
+    "atomic accesses end no phase": ("cells.c", "(operation >= OP_ATOMIC_LOAD && operation <= OP_ATOMIC_UPDATE)", "0"),
+    "a free ends no phase": ("cells.c", "if (operation == OP_FREE) use_range", "if (0) use_range"),
+    "each page begins with a first phase": ("cells.c", "mark_of(serial, number, !*page)", "mark_of(serial, number, 1)"),
+    "a page forgets whose it is": ("cells.c", "if (!*page || owner_of_mark(*page) != serial) *page", "if (!*page) *page"),
+    "a thread with the number of a joined one is the same": ("hold_back.c", "serials[address] = ++last_serial", "last_serial++"),
+    "a range is held back in a later phase": ("cells.c", "(c->owner != serial || !(c->held & IS_FIRST))", "c->owner != serial"),
+    "a long block is new variables": ("cells.c", "&& bytes < MAX_BLOCK", ""),
+}
+
+
+class Drawn(test_open.Drawn):
+    """A record whose accesses of its cells are in one of them each. One of several is an event for each variable that it covers, and which
+    variables there are hangs on all accesses: so of these the places needn't be the same."""
+
+    all_words, sizes, longest_run = WORDS, (1, 4, 4, 8), 20
+
+    def step(self, word):
+        if word == "B":
+            self.add(self.draw.choice(("ALLOC", "READ", "WRITE", "WRITE", "FREE")), 0x20000000 + 0x100 * self.draw.randrange(2), 32)
+        elif word == "G":
+            self.page(0x30000000)
+        elif word in "RW":
+            size = self.draw.choice(self.sizes)
+            inside = self.draw.choice((0, 0, 2, 4)) if size < 8 else 0
+            self.add("READ" if word == "R" else "WRITE", self.draw.choice(self.cells) + inside, size)
+        else:
+            super().step(word)
+
+    def page(self, at):
+        chance, operation = self.draw.random(), self.draw.choice(("READ", "WRITE"))
+        if chance < 0.05:
+            self.add("ALLOC", at, 20480)
+        elif chance < 0.3:
+            self.add(operation, at + self.draw.choice((0, 0, 4096, 104)), self.draw.choice((4096, 8192, 8192, 1200)))
+        else:
+            self.add(operation, at + self.draw.choice((0, 8, 4100)), 4)
+
+
+class Cells(recorder.Case):
+    def program(self, folder, keys, plant=("", "", "")):
+        """The program that leaves of a record what cells of so many keys leave."""
+        folder.mkdir()
+        for path in (RUNTIME / "cells.c", RUNTIME / "cells.h", recorder.HERE / "hold_back.c"):
+            text = path.read_text().replace("../record.h", str(recorder.SOURCES / "record.h"))
+            if path.name == plant[0]:
+                self.assertEqual(text.count(plant[1]), 1)
+                text = text.replace(plant[1], plant[2])
+            (folder / path.name).write_text(text.replace("enum { KEYS = 7 }", f"enum {{ KEYS = {keys} }}"))
+        recorder.must(recorder.call("gcc", "-g", "-O1", "-w", folder / "cells.c", folder / "hold_back.c", "-o", folder / "hold_back"))
+        return folder / "hold_back"
+
+    def left(self, program, entries):
+        """The same entries without what is held back."""
+        whole, left = self.folder / "whole.rec", self.folder / "left.rec"
+        whole.write_bytes(test_open.HEADER + b"".join(entries))
+        recorder.must(recorder.call(program, whole, left))
+        return left.read_bytes()[HEADER_BYTES:]
+
+    def trace(self, entries, *options):
+        return test_open.trace_of(self.folder, types.SimpleNamespace(entries=entries), recorder.BUILT / "shb-std", *options)
+
+    def wrong_cases(self, program):
+        """Those in which something else is left."""
+        for case, (entries, left) in CASES.items():
+            if self.left(program, FORKS + entries) != b"".join(FORKS + left):
+                yield case
+
+    def test_what_is_left(self):
+        self.assertEqual(list(self.wrong_cases(self.program(self.folder / "as-it-is", 7))), [])
+
+    def test_the_places_are_the_same(self):
+        programs, found, accesses, left_accesses = [self.program(self.folder / str(keys), keys) for keys in (7, 2)], 0, 0, 0
+        for seed in range(100):
+            entries = Drawn(seed).entries
+            left, whole = self.left(programs[seed % 2], entries), self.trace(entries)
+            places, variables = test_open.races(whole)
+            for options in ((), ("-r",)):
+                trace = self.trace([left], *options)
+                self.assertEqual(test_open.races(trace), (places, variables), (seed, options))
+                self.assertEqual(test_open.accesses(trace, variables), test_open.accesses(whole, variables), (seed, options))
+            found += len(places)
+            accesses += whole.count(b"\n")
+            left_accesses += trace.count(b"\n")
+        self.assertGreater(found, 500)
+        self.assertLess(left_accesses, 0.8 * accesses)
+
+    def test_each_fault_is_found(self):
+        whole = {}
+        for number, (fault, plant) in enumerate(FAULTS.items()):
+            with self.subTest(fault):
+                self.assertTrue(any(self.wrong_cases(self.program(self.folder / f"{number}", 7, plant))))
+                if number < FOUND_IN_DRAWN:
+                    program = self.program(self.folder / f"{number}-drawn", 2, plant)
+                    self.assertTrue(any(self.differs(program, seed, whole) for seed in range(20)))
+
+    def differs(self, program, seed, whole):
+        """Has the record other places, or none that can be converted?"""
+        entries = Drawn(seed).entries
+        if seed not in whole:
+            whole[seed] = test_open.races(self.trace(entries))
+        try:
+            return test_open.races(self.trace([self.left(program, entries)])) != whole[seed]
+        except AssertionError:
+            return True
