@@ -168,7 +168,7 @@ static uint64_t room_of_late(const thread *t, enum operation operation, const vo
 /* Room for a record and for those that are late and come before it. Others may come while the thread sleeps for room, so it looks
    again. After a write hook there may be that of the copy's read, which must not sleep. */
 static int make_room_for(thread *t, enum operation operation, const volatile void *address, uint64_t bytes) {
-    uint64_t late = 0, found, more = operation == OP_WRITE ? ROOM_OF_LATE : 0, count = operation == OP_WRITE ? ROOM_OF_COPY : ROOM;
+    uint64_t late = 0, found, more = operation == OP_WRITE && has_cells ? ROOM_OF_LATE : 0, count = operation == OP_WRITE ? ROOM_OF_COPY : ROOM;
     for (;; late = found) {
         if (room_of_frames(t) || !has_room(count + late, more)) {
             if (!make_room_and_more(t, count + late, more)) return 0;

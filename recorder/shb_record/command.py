@@ -33,7 +33,7 @@ gcc need nothing else. clang links a library of its own; link with
 A place is a pair of locations that race, that of the first access and that of the second,
 each of its own program's source file."""
 NOTES = """\
-The environment's SHB names another analyser. SHB_SEED, SHB_SLICE, SHB_RECORDS and SHB_STALL are the
+The environment's SHB names another analyser. SHB_SEED, SHB_SLICE, SHB_CELLS, SHB_RECORDS and SHB_STALL are the
 recorder's (recorder/README.md).
 
 SIGINT and SIGTERM end the program, are passed on to it unless the terminal did so, and end the runs; what

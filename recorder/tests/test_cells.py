@@ -1,6 +1,7 @@
 """What is held back brings no race: records drawn at random have the same places with all their accesses and with those that the cells
 leave. Of a variable that races each thread's accesses at each place are there."""
 
+import os
 import types
 
 import recorder
@@ -188,3 +189,33 @@ class Cells(recorder.Case):
             return test_open.races(self.trace([self.left(program, entries)])) != whole[seed]
         except AssertionError:
             return True
+
+
+class Runs(recorder.Case):
+    """Programs with many times more accesses than records are allowed."""
+
+    RECORDS = "50000"
+
+    def recorded(self, *words, **more):
+        """The status, and what is said."""
+        program = self.folder / "private_memory"
+        recorder.build(recorder.PROGRAMS / "private_memory.c", "-O1", program)
+        how = {**os.environ, "SHB": str(recorder.SHB), "SHB_RECORDS": self.RECORDS, **more}
+        ran = recorder.call(recorder.BUILT / "shb-record", program, *words, cwd=self.folder, env=how)
+        return ran.returncode, ran.stderr.decode()
+
+    def test_a_race_at_the_end(self):
+        race, = recorder.marked(recorder.PROGRAMS / "private_memory.c", "RACE")
+        status, said = self.recorded()
+        self.assertEqual(status, 66, said)
+        self.assertIn("; 1 place with races", said)
+        self.assertIn(race, said)
+        status, said = self.recorded(SHB_CELLS="0")
+        self.assertEqual(status, 124, said)
+        self.assertIn("SHB_RECORDS is reached", said)
+
+    def test_a_crash_at_the_end(self):
+        status, said = self.recorded("crash")
+        self.assertEqual(status, 66, said)
+        self.assertIn("; 1 place with races", said)
+        self.assertIn("SIGSEGV at address 0x40 in main: main private_memory.c:", said)

@@ -52,7 +52,7 @@ class Failures(recorder.Case):
 
     def test_a_limit_of_records(self):
         path = self.folder / "app.rec"
-        ran = recorder.must(recorder.call(self.program("mutex_ok.c"), env=recorder.settings(path, SHB_RECORDS="1000")))
+        ran = recorder.must(recorder.call(self.program("mutex_ok.c"), env=recorder.settings(path, SHB_RECORDS="1000", SHB_CELLS="0")))
         self.assertIn(b"SHB_RECORDS is reached; the recording ends here, the program goes on", ran.stderr)
         answer = recorder.part(recorder.convert(path))
         self.assertIn(b"is not the whole run: SHB_RECORDS is reached", answer.stderr)
