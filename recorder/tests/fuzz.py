@@ -28,6 +28,7 @@ def records():
     for options in range(16):
         for header in (b"", HEADER):
             yield bytes([options, len(header)]) + header + test_record.FRAMES + test_record.ENTRIES * 2
+    yield bytes([0, 0]) + b"".join(test_record.LATE_ENTRIES)
 
 
 WHAT = {"records": ([], sorted(SOURCES.glob("converter/*.c")), list(records())),

@@ -6,7 +6,7 @@ import types
 
 import recorder
 import test_open
-from test_record import entry
+from test_record import entry, late
 
 RUNTIME = recorder.SOURCES / "runtime"
 HEADER_BYTES = 65536
@@ -20,11 +20,6 @@ def write(thread, place, address=X, size=4):
 
 def read(thread, place, address=X, size=4):
     return entry(thread, "READ", address, place, size)
-
-
-def late(before, which, access):
-    """What was held back, as the entry with this number was to come; which one of those held back there."""
-    return entry(0, "LATE", before << 12 | which, 0) + access
 
 
 OTHER_USES = [write(1, 0x300 + k) for k in range(15)]

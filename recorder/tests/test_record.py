@@ -128,6 +128,56 @@ class Canned(recorder.Case):
         self.assertIn(b"the trace is cut where its accesses of long ranges take too much work", answer.stderr)
 
 
+def late(before, which, access):
+    """What was held back, as the entry with this number was to come; which one of those held back there."""
+    return entry(0, "LATE", before << 12 | which, 0) + access
+
+
+LATE_ENTRIES = [  # held back before T1's first write, and behind its second, of which the same comes twice
+    entry(0, "FORK", 1, 0x101), entry(1, "WRITE", RANGE, 0x201, 4), late(1, 2, entry(0, "READ", RANGE, 0x102, 4)),
+    late(1, 1, entry(0, "WRITE", RANGE, 0x103, 4)), entry(1, "WRITE", RANGE, 0x202, 4), *[late(7, 1, entry(0, "READ", RANGE, 0x104, 4))] * 2,
+]
+SORTED = ["main|fork(T1)|0x101", "main|w(0x40000000)|0x103", "main|r(0x40000000)|0x102", "T1|w(0x40000000)|0x201",
+          "T1|w(0x40000000)|0x202", "main|r(0x40000000)|0x104"]
+
+
+class Late(recorder.Case):
+    def convert(self, entries, header=HEADER):
+        path = self.folder / "app.rec"
+        path.write_bytes(header + entries)
+        return recorder.convert(path)
+
+    def test_each_is_where_it_was_made(self):
+        self.assertEqual(recorder.must(self.convert(b"".join(LATE_ENTRIES))).stdout.decode().splitlines(), SORTED)
+
+    def test_a_record_cut_short(self):
+        """An access that is late and was cut off was never made."""
+        cut = b"".join(LATE_ENTRIES[:6])[:-16]
+        self.assertEqual(recorder.must(self.convert(cut)).stdout.decode().splitlines(), SORTED[:5])
+
+    def test_a_damaged_one(self):
+        access, before = entry(0, "READ", RANGE, 0x103, 4), entry(0, "FORK", 1, 0x101) + entry(0, "WRITE", RANGE, 0x104, 600)
+        for damaged in (late(4, 1, access), late((1 << 28) - 1, 1, access), late(2, 1, access), late(1, 1, entry(0, "LOCK", LOCK, 0x102)),
+                        late(1, 1, entry(0, "READ", RANGE, 0x103, 600)), late(1, 1, late(1, 1, access)), late(1, 1, entry(65535, "READ", RANGE, 0x103, 4))):
+            answer = self.convert(before + damaged)
+            self.assertEqual((answer.returncode, answer.stdout), (2, b""))
+            self.assertIn(b"is damaged", answer.stderr)
+
+    def test_a_sum(self):
+        """It is of the entries as they stand in the file."""
+        entries = b"".join(LATE_ENTRIES)
+        words = struct.unpack(f"<{len(entries) // 8}Q", entries)
+        sums = ((where ^ number << 20) * 0x9E3779B97F4A7C15 + (what ^ number) * 0xD6E8FEB86659FD93
+                for number, (where, what) in enumerate(zip(words[::2], words[1::2])))
+        ended = b"whole %x %x" % (len(words) // 2, sum(sums) % 2**64)
+        header = HEADER[:65536 - 256] + ended.ljust(256, b"\0")
+        self.assertEqual(recorder.must(self.convert(entries, header)).stdout.decode().splitlines(), SORTED)
+        for changed, said in ((entries[:-16], b"was cut"), (entries.replace(b"\x03\x01", b"\x07\x01", 1), b"was changed")):
+            answer = self.convert(changed, header)
+            self.assertEqual(answer.returncode, 2)
+            self.assertIn(said, answer.stderr)
+
+
 OWN, RW, CELL = 0x10000040, 0x10000050, 0x10000060
 HELD = [  # locks of one thread alone, and reader-writer locks: in the trace where something happens under them
     (entry(0, "FORK", 1, 0x101), ["main|fork(T1)|0x101"]),
