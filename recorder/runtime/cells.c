@@ -30,13 +30,13 @@ enum { IS_FIRST = 1 << KEYS };         /* in `held`: no thread used it before th
 enum { OVERFLOWS = 8 };                /* after so many an older use makes room */
 enum { MOST_USES = USE_SLOTS / 4 * 3 };
 enum { CHUNK_BYTES = 4 << 20, CHUNKS = 1 << 14 };            /* memory is asked for in chunks of cells */
-enum { REGION_BYTES = PAGES_OF_REGION * sizeof(cell *), PAGE_BYTES = CELLS_OF_PAGE * sizeof(cell) };
-enum { REGIONS_BYTES = REGIONS * sizeof(cell **), USES_BYTES = USE_SLOTS * sizeof(cell_use) };
+enum { REGION_BYTES = PAGES_OF_REGION * sizeof(cell_page), PAGE_BYTES = CELLS_OF_PAGE * sizeof(cell) };
+enum { REGIONS_BYTES = REGIONS * sizeof(cell_page *), USES_BYTES = USE_SLOTS * sizeof(cell_use) };
 /* Where an access of several cells lies: the byte in its first one, and above it how many come before this one. */
 enum { GRAINS_BEFORE = 3, MOST_RANGE = 63 * GRAIN };
 
 int has_cells;
-cell ***cell_regions;
+cell_page **cell_regions;
 cell_use *cell_uses;
 static uint64_t use_count, memory_left;
 static char *chunks[CHUNKS];
@@ -91,36 +91,27 @@ static cell *cells_of_new_page(void) {
     return (cell *)(chunks[chunk_count - 1] + chunk_left);
 }
 
-/* ---- pages: their cells, or a mark where all of one are in the same phase, and have no key ---- */
-static cell *mark_of(uint32_t serial, uint16_t number, int is_first) {
-    return (cell *)((uint64_t)number << 34 | (uint64_t)serial << 2 | (uint64_t)is_first << 1 | 1);
-}
-
-static uint32_t owner_of_mark(const cell *mark) { return (uint64_t)mark >> 2; }
-
-/* Where the cells of this page are noted; null where nothing is, or there is no memory for it. */
-static cell **page_at(uint64_t address, int make) {
-    cell ***region = &cell_regions[address >> REGION_BITS];
+/* ---- pages ---- */
+/* Null where nothing of it is known; with `make` where there is no memory. */
+static cell_page *page_at(uint64_t address, int make) {
+    cell_page **region = &cell_regions[address >> REGION_BITS];
     if (!*region && make) *region = memory_left ? new_memory(REGION_BYTES) : 0;
     if (!*region && make) out_of_memory();
     return *region ? &(*region)[address / CELL_PAGE % PAGES_OF_REGION] : 0;
 }
 
-static cell *make_cells(cell **page) {
-    cell *mark = *page, *cells = cells_of_new_page();
-    if (!cells) return 0;
-    for (int k = 0; mark && k < CELLS_OF_PAGE; k++) {
-        cells[k].owner = owner_of_mark(mark);
-        cells[k].number = (uint64_t)mark >> 34;
-        cells[k].held = (uint64_t)mark >> 1 & 1 ? IS_FIRST : 0;
-    }
-    return *page = cells;
+/* Its cells; or null. */
+static cell *make_cells(cell_page *page) {
+    cell *cells = cells_of_new_page();
+    for (int k = 0; cells && page->is_whole && k < CELLS_OF_PAGE; k++)
+        cells[k] = (cell){.owner = page->owner, .number = page->number, .held = page->is_first ? IS_FIRST : 0};
+    return page->cells = cells;
 }
 
 /* Its cell, which is made; or null. */
 static cell *cell_at(uint64_t address) {
-    cell **page = page_at(address, 1), *cells = page ? *page : 0;
-    if (page && (!cells || is_page_mark(cells))) cells = make_cells(page);
+    cell_page *page = page_at(address, 1);
+    cell *cells = page ? page->cells ? page->cells : make_cells(page) : 0;
     return cells ? &cells[address / GRAIN % CELLS_OF_PAGE] : 0;
 }
 
@@ -135,11 +126,7 @@ static void begin_phase(cell *c, uint64_t address, uint32_t serial, uint16_t num
     for (int k = 0; k < KEYS; k++)
         if (c->held >> k & 1) put_held(c, k, address);
     *c = (cell){.owner = serial, .number = number, .held = c->owner ? 0 : IS_FIRST};
-}
-
-static void use_cell(uint64_t address, uint32_t serial, uint16_t number) {
-    cell *c = cell_at(address);
-    if (c && c->owner != serial) begin_phase(c, address, serial, number);
+    page_at(address, 0)->is_whole = 0;
 }
 
 static int free_key(const cell *c) {
@@ -185,14 +172,34 @@ static int hold_in_one(uint32_t serial, struct record r, uint64_t address, uint6
     return hold_in_cell(c, address, r.what, address % GRAIN, position);
 }
 
-/* A range over whole pages that have no cells needs none. */
+/* Without cells it needs none. */
+static void use_whole_page(cell_page *page, uint32_t serial, uint16_t number, uint64_t address) {
+    if (page->is_whole && page->owner == serial) return;
+    page->is_first = !page->cells && !page->is_whole;
+    for (int k = 0; page->cells && k < CELLS_OF_PAGE; k++)
+        if (page->cells[k].owner != serial) begin_phase(&page->cells[k], address + k * GRAIN, serial, number);
+    page->owner = serial;
+    page->number = number;
+    page->is_whole = 1;
+}
+
+static void use_part_of_page(uint32_t serial, uint16_t number, uint64_t address, uint64_t end) {
+    cell *c = cell_at(address);
+    for (uint64_t at = address / GRAIN * GRAIN; c && at < end; at += GRAIN, c++)
+        if (c->owner != serial) begin_phase(c, at, serial, number);
+}
+
+static uint64_t end_in_page(uint64_t address, uint64_t end) {
+    uint64_t page_end = (address / CELL_PAGE + 1) * CELL_PAGE;
+    return page_end < end ? page_end : end;
+}
+
 static void use_range(uint32_t serial, uint16_t number, uint64_t address, uint64_t end) {
-    for (uint64_t at = address / GRAIN * GRAIN; at < end; at += GRAIN) {
-        cell **page = at % CELL_PAGE || end - at < CELL_PAGE ? 0 : page_at(at, 1);
-        if (page && (!*page || is_page_mark(*page))) {
-            if (!*page || owner_of_mark(*page) != serial) *page = mark_of(serial, number, !*page);
-            at += CELL_PAGE - GRAIN;
-        } else use_cell(at, serial, number);
+    for (uint64_t stop; address < end; address = stop) {
+        stop = end_in_page(address, end);
+        cell_page *page = stop - address == CELL_PAGE ? page_at(address, 1) : 0;
+        if (page) use_whole_page(page, serial, number, address);
+        else use_part_of_page(serial, number, address, stop);
     }
 }
 
@@ -223,12 +230,12 @@ static int hold_in_several(uint32_t serial, struct record r, uint64_t address, u
 static void renew(uint64_t address, uint64_t end) {
     uint64_t at = (address + GRAIN - 1) / GRAIN * GRAIN, stop;
     for (end = end / GRAIN * GRAIN; at < end; at = stop) {
-        uint64_t page_end = (at / CELL_PAGE + 1) * CELL_PAGE;
-        cell **page = page_at(at, 0), *cells = page ? *page : 0;
-        stop = page_end < end ? page_end : end;
-        if (cells && is_page_mark(cells) && stop - at < CELL_PAGE) cells = make_cells(page);
-        if (cells && is_page_mark(cells)) *page = 0;
-        else if (cells) memset(&cells[at / GRAIN % CELLS_OF_PAGE], 0, (stop - at) / GRAIN * sizeof *cells);
+        stop = end_in_page(at, end);
+        cell_page *page = page_at(at, 0);
+        if (!page) continue;
+        if (page->is_whole && !page->cells && stop - at < CELL_PAGE && !make_cells(page)) continue;
+        if (page->cells) memset(&page->cells[at / GRAIN % CELLS_OF_PAGE], 0, (stop - at) / GRAIN * sizeof *page->cells);
+        page->is_whole = 0;
     }
 }
 
@@ -242,16 +249,24 @@ static int is_used_by_all(enum operation operation) {
     return (operation >= OP_ATOMIC_LOAD && operation <= OP_ATOMIC_UPDATE) || (operation >= OP_LOCK_INIT && operation <= OP_DESTROY);
 }
 
+/* In a part of a page: what a use of it puts. */
+static uint64_t count_held(const cell *cells, uint32_t serial, uint64_t address, uint64_t end) {
+    uint64_t count = 0;
+    const cell *c = &cells[address / GRAIN % CELLS_OF_PAGE];
+    for (uint64_t at = address / GRAIN * GRAIN; at < end; at += GRAIN, c++)
+        if (c->owner != serial) count += __builtin_popcount(c->held & (IS_FIRST - 1));
+    return count;
+}
+
 uint64_t count_late(uint32_t serial, struct record r, uint64_t bytes) {
     enum operation operation = operation_of(r);
     uint64_t address = r.where & LOW_48_BITS, end = address + bytes, count = 1;
     if (operation == OP_ALLOC || operation == OP_START || end > CELL_ADDRESSES) return 0;
     if (is_used_by_all(operation)) serial = USED_BY_ALL;
-    for (uint64_t at = address / GRAIN * GRAIN; at < end; at += GRAIN) {
-        cell **page = page_at(at, 0), *cells = page ? *page : 0;
-        const cell *c = cells && !is_page_mark(cells) ? &cells[at / GRAIN % CELLS_OF_PAGE] : 0;
-        if (!c) at |= CELL_PAGE - GRAIN;
-        else if (c->owner != serial) count += __builtin_popcount(c->held & (IS_FIRST - 1));
+    for (uint64_t at = address, stop; at < end; at = stop) {
+        stop = end_in_page(at, end);
+        const cell_page *page = page_at(at, 0);
+        if (page && page->cells && !(page->is_whole && page->owner == serial)) count += count_held(page->cells, serial, at, stop);
     }
     return count;
 }

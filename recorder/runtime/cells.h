@@ -21,8 +21,16 @@ enum { REGIONS = 1 << (ADDRESS_BITS - REGION_BITS), PAGES_OF_REGION = (1 << REGI
 typedef struct { uint64_t what, where; } cell_use;
 enum { USE_SLOTS = 1 << 18 };
 
+/* What is known of a page of memory. Of a page that is whole all is in a phase of one owner, with cells or without. */
+typedef struct {
+    cell *cells;                       /* or null */
+    uint32_t owner;
+    uint16_t number;
+    uint8_t is_whole, is_first;        /* is_first: of one without cells, as IS_FIRST of a cell */
+} cell_page;
+
 extern int has_cells;
-extern cell ***cell_regions;           /* of each the cells of its pages, or null */
+extern cell_page **cell_regions;       /* of each its pages, or null */
 extern cell_use *cell_uses;
 
 /* Makes the tables, of at most so many bytes for cells; with 0, or where there is no memory, every access is recorded. */
@@ -40,12 +48,10 @@ void put_late(struct record r, uint64_t position);
 
 #define NO_POSITION 0
 
-static inline int is_page_mark(const cell *page) { return (uint64_t)page & 1; }
-
 static inline cell *find_cell(uint64_t address) {
-    cell **region = cell_regions[address >> REGION_BITS];
-    cell *page = region ? region[address / CELL_PAGE % PAGES_OF_REGION] : 0;
-    return page && !is_page_mark(page) ? &page[address / GRAIN % CELLS_OF_PAGE] : 0;
+    cell_page *region = cell_regions[address >> REGION_BITS];
+    cell *cells = region ? region[address / CELL_PAGE % PAGES_OF_REGION].cells : 0;
+    return cells ? &cells[address / GRAIN % CELLS_OF_PAGE] : 0;
 }
 
 /* The number of a use from 1, or of the free slot for it. */

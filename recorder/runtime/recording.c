@@ -161,26 +161,32 @@ static uint64_t bytes_of(enum operation operation, const volatile void *address,
     return usable < MOST_FREED ? usable : MOST_FREED;
 }
 
+static int has_bytes(enum operation operation) { return operation != OP_ALLOC && operation != OP_START; }
+
+/* What is late takes at most so much room; and exactly so much, for which all cells are looked at. */
+static uint64_t most_room_of_late(enum operation operation, uint64_t bytes) {
+    return has_cells && has_bytes(operation) ? 2 * (KEYS * (bytes / GRAIN + 2) + 1) : 0;
+}
+
 static uint64_t room_of_late(const thread *t, enum operation operation, const volatile void *address, uint64_t bytes) {
     return has_cells ? 2 * count_late(t->serial, record_of(t, operation, (uint64_t)address, 0, 0), bytes) : 0;
 }
 
-/* Room for a record and for those that are late and come before it. Others may come while the thread sleeps for room, so it looks
-   again. After a write hook there may be that of the copy's read, which must not sleep. */
+/* Room for a record and for those that are late and come before it, with the turn. Others may come while the thread sleeps for room, so
+   it looks again. After a write hook there may be that of the copy's read, which must not sleep. */
 static int make_room_for(thread *t, enum operation operation, const volatile void *address, uint64_t bytes) {
-    uint64_t late = 0, found, more = operation == OP_WRITE && has_cells ? ROOM_OF_LATE : 0, count = operation == OP_WRITE ? ROOM_OF_COPY : ROOM;
-    for (;; late = found) {
-        if (room_of_frames(t) || !has_room(count + late, more)) {
-            if (!make_room_and_more(t, count + late, more)) return 0;
-        }
+    uint64_t count = operation == OP_WRITE ? ROOM_OF_COPY : ROOM, more = operation == OP_WRITE && has_cells ? ROOM_OF_LATE : 0;
+    if (!room_of_frames(t) && has_room(count + most_room_of_late(operation, bytes), more)) return 1;
+    for (uint64_t late = 0, found; make_room_and_more(t, count + late, more); late = found) {
         found = room_of_late(t, operation, address, bytes);
         if (found <= late) return 1;
     }
+    return 0;
 }
 
 void make_room_of_copy(thread *t, const void *to, const void *from, uint64_t size) {
-    uint64_t late = 0, found;
-    for (; make_room(t, ROOM_OF_COPY + late); late = found) {
+    if (has_room(ROOM_OF_COPY + 2 * most_room_of_late(OP_WRITE, size), ROOM_OF_LATE)) return;
+    for (uint64_t late = 0, found; make_room(t, ROOM_OF_COPY + late); late = found) {
         found = room_of_late(t, OP_WRITE, to, size) + (from ? room_of_late(t, OP_READ, from, size) : 0);
         if (found <= late) return;
     }
@@ -201,8 +207,8 @@ static int put_in_own_cell(thread *t, enum operation operation, uint64_t address
     if (!c || c->owner != t->serial) return 0;
     uint64_t position = position_now();
     struct record r = record_of(t, operation, address, __builtin_ctzl(size) | depth << LOGARITHM_BITS, caller);
+    if (!has_room(ROOM_OF_COPY, ROOM_OF_LATE)) return 0;
     int is_held = position && hold_again(c, find_use(r.what, address % GRAIN), position);
-    if (!is_held && !has_room(ROOM_OF_COPY, ROOM_OF_LATE)) return 0;
     if (!is_held) is_held = hold_in_cell(c, address, r.what, address % GRAIN, position);
     held_there += is_held;
     changes += is_held && operation == OP_WRITE;

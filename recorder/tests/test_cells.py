@@ -58,6 +58,12 @@ CASES = {  # what a record has behind FORKS, and what is left of it
     "a page that was another thread's": (
         [write(1, 0x201, PAGE, 4096), write(2, 0x204, PAGE, 4096), read(1, 0x205, PAGE + 8)],
         [write(1, 0x201, PAGE, 4096), write(2, 0x204, PAGE, 4096), read(1, 0x205, PAGE + 8)]),
+    "a page of which another thread has a part": (
+        [write(1, 0x201, PAGE, 4096), write(2, 0x204, PAGE + 8), write(1, 0x202, PAGE, 4096), write(2, 0x204, PAGE + 8)],
+        [write(1, 0x201, PAGE, 4096), write(2, 0x204, PAGE + 8), write(1, 0x202, PAGE, 4096), write(2, 0x204, PAGE + 8)]),
+    "a page with a new block": (
+        [write(1, 0x201, PAGE, 4096), entry(1, "ALLOC", PAGE, 0x202, 32), write(1, 0x203, PAGE, 4096), write(2, 0x204, PAGE + 8)],
+        [write(1, 0x201, PAGE, 4096), entry(1, "ALLOC", PAGE, 0x202, 32), write(1, 0x203, PAGE, 4096), write(2, 0x204, PAGE + 8)]),
     "a block that is freed by another thread": (
         [entry(1, "ALLOC", BLOCK, 0x201, 32), write(1, 0x202, BLOCK + 8), entry(2, "FREE", BLOCK, 0x204)],
         [entry(1, "ALLOC", BLOCK, 0x201, 32), late(3, 1, write(1, 0x202, BLOCK + 8)), entry(2, "FREE", BLOCK, 0x204)]),
@@ -82,8 +88,10 @@ FAULTS = {  # to plant: the file, what stands there, and what in its place
     "a use that makes room isn't recorded": ("cells.c", "        if (c->held >> k & 1) put_held(c, k, address);\n    }", "    }"),
     "atomic accesses end no phase": ("cells.c", "(operation >= OP_ATOMIC_LOAD && operation <= OP_ATOMIC_UPDATE)", "0"),
     "a free ends no phase": ("cells.c", "if (operation == OP_FREE) use_range", "if (0) use_range"),
-    "each page begins with a first phase": ("cells.c", "mark_of(serial, number, !*page)", "mark_of(serial, number, 1)"),
-    "a page forgets whose it is": ("cells.c", "if (!*page || owner_of_mark(*page) != serial) *page", "if (!*page) *page"),
+    "each page begins with a first phase": ("cells.c", "page->is_first = !page->cells && !page->is_whole;", "page->is_first = 1;"),
+    "a page forgets whose it is": ("cells.c", "if (page->is_whole && page->owner == serial) return;", "if (page->is_whole) return;"),
+    "a page is whole for ever": ("cells.c", "    page_at(address, 0)->is_whole = 0;\n", ""),
+    "a new block leaves its page whole": ("cells.c", "        page->is_whole = 0;\n", ""),
     "a thread with the number of a joined one is the same": ("hold_back.c", "serials[address] = ++last_serial", "last_serial++"),
     "a range is held back in a later phase": ("cells.c", "(c->owner != serial || !(c->held & IS_FIRST))", "c->owner != serial"),
     "a long block is new variables": ("cells.c", "&& bytes < MAX_BLOCK", ""),
