@@ -8,7 +8,7 @@ import tempfile
 
 import side_by_side
 from shb_common import analyser, variables
-from shb_common.report import BadReport, Report
+from shb_common.report import Access, BadReport, Report
 
 SHB = pathlib.Path(__file__).resolve().parents[2] / "crates" / "shb" / "out" / "shb"
 TWO = b"T1|w(x)|a:1\nT1|w(y)|a:1\r\n\nT2|w(x)|a:2|b\nT2|r(y)|a:2|b\nT2|w(q)\nT1|w(q)"
@@ -89,7 +89,7 @@ class Asked(side_by_side.Case):
 class Names(side_by_side.Case):
     def test_names_as_the_pages_have_them(self):
         """An atomic is one variable, and a local has its own name where it is the same at both accesses."""
-        access = lambda thread, word, name: variables.Access(thread, word, name, b"a:1")
+        access = lambda thread, word, name: Access(thread, word, name, b"a:1")
         locals_ = {(b"stack.m-0x20", 1): b"q of m", (b"stack.m-0x20", 2): b"q of m", (b"stack.m-0x20", 3): b""}
         local_of = lambda variable, event: locals_.get((variable, event), b"")
         for name, events, wanted in ((b"x", (1, 2), b"x"), (b"x!T1", (1, 2), b"x"), (b"x!T9", (1, 2), b"x!T9"),

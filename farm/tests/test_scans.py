@@ -71,4 +71,4 @@ end
         self.assertRegex(self.ends()["long.std"][1], r"^line 1026: the line has no operation field")
 
     def test_a_text_that_no_report_is_of_begins_with_little_memory(self):
-        self.assertEqual((limits.memory_for(limits.MOST_BYTES) > 1024, limits.memory_for(limits.MOST_BYTES + 1)), (True, limits.SCAN_MIB))
+        self.assertEqual((limits.memory_for(limits.MOST_TEXT) > 1024, limits.memory_for(limits.MOST_TEXT + 1)), (True, limits.SCAN_MIB))
