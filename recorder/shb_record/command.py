@@ -27,8 +27,8 @@ USAGE = "shb-record [OPTION].. [--] PROGRAM [ARGUMENT].."
 ABOUT = f"""\
 Runs a program that was compiled with `-fsanitize=thread -g`, records it and every process
 that it starts, and explains the data races of the run on standard error. Programs built by
-gcc need nothing else. clang links a library of its own; link with
--fno-sanitize-link-runtime -L{LIBRARY} -ltsan.
+gcc need nothing else. clang links a library of its own;
+link with -fno-sanitize-link-runtime -L{LIBRARY} -ltsan.
 
 A place is a pair of locations that race, that of the first access and that of the second,
 each of its own program's source file."""
