@@ -247,6 +247,7 @@ def use_of(text):
     return use, order
 
 
+# Of each kind of line what stands between its fields (None: blanks), and what reads each. A stack has further numbers, its frames.
 FORMS = {b"frame": (b"\t", bytes, bytes), b"system-frame": (b"\t", bytes, bytes), b"thread": (b"\t", bytes, whole),
          b"stack": (None, whole, whole), b"block": (None, whole, whole), b"free": (None, whole, whole), b"atomic": (b"\t", bytes, bytes, bytes, use_of),
          b"source": (b"\t", bytes, bytes), b"line": (b"\t", bytes, sum_of), b"local": (b"\t", whole, bytes, bytes)}
