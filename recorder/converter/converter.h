@@ -56,6 +56,9 @@ int is_for_object(u64 i);
 int acquires(u64 i), releases(u64 i);  /* of an atomic access or a fence */
 u64 accessed_bytes(u64 i);
 
+/* late.c: gives the same entries with each access in its place that is late, and how many there are then. */
+struct record *with_late_in_place(const struct record *records, u64 *count, const char *path);
+
 /* lines.c, sources.c: the source files of modules, and how they are named. */
 extern int whole_paths;
 void strip_folder(const char *folder); /* names of files below it are paths from it */

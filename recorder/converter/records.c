@@ -3,7 +3,6 @@
 #include <errno.h>
 #include <fcntl.h>
 #include <stdio.h>
-#include <stdlib.h>
 #include <string.h>
 #include <sys/mman.h>
 #include <sys/stat.h>
@@ -96,68 +95,32 @@ void check_sum(void) {
     if (has_sum && (record_count > whole_count || met_sum != whole_sum)) die("%s was changed after it was recorded", record_path);
 }
 
-/* ---- what is late: each access goes where it was made ---- */
-typedef struct { u64 position; struct record access; } late;
-
-static int by_position(const void *a, const void *b) {
-    u64 one = ((const late *)a)->position, other = ((const late *)b)->position;
-    return one < other ? -1 : one > other;
-}
-
-/* How many there are in the record, whose entries it counts up to the first that isn't one. */
-static u64 count_late(u64 *end) {
-    u64 count = 0, i = 0;
-    for (; i < record_count && is_whole(i); i++) {
-        if (!size_follows(i) && !is_late(i)) continue;
-        count += is_late(i);
-        i++;
-    }
-    *end = i;
-    return count;
-}
-
-static late *sorted_late(u64 count, u64 end) {
-    late *all = zeroed(count, sizeof *all);
-    u64 k = 0;
-    for (u64 i = 0; i < end; i += 1 + (size_follows(i) || is_late(i))) {
-        if (!is_late(i)) continue;
-        all[k] = (late){records[i].where, records[i + 1]};
-        if (all[k].position >> ORDER_BITS > i || !is_access(i + 1) || size_follows(i + 1)) die("record %lu of %s is damaged", i + 1, record_path);
-        k++;
-    }
-    qsort(all, count, sizeof *all, by_position);
-    return all;
-}
-
+/* ---- what is late ---- */
 static int is_merged;
 
-/* The same record with these in their places. */
-static void merge(const late *all, u64 count, u64 end) {
-    struct record *merged = zeroed(end - count, sizeof *merged);
-    u64 at = 0, next = 0;
-    for (u64 i = 0; i < end; i++) {
-        for (; next < count && all[next].position >> ORDER_BITS == i; next++)
-            if (!next || all[next].position != all[next - 1].position) merged[at++] = all[next].access;
-        if (!is_late(i)) merged[at++] = records[i];
-        if (size_follows(i)) merged[at++] = records[i + 1];
-        i += is_late(i) || size_follows(i);
+/* How many entries there are, up to the first that isn't whole. */
+static u64 count_entries(int *has_late) {
+    u64 end = 0, passed = RECORDS_AT_ONCE;
+    for (; end < record_count && is_whole(end); end += 1 + (size_follows(end) || is_late(end))) {
+        *has_late |= is_late(end);
+        if (end < passed) continue;
+        forget_records(passed - RECORDS_AT_ONCE, passed);
+        passed += RECORDS_AT_ONCE;
     }
-    if (next < count) die("record of %s is damaged: an access that is late has no place", record_path);
-    records = merged;
-    record_count = at;
-    is_merged = 1;
+    return end;
 }
 
+/* The sum is of the entries as they stand in the file. */
 static void put_late_in_place(void) {
-    u64 end, count = count_late(&end);
-    if (!count) return;
-    for (u64 i = 0; i < end; i++) met_sum += entry_sum(i, records[i]);
+    int has_late = 0;
+    u64 end = count_entries(&has_late);
+    if (!has_late) return;
     record_count = end;
+    for (u64 i = 0; i < end; i++) met_sum += entry_sum(i, records[i]);
     check_sum();
     has_sum = 0;
-    late *all = sorted_late(count, end);
-    merge(all, count, end);
-    free(all);
+    records = with_late_in_place(records, &record_count, record_path);
+    is_merged = 1;
 }
 
 static char *map_file(const char *path, u64 *size) {
