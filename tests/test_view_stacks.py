@@ -154,6 +154,17 @@ class Stacks(program.Case):
         self.assertEqual(status, 4)
         self.assertRegex(err, r"is damaged in line \d+: `local 2")
 
+    def test_a_local_has_the_accesses_of_its_life(self):
+        """What other functions did at its address before and after isn't counted, not even by the lines that race."""
+        before, line, after = b"main|w(stack.main-0x40)|a.c:3\n", b"main|w(stack.main-0x40)|a.c:7\n", b"main|join(T1)|a.c:9\n"
+        trace = before + line + b"main|fork(T1)|a.c:1\nT1|w(stack.main-0x40)|a.c:5\n" + line + after + before + line
+        tables = b"local 1\tstack.main-0x40\ty of f\nlocal 4\tstack.main-0x40\tx of main\nlocal 7\tstack.main-0x40\t\n"
+        for more, counts in ((tables, {"a.c:5": "1 write by T1", "a.c:7": "1 write by main"}),
+                             (b"", {"a.c:5": "1 write by T1", "a.c:7": "3 writes by main", "a.c:3": "2 writes by main"})):
+            _, out, err = self.shown(stacks([0] * 8, TABLES + more), trace=trace)
+            self.assertEqual(err, "")
+            self.assertEqual(dict(re.findall(r"(?m)^   (a\.c:\d): (.*)$", out)), counts)
+
     def test_locks_and_atomics_on_stacks(self):
         """They have the name of the local that they are, where that is the same one in the whole trace, also of a lock for reading."""
         for lock, more, name in ((b"stack.main-0x40", b"", "q.m of main"), (b"stack.main-0x40@reader.T1", b"", "q.m of main for reading"),

@@ -70,6 +70,21 @@ class Programs(recorder.Case):
                 others = named - raced - kept_apart - {b"one of main", b"other of main"}
                 self.assertEqual((wanted - named, others), (set(), set()), (compiler, options))
 
+    def test_what_other_functions_did_at_the_address(self):
+        """It isn't shown under the local's name."""
+        source, path, trace = recorder.PROGRAMS / "dead_locals.c", self.folder / "app.stacks", self.folder / "app.std"
+        wanted = {f"dead_locals.c:{number}" for number, line in enumerate(source.read_text().splitlines(), 1)
+                  if re.search(r"/\* (RACE|BEGIN) \*/", line)}
+        for compiler in ("gcc", "clang"):
+            for option in ("-O0", "-O1", "-O2"):
+                record = self.recorded(compiler, option, "dead_locals.c")
+                trace.write_bytes(recorder.must(recorder.convert(record, "-r", "--stacks", path)).stdout)
+                view = recorder.SOURCES.parent / "view" / "shb-view"
+                shown = recorder.call(sys.executable, "-B", view, "--stacks", path, trace, env={**os.environ, "SHB": str(recorder.SHB)})
+                with self.subTest(compiler=compiler, option=option):
+                    self.assertIn(b"1. flag of wait_for", recorder.must(shown).stdout)
+                    self.assertEqual(set(re.findall(r"(?m)^   (dead_locals\.c:\d+): ", shown.stdout.decode())), wanted)
+
     def test_by_gcc(self):
         wanted = recorder.marked(recorder.PROGRAMS / "locals.c", "IS")
         self.assertGreater(len(wanted), 10)

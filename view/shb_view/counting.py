@@ -52,6 +52,12 @@ class Kinds:
     def is_atomic(self, variable):
         return variable in self.atomics
 
+    def is_in_life(self, number, variable):
+        """Whether an event is an access of what the variable is named by: where a local lies other functions may have theirs, before and
+        after its own lives."""
+        variable = self.atomics.get(variable, variable)
+        return variable not in self.locals or self.stacks.local_of(variable, number) == self.locals[variable]
+
     def name(self, variable):
         """The variable as the program has it."""
         variable = self.atomics.get(variable, variable)
@@ -122,6 +128,8 @@ class Counting:
             self.writes[variable] = number
         elif self.writes.get(variable) in self.reads.get(number, ()):
             self.seen.add(self.reads[number][self.writes[variable]])
+        if not self.access_kinds.is_in_life(number, variable):
+            return
         thread, _, *location = line.split(b"|", 2)
         held = self.held[thread]
         if number in self.racing and not held.locks:
