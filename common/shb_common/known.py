@@ -12,6 +12,7 @@ import os
 import re
 import typing
 
+from shb_common.faults import Refused
 from shb_common.files import read_at_most
 from shb_common.printable import printable
 from shb_common.refused import MARK
@@ -30,7 +31,7 @@ ADDRESS = re.compile(rb"(.+)~(?:0x)?[0-9a-f]+((?:[.+\[].*)?)", re.S)
 OFFSET = re.compile(rb"\+[0-9]+$")
 
 
-class BadLine(Exception):
+class BadLine(Refused):
     """A line of the file of known places that is none."""
 
 

@@ -247,7 +247,7 @@ def main(words):
         signal.signal(name, lambda number, frame: sys.exit(128 + number))
     try:
         return run(arguments(words))
-    except (Refused, engines.NotInstalled, known.BadLine, since.BadDocument, OSError) as fault:
+    except (Refused, OSError) as fault:
         said = words_of(fault)
     except KeyboardInterrupt:
         return 130

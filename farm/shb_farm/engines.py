@@ -13,6 +13,7 @@ import sys
 import tempfile
 import time
 
+from shb_common.faults import Refused
 from shb_common.progress import Progress
 from shb_common.words import counted
 from shb_farm import limits, passes
@@ -26,10 +27,6 @@ BESIDE_MIB = 64         # what a job needs beside the program, where a cluster c
 POLL_SECONDS = 5
 LOOK_SECONDS = 0.2
 MANY = 100              # traces of a pass, of which some words are said meanwhile
-
-
-class NotInstalled(Exception):
-    """A command that the engine needs isn't there."""
 
 
 def run_xargs(work, path, farm):
@@ -102,7 +99,7 @@ def call(words):
     try:
         ran = subprocess.run(words, stdin=subprocess.DEVNULL, stdout=subprocess.PIPE, stderr=subprocess.PIPE)
     except FileNotFoundError:
-        raise NotInstalled(f"{words[0]} isn't installed")
+        raise Refused(f"{words[0]} isn't installed")
     return ran.returncode, ran.stdout.decode(errors="replace"), ran.stderr.decode(errors="replace")
 
 
@@ -144,7 +141,7 @@ def run_group(words, given, watch):
         try:
             started = subprocess.Popen(words, stdin=numbers, stdout=sys.stderr, start_new_session=True, preexec_fn=lambda: end_with(parent))
         except FileNotFoundError:
-            raise NotInstalled(f"{words[0]} isn't installed")
+            raise Refused(f"{words[0]} isn't installed")
     try:
         while True:
             try:

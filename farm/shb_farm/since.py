@@ -9,16 +9,13 @@ import os
 import typing
 
 from shb_common import known, result
+from shb_common.faults import Refused
 from shb_common.files import open_regular
 from shb_common.locations import parts_of
 from shb_common.printable import printable
 
 MOST_BYTES = 1 << 30
 NAME = "places.json"
-
-
-class BadDocument(Exception):
-    """An earlier result can't be read; with the reason."""
 
 
 class Since(typing.NamedTuple):
@@ -57,7 +54,7 @@ def read(path):
         return [(keys_of_entry(entry), gone_of(entry)) for entry in found["places"]]
     except (ValueError, KeyError, TypeError, AttributeError, RecursionError) as fault:
         said = str(fault) if isinstance(fault, ValueError) else "a part of it is missing, or of another kind"
-        raise BadDocument(f"{printable(os.fsencode(path))}: {said}") from None
+        raise Refused(f"{printable(os.fsencode(path))}: {said}") from None
 
 
 def keys_of_entry(entry):

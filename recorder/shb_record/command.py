@@ -10,12 +10,13 @@ import signal
 
 from shb_common import known
 from shb_common.commands import Parser, number
+from shb_common.faults import Refused
 from shb_common.limits import MOST_EVENTS
 from shb_common.standard import words_of
 from shb_common.stops import Stops
 from shb_common.words import counted
 from shb_record.looking import Look
-from shb_record.parts import LIBRARY, Failed, check_parts, say
+from shb_record.parts import LIBRARY, check_parts, say
 from shb_record.places import count
 from shb_record.results import Results
 from shb_record.running import Run
@@ -98,17 +99,14 @@ def completed(options):
     try:
         options.seed = number(0)(os.environ.get("SHB_SEED") or "1")
     except argparse.ArgumentTypeError as fault:
-        raise Failed(f"SHB_SEED: {fault}") from None
+        raise Refused(f"SHB_SEED: {fault}") from None
     options.runs, options.until_found = options.runs or options.until_found or 1, bool(options.until_found)
     options.known = known_places(options.known_path) if options.known_path else known.Known()
     return options
 
 
 def known_places(path):
-    try:
-        found = known.read(path)
-    except known.BadLine as fault:
-        raise Failed(fault) from None
+    found = known.read(path)
     for line in known.words_of_old(found):
         say(f"{path}, {line}")
     return found
@@ -131,10 +129,10 @@ def record(options):
                 say(f"run {number:,} of at most {options.runs:,} is the first with {'an unknown place' if options.known_path else 'a place'} with races; "
                     f"its seed is {options.seed + number - 1}")
                 break
-    except (Failed, OSError) as fault:
+    except (Refused, OSError) as fault:
         look.fail(fault)
     except KeyboardInterrupt:
-        look.fail(Failed("stopped at once"))
+        look.fail(Refused("stopped at once"))
         results.keep_records()
     finally:
         status = status_of(look, own)
@@ -184,7 +182,7 @@ def main(words):
             return CANNOT_RUN if there else NOT_THERE
         check_parts()
         return record(options)
-    except (Failed, OSError) as fault:
+    except (Refused, OSError) as fault:
         say(words_of(fault))
     except KeyboardInterrupt:
         say("stopped")

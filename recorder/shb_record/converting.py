@@ -9,8 +9,9 @@ import subprocess
 import tempfile
 import typing
 
+from shb_common.faults import Refused
 from shb_common.stops import APART
-from shb_record.parts import CONVERTER, Failed
+from shb_record.parts import CONVERTER
 
 CUTS = "the recording is not the whole run: ", "the trace is cut "
 KILLED = CUTS[0] + "the program was killed"
@@ -67,7 +68,7 @@ def check_room(process, window):
     entries have a line, so a trace takes less than half of the record's bytes."""
     needed, free = min(process.record.stat().st_size // 2, window * LINE_BYTES * 7 // 2), shutil.disk_usage(process.record.parent).free
     if needed > free:
-        raise Failed(f"{process.name}: its windows may take about {needed:,} bytes of the disk, and {free:,} are free; "
+        raise Refused(f"{process.name}: its windows may take about {needed:,} bytes of the disk, and {free:,} are free; "
                      "--window makes smaller ones")
 
 
@@ -110,7 +111,7 @@ class Conversion:
         said = [line.replace("shb-std: ", "", 1) for line in file.read().decode(errors="backslashreplace").splitlines()]
         if status not in (0, NOT_WHOLE):
             how = f"status {status}" if status > 0 else f"signal {-status}"
-            raise Failed(f"{self.process.name}: {'; '.join(said) or f'shb-std ended with {how}'}")
+            raise Refused(f"{self.process.name}: {'; '.join(said) or f'shb-std ended with {how}'}")
         self.size = ", ".join(re.sub(", 1 windows$", "", line) for line in said if re.match(r"\d+ records, ", line))
         self.notes = [line for line in said if not re.match(r"\d+ records, ", line)]
         self.cuts = [note for note in self.notes if note.startswith(CUTS)] if status == NOT_WHOLE else []

@@ -7,6 +7,7 @@ import tempfile
 import typing
 
 from shb_common import analyser, known
+from shb_common.faults import Refused
 from shb_common.printable import printable
 from shb_common.programs import Origin
 from shb_common.report import BadReport, Report
@@ -16,7 +17,7 @@ from shb_common.stops import APART
 from shb_common.words import counted
 from shb_record.converting import CRASHED, KILLED, Conversion, Trace, check_room, order_of, processes
 from shb_record.modules import Modules
-from shb_record.parts import ANALYSER, VIEW, Failed, now, say
+from shb_record.parts import ANALYSER, VIEW, now, say
 from shb_record.places import Places
 from shb_record.running import cause
 from shb_record.scanning import lacking, scanning
@@ -75,7 +76,7 @@ class Look:
         """Looks at the processes of a run; one that can't be looked at doesn't keep others from being shown."""
         found = list(processes(self.results.work, number))
         if not found:
-            raise Failed(f"{self.options.program} left no record: {cause(self.options.program)}")
+            raise Refused(f"{self.options.program} left no record: {cause(self.options.program)}")
         self.runs.append([])
         looked = [self.tried(self.analyse, process, Looked(process, self.options)) for process in found]
         # Only when the source files of all programs are known it is known which names they share.
@@ -85,14 +86,14 @@ class Look:
                 process.record.unlink()
         if not any(has_events):
             if self.is_cut:
-                raise Failed("nothing of the run was recorded")
+                raise Refused("nothing of the run was recorded")
             say(f"run {number}: {counted(len(found), 'recorded process', 'recorded processes')}, none with a second thread")
 
     def tried(self, do, process, looked):
         """Does something for a process. Where it fails the record is kept, and there is no answer."""
         try:
             do(process, looked)
-        except (Failed, OSError) as fault:
+        except (Refused, OSError) as fault:
             self.fail(fault)
             if process.record.exists():
                 say(f"the record is kept: {self.results.keep(process.record, process.base + '.rec')}")
@@ -128,7 +129,7 @@ class Look:
                 for trace, is_window in looked.conversion.traces(scan):
                     self.trace(process, trace, is_window, looked)
                 self.take_whole(process, looked, scan)
-        except (Failed, OSError):
+        except (Refused, OSError):
             self.take_places(process, looked)
             raise
         self.take_places(process, looked)
@@ -137,11 +138,11 @@ class Look:
         """Takes the places of the whole: all that there are, and no others. What of them no trace has is kept as the scan has it."""
         try:
             made_up = looked.take_whole(scan.places())
-        except Failed as fault:  # what the traces have is shown all the same
+        except Refused as fault:  # what the traces have is shown all the same
             self.fail(f"{process.name}: {fault}")
             return
         if made_up:
-            self.fail(Failed(f"{process.name}: {counted(made_up, 'place')} of its trace can't be, since the whole has no such race: this is a fault "
+            self.fail(Refused(f"{process.name}: {counted(made_up, 'place')} of its trace can't be, since the whole has no such race: this is a fault "
                              "of shb-std"))
         rest = list(lacking(looked.whole, looked.places.values()))
         if rest:
@@ -254,9 +255,9 @@ def places_of(trace, room):
             report.seek(0)
             found = analyser.places_of(Report(report), file, run, room)
         except analyser.Failed as fault:
-            raise Failed(f"`shb places --list` of {trace} ended with status {fault.answer.status}: {fault.answer.words}") from None
+            raise Refused(f"`shb places --list` of {trace} ended with status {fault.answer.status}: {fault.answer.words}") from None
         except BadReport as fault:
-            raise Failed(f"`shb places --list` wrote no whole report: {fault}") from None
+            raise Refused(f"`shb places --list` wrote no whole report: {fault}") from None
         report.seek(0)
         return found, report.read()
 
@@ -265,7 +266,7 @@ def tables_in(stacks):
     try:
         return Tables(stacks)
     except BadStacks as fault:
-        raise Failed(f"{stacks} {fault}") from None
+        raise Refused(f"{stacks} {fault}") from None
 
 
 def window_note(trace, reach):

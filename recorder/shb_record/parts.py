@@ -6,11 +6,9 @@ import shutil
 import sys
 import time
 
+from shb_common.faults import Refused
+
 HERE = pathlib.Path(__file__).resolve().parents[1]
-
-
-class Failed(Exception):
-    """Nothing can be said of the run; with the reason."""
 
 
 def part(*paths):
@@ -29,9 +27,9 @@ def check_parts():
     """Fails where something is missing that is needed after the program ran."""
     for path in (LIBRARY / "libtsan.so", CONVERTER, VIEW):
         if not path.exists():
-            raise Failed(f"{path} isn't there; in a checkout `make recorder` builds the recorder")
+            raise Refused(f"{path} isn't there; in a checkout `make recorder` builds the recorder")
     if not shutil.which(ANALYSER):
-        raise Failed(f"there is no analyser at {ANALYSER}; in a checkout `make build` makes it, and SHB=PROGRAM names another")
+        raise Refused(f"there is no analyser at {ANALYSER}; in a checkout `make build` makes it, and SHB=PROGRAM names another")
 
 
 def say(line=""):

@@ -9,7 +9,8 @@ import re
 import shutil
 import tempfile
 
-from shb_record.parts import Failed, now, say
+from shb_common.faults import Refused
+from shb_record.parts import now, say
 
 LIST = "made-by-shb-record.txt"
 LIST_BEGIN = "# What shb-record made in this folder"
@@ -36,7 +37,7 @@ class Results:
         self.list.seek(0)
         first, *names = self.list.read().splitlines() or [LIST_BEGIN]
         if not first.startswith(LIST_BEGIN):
-            raise Failed(f"{self.folder / LIST} is there, and shb-record didn't make it")
+            raise Refused(f"{self.folder / LIST} is there, and shb-record didn't make it")
         removed = [name for name in reversed(names) if OURS.fullmatch(name) and remove(self.folder / name)]
         if removed:
             say(f"{self.folder}: the results of an earlier call are replaced{first[len(LIST_BEGIN):]}")
@@ -45,7 +46,7 @@ class Results:
         """The path of a file or folder that is to be made. What is there already isn't ours, and stays."""
         path = self.folder / name
         if os.path.lexists(path) and not is_there:
-            raise Failed(f"{path} is there, and shb-record didn't make it; -o names another folder")
+            raise Refused(f"{path} is there, and shb-record didn't make it; -o names another folder")
         self.list.write(f"{name}\n")
         self.list.flush()
         return path

@@ -9,11 +9,12 @@ import tempfile
 
 from shb_common import analyser
 from shb_common.analyser import Place
+from shb_common.faults import Refused
 from shb_common.report import BadReport
 from shb_common.scan import Scan
 from shb_common.stops import APART
 from shb_common.variables import MOST_VARIABLES, Found
-from shb_record.parts import ANALYSER, Failed
+from shb_record.parts import ANALYSER
 
 
 class Scanning:
@@ -41,12 +42,12 @@ class Scanning:
         """The places of the whole, with their variables, when all is read."""
         answer = self.run.answer()
         if answer.status:
-            raise Failed(f"`shb scan` ended with status {answer.status}: {answer.words}")
+            raise Refused(f"`shb scan` ended with status {answer.status}: {answer.words}")
         self.text.seek(0)
         try:
             return places_of(Scan(self.text))
         except BadReport as fault:
-            raise Failed(f"`shb scan` wrote no whole text: {fault}") from None
+            raise Refused(f"`shb scan` wrote no whole text: {fault}") from None
 
     def copy(self, path):
         """Puts what it wrote into a file."""
