@@ -109,16 +109,17 @@ class Refusals(Refusing):
 
     def test_numbers_of_workers(self):
         """Each worker is a thread where pairs are made of the races that were kept, and one when schedules are made; 4 where no
-        number is named. A list of more races than events is searched for by workers when it is written. `places` finds its
-        races without workers, and so does `scan`."""
-        trace, few = self.file(racing(64)), self.file(LOCKED, "few.std")
+        number is named. A list of more races than events is written by batches, for each of which workers start: six threads
+        with fifteen races and twelve events make three, of the variable before the racing one, of that one, and of the others.
+        `places` finds its races without workers, and so does `scan`."""
+        trace, many, few = self.file(racing(64)), self.file(racing(6), "many.std"), self.file(LOCKED, "few.std")
         for words, wanted in (
             (["races", "--list", few], 4),
-            (["races", "--list", trace], 4),
+            (["races", "--list", many], 12),
             (["races", trace], 8),
             (["races", "--workers", "1", trace], 2),
             (["races", "--workers", "3", trace], 6),
-            (["races", "--workers", "64", "--list", trace], 64),
+            (["races", "--workers", "64", "--list", few], 64),
             (["places", "--list", trace], 0),
             (["places", trace], 4),
             (["places", "--workers", "1", trace], 1),
@@ -126,7 +127,7 @@ class Refusals(Refusing):
             (["scan", trace], 0),
         ):
             self.assertEqual(self.threads_started(words, b""), wanted)
-        self.assertEqual(self.threads_started([], racing(64)), 4)
+        self.assertEqual(self.threads_started([], LOCKED), 4)
 
     def test_nothing_is_read_after_the_end(self):
         trace, report = self.file(LOCKED), program.run(["races"], LOCKED).out
