@@ -165,6 +165,36 @@ class Stacks(program.Case):
             self.assertEqual(err, "")
             self.assertEqual(dict(re.findall(r"(?m)^   (a\.c:\d): (.*)$", out)), counts)
 
+    def test_members_of_blocks(self):
+        """A variable and a lock have one name in headline, facts, events and lines; a block is named where two have the type."""
+        trace = (b"main|fork(T1)|a.c:1\nT1|acq(a.c:9#2)|a.c:4\nT1|w(a.c:9#2+40)|a.c:5\nT1|rel(a.c:9#2)|a.c:6\nmain|w(a.c:9#2+40)|a.c:7\n")
+        page, json = self.folder / "page.html", self.folder / "places.json"
+        for block in ("", " of a.c:9#2"):
+            member, lock = f"Account.balance{block}", f"Account.lock{block}"
+            tables = TABLES + f"local 0\ta.c:9#2+40\t{member}\nlocal 0\ta.c:9#2\t{lock}\n".encode()
+            _, out, err = self.shown(stacks([1, 9, 5, 7, 5], tables), "--all", trace=trace)
+            self.assertEqual(err, "")
+            self.assertIn(f"1. {member}: a.c:7 doesn't hold {lock} (", out)
+            self.assertRegex(out, rf"(?m)^     2  T1 +acq\({re.escape(lock)}\) +a\.c:4$")
+            self.assertIn("   block a.c:9#2 was allocated in make a.c:9, from main a.c:31\n", out)
+            self.assertNotIn("#2+40", out)
+            self.shown(stacks([1, 9, 5, 7, 5], tables), "--html", page, "--json", json, trace=trace)
+            shown = Page(page.read_text())
+            self.assertIn(f"T1|w({member})|a.c:5", [text for _, text in shown.all("code")])
+            self.assertTrue(any(f"w({member})" in text for _, text in shown.all("text")))
+            self.assertIn('"name": "Account.balance"', json.read_text())
+
+    def test_members_of_two_blocks(self):
+        """Two blocks of one line are counted; their locks are two."""
+        trace = b"main|fork(T1)|a.c:1\n" + b"".join(
+            b"T1|acq(a.c:9#%d)|a.c:4\nT1|w(a.c:9#%d+40)|a.c:5\nT1|rel(a.c:9#%d)|a.c:6\nmain|w(a.c:9#%d+40)|a.c:7\n" % ((k,) * 4) for k in (2, 3))
+        tables = TABLES + b"".join(b"local 0\ta.c:9#%d+40\tAccount.balance of a.c:9#%d\nlocal 0\ta.c:9#%d\tAccount.lock of a.c:9#%d\n"
+                                   % ((k,) * 4) for k in (2, 3))
+        _, out, err = self.shown(stacks([0] * 9, tables), trace=trace)
+        self.assertEqual(err, "")
+        self.assertIn("1. Account.balance (2 blocks): ", out)
+        self.assertIn("     holds Account.lock of a.c:9#2 at 1 of 2; holds Account.lock of a.c:9#3 at 1 of 2\n", out)
+
     def test_locks_and_atomics_on_stacks(self):
         """They have the name of the local that they are, where that is the same one in the whole trace, also of a lock for reading."""
         for lock, more, name in ((b"stack.main-0x40", b"", "q.m of main"), (b"stack.main-0x40@reader.T1", b"", "q.m of main for reading"),

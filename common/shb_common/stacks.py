@@ -97,10 +97,14 @@ class Tables:
         self.locals.setdefault(variable, []).append((event, name))
 
     def local_of(self, variable, event):
-        """The local that a variable on a stack is at an event, or nothing."""
+        """The local that a variable on a stack is at an event, or the member that one in a block is; or nothing."""
         names = self.locals.get(variable, ())
         number = bisect.bisect(names, (event + self.shift + 1,))
         return names[number - 1][1] if number else b""
+
+    def lasting(self, variable, event):
+        """What a variable is at all events, whatever trace of the run they are of: a member that one in a block is; or nothing."""
+        return self.local_of(variable, -self.shift)
 
 
 class Stacks(Tables):

@@ -13,6 +13,8 @@ from shb_common.report import BadReport
 
 ACCESSES = b"r(", b"w("
 NUMBER = re.compile(rb"[0-9]{1,9}")
+# A member of a block's type, with the block behind it where a trace has several of the type.
+IN_BLOCK = re.compile(rb"(.+?) of .+(?::[0-9]+|\+0x[0-9a-f]+)#[0-9]+", re.S)
 MOST_VARIABLES = 1_000  # of a place, that are kept
 
 
@@ -87,10 +89,17 @@ def variable_of(found):
     return atomic_of(*found.accesses) or found.accesses[0].name
 
 
+def without_block(name):
+    """The name of a member of a block's type without the block, which differs from run to run; any other name as it is."""
+    found = IN_BLOCK.fullmatch(name)
+    return found[1] if found else name
+
+
 def local_name(variable, events, local_of):
-    """A variable as the program has it: the local of a function that it is at all these events, as `local_of` gives it for one."""
+    """A variable as the program has it: the local of a function, or the member of a block's type, that it is at all these events, as
+    `local_of` gives it for one."""
     names = {local_of(variable, event) for event in events}
-    return names.pop() or variable if len(names) == 1 else variable
+    return without_block(names.pop()) or variable if len(names) == 1 else variable
 
 
 def name_of(found, local_of):

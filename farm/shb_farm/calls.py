@@ -78,7 +78,7 @@ class Shifted:
 
     def __init__(self, origin, shift):
         self.location, self.files, self.tables = origin.location, origin.files, self
-        self.local_of = (lambda variable, event: origin.tables.local_of(variable, event + shift)) if shift is not None else (lambda *_: b"")
+        self.local_of = (lambda variable, event: origin.tables.local_of(variable, event + shift)) if shift is not None else origin.tables.lasting
 
 
 def file_of(folder, name):

@@ -270,7 +270,7 @@ static void use_piece(u64 i, use u, u32 number) {
     else if (!map_find(&repeated, i, number)) {
         u64 before = events;
         piece_events(i, u, number);
-        if (events > before) note_local(piece_of(number)->at, piece_of(number)->block, before + 1, u.thread);
+        if (events > before) note_name(piece_of(number)->at, piece_of(number)->block, before + 1, u.thread);
     }
 }
 

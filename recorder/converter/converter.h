@@ -100,6 +100,12 @@ void symbol_name(u64 address, char *buffer, size_t size);
    "x.head of main"; 0 where none is known. */
 int local_name(u64 function, u64 pc, u64 below, u64 above, u64 length, char *buffer, size_t size);
 
+/* The same of what lies so far inside of a block of so many bytes, which the C++ library allocated by a call in the program's own code:
+   "Account.balance". Gives the length of the type's name; 0 where the type isn't certain. */
+size_t name_in_block(u64 caller, u64 block_size, u64 offset, u64 length, char *buffer, size_t size);
+
+int is_variable(const char *name, size_t length);            /* is a static variable named so? */
+
 /* members.c: what lies inside of variables. */
 struct members;
 struct members *read_members(const char *path);              /* of a module */
@@ -107,6 +113,11 @@ struct members *read_members(const char *path);              /* of a module */
    from, or "", and null where no local is known. */
 typedef struct { u64 function, pc, below, above, length; } place_of_local;
 const char *add_local(struct members *m, place_of_local at, char *buffer, size_t size);
+/* What lies so far inside of a block of so many bytes that a call before `pc` allocated for the C++ library, in a function that begins
+   there: "bank::Account.balance", or with its element "Account[3].balance". Gives the length of the type's name, 0 where no type is
+   certain. */
+typedef struct { u64 function, pc, size, offset, length; } place_in_block;
+size_t add_in_block(struct members *m, place_in_block at, char *buffer, size_t size);
 /* Adds what lies at an offset of the variable that is at an address of the module's file, in so many bytes: ".head", "[3]", "+4". */
 void add_member(struct members *m, u64 address, u64 offset, u64 length, char *buffer, size_t size);
 
@@ -151,7 +162,7 @@ void stack_of_block(const block *b, u32 number);
 void note_crash(u64 i);                /* a record OP_CRASH */
 void say_crash(void);                  /* at the end */
 void note_free(u64 first, u64 last);   /* the events of one call that frees a block */
-void note_local(u64 at, u32 block, u64 event, u32 t);        /* of a piece or an object: this event of a thread is of it */
+void note_name(u64 at, u32 block, u64 event, u32 t);         /* of a piece or an object: this event of a thread is of it */
 void note_atomic(u64 i, u64 object);   /* a use of an atomic that several threads use */
 void forget_calls(void);               /* between the passes that meet them */
 void leave_stacks(void);               /* in a process that writes no stacks */

@@ -7,7 +7,7 @@
 
 enum tag { TAG_ARRAY = 1, TAG_CLASS, TAG_PARAMETER = 5, TAG_LEXICAL_BLOCK = 11, TAG_MEMBER = 13, TAG_POINTER = 15, TAG_REFERENCE,
            TAG_STRUCTURE = 19, TAG_TYPEDEF = 22, TAG_BASE_CLASS = 28, TAG_INLINED, TAG_BOUND = 33, TAG_CONST = 38, TAG_FUNCTION = 46,
-           TAG_VARIABLE = 52, TAG_VOLATILE = 53, TAG_NAMESPACE = 57, TAG_MOVED_REFERENCE = 66, TAG_ATOMIC = 71 };
+           TAG_TYPE_ARGUMENT, TAG_VARIABLE = 52, TAG_VOLATILE = 53, TAG_NAMESPACE = 57, TAG_MOVED_REFERENCE = 66, TAG_ATOMIC = 71 };
 enum attribute { AT_SIBLING = 1, AT_LOCATION, AT_NAME, AT_BYTE_SIZE = 11, AT_BIT_SIZE = 13, AT_LOW = 17, AT_HIGH, AT_UPPER_BOUND = 47,
                  AT_ORIGIN = 49, AT_COUNT = 55, AT_PLACE, AT_FRAME_BASE = 64, AT_SPECIFICATION = 71, AT_TYPE = 73, AT_RANGES = 85,
                  AT_STRINGS_BASE = 114, AT_ADDRESSES_BASE, AT_RANGES_BASE, AT_LOCATIONS_BASE = 140 };
@@ -348,11 +348,13 @@ struct members *read_members(const char *path) {
 /* ---- what lies at an offset of a type ---- */
 static int is_only_named(u64 tag) { return tag == TAG_TYPEDEF || tag == TAG_CONST || tag == TAG_VOLATILE || tag == TAG_ATOMIC; }
 
-static entry type_at(const struct members *m, const unit *u, u64 type) {
+static u64 plain_type(const struct members *m, const unit *u, u64 type) {
     entry e = read_entry(m, u, type);
-    for (int steps = 0; is_only_named(e.tag) && steps < MOST_STEPS; steps++) e = read_entry(m, u, e.type);
-    return e;
+    for (int steps = 0; is_only_named(e.tag) && steps < MOST_STEPS; steps++) e = read_entry(m, u, type = e.type);
+    return type;
 }
+
+static entry type_at(const struct members *m, const unit *u, u64 type) { return read_entry(m, u, plain_type(m, u, type)); }
 
 /* How many elements an array has in each of its dimensions; 0 of none that is told. */
 static int read_dimensions(const struct members *m, const unit *u, const entry *array, u64 *counts) {
@@ -372,6 +374,14 @@ static u64 size_of_type(const struct members *m, const unit *u, u64 type) {
     }
     int is_pointer = e.tag == TAG_POINTER || e.tag == TAG_REFERENCE || e.tag == TAG_MOVED_REFERENCE;
     return size * (is_pointer && !e.size ? 8 : e.size);
+}
+
+/* Where the entry behind this one and its children begins. */
+static u64 behind(const struct members *m, const unit *u, const entry *e, int depth) {
+    if (!e->has_children || e->sibling > e->next) return e->has_children ? e->sibling : e->next;
+    entry child = {.next = e->next};
+    while (depth < MOST_STEPS && (child = read_entry(m, u, child.next)).tag) child.next = behind(m, u, &child, depth + 1);
+    return child.next;
 }
 
 /* Names of the C and C++ library's own members say little. */
@@ -492,13 +502,6 @@ static void look_at(search *s, const entry *e, const char *inlined) {
     s->inlined = inlined;
 }
 
-static u64 behind(const search *s, const entry *e, int depth) {
-    if (!e->has_children || e->sibling > e->next) return e->has_children ? e->sibling : e->next;
-    entry child = {.next = e->next};
-    while (depth < MOST_STEPS && (child = read_entry(s->m, s->u, child.next)).tag) child.next = behind(s, &child, depth + 1);
-    return child.next;
-}
-
 static void look_in(search *s, const entry *scope, const char *inlined, int depth) {
     entry e = {.next = scope->next};
     while (scope->has_children && (e = read_entry(s->m, s->u, e.next)).tag) {
@@ -506,7 +509,7 @@ static void look_in(search *s, const entry *scope, const char *inlined, int dept
         if (e.tag == TAG_VARIABLE || e.tag == TAG_PARAMETER) look_at(s, &e, inlined);
         else if ((e.tag == TAG_LEXICAL_BLOCK || e.tag == TAG_INLINED) && depth < MOST_STEPS && covers(s->m, s->u, &e, s->at.pc))
             look_in(s, &e, e.tag == TAG_INLINED ? string(&origin.name) : inlined, depth + 1);
-        e.next = behind(s, &e, 0);
+        e.next = behind(s->m, s->u, &e, 0);
     }
 }
 
@@ -524,4 +527,146 @@ const char *add_local(struct members *m, place_of_local at, char *buffer, size_t
     add_members(m, u, s.type, s.offset, at.length, &to);
     if (to.rest) snprintf(to.at, to.room, "+%lu", to.rest);
     return s.inlined;
+}
+
+/* ---- blocks of the heap: of what the C++ library allocates, by the function that does so ---- */
+/* The innermost function that has this code, also where it is inlined. */
+static entry innermost(const struct members *m, const unit *u, entry function, u64 pc) {
+    entry scope = function, e = {.next = scope.next};
+    for (int steps = 0; steps < MOST_STEPS && scope.has_children && (e = read_entry(m, u, e.next)).tag;) {
+        if ((e.tag == TAG_LEXICAL_BLOCK || e.tag == TAG_INLINED) && covers(m, u, &e, pc)) {
+            if (e.tag == TAG_INLINED) function = e;
+            scope = e;
+            steps++;
+        } else e.next = behind(m, u, &e, 0);
+    }
+    return function;
+}
+
+/* The first child of an entry with this tag; a tag of 0 where there is none. */
+static entry child_with(const struct members *m, const unit *u, const entry *of, u64 tag) {
+    entry e = {.next = of->next};
+    while (of->has_children && (e = read_entry(m, u, e.next)).tag && e.tag != tag) e.next = behind(m, u, &e, 0);
+    return of->has_children ? e : (entry){0};
+}
+
+/* What a function of the C++ library's gives memory for: T of `T *allocate(size_t)` and of `make_unique<T>()`; 0 of any other. */
+static u64 allocated_type(const struct members *m, const unit *u, entry function) {
+    static const char unique[] = "make_unique";
+    u64 argument = 0;
+    for (int steps = 0; steps < MOST_STEPS && function.tag; steps++) {
+        const char *name = string(&function.name);
+        if (!argument) argument = child_with(m, u, &function, TAG_TYPE_ARGUMENT).type;
+        if (!strcmp(name, "allocate") && function.type) {
+            entry pointer = type_at(m, u, function.type);
+            return pointer.tag == TAG_POINTER ? pointer.type : 0;
+        }
+        if (!strncmp(name, unique, strlen(unique)) && argument) return argument;
+        function = read_entry(m, u, function.origin ? function.origin : function.specification);
+    }
+    return 0;
+}
+
+/* Adds a type's name with those of the namespaces and classes that it is in: "bank::Account". 0 where it has none. */
+static int add_type_name(const struct members *m, const unit *u, u64 type, text *to) {
+    entry named = read_entry(m, u, type);
+    u64 at = read_entry(m, u, u->first).next, last = named.name.at ? type : named.specification;
+    const char *before = "";
+    for (int depth = 0; depth < MOST_STEPS;) {
+        entry e = read_entry(m, u, at);
+        u64 end = behind(m, u, &e, 0);
+        if (!e.tag || at > last) return 0;
+        if (end <= last) {
+            at = end;
+            continue;
+        }
+        int has_name = e.name.at && (e.tag == TAG_NAMESPACE || e.tag == TAG_STRUCTURE || e.tag == TAG_CLASS);
+        if (has_name) add_name(to, before, string(&e.name), 0);
+        if (has_name) before = "::";
+        if (at == last) return has_name;
+        at = e.next;
+        depth++;
+    }
+    return 0;
+}
+
+static int is_of_cxx_library(const char *type) { return !strncmp(type, "std::", 5) || !strncmp(type, "__gnu_cxx::", 11); }
+
+/* Does the C++ library keep another type's object in this one? */
+static int is_buffer(const char *name) { return !strncmp(name, "__aligned_membuf<", 17) || !strncmp(name, "__aligned_buffer<", 17); }
+
+/* Are several members of this type? Then one of it isn't told by the type alone. */
+static int has_two_of(const struct members *m, const unit *u, const entry *of, u64 type) {
+    entry e = {.next = of->next};
+    int found = 0;
+    u64 plain = plain_type(m, u, type);
+    while ((e = read_entry(m, u, e.next)).tag) {
+        found += e.tag == TAG_MEMBER && e.has_place && plain_type(m, u, e.type) == plain;
+        e.next = behind(m, u, &e, 0);
+    }
+    return found > 1;
+}
+
+/* Goes on to the program's own type that has these bytes, from one of the C++ library's, as a node of a list is; adds its name. 0
+   where there is none. */
+static int find_own_type(const struct members *m, const unit *u, u64 *type, u64 *offset, u64 length, text *to) {
+    for (int steps = 0; steps < MOST_STEPS; steps++) {
+        text begin = *to;
+        *type = plain_type(m, u, *type);
+        entry e = read_entry(m, u, *type);
+        if ((e.tag != TAG_STRUCTURE && e.tag != TAG_CLASS) || !add_type_name(m, u, *type, to)) return 0;
+        if (!is_of_cxx_library(begin.at)) return 1;
+        *to = begin;
+        if (is_buffer(string(&e.name))) {
+            *type = child_with(m, u, &e, TAG_TYPE_ARGUMENT).type;
+            continue;
+        }
+        entry member = member_with(m, u, &e, *offset, length);
+        if (!member.tag || has_two_of(m, u, &e, member.type)) return 0;
+        *offset -= member.place;
+        *type = member.type;
+    }
+    return 0;
+}
+
+/* The elements of a block of so many bytes. Before those of `new T[n]`, where T has a destructor, stands their number; what may be
+   either isn't known. */
+typedef struct { u64 begin, size; } elements;
+static elements elements_of(const struct members *m, const unit *u, u64 *type, u64 size) {
+    enum { COUNT = 8 };
+    elements found = {0};
+    entry e = type_at(m, u, *type);
+    int is_array = e.tag == TAG_ARRAY;
+    if (is_array) *type = e.type;
+    u64 one = size_of_type(m, u, *type);
+    if (!one || (is_array && COUNT % one == 0)) return found;
+    if (size % one == 0) found.size = one;
+    else if (is_array && size > COUNT && (size - COUNT) % one == 0) found = (elements){COUNT, one};
+    return found;
+}
+
+static u64 type_allocated_at(struct members *m, unit **u, const place_in_block *at) {
+    u32 number = map_find(&m->by_begin, at->function, 0);
+    if (!number) return 0;
+    *u = &m->units[m->functions[number - 1].unit];
+    read_abbreviations(m, *u);
+    entry function = read_entry(m, *u, m->functions[number - 1].type);
+    return covers(m, *u, &function, at->pc) ? allocated_type(m, *u, innermost(m, *u, function, at->pc)) : 0;
+}
+
+size_t add_in_block(struct members *m, place_in_block at, char *buffer, size_t size) {
+    text to = {buffer, size, 0};
+    unit *u = 0;
+    u64 type = type_allocated_at(m, &u, &at);
+    elements all = type ? elements_of(m, u, &type, at.size) : (elements){0};
+    if (!all.size || at.offset < all.begin) return 0;
+    u64 offset = (at.offset - all.begin) % all.size, index = (at.offset - all.begin) / all.size;
+    if (at.length > all.size - offset || !find_own_type(m, u, &type, &offset, at.length, &to)) return 0;
+    size_t length = to.at - buffer;
+    char number[24] = "";
+    if (at.size - all.begin > all.size) snprintf(number, sizeof number, "[%lu]", index);
+    add_name(&to, number, "", offset);
+    add_members(m, u, type, offset, at.length, &to);
+    if (to.rest) snprintf(to.at, to.room, "+%lu", to.rest);
+    return length;
 }

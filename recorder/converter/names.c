@@ -249,6 +249,26 @@ void symbol_name(u64 address, char *buffer, size_t size) {
     add_member(m->members, s->at - m->base, address - s->at, length, buffer + n, size - n);
 }
 
+/* Is there a variable that is named as a type is? */
+int is_variable(const char *name, size_t length) {
+    for (int i = 0; i < module_count; i++)
+        for (u64 k = 0; k < modules[i].count; k++)
+            if (!strncmp(modules[i].symbols[k].name, name, length) && !modules[i].symbols[k].name[length]) return 1;
+    return 0;
+}
+
+size_t name_in_block(u64 caller, u64 block_size, u64 offset, u64 length, char *buffer, size_t size) {
+    inlined_frame *f = frames_of(caller);
+    module *m = f && f->in_system_file && !f->in_system ? module_at(caller) : 0;
+    symbol *s = m ? symbol_at(m, caller - 1) : 0;
+    if (!s) return 0;
+    if (!m->members) m->members = read_members(m->path);
+    place_in_block at = {s->at - m->base, caller - 1 - m->base, block_size, offset, length};
+    size_t type = add_in_block(m->members, at, buffer, size);
+    cleaned(buffer);
+    return type;
+}
+
 int local_name(u64 function, u64 pc, u64 below, u64 above, u64 length, char *buffer, size_t size) {
     module *m = module_at(function);
     symbol *s = m ? symbol_at(m, function - 1) : 0;

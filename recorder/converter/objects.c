@@ -262,7 +262,7 @@ static part name_of_lock(const object *o, which w, u32 t, char *tail) {
     if (w.sign == 'r') snprintf(tail, TAIL_BYTES, "@reader.%s", thread_name(t));
     else if (w.sign) length = snprintf(tail, TAIL_BYTES, "%s%u", o->mark, w.version);
     if (w.sign == '<' || w.sign == '>') snprintf(tail + length, TAIL_BYTES - length, "%c%s", w.sign, thread_name(w.thread));
-    if (phase == WRITING) note_local(o->at, o->block, events + 1, t);
+    if (phase == WRITING) note_name(o->at, o->block, events + 1, t);
     return variable_name(o->at, block_of(o->block));
 }
 

@@ -13,7 +13,11 @@
        free FIRST LAST                               these events are of one call that freed a block
        local EVENT TAB VARIABLE TAB NAME             from this event on the variable, which is on a stack, is this local of a
                                                      function that the stack's thread is in, as "x.head of main"; or of none
-                                                     that is known, where the name is empty
+                                                     that is known, where the name is empty. With 0 for EVENT: the variable,
+                                                     which is in a block of the heap, is at all events this member of the
+                                                     block's type, as "Account.balance"; with " of FILE:LINE#NUMBER", the
+                                                     block's name, where several blocks of the trace have this type,
+                                                     or a static variable has its name
        atomic NAME TAB THREAD TAB LOCATION TAB KIND ORDER       an atomic that several threads use: a load, store or update with
                                                      the order relaxed, acquire, release or both, whether or not it is an event
        crash THREAD TAB SIGNAL TAB ADDRESS TAB NODE  how the program ended, where a signal ended it that a thread's own code made; the
@@ -269,10 +273,84 @@ static const char *local_at(const calls_of_thread *s, u64 address, u64 length, u
     return "";
 }
 
-void note_local(u64 at, u32 block_number, u64 event, u32 t) {
+/* ---- members of blocks ---- */
+/* A variable in a block, with its name in there: the first so many bytes are the type's. */
+typedef struct { u64 at, length; u32 block; size_t type_length; char *name; } in_block;
+static in_block *in_blocks;
+static u64 in_block_count, in_block_capacity;
+
+/* By what called for it, where that is known. */
+static u64 allocated_by(u32 block_number) { return block_number < block_count ? nodes[block_nodes[block_number]].caller : 0; }
+
+static void note_in_block(u64 at, u32 block_number, u64 length) {
+    static map met;
+    u64 caller = allocated_by(block_number);
+    inlined_frame *f = caller ? frames_of(caller) : 0;
+    if (!f || !f->in_system_file || f->in_system || map_number(&met, at, block_number) <= in_block_count) return;
+    GROW(in_blocks, in_block_count, in_block_capacity);
+    in_blocks[in_block_count++] = (in_block){.at = at, .length = length, .block = block_number};
+}
+
+static int by_type(const void *a, const void *b) {
+    const in_block *one = a, *other = b;
+    size_t least = one->type_length < other->type_length ? one->type_length : other->type_length;
+    int order = one->name && other->name ? memcmp(one->name, other->name, least) : !one->name - !other->name;
+    if (order || one->type_length != other->type_length) return order ? order : one->type_length < other->type_length ? -1 : 1;
+    if (one->block != other->block) return one->block < other->block ? -1 : 1;
+    return one->name ? strcmp(one->name, other->name) : 0;
+}
+
+static void find_names_in_blocks(void) {
+    char name[NAME_BYTES];
+    for (u64 k = 0; k < in_block_count; k++) {
+        in_block *i = &in_blocks[k];
+        const block *b = block_of(i->block);
+        i->type_length = name_in_block(allocated_by(i->block), b->size, i->at - b->at, i->length, name, sizeof name);
+        i->name = i->type_length ? strdup(name) : 0;
+        if (i->type_length && !i->name) die("out of memory");
+    }
+    if (in_block_count) qsort(in_blocks, in_block_count, sizeof *in_blocks, by_type);
+}
+
+static int are_of_one_type(const in_block *one, const in_block *other) {
+    return one->type_length == other->type_length && !memcmp(one->name, other->name, one->type_length);
+}
+
+/* Those of a type, which stand beside each other. Two variables of a block that would have one name have none. */
+static void write_names_of_type(const in_block *first, const in_block *end) {
+    int with_block = first->block != end[-1].block || is_variable(first->name, first->type_length);
+    for (const in_block *i = first; i < end; i++) {
+        int is_double = (i > first && i[-1].block == i->block && !strcmp(i[-1].name, i->name))
+            || (i + 1 < end && i[1].block == i->block && !strcmp(i[1].name, i->name));
+        if (is_double) continue;
+        const block *b = block_of(i->block);
+        part variable = variable_name(i->at, b);
+        fprintf(lines, "local 0\t%.*s\t%s", (int)variable.length, variable.at, i->name);
+        if (with_block) {
+            part origin = variable_name(b->at, b);
+            fprintf(lines, " of %.*s", (int)origin.length, origin.at);
+        }
+        fputc('\n', lines);
+    }
+}
+
+static void write_names_in_blocks(void) {
+    find_names_in_blocks();
+    for (u64 k = 0, end; k < in_block_count && in_blocks[k].name; k = end) {
+        for (end = k + 1; end < in_block_count && in_blocks[end].name && are_of_one_type(&in_blocks[k], &in_blocks[end]);) end++;
+        write_names_of_type(&in_blocks[k], &in_blocks[end]);
+    }
+}
+
+void note_name(u64 at, u32 block_number, u64 event, u32 t) {
     enum { MOST_LENGTH = 4096 };
     const block *b = block_of(block_number);
-    if (!with_stacks || !b || !b->stack) return;
+    if (!with_stacks || !b) return;
+    if (!b->stack) {
+        u64 end = b->at + b->size;
+        note_in_block(at, block_number, next_cut(at, at + MOST_LENGTH < end ? at + MOST_LENGTH : end) - at);
+        return;
+    }
     calls_of_thread *s = &stacks[b->thread];
     u32 depth = 0, number = named_number(at, block_number);
     const char *name = local_at(s, at, next_cut(at, at + MOST_LENGTH) - at, &depth);
@@ -313,7 +391,7 @@ void note_atomic(u64 i, u64 object) {
     if (!with_stacks || map_number(&met, object << 20 | thread_of(i), use) <= count) return;
     count++;
     const block *b = block_at(address_of(i));
-    note_local(address_of(i), block_number(b), events + 1, thread_of(i));
+    note_name(address_of(i), block_number(b), events + 1, thread_of(i));
     part name = variable_name(address_of(i), b), place = place_of(caller_of(i));
     fprintf(lines, "atomic %.*s\t%s\t%.*s\t%s %s\n", (int)name.length, name.at, thread_name(thread_of(i)), (int)place.length, place.at,
             operation == OP_ATOMIC_LOAD ? "load" : operation == OP_ATOMIC_STORE ? "store" : "update", orders[order]);
@@ -466,6 +544,7 @@ void end_stacks(void) {
         if (block_of(b)->named && block_nodes[b]) fprintf(file, "block %lu %u\n", b, block_nodes[b]);
     for (u64 i = 0; i < free_count; i++) fprintf(file, "free %lu %lu\n", frees[i].first, frees[i].last);
     if (crash.is_met) write_crash();
+    write_names_in_blocks();
     if (fclose(lines)) die("out of memory");
     fwrite(lines_text, 1, lines_bytes, file);
     write_sources(file);

@@ -28,7 +28,7 @@ class Places(places.Places):
     def add_new(self, process, trace, origin, found, has_locals):
         """Takes the places of a trace, and gives those that are new, or have a new variable. `has_locals` says whether the process's
         table of locals is of its events."""
-        local_of = origin.tables.local_of if has_locals else lambda variable, event: None
+        local_of = origin.tables.local_of if has_locals else origin.tables.lasting
         in_run = [named(place, trace, local_of) for place in found]
         keys = self.add((process.name, trace), origin, [place for place, _ in in_run])
         new = [New(key, place, self.new_variables(key, names)) for key, place, (_, names) in zip(keys, found, in_run)]

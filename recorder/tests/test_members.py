@@ -3,9 +3,14 @@
 import os
 import random
 import re
+import shutil
+import sys
 
 import recorder
 from test_record import entry
+
+sys.path.insert(0, str(recorder.SOURCES.parent / "common"))
+from shb_common.stacks import Stacks  # noqa: E402
 
 
 def sections(program):
@@ -36,6 +41,33 @@ class Members(recorder.Case):
 
     def test_in_cxx(self):
         self.check("members.cc")
+
+
+class Blocks(recorder.Case):
+    """What lies in a block that the C++ library allocates is named by the block's type; what isn't certain has no name."""
+
+    def found(self, compiler, option):
+        """By line, the names of what the threads access in blocks, without the blocks' numbers."""
+        source, program, record, path = recorder.PROGRAMS / "blocks.cc", self.folder / "app", self.folder / "app.rec", self.folder / "app.stacks"
+        library = recorder.BUILT / "lib"
+        linked = [f"-B{library}/"] if compiler == "g++" else ["-fno-sanitize-link-runtime", f"-L{library}", "-ltsan"]
+        recorder.must(recorder.call(compiler, "-w", "-g", option, "-fsanitize=thread", "-pthread", source, *linked, "-o", program))
+        recorder.must(recorder.call(program, env=recorder.settings(record)))
+        trace = recorder.must(recorder.convert(record, "-a", "--stacks", path)).stdout
+        names, found = Stacks(path, 0, len(trace.splitlines())).lasting_locals, {}
+        for variable, place in re.findall(rb"(?m)^T\d.*?\|(?:r|w|acq)\((blocks\.cc:\d+#[+\d]*)\)\|(.*)$", trace):
+            found.setdefault(place.decode(), set()).add(re.sub(r"#\d+$", "", names.get(variable, b"-").decode()))
+        return found
+
+    def test_by_type(self):
+        wanted = recorder.marked(recorder.PROGRAMS / "blocks.cc", "IS")
+        self.assertEqual(len(wanted), 13)
+        for compiler in ("g++", "clang++"):
+            for option in ("-O0", "-O1", "-O2"):
+                if shutil.which(compiler):
+                    with self.subTest(compiler=compiler, option=option):
+                        found = self.found(compiler, option)
+                        self.assertEqual({place: found.get(place) for place in wanted}, wanted)
 
 
 UNREAD = {("-g0",): "isn't there (no -g)", ("-g1",): "has no types (-g1)",

@@ -8,7 +8,7 @@ import typing
 from shb_common.faults import Refused
 from shb_common.report import BadReport
 from shb_common.variables import without_end
-from shb_view.held import Held
+from shb_view.held import Held, called
 from shb_view.trace import CHANGED, OPENS, fields_of
 
 BEFORE = 6  # events of a thread right before its access
@@ -38,6 +38,7 @@ class Kinds:
     def __init__(self, gathered, stacks):
         """`gathered` has the atomic of a variable that stands for what a thread wrote to it, and names of locals."""
         self.atomics, self.locals, self.stacks, self.locks = gathered.atomics, gathered.locals, stacks, stacks.lasting_locals
+        self.racing = {self.in_trace(variable) for variable, _ in gathered.racing}
 
     def of(self, number, word, variable):
         """The word of `words.KINDS` for an event."""
@@ -52,16 +53,30 @@ class Kinds:
     def is_atomic(self, variable):
         return variable in self.atomics
 
+    def in_trace(self, variable):
+        """The variable as the trace has it; of an atomic that name which its threads have in common."""
+        return self.atomics.get(variable, variable)
+
     def is_in_life(self, number, variable):
         """Whether an event is an access of what the variable is named by: where a local lies other functions may have theirs, before and
         after its own lives."""
-        variable = self.atomics.get(variable, variable)
+        variable = self.in_trace(variable)
         return variable not in self.locals or self.stacks.local_of(variable, number) == self.locals[variable]
 
     def name(self, variable):
         """The variable as the program has it."""
-        variable = self.atomics.get(variable, variable)
+        variable = self.in_trace(variable)
         return self.locals.get(variable, variable)
+
+    def named(self, number, event):
+        """An event with its variable or its lock as the program has it: a variable that races has one name at all events."""
+        if event.word in (b"acq", b"rel"):
+            return event._replace(name=called(event.name, self.locks))
+        if event.word not in (b"r", b"w"):
+            return event
+        variable, sign, thread = event.name.partition(b"!")
+        name = self.locals.get(variable) if variable in self.racing else self.stacks.local_of(variable, number)
+        return event._replace(name=(name or variable) + sign + thread)
 
 
 class Counting:

@@ -6,9 +6,12 @@ import typing
 from shb_common.variables import atomic_of
 from shb_view.words import Code
 
-# Names as the recorder writes them: of a variable on a stack; of any other one, which may be a local `of` a function.
+# Names as the recorder writes them: of a variable on a stack; of a member of a block's type, with the block; of any other one, which
+# may be a local `of` a function.
 ON_STACK = re.compile(rb"(?P<base>stack\..*)(?P<block>)(?P<inside>-0x[0-9a-f]+)(?P<of>)", re.S)
-NAME = re.compile(rb"(?P<base>.*?)(?P<block>#[0-9]+)?(?P<inside>(?:\.[A-Za-z_]\w*|\[[0-9]+\])*(?:\+[0-9]+)?)(?P<of>(?: of .+)?)", re.S)
+INSIDE = rb"(?P<inside>(?:\.[A-Za-z_]\w*|\[[0-9]+\])*(?:\+[0-9]+)?)"
+IN_BLOCK = re.compile(rb"(?P<base>.+?)" + INSIDE + rb"(?P<of> of .+(?::[0-9]+|\+0x[0-9a-f]+))(?P<block>#[0-9]+)", re.S)
+NAME = re.compile(rb"(?P<base>.*?)(?P<block>#[0-9]+)?" + INSIDE + rb"(?P<of>(?: of .+)?)", re.S)
 
 
 class Pair:
@@ -137,7 +140,7 @@ class Gathered:
 
 
 def name_parts(variable):
-    return ON_STACK.fullmatch(variable) or NAME.fullmatch(variable)
+    return ON_STACK.fullmatch(variable) or IN_BLOCK.fullmatch(variable) or NAME.fullmatch(variable)
 
 
 def object_of(group):
@@ -172,5 +175,5 @@ def common_name(variables):
         return variables[0], f"and {len(variables) - 1} more"
     if len(insides) == 1:
         return bases.pop() + insides.pop(), f"({len(variables)} blocks)"
-    shared = bases.pop() + (blocks.pop() if len(blocks) == 1 else b"") + functions.pop()
+    shared = bases.pop() + functions.pop() + (blocks.pop() if len(blocks) == 1 else b"")
     return shared, f"({len(variables)} variables)"

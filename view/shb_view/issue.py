@@ -22,7 +22,7 @@ def issue_lines(view, section):
     yield f"(one of {counted(races, 'race')} of these two lines in a recorded run)" if races > 1 else "(one race in a recorded run)"
     for access in window.accesses:
         yield from access_lines(view, window, access)
-    allocated = stack_lines(view.stacks.of_variable(one.name))
+    allocated = stack_lines(view.stacks.of_variable(view.kinds.in_trace(one.name)))
     if allocated:
         yield "  the block was allocated at"
         yield from allocated

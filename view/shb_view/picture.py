@@ -106,7 +106,7 @@ class Drawing:
 
     def event_texts(self, number):
         """An event's operation, and its location, after which its number stands."""
-        event, accesses = self.window.events[number].event, self.window.accesses
+        event, accesses = self.window.events[number].named, self.window.accesses
         front = f"{accesses.index(number) + 1}  " if number in accesses else ""
         location = short(event.location, TEXT - len(f" · {number}")) if event.location else "(no location)"
         return front + operation_text(event, TEXT - len(front)), location

@@ -29,7 +29,7 @@ def origins(view, section):
     threads = sorted({thread for site in section.sites if site.partners for thread in site.threads})
     found = [(["thread ", Code(thread), " was created"], view.stacks.of_thread(thread)) for thread in threads]
     blocks = {}
-    for name in section.group.variables:
+    for name in map(view.kinds.in_trace, section.group.names):
         blocks.setdefault(OFFSET.sub(b"", name), view.stacks.of_variable(name))
     found += [(["block ", Code(name), " was allocated"], frames) for name, frames in blocks.items()]
     window = section.window

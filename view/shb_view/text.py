@@ -4,6 +4,7 @@ import collections
 
 from shb_common import known
 from shb_common.programs import naming
+from shb_common.variables import without_block
 from shb_common.words import counted
 from shb_view.groups import group_name
 from shb_view.issue import issue_lines
@@ -78,7 +79,7 @@ def is_asked_for(only, origin, names, pair, group):
     """Whether two lines with one of the group's variables are among these places."""
     sides = [names.side(origin.location(location)) for location in pair]
     sides = [side._replace(names=(*side.names, known.written(location))) for side, location in zip(sides, pair)]
-    return any([only.has(sides, name) for name in {*group.variables, *group.names}])
+    return any([only.has(sides, name) for name in {*map(without_block, group.variables), *group.names}])
 
 
 def section_lines(view, number, section, colours):
@@ -130,7 +131,7 @@ def window_lines(window):
     """The events before the accesses of the race that is shown of a group."""
     yield f"   Before the accesses: {'nothing' if not window.before else ''}".rstrip()
     rows = [window.events[event] for event in window.before]
-    texts = [(str(row.number), short(row.event.thread, NAME), operation_text(row.event, NAME)) for row in rows]
+    texts = [(str(row.number), short(row.event.thread, NAME), operation_text(row.named, NAME)) for row in rows]
     widths = [max(map(columns, column)) for column in zip(*texts)]
     for row, (number, thread, operation) in zip(rows, texts):
         location = flat([place(row.event.location)])

@@ -37,6 +37,11 @@ def event_of(line):
     return Event(thread, word, b"" if word in (b"begin", b"end") else name[:-1], b"".join(location))
 
 
+def line_of(event):
+    """The line of an event with an operand."""
+    return event.thread + b"|" + event.word + b"(" + event.name + b")" + (b"|" + event.location if event.location else b"")
+
+
 class Found(typing.NamedTuple):
     """A line that was looked up, without its end; `row` is its number in the text, counted from 1."""
 

@@ -13,6 +13,7 @@ from shb_common.limits import MOST_TEXT
 from shb_common.report import BadReport, Counts, Report, in_order
 from shb_common.result import text
 from shb_common.stacks import AtomicUse, Stacks
+from shb_common.variables import without_block
 from shb_common.words import counted
 from shb_view.analyser import MOST_LISTED, Analyser, Verdict
 from shb_view.counting import Counting, Kinds
@@ -76,7 +77,7 @@ class View(typing.NamedTuple):
         found = {}
         for place in pair.orders:
             for name, races in self.gathered.variables.get(place, {}).items():
-                name = text(self.kinds.name(name))
+                name = text(without_block(self.kinds.name(name)))
                 found[name] = found.get(name, 0) + races
         return [{"name": name, "races": races} for name, races in sorted(found.items())]
 

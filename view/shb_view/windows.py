@@ -5,11 +5,12 @@ import typing
 
 from shb_common.report import Race
 from shb_view.held import Held, called
-from shb_view.trace import OPENS, Event, event_of, fields_of
+from shb_view.trace import OPENS, Event, event_of, fields_of, line_of
 
 
 class Shown(typing.NamedTuple):
-    """An event that is shown. `previous` is the event before it in its thread, or 0. `source` is the event of another thread that
+    """An event that is shown. `named` is the event with the program's name for its variable or lock, and `line` its line with that.
+    `previous` is the event before it in its thread, or 0. `source` is the event of another thread that
     it waits for or sees: for an acquire the last release of the lock, for a read the last write, for a join the thread's last
     event; or 0. `locks` and `held` are as `Held.newest` has them; `freed` is the lock that it makes free, or None."""
 
@@ -17,6 +18,7 @@ class Shown(typing.NamedTuple):
     row: int
     line: bytes
     event: Event
+    named: Event
     previous: int
     source: int
     locks: typing.Tuple[typing.Tuple[bytes, int], ...]
@@ -113,9 +115,16 @@ def make_windows(trace, races, counting, order):
     moments.read(trace)
     moments.found.update(joined)
     found = trace.find(moments.moments)
-    shown = {number: Shown(number, *found[number], event_of(found[number].line), moment.previous,
-                           moments.found.get(number, 0), *moment[1:]) for number, moment in moments.moments.items()}
+    shown = {number: shown_event(number, found[number], counting.access_kinds, moment, moments.found.get(number, 0))
+             for number, moment in moments.moments.items()}
     return [window(race, counting, forks, shown, order) for race in races]
+
+
+def shown_event(number, found, kinds, moment, source):
+    event = event_of(found.line)
+    named = kinds.named(number, event)
+    line = line_of(named) if named != event else found.line
+    return Shown(number, found.row, line, event, named, moment.previous, source, *moment[1:])
 
 
 def threads_of(races):
