@@ -31,6 +31,7 @@ typedef struct {
     uint8_t has_children, has_place, has_bits, has_ranges, has_locations;
 } entry;
 typedef struct { u32 unit; u64 type; } typed;
+typedef struct { char *type, *rest; } named_part;            /* "Account", ".balance"; null where there is no such type */
 struct members {
     bytes info, abbreviations, strings, line_strings, string_offsets, addresses, ranges, locations;
     unit *units;
@@ -38,6 +39,10 @@ struct members {
     map by_address, by_begin;          /* the numbers of variables, and of functions */
     typed *variables, *functions;      /* of a function the type is its entry */
     u64 variable_count, variable_capacity, function_count, function_capacity;
+    map by_call, by_part;              /* the numbers of what calls allocate, and of what lies inside of that */
+    typed *calls;
+    named_part *parts;
+    u64 call_count, call_capacity, part_count, part_capacity;
     const char *unread;                /* what of it isn't read, or null */
     int has_code, has_types;           /* does it tell of code, and of what a function gives? */
 };
@@ -645,28 +650,62 @@ static elements elements_of(const struct members *m, const unit *u, u64 *type, u
     return found;
 }
 
-static u64 type_allocated_at(struct members *m, unit **u, const place_in_block *at) {
+static typed find_allocated(struct members *m, const place_in_block *at) {
     u32 number = map_find(&m->by_begin, at->function, 0);
-    if (!number) return 0;
-    *u = &m->units[m->functions[number - 1].unit];
-    read_abbreviations(m, *u);
-    entry function = read_entry(m, *u, m->functions[number - 1].type);
-    return covers(m, *u, &function, at->pc) ? allocated_type(m, *u, innermost(m, *u, function, at->pc)) : 0;
+    if (!number) return (typed){0};
+    typed f = m->functions[number - 1];
+    unit *u = &m->units[f.unit];
+    read_abbreviations(m, u);
+    entry function = read_entry(m, u, f.type);
+    return (typed){f.unit, covers(m, u, &function, at->pc) ? allocated_type(m, u, innermost(m, u, function, at->pc)) : 0};
+}
+
+/* What a call allocates; its type is 0 where that isn't certain. Each is looked for once. */
+static typed allocated_at(struct members *m, const place_in_block *at) {
+    u32 number = map_number(&m->by_call, at->pc, 0);
+    if (number > m->call_count) {
+        GROW(m->calls, m->call_count, m->call_capacity);
+        m->calls[m->call_count++] = find_allocated(m, at);
+    }
+    return m->calls[number - 1];
+}
+
+static named_part find_part(const struct members *m, const unit *u, u64 type, u64 offset, u64 length) {
+    char name[NAME_BYTES] = "";
+    text to = {name, sizeof name, 0};
+    if (!find_own_type(m, u, &type, &offset, length, &to)) return (named_part){0};
+    named_part found = {.type = strndup(name, to.at - name)};
+    char *rest = to.at;
+    to.rest = offset;
+    add_members(m, u, type, offset, length, &to);
+    if (to.rest) snprintf(to.at, to.room, "+%lu", to.rest);
+    found.rest = strdup(rest);
+    if (!found.type || !found.rest) die("out of memory");
+    return found;
+}
+
+/* Of a type, the names of what lies so far inside. */
+static named_part part_of(struct members *m, const unit *u, u64 type, u64 offset, u64 length) {
+    u32 number = map_number(&m->by_part, type, offset << 32 | length);
+    if (number > m->part_count) {
+        GROW(m->parts, m->part_count, m->part_capacity);
+        m->parts[m->part_count++] = find_part(m, u, type, offset, length);
+    }
+    return m->parts[number - 1];
 }
 
 size_t add_in_block(struct members *m, place_in_block at, char *buffer, size_t size) {
-    text to = {buffer, size, 0};
-    unit *u = 0;
-    u64 type = type_allocated_at(m, &u, &at);
-    elements all = type ? elements_of(m, u, &type, at.size) : (elements){0};
+    typed found = allocated_at(m, &at);
+    if (!found.type) return 0;
+    const unit *u = &m->units[found.unit];
+    elements all = elements_of(m, u, &found.type, at.size);
     if (!all.size || at.offset < all.begin) return 0;
-    u64 offset = (at.offset - all.begin) % all.size, index = (at.offset - all.begin) / all.size;
-    if (at.length > all.size - offset || !find_own_type(m, u, &type, &offset, at.length, &to)) return 0;
-    size_t length = to.at - buffer;
-    char number[24] = "";
-    if (at.size - all.begin > all.size) snprintf(number, sizeof number, "[%lu]", index);
-    add_name(&to, number, "", offset);
-    add_members(m, u, type, offset, at.length, &to);
-    if (to.rest) snprintf(to.at, to.room, "+%lu", to.rest);
-    return length;
+    u64 offset = (at.offset - all.begin) % all.size;
+    if (at.length > all.size - offset) return 0;
+    named_part part = part_of(m, u, found.type, offset, at.length);
+    if (!part.type) return 0;
+    char index[24] = "";
+    if (at.size - all.begin > all.size) snprintf(index, sizeof index, "[%lu]", (at.offset - all.begin) / all.size);
+    snprintf(buffer, size, "%s%s%s", part.type, index, part.rest);
+    return strlen(part.type);
 }
