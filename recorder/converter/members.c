@@ -555,8 +555,8 @@ static entry child_with(const struct members *m, const unit *u, const entry *of,
     return of->has_children ? e : (entry){0};
 }
 
-/* What a function of the C++ library's gives memory for: T of `T *allocate(size_t)` and of `make_unique<T>()`; 0 of any other. */
-static u64 allocated_type(const struct members *m, const unit *u, entry function) {
+/* What a function of the C++ library's gives so many bytes for: T of `T *allocate(size_t)` and of `make_unique<T>()`; 0 of any other. */
+static u64 allocated_type(const struct members *m, const unit *u, entry function, u64 size) {
     static const char unique[] = "make_unique";
     u64 argument = 0;
     for (int steps = 0; steps < MOST_STEPS && function.tag; steps++) {
@@ -566,7 +566,10 @@ static u64 allocated_type(const struct members *m, const unit *u, entry function
             entry pointer = type_at(m, u, function.type);
             return pointer.tag == TAG_POINTER ? pointer.type : 0;
         }
-        if (!strncmp(name, unique, strlen(unique)) && argument) return argument;
+        if (argument && strstr(name, unique) == name) {
+            int is_array = type_at(m, u, argument).tag == TAG_ARRAY;
+            return is_array || size_of_type(m, u, argument) == size ? argument : 0;
+        }
         function = read_entry(m, u, function.origin ? function.origin : function.specification);
     }
     return 0;
@@ -657,7 +660,7 @@ static typed find_allocated(struct members *m, const place_in_block *at) {
     unit *u = &m->units[f.unit];
     read_abbreviations(m, u);
     entry function = read_entry(m, u, f.type);
-    return (typed){f.unit, covers(m, u, &function, at->pc) ? allocated_type(m, u, innermost(m, u, function, at->pc)) : 0};
+    return (typed){f.unit, covers(m, u, &function, at->pc) ? allocated_type(m, u, innermost(m, u, function, at->pc), at->size) : 0};
 }
 
 /* What a call allocates; its type is 0 where that isn't certain. Each is looked for once. */

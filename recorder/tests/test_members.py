@@ -138,18 +138,36 @@ class Damaged(recorder.Case):
         for name in (".debug_info", ".debug_abbrev", ".debug_str"):
             yield good.replace(name.encode() + b"\0", name[:-1].encode() + b"x\0")
 
+    def setUp(self):
+        super().setUp()
+        self.converter = self.folder / "shb-std"
+        sanitizers = "-fsanitize=address,undefined", "-fno-sanitize-recover=all"
+        recorder.must(recorder.call("gcc", "-g", "-O1", *sanitizers, *sorted(recorder.SOURCES.glob("converter/*.c")), "-o", self.converter))
+
+    def test_damaged_types_of_blocks(self):
+        """A name is there or not, and no access is made that isn't allowed."""
+        program, record, path, names = self.folder / "app", self.folder / "app.rec", self.folder / "app.stacks", set()
+        recorder.build(recorder.PROGRAMS / "blocks.cc", "-O1", program)
+        recorder.must(recorder.call(program, env=recorder.settings(record)))
+        good = program.read_bytes()
+        for number, content in enumerate([good, *self.damaged(good, sections(program))]):
+            program.write_bytes(content)
+            answer = recorder.call(self.converter, "--stacks", path, record, env={**os.environ, "ASAN_OPTIONS": "detect_leaks=0"})
+            with self.subTest(number):
+                self.assertEqual(answer.returncode, 0, answer.stderr[-2000:])
+            names.update(Stacks(path, 0, len(answer.stdout.splitlines())).lasting_locals.values())
+        self.assertIn(b"bank::Account.balance", names)
+
     def test_damaged_debug_information(self):
         """The trace is one that shb takes, and no access is made that isn't allowed."""
-        converter, program, record = self.folder / "shb-std", self.folder / "app", self.folder / "app.rec"
-        sanitizers = "-fsanitize=address,undefined", "-fno-sanitize-recover=all"
-        recorder.must(recorder.call("gcc", "-g", "-O1", *sanitizers, *sorted(recorder.SOURCES.glob("converter/*.c")), "-o", converter))
+        program, record = self.folder / "app", self.folder / "app.rec"
         recorder.must(recorder.call("g++", "-w", "-g", "-no-pie", "-pthread", recorder.PROGRAMS / "members.cc", "-o", program))
         good, names = program.read_bytes(), set()
         record.write_bytes(self.record(program))
         places = sections(program)
         for number, content in enumerate([good, *self.damaged(good, places)]):
             program.write_bytes(content)
-            answer = recorder.call(converter, record, env={**os.environ, "ASAN_OPTIONS": "detect_leaks=0"})
+            answer = recorder.call(self.converter, record, env={**os.environ, "ASAN_OPTIONS": "detect_leaks=0"})
             with self.subTest(number):
                 self.assertEqual(answer.returncode, 0, answer.stderr[-2000:])
                 recorder.places(answer.stdout)
