@@ -51,7 +51,8 @@ impl Asks for CountsAre<'_> {
 /// One batch, batches, and each variable alone.
 const KEPT: [u64; 4] = [1000, 9, 4, 0];
 
-/// Each access of T2 to x races with three writes of T1 (its read sees its own write), at two locations; and y has one race.
+/// Each access of x by the second thread races with three writes of the first, at two locations: its read sees its own
+/// write. And y has one race.
 const FEW_LOCATIONS: &str =
     "T1|w(x)|a\nT1|w(x)|a\nT1|w(x)|b\nT2|w(x)|a\nT2|r(x)|b\nT2|w(x)|b\nT1|w(y)|a\nT2|w(y)|a\n";
 
@@ -69,7 +70,7 @@ fn many_races_at_few_locations(rt: HostRuntime) -> Result<(), Fail> {
     Ok(())
 }
 
-/// T2 reads x twice, and each later write of T1 races with both reads; reads don't race with reads.
+/// The second thread reads x twice, and each later write of the first races with both reads. Reads don't race with reads.
 const READS: &str = "T1|r(x)|a\nT2|r(x)|a\nT2|r(x)|a\nT1|r(x)|a\nT1|w(x)|a\nT1|w(x)|b\n";
 
 #[test]
