@@ -102,6 +102,7 @@ def costs():
     yield Cost("a counter of 64 threads", PLACES, hot("counter", 64, 128), 20_000)
     yield Cost("locks and statistics", PLACES, hot("mixed", 8, 5), 20_000)
     yield Cost("locks and statistics", RACES, hot("mixed", 8, 5), 20_000, reads=FIRST)
+    yield Cost("locks and statistics of 200 threads", RACES, hot("mixed", 200, 5), 20_000)
     yield Cost("schedules of 20 late races", SCHEDULES, shapes.late_races, 10_000)
     yield Cost("an array", RACES, hot("array", 8, 2), 20_000)
     for path in sorted(RECORDED.glob("*.std.xz")):

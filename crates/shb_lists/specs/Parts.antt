@@ -8,7 +8,7 @@ use Rattle.shb_lists.specs.Batches.{AreNarrowed}
 use Rattle.shb_lists.specs.Past.{IsPast}
 use Rattle.shb_lists.specs.declared.parts.RaceParts.{RaceParts}
 
--- the races of x whose later event stands before n
+-- the races of x whose later event is before n
 abbrev pub races_until : List Event → ℕ → ℕ → List (ℕ × ℕ)
 races_until trace x n = flat_map (races_with trace) (numbers_where (accesses_at trace x) n)
 

@@ -11,15 +11,6 @@ use shb_io::NoMemory;
 use shb_stamps::is_open;
 use std::alloc::Global;
 
-/// Some variables whose numbers follow each other, and their races.
-#[derive(Drop)]
-pub struct Batch {
-    /// One more than the number of the last variable.
-    pub to: u32,
-    /// Their races in the order of the race list; nothing where it is one variable, which has more than can be kept.
-    pub races: Option<Vec<ListedRace>>,
-}
-
 /// Whether a variable is open, and its number from `from` up to and without `to`.
 fn is_open_between(flags: &[bool], x: u32, from: u32, to: u32) -> bool
     ensures inside { from ≤ x → x < to → result ≡ is_open_in flags.now x }
@@ -57,7 +48,7 @@ pub fn narrowed(
 
 /// The races of the variables from `from` up to and without `to`, in the order of the race list; or nothing, where there
 /// are more than `most`.
-fn races_within(
+pub(crate) fn races_within(
     alloc: Global,
     settled: &Settled<'_>,
     from: u32,
@@ -81,38 +72,4 @@ fn races_within(
         }
         None => Ok(None),
     }
-}
-
-/// The races of the variables from `from` on, of as many as have not more than `most` together: at least one, and none from
-/// `until` on. The batch has no races where it is one variable that has more.
-///
-/// Each try is a sweep, and has half of the variables of the one before it. Memory: a byte a variable, and what a sweep
-/// takes.
-///
-/// # Errors
-///
-/// `NoMemory` where a growth was refused.
-pub fn batch_from(
-    alloc: Global,
-    settled: &Settled<'_>,
-    from: u32,
-    until: u32,
-    most: u64,
-) -> Result<Batch, NoMemory>
-    requires { from < until }
-    ensures more { IfOk result (λ batch. from < batch.to) }
-    ensures within { IfOk result (λ batch. batch.to ≤ until) }
-    ensures races { IfOk result (λ batch. IfSome batch.races (λ races. map pair_in races.items ≡ races_between settled.now.disciplined.now.events.now from batch.to)) }
-    ensures alone { IfOk result (λ batch. batch.races ≡ None → batch.to ≡ from + 1) }
-{
-    let mut to = until;
-    while to - from > 1 {
-        let races = races_within(alloc, settled, from, to, most)?;
-        if races.is_some() {
-            return Ok(Batch { to, races });
-        }
-        to = from + (to - from) / 2;
-    }
-    let races = races_within(alloc, settled, from, to, most)?;
-    Ok(Batch { to, races })
 }

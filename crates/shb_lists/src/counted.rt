@@ -10,9 +10,9 @@ ghost use Rattle.shb_lists.specs.Counted.{HasCounted};
 ghost use Rattle.shb_lists.specs.Unknown.{AreBelow};
 
 use crate::alone::count_alone;
-use crate::batches::{Batch, batch_from};
 use crate::counter::RaceCounter;
 use crate::numbering::location_numbers;
+use crate::plan::{Batch, BatchPlan};
 use crate::settled::Settled;
 use shb_format::Places;
 use shb_io::NoMemory;
@@ -36,7 +36,7 @@ fn count_batches(
     counter: &mut RaceCounter,
     numbers: &[u32],
     classes: usize,
-    most: u64,
+    plan: &BatchPlan,
 ) -> Result<(), NoMemory>
     requires numbers { AreBelow settled.now.disciplined.now.events.now numbers.now classes }
     requires counted { (leading : List Pair) × HasCounted numbers.now leading [] counter.old }
@@ -46,7 +46,7 @@ fn count_batches(
     let variables = settled.disciplined.sizes.variables;
     let mut from = 0;
     while from < variables {
-        let Batch { to, races } = batch_from(alloc, settled, from, variables, most)?;
+        let Batch { to, races } = plan.batch(alloc, settled, from)?;
         match races {
             Some(races) => counter.count_kept(numbers, &races),
             None => count_alone(alloc, settled, counter, numbers, classes, from)?,
@@ -59,8 +59,8 @@ fn count_batches(
 /// How many races a trace has, and their places. The places are those of the leading races, of each place the first
 /// race of the race list, in the order of that list; so the races can be counted in any order.
 ///
-/// The races of as many variables as have not more than `most` together are kept, and cost a step each; a variable that
-/// has more alone costs a sweep of its own, in which an access with as many races as there are locations costs a step
+/// The races of as many variables as the plan puts together are kept, and cost a step each; a variable that has more than
+/// can be kept costs a sweep of its own, in which an access with as many races as there are locations costs a step
 /// for each location and for each thread, and another a step for each race. Memory: 4 bytes an event, 12 a race that is
 /// kept, some 64 a location and place, and what a sweep takes; for a variable alone 8 bytes an event and at most 8 an
 /// access more, and tables of at most 64 an event.
@@ -73,7 +73,7 @@ pub fn counted_races<R: RandomSource>(
     alloc: Global,
     settled: &Settled<'_>,
     leading: &[Pair],
-    most: u64,
+    plan: &BatchPlan,
 ) -> Result<RaceCount, NoMemory>
     requires leading { LeadingRaces settled.now.disciplined.now.trace.now (map ends leading.now) }
     ensures races { (listed : List (ℕ × ℕ)) → IsRaceList settled.now.disciplined.now.events.now listed → IfOk result (λ c. c.races ≡ length listed) }
@@ -85,7 +85,7 @@ pub fn counted_races<R: RandomSource>(
     let mut counter = RaceCounter::new(rt, alloc, numbers, leading)?;
     located.locations.are_different();
     let classes = located.locations.len();
-    count_batches(alloc, settled, &mut counter, numbers, classes, most)?;
+    count_batches(alloc, settled, &mut counter, numbers, classes, plan)?;
     let places = counter.places.to_places(alloc)?;
     Ok(RaceCount {
         races: counter.races,

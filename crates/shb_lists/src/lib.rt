@@ -8,7 +8,7 @@
 //! each race a step.
 //!
 //! [`kept_races`] keeps what the sweep finds, and sorts it into the order of the race list; workers make pairs of it in
-//! pieces ([`pairs_in_pieces`]). [`batch_from`] does the same for as many variables as have few enough races, and
+//! pieces ([`pairs_in_pieces`]). A [`BatchPlan`] does the same for as many variables as have few enough races, and
 //! [`RaceParts`] finds those of one variable a part at a time. [`Unknown`] counts the races of an access by the numbers
 //! of their locations, without a step for each of them; [`counted_races`] counts all races, and those of each place.
 #![tactic(auto)]
@@ -22,17 +22,19 @@ mod numbering;
 mod parts;
 mod past;
 mod pieces;
+mod plan;
 mod rivals;
 mod search;
 mod settled;
 mod unknown;
 
-pub use batches::{Batch, batch_from, narrowed};
+pub use batches::narrowed;
 pub use counted::{RaceCount, counted_races};
 pub use kept::{ListedRace, kept_races};
 pub use parts::RaceParts;
 pub use past::{Past, access_at};
 pub use pieces::pairs_in_pieces;
+pub use plan::{Batch, BatchPlan};
 pub use search::Access;
 pub use settled::Settled;
 pub use unknown::Unknown;

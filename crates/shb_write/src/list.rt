@@ -12,7 +12,7 @@ use crate::errors::WriteError;
 use crate::plan::BlockPlan;
 use shb_fan::Gate;
 use shb_io::Sink;
-use shb_lists::{ListedRace, RaceParts, Settled, batch_from, pairs_in_pieces};
+use shb_lists::{BatchPlan, ListedRace, RaceParts, Settled, pairs_in_pieces};
 use std::alloc::Global;
 use std::sync::Wait;
 use std::thread::Threads;
@@ -56,12 +56,13 @@ fn write_variable<R: Threads + Wait + Sync, K: Sink, G: Gate + Sync>(
     Ok(())
 }
 
-/// Writes the blocks of all races of a trace, in batches of not more than it has events.
+/// Writes the blocks of all races of a trace, batch by batch.
 fn write_batches<R: Threads + Wait + Sync, K: Sink, G: Gate + Sync>(
     rt: &R,
     alloc: Global,
     writer: &mut BlockWriter<'_, '_, K>,
     settled: &Settled<'_>,
+    batches: &BatchPlan,
     plan: &BlockPlan<'_, G>,
 ) -> Result<(), WriteError>
     requires { MayList K.failure_count writer.old (races_below settled.now.disciplined.now.events.now settled.now.disciplined.now.sizes.variables) }
@@ -69,10 +70,9 @@ fn write_batches<R: Threads + Wait + Sync, K: Sink, G: Gate + Sync>(
         (races_below settled.now.disciplined.now.events.now settled.now.disciplined.now.sizes.variables) result writer.new }
 {
     let variables = settled.disciplined.sizes.variables;
-    let most = settled.disciplined.events.len() as u64;
     let mut from = 0;
     while from < variables {
-        let batch = batch_from(alloc, settled, from, variables, most)?;
+        let batch = batches.batch(alloc, settled, from)?;
         match &batch.races {
             Some(races) => write_kept(rt, alloc, &mut *writer, races, plan)?,
             None => write_variable(rt, alloc, &mut *writer, settled, from, plan)?,
@@ -88,6 +88,7 @@ pub(crate) fn write_all<R: Threads + Wait + Sync, K: Sink, G: Gate + Sync>(
     alloc: Global,
     sink: &mut K,
     settled: &Settled<'_>,
+    batches: &BatchPlan,
     plan: &BlockPlan<'_, G>,
 ) -> Result<(), WriteError>
     requires countable { K.failure_count sink.old < 2 ^ 64 - 1 }
@@ -101,5 +102,5 @@ pub(crate) fn write_all<R: Threads + Wait + Sync, K: Sink, G: Gate + Sync>(
         trace: settled.disciplined.trace,
         written: 0,
     };
-    write_batches(rt, alloc, &mut writer, settled, plan)
+    write_batches(rt, alloc, &mut writer, settled, batches, plan)
 }

@@ -12,7 +12,7 @@ use shb_fan::Gate;
 use shb_format::tail;
 use shb_io::Sink;
 use shb_lines::Pair;
-use shb_lists::{Settled, counted_races};
+use shb_lists::{BatchPlan, Settled, counted_races};
 use std::alloc::Global;
 use std::random::RandomSource;
 use std::sync::Wait;
@@ -21,8 +21,9 @@ use std::thread::Threads;
 /// Writes the report without schedules of a trace that lists all its races. Says how many there are. `leading` has of
 /// each place the first race.
 ///
-/// The races are searched for twice, to count them and those of each place, and to write the blocks, so the memory that
-/// is taken doesn't grow with the races. The places are made before anything is written.
+/// The races are searched for three times, to put variables into batches of not more races than the trace has events, to
+/// count the races of each place, and to write the blocks, so the memory that is taken doesn't grow with the races. The
+/// places are made before anything is written.
 ///
 /// A gate of the plan is passed before pairs are made of a piece of the races, but not while races are counted.
 ///
@@ -47,9 +48,10 @@ pub fn write_search<R: Threads + Wait + Sync + RandomSource, K: Sink, G: Gate + 
         → HasReported (These listed) false settled.now.disciplined.now.trace.now K.taken K.failure_count sink.old sink.new result }
 {
     let trace = settled.disciplined.trace;
-    let counted = counted_races(rt, alloc, settled, leading, u64::from(trace.len()))?;
+    let batches = BatchPlan::new(alloc, settled, u64::from(trace.len()))?;
+    let counted = counted_races(rt, alloc, settled, leading, &batches)?;
     write_front(sink, trace, counted.races, &counted.places)?;
-    write_all(rt, alloc, sink, settled, plan)?;
+    write_all(rt, alloc, sink, settled, &batches, plan)?;
     tail(sink)?;
     Ok(counted.races)
 }

@@ -5,7 +5,7 @@ use shb_discipline::Disciplined;
 use shb_format::PlaceCount;
 use shb_lines::Pair;
 use shb_links::Links;
-use shb_lists::{Settled, counted_races};
+use shb_lists::{BatchPlan, Settled, counted_races};
 use shb_pairs::open_variables;
 use shb_search::leading_races;
 use std::test::Fail;
@@ -25,7 +25,8 @@ impl Asks for CountsAre<'_> {
         let flags = open_variables(alloc, trace, links)?;
         let settled = Settled::new(trace, links, &flags);
         let leading = leading_races(rt, alloc, trace, links, &flags)?;
-        let counted = counted_races(rt, alloc, &settled, leading.as_slice(), self.most)?;
+        let plan = BatchPlan::new(alloc, &settled, self.most)?;
+        let counted = counted_races(rt, alloc, &settled, leading.as_slice(), &plan)?;
         let mut wanted = Vec::new(alloc);
         for (first, second, count) in self.places {
             let pair = Pair {
