@@ -33,7 +33,7 @@ pub use counted::{RaceCount, counted_races};
 pub use kept::{ListedRace, kept_races};
 pub use parts::RaceParts;
 pub use past::{Past, access_at};
-pub use pieces::pairs_in_pieces;
+pub use pieces::{pairs_in_pieces, pairs_of};
 pub use plan::{Batch, BatchPlan};
 pub use search::Access;
 pub use settled::Settled;

@@ -65,7 +65,11 @@ fn cut<'r>(alloc: Global, races: &'r [ListedRace]) -> Result<Vec<RacePiece<'r>>,
 }
 
 /// Some races as pairs, in their order.
-fn pairs_of(alloc: Global, races: &[ListedRace]) -> Result<Vec<Pair>, NoMemory>
+///
+/// # Errors
+///
+/// `NoMemory` where a growth was refused.
+pub fn pairs_of(alloc: Global, races: &[ListedRace]) -> Result<Vec<Pair>, NoMemory>
     ensures { IfOk result (λ pairs. map ends pairs.items ≡ map pair_in races.now) }
 {
     let mut pairs = Vec::with_capacity(alloc, races.len())?;

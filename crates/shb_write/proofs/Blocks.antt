@@ -20,7 +20,7 @@ use Rattle.shb_write.specs.declared.errors.WriteError.TheVariants as errors
 use Rattle.shb_write.specs.Blocks.{HasStopped, HasWritten, alone, blocks_of, scheduled}
 use Rattle.shb_write.specs.Written.{AppendsFront, write_failed}
 
-blocks-append : (trace : TraceData) (n m : ℕ) (xs ys : List ShownRace) → m ≡ length xs + n → blocks_from trace n (xs ++ ys) ≡ blocks_from trace n xs ++ blocks_from trace m ys
+pub blocks-append : (trace : TraceData) (n m : ℕ) (xs ys : List ShownRace) → m ≡ length xs + n → blocks_from trace n (xs ++ ys) ≡ blocks_from trace n xs ++ blocks_from trace m ys
 blocks-append trace n m [] ys is = ap (λ k. blocks_from trace k ys) (let e : n ≡ m = omega (arith, is) in e)
 blocks-append trace n m (x ∷ xs) ys is =
     ap (λ l. block_bytes trace n x.pair x.schedule ++ l) (blocks-append trace (n + 1) m xs ys (omega (arith, is)))
@@ -55,14 +55,14 @@ front_of old new bs p = (p.0, p.2)
 pub whole_front : (old new : Option (List ℕ)) (xs : List ℕ) → Appends old new xs → AppendsFront old new xs
 whole_front old new xs has = (length xs, subst (Appends old new) (sym (take_all (length xs) xs (omega arith))) has)
 
-front_more : (old new : Option (List ℕ)) (xs ys : List ℕ) → AppendsFront old new xs → AppendsFront old new (xs ++ ys)
+pub front_more : (old new : Option (List ℕ)) (xs ys : List ℕ) → AppendsFront old new xs → AppendsFront old new (xs ++ ys)
 front_more old new xs ys front = cases (cases_lt front.0 (length xs))
   where
     cases : (front.0 < length xs) ⊎ (length xs ≤ front.0) → AppendsFront old new (xs ++ ys)
     cases (inl lt) = front_of old new (xs ++ ys) (AppendsPrefix-front old new xs ys (front.0, lt, front.1))
     cases (inr le) = (length xs, subst (Appends old new) (take_all front.0 xs le ∙ sym (take-append_seam xs ys)) front.1)
 
-front_after : (old now new : Option (List ℕ)) (xs ys : List ℕ) → Appends old now xs → AppendsFront now new ys → AppendsFront old new (xs ++ ys)
+pub front_after : (old now new : Option (List ℕ)) (xs ys : List ℕ) → Appends old now xs → AppendsFront now new ys → AppendsFront old new (xs ++ ys)
 front_after old now new xs ys before front = (length xs + front.0, subst (Appends old new) (sym (take-append-add xs ys front.0)) (Appends-trans old now new xs (take front.0 ys) before front.1))
 
 -- what was written of the blocks lacks what comes after them

@@ -3,3 +3,4 @@ pub mod Counting
 pub mod Listing
 pub mod Reports
 pub mod Scheduling
+pub mod TextLemmas

@@ -1,3 +1,4 @@
 pub mod Written
 pub mod Blocks
 pub mod Listed
+pub mod Texts

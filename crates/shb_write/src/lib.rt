@@ -6,8 +6,9 @@
 //! sink is written by the caller's thread alone and needn't be able to move.
 //!
 //! [`write_search`] writes the report without schedules of more races than are to be kept: they and their places are
-//! counted, and once head and places are written they are found once more, a batch of variables at a time, and each
-//! batch is written before the next one is looked for (`write_batches`).
+//! counted, and once head and places are written they are found once more, a batch of variables at a time. Workers make
+//! the texts of its blocks (`TextJob`), which are written in order (`TextWriter`) before the next batch is looked for
+//! (`write_batches`).
 #![tactic(auto)]
 
 mod block_writer;
@@ -17,6 +18,9 @@ mod plan;
 mod prepared;
 mod schedule_writer;
 mod searched;
+mod text;
+mod text_writer;
+mod texts;
 mod write;
 
 pub use errors::WriteError;

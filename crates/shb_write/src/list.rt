@@ -10,14 +10,16 @@ ghost use Rattle.shb_write.specs.Written.{write_failed};
 use crate::block_writer::BlockWriter;
 use crate::errors::WriteError;
 use crate::plan::BlockPlan;
-use shb_fan::Gate;
+use crate::text_writer::TextWriter;
+use crate::texts::{TextJob, pieces_of};
+use shb_fan::{Gate, StreamError, stream};
 use shb_io::Sink;
-use shb_lists::{BatchPlan, ListedRace, RaceParts, Settled, pairs_in_pieces};
+use shb_lists::{BatchPlan, ListedRace, RaceParts, Settled};
 use std::alloc::Global;
 use std::sync::Wait;
 use std::thread::Threads;
 
-/// Writes the blocks of some kept races, which workers make pairs of.
+/// Writes the blocks of some kept races, as workers make their texts.
 fn write_kept<R: Threads + Wait + Sync, K: Sink, G: Gate + Sync>(
     rt: &R,
     alloc: Global,
@@ -28,9 +30,19 @@ fn write_kept<R: Threads + Wait + Sync, K: Sink, G: Gate + Sync>(
     requires { MayList K.failure_count writer.old (map pair_in races.now) }
     ensures { HasListed K.taken K.failure_count writer.old (map pair_in races.now) result writer.new }
 {
-    let pairs = pairs_in_pieces(rt, alloc, races, plan.gate, plan.workers)?;
-    writer.list(&pairs)?;
-    Ok(())
+    let pieces = pieces_of(alloc, writer.trace, races, writer.written)?;
+    let job = TextJob::new(writer.trace, pieces.as_slice());
+    let mut taker = TextWriter {
+        sink: &mut *writer.sink,
+    };
+    match stream(rt, alloc, &job, plan.gate, plan.workers, &mut taker) {
+        Ok(()) => {
+            writer.written += races.len() as u64;
+            Ok(())
+        }
+        Err(StreamError::Taker(error)) => Err(error),
+        Err(StreamError::Memory(refused)) => Err(WriteError::Memory(refused)),
+    }
 }
 
 /// Writes the blocks of the races of one variable. They are found by one sweep, and kept and written a part at a time:
