@@ -59,7 +59,6 @@ OTHERS = {
     ("shb_fan/src/streaming.rt", "workers.get()"): "at most 64 by its type",
     ("shb_numbers/src/lists.rt", "room.size"): "twice the length of a list, and at most 2^32 - 1 by its type",
     ("shb_numbers/src/number_set.rt", "at"): "the word of a number of 32 bits, so below 2^26",
-    ("shb_pairs/src/buckets.rt", "starts[count as usize]"): "the sum of all counts, which is the number of positions",
     ("shb_stamps/src/kept_rows.rt", "before"): "the number of a row, of which there are so many",
 }
 MOST_NUMBER, MOST_NAMED = 65_536, 2**32 - 1

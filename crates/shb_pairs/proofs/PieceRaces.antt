@@ -13,6 +13,7 @@ use Rattle.shb_lines.proofs.events.Reach.{numbers_listed, reflect_race}
 use Rattle.shb_pairs.specs.declared.piece.Piece.{Piece}
 use Rattle.shb_pairs.specs.Accesses.{accesses_at, accesses_in, listed_accesses, variables_in}
 use Rattle.shb_stamps.specs.Open.{OpenTrace, is_open}
+use Rattle.shb_pairs.specs.Open.{AsksOpen}
 use Rattle.shb_pairs.specs.Races.{first_pieces, numbered_piece, piece_at, pieces_below, pieces_in, races_at, races_of, races_with}
 use Rattle.shb_pairs.proofs.ByThread.{listed_closed, listed_open}
 use Rattle.shb_pairs.proofs.Counting.{access_from_test, test_from_access}
@@ -105,16 +106,49 @@ access_front trace x q lt =
 pub piece_pushed : (old pieces new : List Piece) (x n k m : ℕ) → new ≡ pieces ++ record { variable = x; from = 64 * k; to = 64 * k + m } ∷ [] → m ≡ min (n - 64 * k) 64 → pieces ≡ old ++ first_pieces x n k → new ≡ old ++ first_pieces x n (k + 1)
 piece_pushed old pieces new x n k m is least so = grind (arith, common_steps, append_assoc, first_more)
 
-pub races_first : (trace : List Event) (xs : List ℕ) (pairs : List (ℕ × ℕ)) (from : ℕ) → pairs ≡ [] → pairs ≡ flat_map (races_with trace) (take (from - from) (drop from xs))
-races_first trace xs pairs from none = let e : from - from ≡ 0 = omega arith in none ∙ rw e refl
-
 -- piece k, and its races
 pub piece_known : (a : OpenTrace) (k : ℕ) (piece : Piece) → k < length (pieces_in a) → piece ≡ piece_at (pieces_in a) k → IsPieceOf a.trace a.flags piece
 piece_known a k piece lt own = subst (IsPieceOf a.trace a.flags) (sym own) (piece_within a k _ lt)
 
-pub piece_seen : (a seen : OpenTrace) (trace : List Event) (k : ℕ) (piece : Piece) → a ≡ seen → a.trace ≡ trace → k < length (pieces_in seen) → piece ≡ piece_at (pieces_in seen) k → IsPieceOf trace a.flags piece
-piece_seen a seen trace k piece same of_trace lt own = subst (λ (tr : List Event). IsPieceOf tr a.flags piece) of_trace (subst (λ (b : OpenTrace). IsPieceOf b.trace b.flags piece) (sym same) (piece_known seen k piece lt own))
-
 pub piece_races : (a : OpenTrace) (k : ℕ) (p : Piece) → p ≡ piece_at (pieces_in a) k → races_at a k ≡ flat_map (races_with a.trace) (slice_range (accesses_in a.trace p.variable) p.from p.to)
 unfolding races_at races_of
 piece_races a k p own = ap (λ (q : Piece). flat_map (races_with a.trace) (slice_range (accesses_in a.trace q.variable) q.from q.to)) (sym own)
+
+-- the accesses that the job of an open variable goes over
+pub seen_accesses : (a seen : OpenTrace) (x : ℕ) (accesses : List ℕ) → a ≡ seen → is_open seen.flags x ≡ true → accesses ≡ listed_accesses a x → accesses ≡ accesses_in seen.trace x
+seen_accesses a seen x accesses same opened is = is ∙ (ap (λ (b : OpenTrace). listed_accesses b x) same ∙ listed_open seen x opened)
+
+-- one of them: the accesses before it are those of its variable, and the order can be asked about it
+pub record IsAccess (trace : List Event) (asks : ℕ → Bool) (x q : ℕ) (accesses : List ℕ) : Type 0 where
+  pub in_range : get_or accesses q 0 < length trace
+  pub asked : asks (get_or accesses q 0) ≡ true
+  pub variable : variable_at trace (get_or accesses q 0) ≡ Some x
+  pub earlier : take q accesses ≡ numbers_where (accesses_at trace x) (get_or accesses q 0)
+
+known_access : (a : OpenTrace) (asks : ℕ → Bool) (x q : ℕ) → AsksOpen asks a.flags a.trace → is_open a.flags x ≡ true → q < length (accesses_in a.trace x) → IsAccess a.trace asks x q (accesses_in a.trace x)
+known_access a asks x q asked opened lt =
+    let front = access_front a.trace x q lt in
+    record { in_range = front.2; asked = asked (get_or (accesses_in a.trace x) q 0) x front.0 opened; variable = front.0; earlier = front.1 }
+
+pub piece_access : (a seen : OpenTrace) (trace : List Event) (asks : ℕ → Bool) (x q to : ℕ) (accesses : List ℕ) → a ≡ seen → a.trace ≡ trace → AsksOpen asks a.flags trace → is_open seen.flags x ≡ true → to ≤ length (accesses_in seen.trace x) → q < to → accesses ≡ listed_accesses a x → IsAccess trace asks x q accesses
+piece_access a seen trace asks x q to accesses same of_trace asked opened within lt is =
+    let here = seen_accesses a seen x accesses same opened is in
+    let of_seen : trace ≡ seen.trace = sym of_trace ∙ ap (λ (b : OpenTrace). b.trace) same in
+    let asked_seen : AsksOpen asks seen.flags seen.trace = subst (λ (tr : List Event). AsksOpen asks seen.flags tr) of_seen (subst (λ (b : OpenTrace). AsksOpen asks b.flags trace) same asked) in
+    subst (λ (tr : List Event). IsAccess tr asks x q accesses) (sym of_seen) (subst (λ (ks : List ℕ). IsAccess seen.trace asks x q ks) (sym here) (known_access seen asks x q asked_seen opened (omega (arith, lt, within))))
+
+-- the races of one access of a piece more, and of all
+pub piece_more : (a seen : OpenTrace) (trace : List Event) (x from q to : ℕ) (accesses : List ℕ) (old new : List (ℕ × ℕ)) → a ≡ seen → a.trace ≡ trace → is_open seen.flags x ≡ true → to ≤ length (accesses_in seen.trace x) → from ≤ q → q < to → accesses ≡ listed_accesses a x → old ≡ flat_map (races_with seen.trace) (take (q - from) (drop from accesses)) → new ≡ old ++ races_with trace (get_or accesses q 0) → new ≡ flat_map (races_with seen.trace) (take ((q + 1) - from) (drop from accesses))
+piece_more a seen trace x from q to accesses old new same of_trace opened within le lt is so added =
+    let long = ap length (seen_accesses a seen x accesses same opened is) in
+    let of_seen : trace ≡ seen.trace = sym of_trace ∙ ap (λ (b : OpenTrace). b.trace) same in
+    added
+    ∙ (ap (λ (ps : List (ℕ × ℕ)). ps ++ races_with trace (get_or accesses q 0)) so
+    ∙ (ap (λ (tr : List Event). flat_map (races_with seen.trace) (take (q - from) (drop from accesses)) ++ races_with tr (get_or accesses q 0)) of_seen
+    ∙ sym (races_more seen.trace accesses from q le (omega (arith, lt, within, long)))))
+
+pub piece_whole : (a seen : OpenTrace) (x from q to : ℕ) (accesses : List ℕ) (found races : List (ℕ × ℕ)) → a ≡ seen → is_open seen.flags x ≡ true → accesses ≡ listed_accesses a x → q ≡ to → found ≡ flat_map (races_with seen.trace) (take (q - from) (drop from accesses)) → races ≡ flat_map (races_with seen.trace) (slice_range (accesses_in seen.trace x) from to) → found ≡ races
+piece_whole a seen x from q to accesses found races same opened is end so value =
+    so
+    ∙ (ap (λ (ks : List ℕ). flat_map (races_with seen.trace) (take (q - from) (drop from ks))) (seen_accesses a seen x accesses same opened is)
+    ∙ (ap (λ (n : ℕ). flat_map (races_with seen.trace) (take (n - from) (drop from (accesses_in seen.trace x)))) end ∙ sym value))

@@ -1,18 +1,16 @@
 //! The races of a trace as work in pieces.
 
-ghost use Rattle.std.specs.Prelude.{◌≡◌, ◌<◌, ◌≤◌, ◌^◌, flat_map, length, map, slice_range};
-ghost use Rattle.shb_stamps.specs.Open.{OpenTrace};
-ghost use Rattle.shb_fan.specs.Values.{values_of};
-ghost use Rattle.shb_pairs.specs.Accesses.{accesses_in};
+ghost use Rattle.std.specs.Prelude.{◌≡◌, ◌++◌, ℕ, ◌<◌, ◌≤◌, true, Some, IfOk, flat_map, length, map, slice_range};
+ghost use Rattle.shb_lines.specs.events.Race.{ends, variable_at};
+ghost use Rattle.shb_lines.specs.events.Reach.{numbers_where};
+ghost use Rattle.shb_stamps.specs.Open.{OpenTrace, is_open};
+ghost use Rattle.shb_pairs.specs.Accesses.{accesses_at, accesses_in, variables_in};
 ghost use Rattle.shb_pairs.specs.Open.{AsksOpen};
-ghost use Rattle.shb_pairs.specs.Races.{joined, piece_at, pieces_in, races_at, races_with};
-ghost use Rattle.shb_lines.specs.events.Race.{ends};
+ghost use Rattle.shb_pairs.specs.Races.{piece_at, pieces_in, races_at, races_with};
 
 use crate::accesses::Accesses;
 use crate::piece::Piece;
-use crate::races::races_in;
-use crate::ranges::RaceRanges;
-use crate::search::Search;
+use crate::race::is_race;
 use shb_discipline::Disciplined;
 use shb_fan::Job;
 use shb_io::NoMemory;
@@ -24,21 +22,21 @@ use std::collections::LinkedList;
 use std::marker::Model;
 
 /// The search for the races of a trace, as work in pieces: the value of a piece is the races whose
-/// later access is among its accesses, by the later access, then by the earlier one, as ranges. The values of all
+/// later access is among its accesses, by the later access, then by the earlier one. The values of all
 /// pieces joined are the race list, where a variable that isn't open has no race. Clauses see it as the
 /// accesses.
 ///
-/// A piece costs its accesses times the threads that access the variable, whatever the number of its races.
-/// Running a piece takes memory for its ranges, at most one for each of its accesses and each thread, and
-/// changes nothing.
+/// Each access of a piece is compared with all accesses of its variable before it, so all pieces of a variable
+/// with n accesses cost n (n - 1) / 2 comparisons. Running a piece takes memory for its races, at most one
+/// for each comparison, and changes nothing.
 #[derive(Drop)]
-pub struct RangeJob<'a, O: Order> {
+pub struct PairJob<'a, O: Order> {
     ordered: Ordered<'a, O>,
     accesses: &'a Accesses<'a>,
     pieces: &'a [Piece],
 }
 
-impl<'a, O: Order> Model for RangeJob<'a, O> {
+impl<'a, O: Order> Model for PairJob<'a, O> {
     ghost Value = { OpenTrace };
 
     ghost view = { λ j. j.accesses.now };
@@ -47,7 +45,39 @@ impl<'a, O: Order> Model for RangeJob<'a, O> {
         × AsksOpen (O.asks j.ordered.order.now) j.accesses.now.flags j.ordered.disciplined.now.events.now };
 }
 
-impl<'a, O: Order> RangeJob<'a, O> {
+/// Adds the races of an access with the accesses of its variable before it.
+fn add_races<O: Order>(
+    races: &mut Vec<Pair>,
+    ordered: &Ordered<'_, O>,
+    earlier: &[u32],
+    second: u32,
+) -> Result<(), NoMemory>
+    requires in_range { second < length ordered.now.disciplined.now.events.now }
+    requires asked { O.asks ordered.now.order.now second ≡ true }
+    requires earlier { (x : ℕ) × (variable_at ordered.now.disciplined.now.events.now second ≡ Some x)
+        × (earlier.now ≡ numbers_where (accesses_at ordered.now.disciplined.now.events.now x) second) }
+    ensures { IfOk result (λ _. map ends races.new.items
+        ≡ map ends races.old.items ++ races_with ordered.now.disciplined.now.events.now second) }
+{
+    for first in earlier {
+        let racing = is_race(
+            ordered.order,
+            ordered.disciplined,
+            ordered.links,
+            *first,
+            second,
+        );
+        if racing {
+            races.push(Pair {
+                first: *first,
+                second,
+            })?;
+        }
+    }
+    Ok(())
+}
+
+impl<'a, O: Order> PairJob<'a, O> {
     /// The search on these pieces of these accesses. The order, the links, the accesses and the pieces
     /// are of the trace, the order can be asked about each access of an open variable, and the pieces are
     /// all of its pieces.
@@ -70,17 +100,18 @@ impl<'a, O: Order> RangeJob<'a, O> {
             disciplined,
             links,
         };
-        RangeJob {
+        PairJob {
             ordered,
             accesses,
             pieces,
         }
     }
 
-    /// The piece with this number, from 0. Its value is the races of its accesses with earlier ones.
-    pub fn piece(&self, k: u64) -> Piece
+    /// The piece with this number, from 0.
+    fn piece(&self, k: u64) -> Piece
         requires { k < length (pieces_in self.now) }
-        ensures value { result ≡ piece_at (pieces_in self.now) k }
+        ensures accessed { result.variable < variables_in self.now.trace }
+        ensures listed { is_open self.now.flags result.variable ≡ true }
         ensures forward { result.from ≤ result.to }
         ensures within { result.to ≤ length (accesses_in self.now.trace result.variable) }
         ensures races { races_at self.now k ≡ flat_map (races_with self.now.trace)
@@ -88,90 +119,6 @@ impl<'a, O: Order> RangeJob<'a, O> {
     {
         let pieces = self.pieces;
         pieces[k as usize]
-    }
-
-    /// What the search for the races of the piece with this number goes by.
-    pub fn search(&self, k: u64) -> Search<'_, 'a, O>
-        requires { k < length (pieces_in self.now) }
-        ensures variable { result.variable ≡ (piece_at (pieces_in self.now) k).variable }
-        ensures of_trace { result.ordered.now.disciplined.now.events.now ≡ self.now.trace }
-    {
-        let piece = self.piece(k);
-        Search {
-            ordered: &self.ordered,
-            accesses: self.accesses,
-            variable: piece.variable,
-        }
-    }
-
-    /// How many events the trace has.
-    pub fn events(&self) -> u32
-        ensures { result ≡ length self.now.trace }
-    {
-        self.ordered.disciplined.events.len() as u32
-    }
-
-    /// Does nothing: all pieces have so few races that 64 bits count them.
-    pub fn has_few_races(&self)
-        ensures { length (joined (values_of (races_at self.now) (length (pieces_in self.now)))) < 2 ^ 64 }
-    {
-        let _events = self.events();
-    }
-}
-
-impl<'a, O: Order> Job for RangeJob<'a, O> {
-    type Out = RaceRanges<'a>;
-
-    type Meaning = LinkedList<(u32, u32)>;
-
-    ghost meaning = { λ races. joined races };
-
-    ghost value = { races_at };
-
-    ghost count = { λ a. length (pieces_in a) };
-
-    fn pieces(&self) -> u64 {
-        self.pieces.len() as u64
-    }
-
-    fn run(&self, alloc: Global, k: u64) -> Result<RaceRanges<'a>, NoMemory> {
-        let search = self.search(k);
-        let piece = self.piece(k);
-        races_in(alloc, &search, piece.from as usize, piece.to as usize)
-    }
-}
-
-/// The same search where the value of a piece is the list of its races: for what needs all races at once.
-#[derive(Drop)]
-pub struct PairJob<'a, O: Order> {
-    ranges: RangeJob<'a, O>,
-}
-
-impl<'a, O: Order> Model for PairJob<'a, O> {
-    ghost Value = { OpenTrace };
-
-    ghost view = { λ j. j.ranges };
-}
-
-impl<'a, O: Order> PairJob<'a, O> {
-    /// The search on these pieces of these accesses, as [`RangeJob::new`] makes it.
-    pub fn new(
-        order: &'a O,
-        disciplined: &'a Disciplined<'a>,
-        links: &'a Links<'a>,
-        accesses: &'a Accesses<'a>,
-        pieces: &'a [Piece],
-    ) -> Self
-        requires of_trace { O.trace order.now ≡ disciplined.now.events.now }
-        requires linked { links.now ≡ disciplined.now.events.now }
-        requires accesses { accesses.now.trace ≡ disciplined.now.events.now }
-        requires asked { AsksOpen (O.asks order.now) accesses.now.flags disciplined.now.events.now }
-        requires pieces { pieces.now ≡ pieces_in accesses.now }
-        ensures { result ≡ accesses.now }
-    {
-        PairJob {
-            ranges: RangeJob::new(order, disciplined, links, accesses, pieces),
-        }
     }
 }
 
@@ -187,11 +134,17 @@ impl<'a, O: Order> Job for PairJob<'a, O> {
     ghost count = { λ a. length (pieces_in a) };
 
     fn pieces(&self) -> u64 {
-        self.ranges.pieces()
+        self.pieces.len() as u64
     }
 
     fn run(&self, alloc: Global, k: u64) -> Result<Vec<Pair>, NoMemory> {
-        let races = self.ranges.run(alloc, k)?;
-        races.expanded(alloc)
+        let piece = self.piece(k);
+        let accesses = self.accesses.of(piece.variable);
+        let mut races = Vec::new(alloc);
+        for index in piece.from as usize..piece.to as usize {
+            let second = accesses[index];
+            add_races(&mut races, &self.ordered, &accesses[..index], second)?;
+        }
+        Ok(races)
     }
 }
