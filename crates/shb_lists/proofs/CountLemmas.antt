@@ -9,10 +9,10 @@ use Rattle.std.proofs.lemmas.List.Sums.{sum_by-cons}
 use Rattle.shb_lines.specs.declared.event.Event.{Event}
 use Rattle.shb_lines.specs.declared.event.Pair.{Pair}
 use Rattle.shb_lines.specs.events.Reach.{is_race, numbers_where}
-use Rattle.shb_pairs.specs.Buckets.{with_key}
+use Rattle.shb_lists.specs.Occurs.{with_key}
 use Rattle.shb_pairs.specs.Races.{races_with}
-use Rattle.shb_pairs.proofs.ByThread.{numbers_all}
-use Rattle.shb_pairs.proofs.Sorting.{sum_more, sum_whole}
+use Rattle.shb_pairs.proofs.Counting.{numbers_all}
+use Rattle.shb_lists.proofs.KeyCounts.{sum_more, sum_whole}
 use Rattle.shb_format.specs.Keyed.{Key, Keyed, counted_of, same_key, with_more}
 use Rattle.shb_format.specs.Report.{pair_of}
 use Rattle.shb_format.specs.declared.places.PlaceCount.{PlaceCount}

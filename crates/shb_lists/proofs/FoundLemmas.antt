@@ -13,10 +13,9 @@ use Rattle.shb_lines.specs.events.Race.{Race, variable_at}
 use Rattle.shb_lines.specs.events.Reach.{is_race, numbers_where}
 use Rattle.shb_lines.proofs.events.Events.{thread_is}
 use Rattle.shb_lines.proofs.events.Reach.{any_below_is, event_at_access, numbers_listed, reflect_race}
-use Rattle.shb_pairs.specs.Accesses.{occurs}
-use Rattle.shb_pairs.proofs.ByThread.{occurs_filter, occurs_none, occurs_once}
-use Rattle.shb_pairs.proofs.Merging.{sorted_same}
-use Rattle.shb_pairs.proofs.Sorting.{key_no}
+use Rattle.shb_lists.specs.Occurs.{occurs}
+use Rattle.shb_lists.proofs.OccursLemmas.{occurs_filter, occurs_none, occurs_once, sorted_same}
+use Rattle.shb_pairs.proofs.Counting.{key_no}
 use Rattle.shb_lists.specs.Past.{IsAccess, racing_by}
 use Rattle.shb_lists.specs.Rivals.{HasRivals, is_met}
 use Rattle.shb_lists.specs.declared.rivals.Rival.{Rival}

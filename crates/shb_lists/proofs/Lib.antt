@@ -1,3 +1,6 @@
+pub mod OccursLemmas
+pub mod KeyCounts
+pub mod FewRaces
 pub mod NewestLemmas
 pub mod RankLemmas
 pub mod MetLemmas

@@ -10,9 +10,9 @@ use Rattle.shb_lines.specs.events.Order.{IsBelowPredCount}
 use Rattle.shb_lines.specs.events.Race.{Conflict, Race}
 use Rattle.shb_lines.specs.events.Reach.{is_race, numbers_where}
 use Rattle.shb_lines.proofs.events.Reach.{reflect_race}
-use Rattle.shb_pairs.specs.Accesses.{occurs}
-use Rattle.shb_pairs.proofs.ByThread.{occurs_append, occurs_filter, occurs_none}
-use Rattle.shb_pairs.proofs.Tails.{rival_races, times_rise}
+use Rattle.shb_lists.specs.Occurs.{occurs}
+use Rattle.shb_lists.proofs.OccursLemmas.{occurs_append, occurs_filter, occurs_none}
+use Rattle.shb_pairs.proofs.Times.{rival_races, times_rise}
 use Rattle.shb_lists.specs.Past.{AreChained, IsAccess, racing_by}
 use Rattle.shb_lists.specs.Rivals.{IsNewest, is_met, newest_for, newest_where}
 use Rattle.shb_lists.specs.declared.rivals.Newest.{Newest}

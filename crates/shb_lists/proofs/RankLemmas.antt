@@ -5,7 +5,7 @@ use Rattle.std.proofs.lemmas.Bool.{cases_Bool, cases_eq, cases_lt}
 use Rattle.std.proofs.lemmas.List.{append-nil, get_or_append_left, get_or_push, length-append, length_push}
 use Rattle.std.proofs.lemmas.List.Elements.{filter-append}
 use Rattle.shb_lines.specs.events.Reach.{numbers_where}
-use Rattle.shb_pairs.specs.Buckets.{with_key}
+use Rattle.shb_lists.specs.Occurs.{with_key}
 
 module _ (f : ℕ → Bool) where
   -- how many before k pass

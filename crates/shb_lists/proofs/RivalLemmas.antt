@@ -11,7 +11,7 @@ use Rattle.shb_lines.specs.events.Events.{thread_at}
 use Rattle.shb_lines.specs.events.Race.{variable_at}
 use Rattle.shb_lines.specs.events.Reach.{any_below, writes_at}
 use Rattle.shb_lines.proofs.events.Reach.{any_below_is}
-use Rattle.shb_pairs.proofs.Sorting.{key_no}
+use Rattle.shb_pairs.proofs.Counting.{key_no}
 use Rattle.shb_lists.specs.Rivals.{HasRivals, IsNewest, is_met, newest_for, newest_where}
 use Rattle.shb_lists.specs.declared.rivals.Newest.{Newest}
 use Rattle.shb_lists.specs.declared.rivals.Rival.{Rival}

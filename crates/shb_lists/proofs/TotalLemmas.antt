@@ -15,11 +15,10 @@ use Rattle.shb_links.proofs.Owners.{variable_sized}
 use Rattle.shb_stamps.specs.Open.{accesses_open}
 use Rattle.shb_pairs.specs.Accesses.{accesses_at, accesses_in, variables_in}
 use Rattle.shb_pairs.specs.Races.{races_with}
-use Rattle.shb_pairs.proofs.ByThread.{numbers_all}
-use Rattle.shb_pairs.proofs.Counting.{access_from_test, numbers_more_no, numbers_more_yes, test_from_access, variable_within}
+use Rattle.shb_pairs.proofs.Counting.{access_from_test, numbers_more_no, numbers_more_yes, test_from_access, variable_within, numbers_all}
 use Rattle.shb_pairs.proofs.FlatMaps.{flat_map_parts}
 use Rattle.shb_pairs.proofs.Listing.{all_is_race_list, races_on_parts}
-use Rattle.shb_pairs.proofs.Ranged.{races_few}
+use Rattle.shb_lists.proofs.FewRaces.{races_few}
 use Rattle.shb_lists.specs.Batches.{AreNarrowed, races_below, races_between, races_on}
 use Rattle.shb_lists.specs.Counted.{OpensOnly}
 use Rattle.shb_lists.specs.Listed.{pair_in, races_before}

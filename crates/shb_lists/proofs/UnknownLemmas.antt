@@ -15,10 +15,10 @@ use Rattle.shb_lines.proofs.events.Events.{and_parts, fork_earlier, thread_is}
 use Rattle.shb_lines.proofs.events.Prefix.{below_from_local, local_from_below}
 use Rattle.shb_lines.proofs.events.Reach.{event_at_access, reflect_race}
 use Rattle.shb_lines.proofs.events.Schedulable.{below_pred_closed, thread_below_pred}
-use Rattle.shb_pairs.specs.Buckets.{HasCounts, with_key}
+use Rattle.shb_lists.specs.Occurs.{HasCounts, with_key}
 use Rattle.shb_pairs.proofs.Counting.{numbers_few, numbers_more_no, numbers_more_yes}
-use Rattle.shb_pairs.proofs.Sorting.{filter_few}
-use Rattle.shb_pairs.proofs.Tails.{times_rise}
+use Rattle.shb_lists.proofs.KeyCounts.{filter_few}
+use Rattle.shb_pairs.proofs.Times.{times_rise}
 use Rattle.shb_lists.specs.Past.{IsAccess}
 use Rattle.shb_lists.specs.Rivals.{is_met}
 use Rattle.shb_lists.specs.Unknown.{AreRacingCounts, number_in}

@@ -4,7 +4,7 @@ use Rattle.shb_lines.specs.declared.event.Event.{Event}
 use Rattle.shb_lines.specs.events.Events.{thread_at}
 use Rattle.shb_lines.specs.events.Order.{BelowPred}
 use Rattle.shb_lines.specs.events.Reach.{is_race, numbers_where}
-use Rattle.shb_pairs.specs.Buckets.{HasCounts}
+use Rattle.shb_lists.specs.Occurs.{HasCounts}
 use Rattle.shb_lists.specs.Rivals.{is_met}
 use Rattle.shb_lists.specs.declared.search.Access.{Access}
 use Rattle.shb_lists.specs.declared.unknown.Met.{Met}

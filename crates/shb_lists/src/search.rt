@@ -2,7 +2,7 @@
 
 ghost use Rattle.std.specs.Prelude.{◌≡◌, ◌+◌, ◌<◌, ◌≤◌, ℕ, true, OnOk, length};
 ghost use Rattle.shb_lines.specs.events.Reach.{is_race, numbers_where};
-ghost use Rattle.shb_pairs.specs.Accesses.{occurs};
+ghost use Rattle.shb_lists.specs.Occurs.{occurs};
 ghost use Rattle.shb_lists.specs.Past.{AreChained, IsAccess, racing_by};
 ghost use Rattle.shb_lists.specs.Rivals.{HasRivals, IsNewest};
 

@@ -10,7 +10,7 @@ use Rattle.shb_lines.specs.events.Race.{Race, ends, variable_at}
 use Rattle.shb_lines.specs.events.Reach.{is_race, numbers_where}
 use Rattle.shb_lines.proofs.events.Reach.{reflect_race}
 use Rattle.shb_pairs.specs.Accesses.{accesses_at}
-use Rattle.shb_pairs.proofs.ByThread.{numbers_all}
+use Rattle.shb_pairs.proofs.Counting.{numbers_all}
 use Rattle.shb_pairs.proofs.PieceRaces.{race_accesses}
 
 -- pairs with the later access j

@@ -18,9 +18,8 @@ use Rattle.shb_stamps.specs.Open.{OpenTrace, is_open}
 use Rattle.shb_pairs.specs.Open.{AreOpen}
 use Rattle.shb_pairs.specs.Races.{first_pieces, joined, numbered_piece, pieces_below, pieces_in, races_at, races_of, races_with}
 use Rattle.shb_pairs.proofs.Listing.{numbers_below, races_on, races_on_parts, all_races, all_is_race_list}
-use Rattle.shb_pairs.proofs.ByThread.{listed_closed, listed_open}
 use Rattle.shb_lines.proofs.events.Increasing.{contains_head}
-use Rattle.shb_pairs.proofs.PieceRaces.{no_pieces, pieces_on}
+use Rattle.shb_pairs.proofs.PieceRaces.{no_pieces, pieces_on, listed_closed, listed_open}
 
 joined-map : {X A : Type 0} (f : X → List A) (xs : List X) → joined (map f xs) ≡ flat_map f xs
 joined-map f [] = refl

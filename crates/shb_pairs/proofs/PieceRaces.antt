@@ -15,8 +15,14 @@ use Rattle.shb_pairs.specs.Accesses.{accesses_at, accesses_in, listed_accesses, 
 use Rattle.shb_stamps.specs.Open.{OpenTrace, is_open}
 use Rattle.shb_pairs.specs.Open.{AsksOpen}
 use Rattle.shb_pairs.specs.Races.{first_pieces, numbered_piece, piece_at, pieces_below, pieces_in, races_at, races_of, races_with}
-use Rattle.shb_pairs.proofs.ByThread.{listed_closed, listed_open}
 use Rattle.shb_pairs.proofs.Counting.{access_from_test, test_from_access}
+
+-- the listed accesses of a variable
+pub listed_open : (a : OpenTrace) (x : ℕ) → is_open a.flags x ≡ true → listed_accesses a x ≡ accesses_in a.trace x
+listed_open a x h = ap (λ (b : Bool). cond b (accesses_in a.trace x) []) h
+
+pub listed_closed : (a : OpenTrace) (x : ℕ) → is_open a.flags x ≡ false → listed_accesses a x ≡ []
+listed_closed a x h = ap (λ (b : Bool). cond b (accesses_in a.trace x) []) h
 
 -- a run lies within the accesses of its variable, which is open
 pub record IsPieceOf (trace : List Event) (flags : List Bool) (p : Piece) : Type 0 where

@@ -21,6 +21,10 @@ use Rattle.shb_pairs.specs.declared.screen.Latest.{Latest}
 use Rattle.shb_pairs.specs.declared.screen.Mark.{Mark}
 use Rattle.shb_pairs.specs.Open.{AreOpen}
 use Rattle.shb_pairs.specs.Screen.{AreScreened, IsPast, IsScreened, no_time}
+use Rattle.shb_lines.specs.events.Tests.{is_write}
+
+pub not_write_at : (trace : List Event) (k x : ℕ) (op : Op) → op_at trace k ≡ Some op → is_write op ≡ false → op_at trace k ≢ Some (Write x)
+not_write_at trace k x op is_op reading writes = grind (arith, common_steps)
 
 -- what is below the predecessor of w, where w is below the predecessor of j
 pred_below : (trace : List Event) → IsDisciplined trace → (p w j : ℕ) → IsPred trace p w → BelowPred trace w j → BelowPred trace p j

@@ -10,10 +10,9 @@ use Rattle.shb_pairs.specs.declared.piece.Piece.{Piece}
 use Rattle.shb_pairs.specs.Accesses.{accesses_at, accesses_in, listed_accesses}
 use Rattle.shb_stamps.specs.Open.{OpenTrace}
 use Rattle.shb_pairs.specs.Races.{AreRacesOfPiece, piece_at, pieces_in, races_at, races_of, races_with}
-use Rattle.shb_pairs.proofs.ByThread.{listed_open}
 use Rattle.shb_pairs.proofs.Listing.{piece_rises, race_contained, race_parts}
 use Rattle.shb_pairs.proofs.FlatMaps.{flat_map_contains, flat_map_parts}
-use Rattle.shb_pairs.proofs.PieceRaces.{IsPieceOf, piece_within}
+use Rattle.shb_pairs.proofs.PieceRaces.{IsPieceOf, piece_within, listed_open}
 
 part_length : (xs : List ℕ) (from to : ℕ) → from ≤ to → to ≤ length xs → length (slice_range xs from to) ≡ to - from
 part_length xs from to le within = let rest = length-drop from xs in length-take-le (to - from) (drop from xs) (omega (arith, rest))

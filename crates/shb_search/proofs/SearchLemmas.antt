@@ -14,7 +14,7 @@ use Rattle.shb_format.specs.Leading.{place_at}
 use Rattle.shb_search.specs.Found.{AreFound, Covers, FoundRace, Improves, IsCovered, race_of}
 use Rattle.shb_search.proofs.FoundLemmas.{covered_then, found_later, improves_self}
 use Rattle.shb_search.proofs.Lists.{get_cases, same_entry}
-use Rattle.shb_pairs.proofs.Found.{accessed_within}
+use Rattle.shb_pairs.proofs.Counting.{accessed_within}
 use Rattle.shb_search.specs.Asked.{ArePairs, AskData}
 use Rattle.shb_search.specs.Kept.{AreClasses, AreSides, ClassData, HasAccess, IsClass, IsNotedAt, IsSide, IsUnread, Logs, SideData, SiteData}
 use Rattle.shb_search.specs.Searched.{AreKept, AreSearched, AreTold, HasSearched, IsAccessAt, IsKept, IsSearch, SearchData, searches, wants_none}

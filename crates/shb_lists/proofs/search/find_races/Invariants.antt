@@ -1,6 +1,6 @@
 use Rattle.std.proofs.Common.{◌≡◌, ℕ, take}
 use Rattle.std.specs.Prelude.{sum_by}
-use Rattle.shb_pairs.specs.Accesses.{occurs}
+use Rattle.shb_lists.specs.Occurs.{occurs}
 use Rattle.shb_lists.specs.Past.{racing_by}
 use Rattle.shb_lists.proofs.search.find_races.Given as goal
 

@@ -4,7 +4,7 @@ use Rattle.shb_lines.specs.declared.event.Event.{Event}
 use Rattle.shb_lines.specs.events.Discipline.{local_time}
 use Rattle.shb_lines.specs.events.Events.{thread_at}
 use Rattle.shb_pairs.proofs.Counting.{numbers_few}
-use Rattle.shb_pairs.proofs.Tails.{count_seen}
+use Rattle.shb_pairs.proofs.Times.{count_seen}
 use Rattle.shb_lists.specs.Rivals.{is_met}
 use Rattle.shb_lists.specs.Unknown.{number_in}
 use Rattle.shb_lists.specs.Unknown.{accessed_by, met_before}

@@ -1,7 +1,6 @@
 use Rattle.std.proofs.lemmas.Grind.{common_steps}
 use Rattle.std.proofs.Common.{arith}
-use Rattle.shb_pairs.proofs.Screening.{screened_open, screened_read, screened_unordered, screened_write}
-use Rattle.shb_pairs.proofs.Found.{not_write_at}
+use Rattle.shb_pairs.proofs.Screening.{screened_open, screened_read, screened_unordered, screened_write, not_write_at}
 use Rattle.shb_pairs.proofs.screen.after_access.Goals as goal
 
 pub returns-then-not-is_past : goal.returns-then-not-is_past

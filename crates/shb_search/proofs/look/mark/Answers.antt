@@ -1,7 +1,7 @@
 use Rattle.std.proofs.Common.{List, refl, subst, ◌∙◌}
 use Rattle.shb_lines.specs.declared.event.Event.{Event}
 use Rattle.shb_lines.specs.events.Discipline.{IsDisciplined}
-use Rattle.shb_pairs.proofs.Tails.{count_seen}
+use Rattle.shb_pairs.proofs.Times.{count_seen}
 use Rattle.shb_search.proofs.Lists.{read_same}
 use Rattle.shb_search.proofs.LookLemmas.{added_marked, added_stay, below_marked}
 use Rattle.shb_search.specs.Members.{members}

@@ -1,5 +1,5 @@
 use Rattle.std.proofs.Common.{length, arith, ap}
-use Rattle.shb_pairs.proofs.Found.{accessed_within}
+use Rattle.shb_pairs.proofs.Counting.{accessed_within}
 use Rattle.shb_search.proofs.LocationLemmas.{numbered_site}
 use Rattle.shb_search.proofs.ReadyLemmas.{ready_sites}
 use Rattle.shb_search.proofs.search.Search.take.Goals as goal
