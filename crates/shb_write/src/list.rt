@@ -19,6 +19,9 @@ use std::alloc::Global;
 use std::sync::Wait;
 use std::thread::Threads;
 
+/// So many races are kept at once where a trace has fewer events: 768 KiB. The number is this project's own.
+const LEAST_KEPT: u32 = 65_536;
+
 /// Writes the blocks of some kept races, as workers make their texts.
 fn write_kept<R: Threads + Wait + Sync, K: Sink, G: Gate + Sync>(
     rt: &R,
@@ -45,8 +48,14 @@ fn write_kept<R: Threads + Wait + Sync, K: Sink, G: Gate + Sync>(
     }
 }
 
-/// Writes the blocks of the races of one variable. They are found by one sweep, and kept and written a part at a time:
-/// as many as the trace has events, and the races of one more access.
+/// How many races are kept at once while blocks of a trace of so many events are written: as many as events, and no fewer than
+/// are worth the start of workers.
+pub(crate) fn kept_at_once(events: u32) -> u64 {
+    u64::from(events.max(LEAST_KEPT))
+}
+
+/// Writes the blocks of the races of one variable. They are found by one sweep, and kept and written a part at a time,
+/// each with the races of one more access.
 fn write_variable<R: Threads + Wait + Sync, K: Sink, G: Gate + Sync>(
     rt: &R,
     alloc: Global,
@@ -62,7 +71,7 @@ fn write_variable<R: Threads + Wait + Sync, K: Sink, G: Gate + Sync>(
     let events = settled.disciplined.events.len() as u32;
     let mut parts = RaceParts::new(alloc, settled, variable)?;
     while parts.next < events {
-        let races = parts.next_part(alloc, settled, u64::from(events))?;
+        let races = parts.next_part(alloc, settled, kept_at_once(events))?;
         write_kept(rt, alloc, &mut *writer, &races, plan)?;
     }
     Ok(())

@@ -5,7 +5,7 @@ ghost use Rattle.shb_format.specs.Report.{LeadingRaces};
 ghost use Rattle.shb_write.specs.Written.{HasReported, These};
 
 use crate::errors::WriteError;
-use crate::list::write_all;
+use crate::list::{kept_at_once, write_all};
 use crate::plan::BlockPlan;
 use crate::write::write_front;
 use shb_fan::Gate;
@@ -21,11 +21,11 @@ use std::thread::Threads;
 /// Writes the report without schedules of a trace that lists all its races. Says how many there are. `leading` has of
 /// each place the first race.
 ///
-/// The races are searched for three times, to put variables into batches of not more races than the trace has events, to
+/// The races are searched for three times, to put variables into batches of not more races than are kept at once, to
 /// count the races of each place, and to write the blocks, so the memory that is taken doesn't grow with the races. The
 /// places are made before anything is written.
 ///
-/// A gate of the plan is passed before pairs are made of a piece of the races, but not while races are counted.
+/// A gate of the plan is passed before the text of a piece of the races is made, but not while races are counted.
 ///
 /// # Errors
 ///
@@ -48,7 +48,7 @@ pub fn write_search<R: Threads + Wait + Sync + RandomSource, K: Sink, G: Gate + 
         → HasReported (These listed) false settled.now.disciplined.now.trace.now K.taken K.failure_count sink.old sink.new result }
 {
     let trace = settled.disciplined.trace;
-    let batches = BatchPlan::new(alloc, settled, u64::from(trace.len()))?;
+    let batches = BatchPlan::new(alloc, settled, kept_at_once(trace.len()))?;
     let counted = counted_races(rt, alloc, settled, leading, &batches)?;
     write_front(sink, trace, counted.races, &counted.places)?;
     write_all(rt, alloc, sink, settled, &batches, plan)?;
