@@ -41,7 +41,7 @@ FORK_JOIN_ALL = FORK_JOIN + """
      write by main at start.c:6 (event 5)
        no lock held
      In this trace 2 threads write, and no lock is held at any access.
-     `shb places` has a schedule of it, race 1: after its 3 events both accesses come next.
+     `shb places` has a schedule of it, race 1: after its 3 events both accesses can execute next.
    Before the accesses:
      1  main    w(config)     start.c:4
      2  main    fork(worker)  start.c:5
@@ -54,7 +54,7 @@ unlocked-read.std: 3 races at 3 places, in 2 groups (18 events, 3 threads, 1 loc
 
 1. items: main.c:11 doesn't hold lock (1 race, 1 place)
    In this trace lock is held at queue.c:22, and not at main.c:11.
-   main.c:11 read what queue.c:22 wrote: a racy read may hide other races: fix it and run again.
+   main.c:11 read what queue.c:22 wrote. This racy read may hide other races: fix it and run again.
    queue.c:22: 1 write by producer
      holds lock
      races with main.c:11 (1 race)
@@ -68,7 +68,7 @@ unlocked-read.std: 3 races at 3 places, in 2 groups (18 events, 3 threads, 1 loc
 
 2. closed: one thread writes (2 races, 2 places)
    In this trace only main writes, at main.c:12, and no lock is held at any access.
-   queue.c:29 read what main.c:12 wrote: a racy read may hide other races: fix it and run again.
+   queue.c:29 read what main.c:12 wrote. This racy read may hide other races: fix it and run again.
    main.c:12: 1 write by main
      no lock held
      races with queue.c:29 (2 races)
@@ -82,7 +82,7 @@ account.std: 1 race at 1 place, in 1 group (12 events, 2 threads, 1 lock, 1 vari
 
 1. balance: account.c:8 doesn't hold door (1 race, 1 place)
    In this trace every write holds door, and account.c:8 reads without it.
-   account.c:8 read what account.c:10 wrote: a racy read may hide other races: fix it and run again.
+   account.c:8 read what account.c:10 wrote. This racy read may hide other races: fix it and run again.
    account.c:10: 2 reads and 2 writes by T1.pay and main
      holds door
      races with account.c:8 (1 race)
@@ -97,7 +97,7 @@ places.std: 6 races at 3 places, in 1 group (4 events, 4 threads, 0 locks, 1 var
 
 1. total: 3 threads write (6 races, 3 places)
    In this trace 3 threads write, and no lock is held at any access.
-   Report.java:30 read what Counter.java:12 wrote: a racy read may hide other races: fix it and run again.
+   Report.java:30 read what Counter.java:12 wrote. This racy read may hide other races: fix it and run again.
    Counter.java:12: 3 writes by T1, T2 and T4
      no lock held
      races with Counter.java:12 (3 races) and Report.java:30 (3 races)
@@ -132,7 +132,7 @@ class Text(program.Case):
         self.expect(run(["--check", *words]), 0, noted(FORK_JOIN, "shb check: ok 1").encode())
         self.assertEqual(run(["--all", "--check", *words]).out.decode().splitlines()[-6:-4], [
             "     In this trace 2 threads write, and no lock is held at any access.",
-            "     `shb check` found the schedule of race 1 good: after its 3 events both accesses come next."])
+            "     `shb check` found the schedule of race 1 good: after its 3 events both accesses can execute next."])
         said = run(["--all", *words]).out.decode()
         self.assertIn("     No schedule of this race is at hand: events are shown in the order of the trace.\n", said)
         self.assertNotIn("come next", said)
@@ -451,7 +451,7 @@ class Groups(program.Case):
         """A read that took the value of the write it races with; of two writes it took the later one's."""
         lines = ["A w x 1", "B r x 2", "A w y 3", "C w y 5", "B r y 4"]
         out = run_here([self.file(trace_of(*lines))])[1]
-        hides = "   f.c:{} read what f.c:{} wrote: a racy read may hide other races: fix it and run again.\n"
+        hides = "   f.c:{} read what f.c:{} wrote. This racy read may hide other races: fix it and run again.\n"
         self.assertIn(hides.format(2, 1), out)
         self.assertIn(hides.format(4, 5), out)
         self.assertEqual(out.count("hide other races"), 2)  # f.c:3 wrote before f.c:5 did

@@ -188,12 +188,12 @@ class Pages(program.Case):
         trace, report = self.example("places"), (EXAMPLES / "places.report").read_bytes()
         own = self.page(trace)
         self.assertEqual(own.all("p", "verdict"), [])
-        self.assertIn("`shb places` has a schedule of it, race 1: after its 0 events both accesses come next.",
+        self.assertIn("`shb places` has a schedule of it, race 1: after its 0 events both accesses can execute next.",
                       "".join(text for _, text in own.all("details")))
         good = self.page(trace, self.file(report, "t.report"), "--check")
         self.assertEqual([text for _, text in good.all("p", "verdict")], ["shb check: ok 6"])
         self.assertEqual([attributes["class"] for attributes, _ in good.all("p", "verdict")], ["verdict good"])
-        self.assertIn("good: after its 0 events both accesses come next.", "".join(text for _, text in good.all("details")))
+        self.assertIn("good: after its 0 events both accesses can execute next.", "".join(text for _, text in good.all("details")))
         unchecked = self.page(trace, self.file(report, "t.report"))
         self.assertEqual(unchecked.all("p", "verdict"), [])
         self.assertIn("The report wasn't checked (--check does it).", [text for _, text in unchecked.all("p")])

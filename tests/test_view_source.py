@@ -190,7 +190,7 @@ class Shown(program.Case):
         self.assertEqual(self.shown().splitlines()[1:], [
             "", "1. total: a.c:3 doesn't hold door (1 race, 1 place)",
             "   In this trace every write holds door, and a.c:3 reads without it.",
-            "   a.c:3 read what a.c:8 wrote: a racy read may hide other races: fix it and run again.",
+            "   a.c:3 read what a.c:8 wrote. This racy read may hide other races: fix it and run again.",
             "   a.c:8: 1 write by A", "     | total++;", "     holds door", "     races with a.c:3 (1 race)",
             "   a.c:3: 1 read by B", "     | static int total;", "     no lock held", "     races with a.c:8 (1 race)"])
 

@@ -57,7 +57,7 @@ class Stacks(program.Case):
         self.assertIn("     in get\n       from libc.so.6+0x10\n"
                       "       from sorter (no line is known: it called code without hooks)\n       from main a.c:31\n", out)
         self.assertIn("   thread T1 was created in main a.c:30\n", out)
-        self.assertIn("\nCounts are of the trace, where the recorder leaves out repeats: a loop may count as two accesses.\n", out)
+        self.assertIn("\nCounts are those of the trace. The recorder omits repeats: a loop may count as two accesses.\n", out)
         self.assertIn("   block a.c:9#2 was allocated in make a.c:9, from main a.c:31\n", out)
 
     def test_functions_of_the_system(self):
@@ -243,7 +243,7 @@ class Stacks(program.Case):
         """In the trace a free is a write, and orders what follows such a read; but it wrote nothing."""
         trace = b"main|fork(T1)|a.c:1\nmain|w(a.c:9#2)|a.c:7\nT1|r(a.c:9#2)|a.c:5\n"
         _, out, _ = self.shown(stacks(tables=TABLES + b"free 2 2\n"), trace=trace)
-        self.assertIn("   a.c:5 read what a.c:7 freed: a racy read may hide other races: fix it and run again.\n", out)
+        self.assertIn("   a.c:5 read what a.c:7 freed. This racy read may hide other races: fix it and run again.\n", out)
 
     def test_an_atomic_that_hands_on_without_order(self):
         """The trace need not have it. With release and acquire it orders, and is no reason; nor is one that one of the threads alone uses."""

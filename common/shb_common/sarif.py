@@ -20,7 +20,8 @@ RULE = {
     "name": "DataRace",
     "shortDescription": {"text": "Two threads access a variable, one of them writes it, and nothing orders the two accesses."},
     "fullDescription": {"text": "In a recorded run two threads access the same variable, at least one access is a write, and "
-                                "schedulable happens-before doesn't order them: a correct reordering of the run brings both next."},
+                                "schedulable happens-before doesn't order them: after a correct reordering of earlier events both can "
+                                "execute next."},
     "help": {"text": "Make both accesses under one lock, or order them: by a join, by a release and an acquire, or by making the "
                      "variable atomic. The full report of the trace that the message names has a schedule that shows the race; "
                      "shb-view explains it."},

@@ -58,9 +58,9 @@ def stack_lines(frames):
 
 
 def order_text(view, window):
-    """How the two accesses come next, as far as it is known."""
+    """After what the two accesses can execute next, as far as it is known."""
     if window.length is None:
         return "No schedule of this race is at hand: events are shown in the order of the trace."
     of = f"`shb check` found the schedule of race {window.race.number} good" if view.verdict.is_good else (
         f"`shb places` has a schedule of it, race {window.race.number}")
-    return f"{of}: after its {counted(window.length, 'event')} both accesses come next."
+    return f"{of}: after its {counted(window.length, 'event')} both accesses can execute next."

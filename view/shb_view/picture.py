@@ -174,7 +174,7 @@ def event_parts(drawing, anchor):
 
 
 def access_parts(drawing, anchor):
-    """The two accesses, both next."""
+    """The two accesses, which can execute next."""
     xs = [drawing.x[drawing.lane(access)] for access in drawing.window.accesses]
     y = drawing.band + BAND // 2
     yield element("line", class_="next", x1=xs[0], y1=y, x2=xs[1], y2=y)

@@ -113,7 +113,7 @@ def notes_of(view):
     if not view.races:
         yield "Any two conflicting accesses are ordered in this trace. A run with another interleaving may have races."
     if view.sections and view.stacks.numbers:
-        yield "Counts are of the trace, where the recorder leaves out repeats: a loop may count as two accesses."
+        yield "Counts are those of the trace. The recorder omits repeats: a loop may count as two accesses."
     if view.listed < view.races:
         yield "The report doesn't list all races of the trace; the counts are the report's."
     if view.is_sample:
@@ -131,7 +131,7 @@ def seen_parts(section):
     for writer, reader in section.seen:
         readers.setdefault((reader, "freed" if writer in frees else "wrote"), []).append([place(writer)])
     for (reader, verb), writers in [*readers.items()][:MOST_SOME]:
-        yield [place(reader), " read what ", *listed(writers, MOST_SOME), f" {verb}: a racy read may hide other races: fix it and run again."]
+        yield [place(reader), " read what ", *listed(writers, MOST_SOME), f" {verb}. This racy read may hide other races: fix it and run again."]
 
 
 def races_text(group):
