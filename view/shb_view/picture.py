@@ -190,7 +190,8 @@ def tip(window, event):
     shown = window.events[event]
     names = [flat_in(TEXT)(lock_parts(lock)) for lock, _ in shown.locks]
     more = [f"{shown.held - len(names):,} more"] if shown.held > len(names) else []
-    return element("title", f"{short(shown.line, TIP)}\nholds {', '.join(names + more) or NO_LOCK}")
+    held = f"holds {', '.join(names + more)}" if names or more else NO_LOCK
+    return element("title", f"{short(shown.line, TIP)}\n{held}")
 
 
 def event_text(drawing, number, y, anchor):
