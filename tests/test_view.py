@@ -237,7 +237,7 @@ class Facts(program.Case):
     def test_a_write_under_a_read_lock(self):
         """The recorder names what reader T of rw holds `rw@reader.T`; the writer holds `rw`."""
         self.assertEqual(self.said("A acq rw@reader.A 1", "A w x 2", "A rel rw@reader.A 3", "B acq rw@reader.B 1", "B w x 2"),
-                         ["In this trace f.c:2 writes while holding rw for reading, which lets others read and write so too."])
+                         ["In this trace f.c:2 writes while holding rw for reading, as other threads can at the same time."])
 
     def test_a_read_under_the_read_lock_is_no_mistake(self):
         lines = ["W acq rw 1", "W w x 2", "W rel rw 3", "A acq rw@reader.A 4", "A r x 5", "A rel rw@reader.A 6", "B acq rw@reader.B 4",

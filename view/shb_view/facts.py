@@ -148,7 +148,7 @@ def written_under_read_lock(sites, lock, whole):
     if not wrong:
         return None
     verb, name = "writes" if len(wrong) == 1 else "write", Code(lock)
-    sentence = [f"In this {whole} ", *lines_of(wrong), f" {verb} while holding ", name, " for reading, which lets others read and write so too."]
+    sentence = [f"In this {whole} ", *lines_of(wrong), f" {verb} while holding ", name, " for reading, as other threads can at the same time."]
     return Fact(1, [*lines_of(wrong), f" {verb} under the read lock of ", name], sentence, lock)
 
 
