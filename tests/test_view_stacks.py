@@ -55,7 +55,7 @@ class Stacks(program.Case):
         self.assertIn("     in add<> (2 of 3 racing accesses)\n       from main a.c:31\n"
                       "     in add<> (1 of 3 racing accesses)\n       from std::each each.h:8\n       from run a.c:20\n", out)
         self.assertIn("     in get\n       from libc.so.6+0x10\n"
-                      "       from sorter (no line is known: it called code without hooks)\n       from main a.c:31\n", out)
+                      "       from sorter (no line is known: it called code without -fsanitize=thread)\n       from main a.c:31\n", out)
         self.assertIn("   thread T1 was created in main a.c:30\n", out)
         self.assertIn("\nCounts are those of the trace. The recorder omits repeats: a loop may count as two accesses.\n", out)
         self.assertIn("   block a.c:9#2 was allocated in make a.c:9, from main a.c:31\n", out)
@@ -65,11 +65,11 @@ class Stacks(program.Case):
         tables = TABLES.replace(b"stack 8 6 8 9", b"stack 8 6 8 3 9 3 8").replace(b"stack 6 0 5", b"stack 6 0 5 8 3").replace(
             b"stack 7 8 6", b"stack 7 8 3 6")
         self.assertIn("     in get\n       from (2 functions of the system's headers or libraries)\n"
-                      "       from sorter (no line is known: it called code without hooks)\n"
+                      "       from sorter (no line is known: it called code without -fsanitize=thread)\n"
                       "       from (2 functions of the system's headers or libraries)\n       from main a.c:31\n   thread",
                       self.shown(stacks(tables=tables))[1])
         self.shown(stacks(tables=tables), "--html", self.folder / "page.html")
-        self.assertIn("std::each each.h:8get a.c:7libc.so.6+0x10std::each each.h:8sorter (no line is known: it called code without hooks)"
+        self.assertIn("std::each each.h:8get a.c:7libc.so.6+0x10std::each each.h:8sorter (no line is known: it called code without -fsanitize=thread)"
                       "std::each each.h:8libc.so.6+0x10main a.c:31libc.so.6+0x10std::each each.h:8",
                       [text for _, text in Page((self.folder / "page.html").read_text()).all("ol", "stack")])
 

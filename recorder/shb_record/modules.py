@@ -31,7 +31,7 @@ class Modules:
         bare = [path for path, kind in self.kinds.items() if kind and not kind[0]]
         nameless = [path for path, kind in self.kinds.items() if kind and kind[0] and not kind[1]]
         if bare:
-            yield f"Accesses by code without hooks aren't seen: {named(bare)}."
+            yield f"Accesses by code without -fsanitize=thread aren't seen: {named(bare)}."
         if nameless:
             yield f"Without debug information (-g) locations are addresses: {named(nameless)}."
 

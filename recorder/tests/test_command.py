@@ -370,7 +370,7 @@ class Command(recorder.Case):
             recorder.must(recorder.call("gcc", *words, cwd=self.folder))
         status, _, said = self.record("./app")
         self.assertEqual(status, 0, said)
-        self.assertEqual(said.splitlines()[-3:], ["shb-record: Accesses by code without hooks aren't seen: libbare.so.",
+        self.assertEqual(said.splitlines()[-3:], ["shb-record: Accesses by code without -fsanitize=thread aren't seen: libbare.so.",
                                                   "shb-record: Without debug information (-g) locations are addresses: libnameless.so.", ONE])
         status, _, said = self.record("--runs", "2", "./app")
         self.assertNotIn(ONE, said)
@@ -379,7 +379,7 @@ class Command(recorder.Case):
         recorder.must(recorder.call("gcc", "-g", "-fsanitize=thread", "-pthread", "main.c", "-o", "app", "./libbare.so", "./libnameless.so", cwd=self.folder))
         self.assertEqual(self.record("./app")[0], 66)
         page, = (self.folder / "app.shb").glob("*.html")
-        for line in ("Accesses by code without hooks aren&#x27;t seen: libbare.so.", "Without debug information (-g) locations are addresses: libnameless.so.",
+        for line in ("Accesses by code without -fsanitize=thread aren&#x27;t seen: libbare.so.", "Without debug information (-g) locations are addresses: libnameless.so.",
                      "One interleaving of many was seen; --runs N tries others."):
             self.assertIn(line, text_of(page))
 

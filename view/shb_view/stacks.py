@@ -96,6 +96,6 @@ def caller_lines(frames, most):
 
 
 def frame_parts(frame):
-    unknown = WITHOUT_LINE.get(frame.function, " (no line is known: it called code without hooks)")
+    unknown = WITHOUT_LINE.get(frame.function, " (no line is known: it called code without -fsanitize=thread)")
     where = [" ", Code(frame.location)] if frame.location else [unknown]
     return [Code(bare(frame.function)), *where] if frame.function else where[-1:]
