@@ -166,7 +166,7 @@ def conclude(look, own):
         + f"; the program's own status: {own}; files in {look.results.folder}")
     for line in look.meaning():
         say(line)
-    if look.options.runs > 1:
+    if len(look.runs) > 1:
         say(f"{counted(len(look.runs), 'run')} gave {counted(look.interleavings(), 'different interleaving')}")
     if look.pages:
         more = f" and {len(look.pages) - 1:,} more" if len(look.pages) > 1 else ""
