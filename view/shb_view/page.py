@@ -25,7 +25,7 @@ ARROW = Markup('<svg class="defs" width="0" height="0" aria-hidden="true"><defs>
 LEGEND = """\
 Each lane is a thread, and time runs down. A solid arrow leads from a release to the acquire after it, from a fork to the thread's
 first event, or from a thread's last event to a join; a dashed arrow from a write to the read that sees it. A bar beside a lane is a
-lock held, at an event at most the four that were acquired last. Where a lane is dashed, events are left out."""
+lock held, at an event at most the four that were acquired last. Where a lane is dashed, events are omitted."""
 
 
 def page_parts(view):
