@@ -220,14 +220,21 @@ class Stacks(program.Case):
         _, out, err = self.shown(stacks(tables=TABLES + b"free 4 5\n"), "--all", trace=trace)
         self.assertEqual(err, "")
         self.assertIn("1. a.c:9#2 (2 variables): freed at a.c:7 while in use (2 races, 2 places)\n   In this trace main frees the block at "
-                      "a.c:7, and nothing orders that and the use at a.c:5 and a.c:6.\n", out)
+                      "a.c:7, and nothing orders the free and the use at a.c:5 and a.c:6.\n", out)
         self.assertIn("   a.c:7: 1 free by main\n", out)
         self.assertIn("     free by main at a.c:7 (event 4)\n", out)
+
+    def test_two_frees(self):
+        """Two threads free one block at one line."""
+        trace = b"main|fork(T1)|a.c:1\nT1|w(a.c:9#2)|a.c:7\nmain|w(a.c:9#2)|a.c:7\n"
+        _, out, _ = self.shown(stacks(tables=TABLES + b"free 2 2\nfree 3 3\n"), trace=trace)
+        self.assertIn("1. a.c:9#2: freed twice at a.c:7 (1 race, 1 place)\n   In this trace T1 and main free the block at a.c:7, and nothing "
+                      "orders the free and another free of it.\n", out)
 
     def test_a_use_after_a_free(self):
         """In the order of the trace; it comes before all other groups."""
         lines = b"main|fork(T1)|a.c:1", b"T1|w(a.c:9#2)|a.c:5", b"main|w(a.c:9#2)|a.c:7", b"T1|w(a.c:9#2)|a.c:6"
-        before = "In this trace main frees the block at a.c:7, and nothing orders that and the use at a.c:5"
+        before = "In this trace main frees the block at a.c:7, and nothing orders the free and the use at a.c:5"
         for order, event, headline, fact in (
                 ((0, 1, 2), 3, "freed at a.c:7 while in use", f"{before}."),
                 ((0, 2, 1), 2, "used at a.c:5 after it was freed at a.c:7", f"{before}. The use at a.c:5 came after it here: a use after free."),

@@ -209,7 +209,7 @@ class Command(recorder.Case):
     def test_an_early_free(self):
         status, _, said = self.record(self.program("early_free.c"))
         self.assertEqual(status, 66, said)
-        self.assertRegex(said, r"In this trace main frees the block at early_free.c:20, and nothing orders that and the use at early_free.c:10\.\n")
+        self.assertRegex(said, r"In this trace main frees the block at early_free.c:20, and nothing orders the free and the use at early_free.c:10\.\n")
         self.assertIn("   early_free.c:20: 1 free by main\n", said)
 
     def test_a_late_use(self):

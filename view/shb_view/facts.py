@@ -115,12 +115,12 @@ def freed(sites, whole):
     if not frees:
         return None
     threads = listed([[Code(thread)] for thread in sorted(set().union(*(site.writers for site in frees)))], MOST_NAMED)
-    uses = listed([[place(location)] for location in used], MOST_NAMED) if used else ["another free of it"]
+    uses = ["the use at ", *listed([[place(location)] for location in used], MOST_NAMED)] if used else ["another free of it"]
     sentence = [f"In this {whole} ", *threads, " frees the block at " if len(threads) == 1 else " free the block at ", *lines_of(frees),
-                ", and nothing orders that and the use at ", *uses, "."]
+                ", and nothing orders the free and ", *uses, "."]
     after = used_after(frees, sites)
     if not after:
-        return Fact(1, ["freed at ", *lines_of(frees), " while in use"], sentence, None)
+        return Fact(1, ["freed at " if used else "freed twice at ", *lines_of(frees), " while in use" if used else ""], sentence, None)
     sentence += [" The use at ", *after, " came after it here: a use after free."]
     return Fact(0, ["used at ", *after, " after it was freed at ", *lines_of(frees)], sentence, None)
 
