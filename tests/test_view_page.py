@@ -88,7 +88,7 @@ class Pages(program.Case):
     def test_folded_parts_by_hand(self):
         page = self.page(self.example("fork-join"))
         self.assertEqual([text for _, text in page.all("summary")],
-                         ["What comes before events 4 and 5, one of its races", "As text, for an issue", "Lines of the trace"])
+                         ["What comes before one of the races (events 4 and 5)", "As text, for an issue", "Lines of the trace"])
         [(_, issue)] = page.all("pre")
         self.assertEqual(issue.splitlines()[:3], ["data race on count: worker.c:3 and start.c:6", "(one race in a recorded run)",
                                                   "  write by worker at worker.c:3 (event 4)"])

@@ -256,7 +256,7 @@ class Stacks(program.Case):
         """The trace need not have it. With release and acquire it orders, and is no reason; nor is one that one of the threads alone uses."""
         trace = b"main|fork(T1)|a.c:1\nmain|w(a.c:9#2)|a.c:5\nT1|r(a.c:9#2)|a.c:7\nmain|join(T1)|a.c:8\nmain|fork(T2)|a.c:9\n"
         says = ("   main and T1 use the atomic slot: a.c:6 writes it {}, a.c:4 reads it {}. A write with release and a read with acquire "
-                "would order what comes before the one and after the other.\n")
+                "would order what comes before the write and after the read.\n")
         for store, load, words in (("relaxed", "acquire", ("relaxed", "with acquire")), ("release", "relaxed", ("with release", "relaxed")),
                                    ("release", "acquire", None), ("both", "both", None)):
             tables = f"atomic slot\tmain\ta.c:6\tstore {store}\natomic slot\tT1\ta.c:4\tload {load}\natomic own\tT1\ta.c:3\tstore relaxed\n"

@@ -219,7 +219,7 @@ def origin_details(view, section):
 
 def window_details(view, window, anchor):
     first, second = window.accesses
-    return element("details", element("summary", f"What comes before events {first} and {second}, one of its races"),
+    return element("details", element("summary", f"What comes before one of the races (events {first} and {second})"),
                    element("p", f"{LEGEND} {order_text(view, window)}", class_="faint"),
                    element("div", picture(window, anchor), class_="wide picture"))
 

@@ -73,7 +73,7 @@ def publication_parts(store, load):
     """What is said of an atomic by which threads hand on something without order, as parts."""
     return [Code(store.thread), " and ", Code(load.thread), " use the atomic ", Code(store.name), ": ", place(store.location),
             f" writes it {WITH[store.order]}, ", place(load.location), f" reads it {WITH[load.order]}. A write with release and a read "
-            "with acquire would order what comes before the one and after the other."]
+            "with acquire would order what comes before the write and after the read."]
 
 
 def caller_lines(frames, most):
