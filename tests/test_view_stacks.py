@@ -93,7 +93,7 @@ class Stacks(program.Case):
         status, _, err = self.shown(stacks(), "--html", path)
         self.assertEqual((status, err), (0, ""))
         page = Page(path.read_text())
-        self.assertIn("Called from: 3 stacks of the racing lines", [text for _, text in page.all("summary")])
+        self.assertIn("3 call stacks of the racing lines", [text for _, text in page.all("summary")])
         lists = [text for _, text in page.all("ol", "stack")]
         self.assertIn("add<> a.c:5std::each each.h:8run a.c:20", lists)
         self.assertIn("make a.c:9main a.c:31", lists)

@@ -25,7 +25,7 @@ ARROW = Markup('<svg class="defs" width="0" height="0" aria-hidden="true"><defs>
 LEGEND = """\
 Each lane is a thread, and time runs down. A solid arrow leads from a release to the acquire after it, from a fork to the thread's
 first event, or from a thread's last event to a join; a dashed arrow from a write to the read that sees it. A bar beside a lane is a
-lock held, at an event at most the four that were acquired last. Where a lane is dashed, events are omitted."""
+lock that the thread holds; of more than four the last acquired ones have bars. Where a lane is dashed, events are omitted."""
 
 
 def page_parts(view):
@@ -197,7 +197,7 @@ def callers_details(section):
     figures = [element("figure", element("figcaption", marked([place(location)], NAME)), *stack_lists(callers))
                for location, callers in found if any(frames for (frames, _), _ in callers)]
     stacks = sum(len(callers) for _, callers in found)
-    words = f"Called from: {counted(stacks, 'stack')} of the racing {'line' if len(figures) == 1 else 'lines'}"
+    words = f"{counted(stacks, 'call stack')} of the racing {'line' if len(figures) == 1 else 'lines'}"
     return element("details", element("summary", words), element("div", *figures, class_="pair stacks")) if figures else None
 
 
