@@ -194,8 +194,8 @@ extern enum phase { ORDERING, FINDING_REPEATED, WRITING } phase;
 void order_fork(u32 t, u32 child), order_join(u32 t, u32 child);
 void order_acquire(u32 t, u64 object, u64 which);            /* a lock, by two words */
 void order_release(u32 t, u64 object, u64 which, int is_last);       /* is_last: nobody takes it any more */
-/* The same in the passes after it. An acquire gives 0 where the thread knows of each access that the lock tells of, and the release
-   behind it tells nobody of more: then all is ordered as without the two, if there is no event between. */
+/* The same in the passes after the first one. `pass_acquire` returns 0 if the acquire and the release after it add no order, so that
+   both can be left out where no event is between them. */
 void begin_times(void);
 void pass_access(u32 t), pass_fork(u32 t, u32 child), pass_join(u32 t, u32 child);
 int pass_acquire(u32 t, u64 object, u64 which);
