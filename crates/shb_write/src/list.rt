@@ -19,8 +19,8 @@ use std::alloc::Global;
 use std::sync::Wait;
 use std::thread::Threads;
 
-/// So many races are kept at once where a trace has fewer events: 192 KiB. The number is this project's own.
-const LEAST_KEPT: u32 = 16_384;
+/// So many races are kept at once where a trace has fewer events: 768 KiB. The number is this project's own.
+const LEAST_KEPT: u32 = 65_536;
 
 /// Writes the blocks of some kept races, as workers make their texts.
 fn write_kept<R: Threads + Wait + Sync, K: Sink, G: Gate + Sync>(
