@@ -27,6 +27,7 @@
 #define USED_BY_ALL (~0u)              /* an owner that no thread is */
 #define MAX_BLOCK (1ull << 32)         /* a longer one is no new variables, as the converter has it */
 enum { IS_FIRST = 1 << KEYS };         /* in `held`: no thread used it before this owner */
+enum { HELD_KEYS = IS_FIRST - 1 };
 enum { OVERFLOWS = 8 };                /* after so many an older use makes room */
 enum { MOST_USES = USE_SLOTS / 4 * 3 };
 enum { CHUNK_BYTES = 4 << 20, CHUNKS = 1 << 14 };            /* memory is asked for in chunks of cells */
@@ -93,7 +94,7 @@ static cell *cells_of_new_page(void) {
 
 /* ---- pages ---- */
 /* Null where nothing of it is known; with `make` where there is no memory. */
-static cell_page *page_at(uint64_t address, int make) {
+static inline cell_page *page_at(uint64_t address, int make) {
     cell_page **region = &cell_regions[address >> REGION_BITS];
     if (!*region && make) *region = memory_left ? new_memory(REGION_BYTES) : 0;
     if (!*region && make) out_of_memory();
@@ -105,14 +106,33 @@ static cell *make_cells(cell_page *page) {
     cell *cells = cells_of_new_page();
     for (int k = 0; cells && page->is_whole && k < CELLS_OF_PAGE; k++)
         cells[k] = (cell){.owner = page->owner, .number = page->number, .held = page->is_first ? IS_FIRST : 0};
+    if (cells && page->is_whole) memset(page->used, -1, sizeof page->used);
     return page->cells = cells;
 }
 
-/* Its cell, which is made; or null. */
-static cell *cell_at(uint64_t address) {
-    cell_page *page = page_at(address, 1);
+static unsigned number_in_page(uint64_t address) { return address / GRAIN % CELLS_OF_PAGE; }
+static uint64_t address_in_page(uint64_t address, unsigned k) { return address / CELL_PAGE * CELL_PAGE + k * GRAIN; }
+
+/* Its cell in a page that may be null; or null. */
+static cell *cell_in(cell_page *page, uint64_t address) {
     cell *cells = page ? page->cells ? page->cells : make_cells(page) : 0;
-    return cells ? &cells[address / GRAIN % CELLS_OF_PAGE] : 0;
+    return cells ? &cells[number_in_page(address)] : 0;
+}
+
+/* ---- marks of cells ---- */
+static uint64_t bit_of(uint64_t address) { return 1ull << address / GRAIN % 64; }
+static int is_freed(const cell_page *page, uint64_t address) { return (page->freed[number_in_page(address) / 64] & bit_of(address)) != 0; }
+
+/* The bits in a word of marks of the cells from one to another. */
+static uint64_t bits_between(unsigned word, unsigned first, unsigned last) {
+    uint64_t bits = word == first / 64 ? ~0ull << first % 64 : ~0ull;
+    return word == last / 64 ? bits & ~0ull >> (63 - last % 64) : bits;
+}
+
+static int has_freed(const cell_page *page) {
+    uint64_t all = 0;
+    for (int k = 0; k < MARKS; k++) all |= page->freed[k];
+    return all != 0;
 }
 
 /* ---- phases ---- */
@@ -122,11 +142,17 @@ static void put_held(const cell *c, int k, uint64_t address) {
     put_late((struct record){first | (uint64_t)c->number << 48, use->what}, c->keys[k] & POSITIONS);
 }
 
-static void begin_phase(cell *c, uint64_t address, uint32_t serial, uint16_t number) {
+static void put_all_held(const cell *c, uint64_t address) {
     for (int k = 0; k < KEYS; k++)
         if (c->held >> k & 1) put_held(c, k, address);
-    *c = (cell){.owner = serial, .number = number, .held = c->owner ? 0 : IS_FIRST};
-    page_at(address, 0)->is_whole = 0;
+}
+
+static void begin_phase(cell_page *page, cell *c, uint64_t address, uint32_t serial, uint16_t number) {
+    if (c->held & HELD_KEYS) put_all_held(c, address);
+    int is_first = !c->owner && !is_freed(page, address);
+    *c = (cell){.owner = serial, .number = number, .held = is_first ? IS_FIRST : 0};
+    page->used[number_in_page(address) / 64] |= bit_of(address);
+    page->is_whole = 0;
 }
 
 static int free_key(const cell *c) {
@@ -166,27 +192,29 @@ int hold_in_cell(cell *c, uint64_t address, uint64_t what, uint64_t where, uint6
 
 /* ---- accesses ---- */
 static int hold_in_one(uint32_t serial, struct record r, uint64_t address, uint64_t position) {
-    cell *c = cell_at(address);
+    cell_page *page = page_at(address, 1);
+    cell *c = cell_in(page, address);
     if (!c) return 0;
-    if (c->owner != serial) begin_phase(c, address, serial, r.where >> 48);
+    if (c->owner != serial) begin_phase(page, c, address, serial, r.where >> 48);
     return hold_in_cell(c, address, r.what, address % GRAIN, position);
 }
 
 /* Without cells it needs none. */
 static void use_whole_page(cell_page *page, uint32_t serial, uint16_t number, uint64_t address) {
     if (page->is_whole && page->owner == serial) return;
-    page->is_first = !page->cells && !page->is_whole;
-    for (int k = 0; page->cells && k < CELLS_OF_PAGE; k++)
-        if (page->cells[k].owner != serial) begin_phase(&page->cells[k], address + k * GRAIN, serial, number);
+    page->is_first = !page->cells && !page->is_whole && !has_freed(page);
+    for (unsigned k = 0; page->cells && k < CELLS_OF_PAGE; k++)
+        if (page->cells[k].owner != serial) begin_phase(page, &page->cells[k], address_in_page(address, k), serial, number);
     page->owner = serial;
     page->number = number;
     page->is_whole = 1;
 }
 
 static void use_part_of_page(uint32_t serial, uint16_t number, uint64_t address, uint64_t end) {
-    cell *c = cell_at(address);
+    cell_page *page = page_at(address, 1);
+    cell *c = cell_in(page, address);
     for (uint64_t at = address / GRAIN * GRAIN; c && at < end; at += GRAIN, c++)
-        if (c->owner != serial) begin_phase(c, at, serial, number);
+        if (c->owner != serial) begin_phase(page, c, at, serial, number);
 }
 
 static uint64_t end_in_page(uint64_t address, uint64_t end) {
@@ -207,9 +235,12 @@ static uint64_t where_in(uint64_t address, uint64_t at) {
     return (at / GRAIN - address / GRAIN) << GRAINS_BEFORE | address % GRAIN;
 }
 
-/* Is the cell in its first phase, of this thread, with a key for this? */
-static int may_hold(const cell *c, uint32_t serial, uint64_t use) {
-    if (!c || !use || (c->owner && (c->owner != serial || !(c->held & IS_FIRST)))) return 0;
+/* Is the cell there in its first phase, of this thread, with a key for this? */
+static int may_hold(uint64_t address, uint32_t serial, uint64_t use) {
+    cell_page *page = page_at(address, 1);
+    const cell *c = cell_in(page, address);
+    if (!c || !use) return 0;
+    if (c->owner ? c->owner != serial || !(c->held & IS_FIRST) : is_freed(page, address)) return 0;
     int k = 0;
     while (k < KEYS && c->keys[k] && c->keys[k] >> POSITION_BITS != use) k++;
     return k < KEYS;
@@ -219,23 +250,58 @@ static int may_hold(const cell *c, uint32_t serial, uint64_t use) {
 static int hold_in_several(uint32_t serial, struct record r, uint64_t address, uint64_t end, uint64_t position) {
     int is_held = position && end - address / GRAIN * GRAIN <= MOST_RANGE;
     for (uint64_t at = address; at < end && is_held; at = at / GRAIN * GRAIN + GRAIN)
-        is_held = may_hold(cell_at(at), serial, number_of_use(r.what, where_in(address, at)));
+        is_held = may_hold(at, serial, number_of_use(r.what, where_in(address, at)));
     use_range(serial, r.where >> 48, address, end);
     for (uint64_t at = address; at < end && is_held; at = at / GRAIN * GRAIN + GRAIN)
-        hold_in_cell(cell_at(at), at, r.what, where_in(address, at), position);
+        hold_in_cell(find_cell(at), at, r.what, where_in(address, at), position);
     return is_held;
+}
+
+/* Those that are zeros stay so: most blocks are new again before another thread comes. */
+static void free_cells(cell_page *page, uint32_t serial, uint16_t number, uint64_t address, uint64_t end) {
+    unsigned first = number_in_page(address), last = number_in_page(end - 1);
+    for (unsigned w = first / 64; w <= last / 64; w++) {
+        uint64_t bits = bits_between(w, first, last);
+        page->freed[w] |= bits & ~page->used[w];
+        for (uint64_t used = bits & page->used[w]; used; used &= used - 1) {
+            unsigned k = 64 * w + __builtin_ctzll(used);
+            if (page->cells[k].owner != serial) begin_phase(page, &page->cells[k], address_in_page(address, k), serial, number);
+        }
+    }
+}
+
+static void free_range(uint32_t serial, uint16_t number, uint64_t address, uint64_t end) {
+    for (uint64_t stop; address < end; address = stop) {
+        stop = end_in_page(address, end);
+        cell_page *page = page_at(address, 1);
+        if (!page || (page->is_whole && page->owner == serial)) continue;
+        if (!page->is_whole || page->cells || make_cells(page)) free_cells(page, serial, number, address, stop);
+    }
+}
+
+/* Where nothing is known nothing is written: it may be much. */
+static void clear_cells(cell_page *page, uint64_t address, uint64_t end) {
+    unsigned first = number_in_page(address), last = number_in_page(end - 1);
+    for (unsigned w = first / 64; w <= last / 64; w++) {
+        uint64_t bits = bits_between(w, first, last);
+        if (!((page->used[w] | page->freed[w]) & bits)) continue;
+        for (uint64_t used = bits & page->used[w]; used; used &= used - 1) page->cells[64 * w + __builtin_ctzll(used)] = (cell){0};
+        page->used[w] &= ~bits;
+        page->freed[w] &= ~bits;
+    }
 }
 
 /* New variables are there: what was held back of the old ones is over. */
 static void renew(uint64_t address, uint64_t end) {
     uint64_t at = (address + GRAIN - 1) / GRAIN * GRAIN, stop;
+    if (end - address >= MAX_BLOCK) return;
     for (end = end / GRAIN * GRAIN; at < end; at = stop) {
         stop = end_in_page(at, end);
         cell_page *page = page_at(at, 0);
         if (!page) continue;
         if (page->is_whole && !page->cells && stop - at < CELL_PAGE && !make_cells(page)) continue;
-        if (page->cells) memset(&page->cells[at / GRAIN % CELLS_OF_PAGE], 0, (stop - at) / GRAIN * sizeof *page->cells);
-        page->is_whole = 0;
+        clear_cells(page, at, stop);
+        if (page->is_whole) page->is_whole = 0;
     }
 }
 
@@ -250,11 +316,14 @@ static int is_used_by_all(enum operation operation) {
 }
 
 /* In a part of a page: what a use of it puts. */
-static uint64_t count_held(const cell *cells, uint32_t serial, uint64_t address, uint64_t end) {
+static uint64_t count_held(const cell_page *page, uint32_t serial, uint64_t address, uint64_t end) {
     uint64_t count = 0;
-    const cell *c = &cells[address / GRAIN % CELLS_OF_PAGE];
-    for (uint64_t at = address / GRAIN * GRAIN; at < end; at += GRAIN, c++)
-        if (c->owner != serial) count += __builtin_popcount(c->held & (IS_FIRST - 1));
+    unsigned first = number_in_page(address), last = number_in_page(end - 1);
+    for (unsigned w = first / 64; w <= last / 64; w++)
+        for (uint64_t used = bits_between(w, first, last) & page->used[w]; used; used &= used - 1) {
+            const cell *c = &page->cells[64 * w + __builtin_ctzll(used)];
+            if (c->owner != serial) count += __builtin_popcount(c->held & HELD_KEYS);
+        }
     return count;
 }
 
@@ -266,7 +335,7 @@ uint64_t count_late(uint32_t serial, struct record r, uint64_t bytes) {
     for (uint64_t at = address, stop; at < end; at = stop) {
         stop = end_in_page(at, end);
         const cell_page *page = page_at(at, 0);
-        if (page && page->cells && !(page->is_whole && page->owner == serial)) count += count_held(page->cells, serial, at, stop);
+        if (page && page->cells && !(page->is_whole && page->owner == serial)) count += count_held(page, serial, at, stop);
     }
     return count;
 }
@@ -276,10 +345,10 @@ int hold_back(uint32_t serial, struct record r, uint64_t bytes, uint64_t positio
     uint64_t address = r.where & LOW_48_BITS, end = address + bytes;
     uint16_t number = r.where >> 48;
     if (!bytes || end > CELL_ADDRESSES) return 0;
-    if (is_plain_access(operation) && address / GRAIN == (end - 1) / GRAIN) return hold_in_one(serial, r, address, position);
-    if (is_plain_access(operation)) return hold_in_several(serial, r, address, end, position);
-    if (operation == OP_FREE) use_range(serial, number, address, end);
+    if (operation == OP_FREE) free_range(serial, number, address, end);
+    else if (operation == OP_ALLOC || operation == OP_START) renew(address, end);
     else if (is_used_by_all(operation)) use_range(USED_BY_ALL, 0, address, end);
-    else if ((operation == OP_ALLOC || operation == OP_START) && bytes < MAX_BLOCK) renew(address, end);
+    else if (is_plain_access(operation) && address / GRAIN == (end - 1) / GRAIN) return hold_in_one(serial, r, address, position);
+    else if (is_plain_access(operation)) return hold_in_several(serial, r, address, end, position);
     return 0;
 }

@@ -21,12 +21,15 @@ enum { REGIONS = 1 << (ADDRESS_BITS - REGION_BITS), PAGES_OF_REGION = (1 << REGI
 typedef struct { uint64_t what, where; } cell_use;
 enum { USE_SLOTS = 1 << 18 };
 
-/* What is known of a page of memory. Of a page that is whole all is in a phase of one owner, with cells or without. */
+/* What is known of a page of memory. Of a page that is whole all is in a phase of one owner, with cells or without. A cell has a bit
+   in `used` where it isn't zeros. One of zeros has a bit in `freed` where it was freed since it was new: no phase of it is a first one. */
+enum { MARKS = CELLS_OF_PAGE / 64 };
 typedef struct {
     cell *cells;                       /* or null */
     uint32_t owner;
     uint16_t number;
     uint8_t is_whole, is_first;        /* is_first: of one without cells, as IS_FIRST of a cell */
+    uint64_t used[MARKS], freed[MARKS];
 } cell_page;
 
 extern int has_cells;

@@ -123,7 +123,7 @@ int make_room(thread *t, uint64_t count) { return make_room_and_more(t, count, 0
 
 /* Is it a read that the thread made before, with nothing but reads of any thread in between?  Then it got the same value, by
    the same order. */
-static int is_repeated(thread *t, enum operation operation, struct record r) {
+static inline int is_repeated(thread *t, enum operation operation, struct record r) {
     if (operation != OP_READ && operation != OP_ATOMIC_LOAD) {
         changes++;
         return 0;
@@ -192,8 +192,8 @@ void make_room_of_copy(thread *t, const void *to, const void *from, uint64_t siz
     }
 }
 
-static int is_held_back(thread *t, struct record r, uint64_t bytes) {
-    if (!has_cells || !hold_back(t->serial, r, bytes, position_now())) return 0;
+static int is_held_back(thread *t, enum operation operation, struct record r, uint64_t bytes) {
+    if (!has_cells || !hold_back(t->serial, r, bytes, is_plain(operation) ? position_now() : NO_POSITION)) return 0;
     held_there++;
     return 1;
 }
@@ -216,15 +216,14 @@ static int put_in_own_cell(thread *t, enum operation operation, uint64_t address
     return 1;
 }
 
-void put(thread *t, enum operation operation, const volatile void *address, uint64_t size, uint64_t caller) {
-    if (!keep_turn(t)) take_turn(t);
-    if (!recording) return;
-    if (is_plain(operation) && put_in_own_cell(t, operation, (uint64_t)address, size, caller)) return;
+/* All that isn't quick. Not inlined, for then the quick way would save registers for it. */
+static __attribute__((noinline))
+void put_any(thread *t, enum operation operation, const volatile void *address, uint64_t size, uint64_t caller) {
     uint64_t bytes = bytes_of(operation, address, size);
     if (!make_room_for(t, operation, address, bytes)) return;
     uint64_t inside = inside_of(t, operation, size);
     struct record r = record_of(t, operation, (uint64_t)address, inside, caller);
-    if (is_held_back(t, r, bytes)) {
+    if (is_held_back(t, operation, r, bytes)) {
         changes += operation == OP_WRITE;
         return;
     }
@@ -233,6 +232,12 @@ void put(thread *t, enum operation operation, const volatile void *address, uint
     if (way) add(t, OP_WAY, 0, 0, way);
     records[written++] = r;
     if (inside == SIZE_FOLLOWS) records[written++] = (struct record){size, (uint64_t)OP_SIZE << 48};
+}
+
+void put(thread *t, enum operation operation, const volatile void *address, uint64_t size, uint64_t caller) {
+    if (!keep_turn(t)) take_turn(t);
+    if (!recording || (is_plain(operation) && put_in_own_cell(t, operation, (uint64_t)address, size, caller))) return;
+    put_any(t, operation, address, size, caller);
 }
 
 /* The system keeps no more of a thread's name than MOST_NAME bytes. */
