@@ -110,7 +110,8 @@ FAULTS = {  # to plant: the file, what stands there, and what in its place
     "the last use of a phase isn't recorded": ("cells.c", "if (c->held & HELD_KEYS) put_all_held(c, address);", ""),
     "the position is that of the first use": ("cells.h", "c->keys[k] = use << POSITION_BITS | position;", "c->keys[k] |= 0;"),
     "the position is where it is recorded": ("hold_back.c", "{position, (uint64_t)OP_LATE", "{written << ORDER_BITS | 1, (uint64_t)OP_LATE"),
-    "bytes of a cell are one use": ("cells.c", "hold_in_cell(c, address, r.what, address % GRAIN, position)", "hold_in_cell(c, address, r.what, 0, position)"),
+    "bytes of a cell are one use": (
+        "cells.c", "hold_in_cell(c, address, r.what, address % GRAIN, position)", "hold_in_cell(c, address, r.what, 0, position)"),
     "a use that makes room isn't recorded": ("cells.c", "        if (c->held >> k & 1) put_held(c, k, address);\n    }", "    }"),
     "atomic accesses end no phase": ("cells.c", "(operation >= OP_ATOMIC_LOAD && operation <= OP_ATOMIC_UPDATE)", "0"),
     "a free ends no phase": ("cells.c", "if (operation == OP_FREE) free_range", "if (0) free_range"),
