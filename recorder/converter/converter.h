@@ -135,6 +135,7 @@ typedef struct {
     u32 reader : 28, many_readers : 1;                       /* and that read it plainly */
     u32 open : 1, mixed_open : 1;      /* by order.c */
 } piece_use;
+enum { MOST_PIECES = (1 << 30) - 1 };  /* in accesses.c two marks stand above their numbers */
 extern u64 range_steps;                /* in this pass: pages and pieces after the first of each range */
 void begin_memory_pass(void);
 block *meet_block(u64 i);              /* it, or null; each pass calls it for each OP_ALLOC and OP_START: the newest block holds its addresses */

@@ -155,6 +155,7 @@ static void make_pieces(u64 from, u64 cuts, u32 *slots) {
     for (; cuts; cuts &= cuts - 1, slots++) {
         if (*slots) continue;
         u64 at = from + __builtin_ctzll(cuts);
+        if (piece_count == MOST_PIECES) die("the record has more variables than shb-std takes (%d)", MOST_PIECES);
         GROW(pieces, piece_count, piece_capacity);
         GROW(piece_uses, piece_count, use_capacity);
         piece_uses[piece_count] = (piece_use){0};

@@ -9,6 +9,7 @@
 #include "converter.h"
 
 enum { MOST_SLOTS = 1024, MANY = MOST_SLOTS };
+#define LAST_TIME ((1ull << 32) - 1)   /* of a slot; as the next */
 #define MOST_TIMES (1ull << 28)        /* in all clocks, 1 GB: where these are more, all pieces count as open */
 
 typedef struct { u32 *times, count; } clock_of_slots;        /* those behind are 0 */
@@ -99,6 +100,7 @@ static moment now(u32 t) {
 
 static void begin_next_time(u32 t) {
     moment m = now(t);
+    if (m.time == LAST_TIME) is_given_up = 1;
     if (!is_given_up) latest[m.slot] = ++threads[t].times[m.slot];
 }
 

@@ -122,6 +122,19 @@ def accesses(trace, variables):
     return {line for line, _, variable in found if variable in variables}
 
 
+def planted(folder, name, before, after):
+    """The converter with another text at one place of its sources."""
+    shutil.copytree(recorder.SOURCES / "converter", folder / "converter")
+    shutil.copy(recorder.SOURCES / "record.h", folder)
+    path = folder / "converter" / name
+    text = path.read_text()
+    if text.count(before) != 1:
+        raise AssertionError(f"{name} has {text.count(before)} times {before}")
+    path.write_text(text.replace(before, after))
+    recorder.must(recorder.call("gcc", "-w", "-O1", "-mpopcnt", *sorted((folder / "converter").glob("*.c")), "-o", folder / "shb-std"))
+    return folder / "shb-std"
+
+
 class Open(recorder.Case):
     def test_the_places_are_the_same(self):
         lines, kept, found, converter = 0, 0, 0, recorder.BUILT / "shb-std"
@@ -156,13 +169,27 @@ class Planted(recorder.Case):
     def test_each_fault_is_found(self):
         for number, (fault, (name, before, after)) in enumerate(FAULTS.items()):
             with self.subTest(fault):
-                copy = self.folder / str(number)
-                shutil.copytree(recorder.SOURCES / "converter", copy / "converter")
-                shutil.copy(recorder.SOURCES / "record.h", copy)
-                path = copy / "converter" / name
-                text = path.read_text()
-                self.assertEqual(text.count(before), 1)
-                path.write_text(text.replace(before, after))
-                sources = sorted((copy / "converter").glob("*.c"))
-                recorder.must(recorder.call("gcc", "-w", "-O1", "-mpopcnt", *sources, "-o", copy / "shb-std"))
-                self.assertTrue(self.is_found(copy / "shb-std"))
+                self.assertTrue(self.is_found(planted(self.folder / str(number), name, before, after)))
+
+
+class Limits(recorder.Case):
+    """What a record of gigabytes would reach, with limits that a drawn one reaches."""
+
+    def test_more_times_than_are_counted(self):
+        """Then all pieces count as open, and no place is lost."""
+        limited = planted(self.folder / "limited", "order.c", "LAST_TIME ((1ull << 32) - 1)", "LAST_TIME 3")
+        reached = 0
+        for seed in range(50):
+            whole, needed, less = (trace_of(self.folder, Drawn(seed), *words)
+                                   for words in ((limited,), (limited, "-r"), (recorder.BUILT / "shb-std", "-r")))
+            self.assertEqual(races(needed), races(whole), seed)
+            reached += needed != less
+        self.assertGreater(reached, 10)
+
+    def test_more_variables_than_are_numbered(self):
+        limited, record = planted(self.folder / "limited", "converter.h", "MOST_PIECES = (1 << 30) - 1", "MOST_PIECES = 2"), self.folder / "app.rec"
+        used = [entry(thread, "WRITE", 0x5000 + 8 * k, 0x200, 8) for k in range(3) for thread in (0, 1)]
+        for accesses, status in ((used[:4], 0), (used, 2)):
+            record.write_bytes(HEADER + b"".join([entry(0, "FORK", 1, 0x100), *accesses]))
+            answer = recorder.call(limited, record)
+            self.assertEqual((answer.returncode, b"more variables than shb-std takes (2)" in answer.stderr), (status, status == 2))
