@@ -13,6 +13,7 @@
 #include <sys/resource.h>
 #include <sys/stat.h>
 #include <sys/syscall.h>
+#include <sys/vfs.h>
 #include <unistd.h>
 #include "runtime.h"
 
@@ -133,6 +134,12 @@ int read_task_file(pid_t system_id, const char *leaf, char *text, int size) {
 }
 
 /* ---- disk space: taken before it is written, for a full disk would be a SIGBUS at the write ---- */
+uint64_t free_space(void) {
+    struct statfs disk;
+    if (!have_file() || syscall(SYS_fstatfs, kept[RECORD].number, &disk) || !disk.f_blocks) return -1;
+    return disk.f_bavail * (disk.f_frsize ? disk.f_frsize : disk.f_bsize);
+}
+
 static int may_have(uint64_t bytes) {  /* past the limit of a file's size a signal would kill the program */
     struct rlimit limit;
     if (getrlimit(RLIMIT_FSIZE, &limit) || limit.rlim_cur >= bytes) return 1;

@@ -7,7 +7,9 @@
 #include <stdio.h>
 #include <string.h>
 #include <sys/mman.h>
+#include <sys/resource.h>
 #include <sys/syscall.h>
+#include <sys/sysinfo.h>
 #include <unistd.h>
 #include <malloc.h>
 #include "runtime.h"
@@ -26,10 +28,52 @@ static uint64_t held_at, held_there;   /* how many accesses were held back since
 static uint64_t most_cells;
 static char command[COMMAND_BYTES];    /* its line of the header */
 
+/* ---- how long it may get ---- */
+static int is_limit_given;             /* by SHB_RECORDS */
+static uint64_t reserve;               /* else: bytes of the disk that are left to others */
+static _Atomic int is_half_told;
+
+static uint64_t least_of(uint64_t a, uint64_t b) { return a < b ? a : b; }
+
+/* How many records, where SHB_RECORDS doesn't say: a position counts no more, and the converter has memory for them, 20 bytes for each
+   and as much for what they access. They are mapped, which takes no more than a quarter of the addresses that the program may have. */
+static uint64_t most_by_default(void) {
+    enum { BYTES_TO_CONVERT = 40, PARTS_OF_ADDRESSES = 4 };
+    struct sysinfo machine;
+    struct rlimit addresses;
+    uint64_t most = 1ull << (POSITION_BITS - ORDER_BITS);
+    if (!sysinfo(&machine)) most = least_of(most, (uint64_t)machine.totalram * machine.mem_unit / BYTES_TO_CONVERT);
+    if (!getrlimit(RLIMIT_AS, &addresses)) most = least_of(most, addresses.rlim_cur / PARTS_OF_ADDRESSES / sizeof *records);
+    return most;
+}
+
+/* When the record gets its file. */
+static void keep_reserve(void) {
+    uint64_t space = free_space();
+    reserve = is_limit_given || space == -1ull ? 0 : space / 10;
+}
+
+/* With so many records and so much space on the disk. */
+static void tell_half(uint64_t have, uint64_t space) {
+    if (!have || have >= most_records) return;
+    uint64_t used = have * sizeof *records, left = least_of(most_records * sizeof *records - used, space - reserve);
+    if (used < left || atomic_exchange(&is_half_told, 1)) return;
+    tell("shb recorder: half of the room for the record is used: it has %lu MB, and ends after %lu MB more (SHB_RECORDS, disk space)\n",
+         used >> 20, left >> 20);
+}
+
+static int add_step(uint64_t have) {
+    uint64_t space = free_space();
+    errno = ENOSPC;
+    if (reserve && space < reserve + STEP_BYTES) return 0;
+    tell_half(have, space);
+    return add_space(HEADER_BYTES + have * sizeof *records, STEP_BYTES);
+}
+
 static void grow(void) {
     if (!move_to_file()) return;
     uint64_t have = atomic_load(&room);
-    int saved = errno, done = add_space(HEADER_BYTES + have * sizeof *records, STEP_BYTES);
+    int saved = errno, done = add_step(have);
     if (done) atomic_compare_exchange_strong(&room, &have, have + STEP_BYTES / sizeof *records);
     else if (errno != EINTR) {
         char reason[120];
@@ -326,7 +370,9 @@ int open_recording(const char *path, uint64_t most, uint64_t cells) {
     if (!keep_path(path)) return refuse(path);
     read_command();
     if (!open_file(command, HEADER_BYTES + STEP_BYTES)) return 0;
-    most_records = most;
+    is_limit_given = most != 0;
+    most_records = is_limit_given ? most : most_by_default();
+    keep_reserve();
     most_cells = cells;
     if (!use_map(map_file(0, map_bytes()))) return refuse(path);
     note_text(RECORD_MAGIC);
@@ -346,7 +392,7 @@ int leave_recording(void) {
                                                 MAP_PRIVATE | MAP_ANONYMOUS | MAP_NORESERVE, -1, 0));
     if (going_on) strcpy(header, parents);
     written = 0;
-    has_strangers = 0;
+    has_strangers = is_half_told = 0;
     end_cells();
     if (going_on) begin_cells(most_cells);
     forget_places();
@@ -361,6 +407,7 @@ int move_to_file(void) {
     if (!in_memory) return 1;
     uint64_t bytes = HEADER_BYTES + written * sizeof *records;
     int moved = open_file(command, HEADER_BYTES + STEP_BYTES) && write_file(header, bytes);
+    keep_reserve();
     atomic_store(&room, written);
     in_memory = 0;
     if (moved && use_map(map_file(header, map_bytes()))) return 1;

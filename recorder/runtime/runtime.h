@@ -107,10 +107,12 @@ void *map_file(void *at, uint64_t bytes);                    /* or MAP_FAILED */
 void leave_file(void);
 int open_proc(void);
 int read_task_file(pid_t system_id, const char *leaf, char *text, int size);
+uint64_t free_space(void);             /* bytes that the disk has for more of the record; -1 where nobody says */
 
 /* recording.c: the record. */
 extern int stall_seconds;
-int open_recording(const char *path, uint64_t most_records, uint64_t most_cells);     /* bytes of cells: see cells.h */
+/* most_records: 0, as many as there is room for; most_cells: bytes of cells (cells.h) */
+int open_recording(const char *path, uint64_t most_records, uint64_t most_cells);
 int leave_recording(void);             /* in a process made by fork; does it go on in memory? */
 int move_to_file(void);
 void close_recording(void);

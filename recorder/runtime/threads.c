@@ -98,7 +98,7 @@ __attribute__((constructor(101))) static void begin(void) {
     const char *stacks = getenv("SHB_STACKS");
     records_calls = !stacks || strcmp(stacks, "0");
     const char *cells = getenv("SHB_CELLS");
-    if (!open_recording(path, setting("SHB_RECORDS", 64000000), (cells ? strtoull(cells, 0, 10) : CELL_MEGABYTES) << 20)) return;
+    if (!open_recording(path, setting("SHB_RECORDS", 0), (cells ? strtoull(cells, 0, 10) : CELL_MEGABYTES) << 20)) return;
     if (!has_number()) unsetenv("SHB_RECORD");               /* a program started by this one would write over it */
     note_modules();
     if (is_behind_the_c_library()) {

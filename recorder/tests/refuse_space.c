@@ -1,8 +1,10 @@
-/* Preloaded into a recorded program: refuses disk space from request number REFUSE_SPACE on, counted from 1. */
+/* Preloaded into a recorded program: refuses disk space from request number REFUSE_SPACE on, counted from 1; or it has FREE_SPACE bytes
+   before the first. */
 #define _GNU_SOURCE
 #include <errno.h>
 #include <stdlib.h>
 #include <sys/syscall.h>
+#include <sys/vfs.h>
 
 static long kernel(long number, long a, long b, long c, long d, long e, long f) {
     register long r10 __asm__("r10") = d, r8 __asm__("r8") = e, r9 __asm__("r9") = f;
@@ -12,10 +14,17 @@ static long kernel(long number, long a, long b, long c, long d, long e, long f) 
     return result;
 }
 
+static long setting(const char *name) { return getenv(name) ? atol(getenv(name)) : 0; }
+
 long syscall(long number, long a, long b, long c, long d, long e, long f) {
-    static long requests;
-    long result = -ENOSPC;
-    if (number != SYS_fallocate || ++requests < atol(getenv("REFUSE_SPACE"))) result = kernel(number, a, b, c, d, e, f);
+    static long requests, taken;
+    long result = -ENOSPC, refused = setting("REFUSE_SPACE");
+    if (number != SYS_fallocate || !refused || ++requests < refused) result = kernel(number, a, b, c, d, e, f);
+    if (number == SYS_fallocate) taken += d;
+    if (number == SYS_fstatfs && setting("FREE_SPACE")) {
+        struct statfs *disk = (struct statfs *)b;
+        disk->f_bavail = (setting("FREE_SPACE") - taken) / disk->f_frsize;
+    }
     if (result >= 0 || result < -4095) return result;
     errno = -result;
     return -1;
