@@ -113,13 +113,14 @@ struct members *read_members(const char *path);              /* of a module */
    from, or "", and null where no local is known. */
 typedef struct { u64 function, pc, below, above, length; } place_of_local;
 const char *add_local(struct members *m, place_of_local at, char *buffer, size_t size);
-/* What lies so far inside of a block of so many bytes that a call before `pc` allocated for the C++ library, in a function that begins
-   there: "bank::Account.balance", or with its element "Account[3].balance". Gives the length of the type's name, 0 where no type is
-   certain. */
-typedef struct { u64 function, pc, size, offset, length; } place_in_block;
-size_t add_in_block(struct members *m, place_in_block at, char *buffer, size_t size);
 /* Adds what lies at an offset of the variable that is at an address of the module's file, in so many bytes: ".head", "[3]", "+4". */
 void add_member(struct members *m, u64 address, u64 offset, u64 length, char *buffer, size_t size);
+
+/* blocks.c: what lies so far inside of a block of so many bytes that a call before `pc` allocated for the C++ library, in a function
+   that begins there: "bank::Account.balance", or with its element "Account[3].balance". Gives the length of the type's name, 0 where no
+   type is certain. */
+typedef struct { u64 function, pc, size, offset, length; } place_in_block;
+size_t add_in_block(struct members *m, place_in_block at, char *buffer, size_t size);
 
 /* memory.c: blocks and pieces. */
 typedef struct { u64 at, size, caller; int stack, many_users, named; u32 thread, user; } block;

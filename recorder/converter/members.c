@@ -3,52 +3,10 @@
    its section. */
 #include <stdio.h>
 #include <stdlib.h>
-#include "dwarf.h"
-
-enum tag { TAG_ARRAY = 1, TAG_CLASS, TAG_PARAMETER = 5, TAG_LEXICAL_BLOCK = 11, TAG_MEMBER = 13, TAG_POINTER = 15, TAG_REFERENCE,
-           TAG_STRUCTURE = 19, TAG_TYPEDEF = 22, TAG_BASE_CLASS = 28, TAG_INLINED, TAG_BOUND = 33, TAG_CONST = 38, TAG_FUNCTION = 46,
-           TAG_TYPE_ARGUMENT, TAG_VARIABLE = 52, TAG_VOLATILE = 53, TAG_NAMESPACE = 57, TAG_MOVED_REFERENCE = 66, TAG_ATOMIC = 71 };
-enum attribute { AT_SIBLING = 1, AT_LOCATION, AT_NAME, AT_BYTE_SIZE = 11, AT_BIT_SIZE = 13, AT_LOW = 17, AT_HIGH, AT_UPPER_BOUND = 47,
-                 AT_ORIGIN = 49, AT_COUNT = 55, AT_PLACE, AT_FRAME_BASE = 64, AT_SPECIFICATION = 71, AT_TYPE = 73, AT_RANGES = 85,
-                 AT_STRINGS_BASE = 114, AT_ADDRESSES_BASE, AT_RANGES_BASE, AT_LOCATIONS_BASE = 140 };
-enum { OP_ADDRESS = 3, OP_FRAME_POINTER = 86, OP_STACK_POINTER, OP_FROM_STACK_POINTER = 119, OP_FROM_FRAME_BASE = 145, OP_TOP = 156,
-       OP_ADDRESS_NUMBER = 161 };
-enum { MOST_CODES = 1 << 16, MOST_DIMENSIONS = 8, MOST_STEPS = 64, DWARF4 = 4, DWARF5 };
-
-typedef struct { u64 tag, has_children; bytes attributes; } abbreviation;
-typedef struct {
-    u64 begin, end, first, abbreviations;                    /* where it and its abbreviations stand in their sections */
-    u64 version, low, strings, addresses, ranges, locations; /* where its code begins, and its part of these sections */
-    abbreviation *codes;               /* these, by their codes; null until they are read */
-    u64 code_count, code_capacity;
-} unit;
-/* An entry of the debug information. Offsets are in the section, and 0 where there is no such thing. */
-typedef struct {
-    u64 tag, next, sibling, type, specification, size, count, place, address;    /* count: of an array's elements; 0: not known */
-    u64 origin, low, high, ranges, locations;                /* of code: from `low`, up to before `high` */
-    u64 bases[4];                      /* of a unit: strings, addresses, ranges, locations */
-    bytes name, location, frame_base;
-    uint8_t has_children, has_place, has_bits, has_ranges, has_locations;
-} entry;
-typedef struct { u32 unit; u64 type; } typed;
-typedef struct { char *type, *rest; } named_part;            /* "Account", ".balance"; null where there is no such type */
-struct members {
-    bytes info, abbreviations, strings, line_strings, string_offsets, addresses, ranges, locations;
-    unit *units;
-    u64 unit_count, unit_capacity;
-    map by_address, by_begin;          /* the numbers of variables, and of functions */
-    typed *variables, *functions;      /* of a function the type is its entry */
-    u64 variable_count, variable_capacity, function_count, function_capacity;
-    map by_call, by_part;              /* the numbers of what calls allocate, and of what lies inside of that */
-    typed *calls;
-    named_part *parts;
-    u64 call_count, call_capacity, part_count, part_capacity;
-    const char *unread;                /* what of it isn't read, or null */
-    int has_code, has_types;           /* does it tell of code, and of what a function gives? */
-};
+#include "members.h"
 
 /* ---- entries ---- */
-static void read_abbreviations(const struct members *m, unit *u) {
+void read_abbreviations(const struct members *m, unit *u) {
     if (u->codes) return;
     bytes b = m->abbreviations;
     skip(&b, u->abbreviations);
@@ -177,7 +135,7 @@ static void take_value(const struct members *m, const unit *u, entry *e, u64 att
 }
 
 /* The entry at an offset of the unit; its tag is 0 where there is none, as at the end of some children. */
-static entry read_entry(const struct members *m, const unit *u, u64 offset) {
+entry read_entry(const struct members *m, const unit *u, u64 offset) {
     entry e = {.next = offset + 1};
     bytes b = m->info;
     if (offset < u->first || offset >= u->end) return e;
@@ -231,7 +189,7 @@ static int find_range(const struct members *m, const unit *u, int has_locations,
     return 0;
 }
 
-static int covers(const struct members *m, const unit *u, const entry *e, u64 pc) {
+int covers(const struct members *m, const unit *u, const entry *e, u64 pc) {
     range r;
     if (e->high) return pc >= e->low && pc < e->high;
     return e->has_ranges && find_range(m, u, 0, e->ranges, pc, &r);
@@ -353,13 +311,13 @@ struct members *read_members(const char *path) {
 /* ---- what lies at an offset of a type ---- */
 static int is_only_named(u64 tag) { return tag == TAG_TYPEDEF || tag == TAG_CONST || tag == TAG_VOLATILE || tag == TAG_ATOMIC; }
 
-static u64 plain_type(const struct members *m, const unit *u, u64 type) {
+u64 plain_type(const struct members *m, const unit *u, u64 type) {
     entry e = read_entry(m, u, type);
     for (int steps = 0; is_only_named(e.tag) && steps < MOST_STEPS; steps++) e = read_entry(m, u, type = e.type);
     return type;
 }
 
-static entry type_at(const struct members *m, const unit *u, u64 type) { return read_entry(m, u, plain_type(m, u, type)); }
+entry type_at(const struct members *m, const unit *u, u64 type) { return read_entry(m, u, plain_type(m, u, type)); }
 
 /* How many elements an array has in each of its dimensions; 0 of none that is told. */
 static int read_dimensions(const struct members *m, const unit *u, const entry *array, u64 *counts) {
@@ -370,7 +328,7 @@ static int read_dimensions(const struct members *m, const unit *u, const entry *
 }
 
 /* In bytes; 0 where it isn't known. */
-static u64 size_of_type(const struct members *m, const unit *u, u64 type) {
+u64 size_of_type(const struct members *m, const unit *u, u64 type) {
     u64 size = 1, counts[MOST_DIMENSIONS];
     entry e = type_at(m, u, type);
     for (int steps = 0; e.tag == TAG_ARRAY && steps < MOST_STEPS; steps++) {
@@ -382,7 +340,7 @@ static u64 size_of_type(const struct members *m, const unit *u, u64 type) {
 }
 
 /* Where the entry behind this one and its children begins. */
-static u64 behind(const struct members *m, const unit *u, const entry *e, int depth) {
+u64 behind(const struct members *m, const unit *u, const entry *e, int depth) {
     if (!e->has_children || e->sibling > e->next) return e->has_children ? e->sibling : e->next;
     entry child = {.next = e->next};
     while (depth < MOST_STEPS && (child = read_entry(m, u, child.next)).tag) child.next = behind(m, u, &child, depth + 1);
@@ -393,7 +351,7 @@ static u64 behind(const struct members *m, const unit *u, const entry *e, int de
 static int is_reserved(const char *name) { return *name == '_' && (name[1] == '_' || (name[1] >= 'A' && name[1] <= 'Z')); }
 
 /* The member, or the base class, that has all of these bytes; a tag of 0 where there is none. */
-static entry member_with(const struct members *m, const unit *u, const entry *of, u64 offset, u64 length) {
+entry member_with(const struct members *m, const unit *u, const entry *of, u64 offset, u64 length) {
     entry e = {.next = of->next};
     while (of->has_children && (e = read_entry(m, u, e.next)).tag) {
         u64 size = (e.tag == TAG_MEMBER || e.tag == TAG_BASE_CLASS) && e.has_place && !e.has_bits ? size_of_type(m, u, e.type) : 0;
@@ -405,10 +363,7 @@ static entry member_with(const struct members *m, const unit *u, const entry *of
     return (entry){0};
 }
 
-/* A text that is written, and what is in it behind its last name: so many bytes. */
-typedef struct { char *at; size_t room; u64 rest; } text;
-
-static void add_name(text *to, const char *before, const char *name, u64 rest) {
+void add_name(text *to, const char *before, const char *name, u64 rest) {
     int count = snprintf(to->at, to->room, "%s%.200s", before, name);
     for (char *p = to->at; *p; p++)
         if (*p == '|' || (unsigned char)*p < ' ') *p = '!';
@@ -433,7 +388,7 @@ static int add_indices(const struct members *m, const unit *u, const entry *arra
     return dimensions > 0;
 }
 
-static void add_members(const struct members *m, const unit *u, u64 type, u64 offset, u64 length, text *to) {
+void add_members(const struct members *m, const unit *u, u64 type, u64 offset, u64 length, text *to) {
     for (int steps = 0; steps < MOST_STEPS; steps++) {
         entry e = type_at(m, u, type), member;
         if (e.tag == TAG_ARRAY) {
@@ -532,183 +487,4 @@ const char *add_local(struct members *m, place_of_local at, char *buffer, size_t
     add_members(m, u, s.type, s.offset, at.length, &to);
     if (to.rest) snprintf(to.at, to.room, "+%lu", to.rest);
     return s.inlined;
-}
-
-/* ---- blocks of the heap: of what the C++ library allocates, by the function that does so ---- */
-/* The innermost function that has this code, also where it is inlined. */
-static entry innermost(const struct members *m, const unit *u, entry function, u64 pc) {
-    entry scope = function, e = {.next = scope.next};
-    for (int steps = 0; steps < MOST_STEPS && scope.has_children && (e = read_entry(m, u, e.next)).tag;) {
-        if ((e.tag == TAG_LEXICAL_BLOCK || e.tag == TAG_INLINED) && covers(m, u, &e, pc)) {
-            if (e.tag == TAG_INLINED) function = e;
-            scope = e;
-            steps++;
-        } else e.next = behind(m, u, &e, 0);
-    }
-    return function;
-}
-
-/* The first child of an entry with this tag; a tag of 0 where there is none. */
-static entry child_with(const struct members *m, const unit *u, const entry *of, u64 tag) {
-    entry e = {.next = of->next};
-    while (of->has_children && (e = read_entry(m, u, e.next)).tag && e.tag != tag) e.next = behind(m, u, &e, 0);
-    return of->has_children ? e : (entry){0};
-}
-
-/* What a function of the C++ library's gives so many bytes for: T of `T *allocate(size_t)` and of `make_unique<T>()`; 0 of any other. */
-static u64 allocated_type(const struct members *m, const unit *u, entry function, u64 size) {
-    static const char unique[] = "make_unique";
-    u64 argument = 0;
-    for (int steps = 0; steps < MOST_STEPS && function.tag; steps++) {
-        const char *name = string(&function.name);
-        if (!argument) argument = child_with(m, u, &function, TAG_TYPE_ARGUMENT).type;
-        if (!strcmp(name, "allocate") && function.type) {
-            entry pointer = type_at(m, u, function.type);
-            return pointer.tag == TAG_POINTER ? pointer.type : 0;
-        }
-        if (argument && strstr(name, unique) == name) {
-            int is_array = type_at(m, u, argument).tag == TAG_ARRAY;
-            return is_array || size_of_type(m, u, argument) == size ? argument : 0;
-        }
-        function = read_entry(m, u, function.origin ? function.origin : function.specification);
-    }
-    return 0;
-}
-
-/* Adds a type's name with those of the namespaces and classes that it is in: "bank::Account". 0 where it has none. */
-static int add_type_name(const struct members *m, const unit *u, u64 type, text *to) {
-    entry named = read_entry(m, u, type);
-    u64 at = read_entry(m, u, u->first).next, last = named.name.at ? type : named.specification;
-    const char *before = "";
-    for (int depth = 0; depth < MOST_STEPS;) {
-        entry e = read_entry(m, u, at);
-        u64 end = behind(m, u, &e, 0);
-        if (!e.tag || at > last) return 0;
-        if (end <= last) {
-            at = end;
-            continue;
-        }
-        int has_name = e.name.at && (e.tag == TAG_NAMESPACE || e.tag == TAG_STRUCTURE || e.tag == TAG_CLASS);
-        if (has_name) add_name(to, before, string(&e.name), 0);
-        if (has_name) before = "::";
-        if (at == last) return has_name;
-        at = e.next;
-        depth++;
-    }
-    return 0;
-}
-
-static int is_of_cxx_library(const char *type) { return !strncmp(type, "std::", 5) || !strncmp(type, "__gnu_cxx::", 11); }
-
-/* Does the C++ library keep another type's object in this one? */
-static int is_buffer(const char *name) { return !strncmp(name, "__aligned_membuf<", 17) || !strncmp(name, "__aligned_buffer<", 17); }
-
-/* Are several members of this type? Then one of it isn't told by the type alone. */
-static int has_two_of(const struct members *m, const unit *u, const entry *of, u64 type) {
-    entry e = {.next = of->next};
-    int found = 0;
-    u64 plain = plain_type(m, u, type);
-    while ((e = read_entry(m, u, e.next)).tag) {
-        found += e.tag == TAG_MEMBER && e.has_place && plain_type(m, u, e.type) == plain;
-        e.next = behind(m, u, &e, 0);
-    }
-    return found > 1;
-}
-
-/* Goes on to the program's own type that has these bytes, from one of the C++ library's, as a node of a list is; adds its name. 0
-   where there is none. */
-static int find_own_type(const struct members *m, const unit *u, u64 *type, u64 *offset, u64 length, text *to) {
-    for (int steps = 0; steps < MOST_STEPS; steps++) {
-        text begin = *to;
-        *type = plain_type(m, u, *type);
-        entry e = read_entry(m, u, *type);
-        if ((e.tag != TAG_STRUCTURE && e.tag != TAG_CLASS) || !add_type_name(m, u, *type, to)) return 0;
-        if (!is_of_cxx_library(begin.at)) return 1;
-        *to = begin;
-        if (is_buffer(string(&e.name))) {
-            *type = child_with(m, u, &e, TAG_TYPE_ARGUMENT).type;
-            continue;
-        }
-        entry member = member_with(m, u, &e, *offset, length);
-        if (!member.tag || has_two_of(m, u, &e, member.type)) return 0;
-        *offset -= member.place;
-        *type = member.type;
-    }
-    return 0;
-}
-
-/* The elements of a block of so many bytes. Before those of `new T[n]`, where T has a destructor, stands their number; what may be
-   either isn't known. */
-typedef struct { u64 begin, size; } elements;
-static elements elements_of(const struct members *m, const unit *u, u64 *type, u64 size) {
-    enum { COUNT = 8 };
-    elements found = {0};
-    entry e = type_at(m, u, *type);
-    int is_array = e.tag == TAG_ARRAY;
-    if (is_array) *type = e.type;
-    u64 one = size_of_type(m, u, *type);
-    if (!one || (is_array && COUNT % one == 0)) return found;
-    if (size % one == 0) found.size = one;
-    else if (is_array && size > COUNT && (size - COUNT) % one == 0) found = (elements){COUNT, one};
-    return found;
-}
-
-static typed find_allocated(struct members *m, const place_in_block *at) {
-    u32 number = map_find(&m->by_begin, at->function, 0);
-    if (!number) return (typed){0};
-    typed f = m->functions[number - 1];
-    unit *u = &m->units[f.unit];
-    read_abbreviations(m, u);
-    entry function = read_entry(m, u, f.type);
-    return (typed){f.unit, covers(m, u, &function, at->pc) ? allocated_type(m, u, innermost(m, u, function, at->pc), at->size) : 0};
-}
-
-/* What a call allocates; its type is 0 where that isn't certain. Each is looked for once. */
-static typed allocated_at(struct members *m, const place_in_block *at) {
-    u32 number = map_number(&m->by_call, at->pc, 0);
-    if (number > m->call_count) {
-        GROW(m->calls, m->call_count, m->call_capacity);
-        m->calls[m->call_count++] = find_allocated(m, at);
-    }
-    return m->calls[number - 1];
-}
-
-static named_part find_part(const struct members *m, const unit *u, u64 type, u64 offset, u64 length) {
-    char name[NAME_BYTES] = "";
-    text to = {name, sizeof name, 0};
-    if (!find_own_type(m, u, &type, &offset, length, &to)) return (named_part){0};
-    named_part found = {.type = strndup(name, to.at - name)};
-    char *rest = to.at;
-    to.rest = offset;
-    add_members(m, u, type, offset, length, &to);
-    if (to.rest) snprintf(to.at, to.room, "+%lu", to.rest);
-    found.rest = strdup(rest);
-    if (!found.type || !found.rest) die("out of memory");
-    return found;
-}
-
-/* Of a type, the names of what lies so far inside. */
-static named_part part_of(struct members *m, const unit *u, u64 type, u64 offset, u64 length) {
-    u32 number = map_number(&m->by_part, type, offset << 32 | length);
-    if (number > m->part_count) {
-        GROW(m->parts, m->part_count, m->part_capacity);
-        m->parts[m->part_count++] = find_part(m, u, type, offset, length);
-    }
-    return m->parts[number - 1];
-}
-
-size_t add_in_block(struct members *m, place_in_block at, char *buffer, size_t size) {
-    typed found = allocated_at(m, &at);
-    if (!found.type) return 0;
-    const unit *u = &m->units[found.unit];
-    elements all = elements_of(m, u, &found.type, at.size);
-    if (!all.size || at.offset < all.begin) return 0;
-    u64 offset = (at.offset - all.begin) % all.size;
-    if (at.length > all.size - offset) return 0;
-    named_part part = part_of(m, u, found.type, offset, at.length);
-    if (!part.type) return 0;
-    char index[24] = "";
-    if (at.size - all.begin > all.size) snprintf(index, sizeof index, "[%lu]", (at.offset - all.begin) / all.size);
-    snprintf(buffer, size, "%s%s%s", part.type, index, part.rest);
-    return strlen(part.type);
 }
