@@ -266,7 +266,9 @@ static void find_repeated(u64 i, use u, u32 number) {
 
 static void use_piece(u64 i, use u, u32 number) {
     if (phase == ORDERING) order_piece(u, number);
-    else if (phase == FINDING_REPEATED) find_repeated(i, u, number);
+    else if (phase == SUSPECTING) {
+        if (is_shared(use_of_piece(number))) suspect_use(i, number, u.writes);
+    } else if (phase == FINDING_REPEATED) find_repeated(i, u, number);
     else if (!map_find(&repeated, i, number)) {
         u64 before = events;
         piece_events(i, u, number);

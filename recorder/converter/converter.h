@@ -170,6 +170,15 @@ void forget_calls(void);               /* between the passes that meet them */
 void leave_stacks(void);               /* in a process that writes no stacks */
 void end_stacks(void);
 
+/* The local that lies there on a stack now; "" where none is known, and of other memory. It stands for good. */
+const char *local_now(u64 at, const block *b);
+
+/* suspicions.c: variables that a lock protects at nearly all uses, in a file beside the trace. */
+void open_suspicions(const char *path);
+void find_suspicions(u64 i);           /* each record of a pass of its own */
+void suspect_use(u64 i, u32 piece, int writes);              /* of a variable that several threads use */
+void end_suspicions(void);             /* after the last pass */
+
 /* accesses.c, objects.c: what the passes do with a record. */
 extern int whole_trace;                /* also what cannot conflict */
 extern int only_open;                  /* of pieces only those with conflicting accesses that are left open */
@@ -192,7 +201,7 @@ void fence_events(u64 i);
 
 /* order.c: what locks, threads and the like order. */
 /* The passes in which events are met: the last one writes them. */
-extern enum phase { ORDERING, FINDING_REPEATED, WRITING } phase;
+extern enum phase { SUSPECTING, ORDERING, FINDING_REPEATED, WRITING } phase;
 void order_fork(u32 t, u32 child), order_join(u32 t, u32 child);
 void order_acquire(u32 t, u64 object, u64 which);            /* a lock, by two words */
 void order_release(u32 t, u64 object, u64 which, int is_last);       /* is_last: nobody takes it any more */

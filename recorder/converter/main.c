@@ -3,7 +3,7 @@
    Passes over the record.  The first meets the blocks of memory and finds those that one thread alone uses; the
    second cuts what is left into pieces; the third finds which pieces and objects are shared, and who reads what; the
    last writes the events, into one trace or into windows.  With -r two come before it: one finds what is left open, the
-   other what repeats.  With --scan a process of its own makes the last pass beside these, without -r and
+   other what repeats.  With --suspicions one of its own comes before these.  With --scan a process of its own makes the last pass beside these, without -r and
    without windows.  README.md has the table of what becomes what. */
 #define _GNU_SOURCE
 #include <errno.h>
@@ -151,6 +151,13 @@ static void find_open(void) {
     forget_calls();
 }
 
+static void suspect(void) {
+    phase = SUSPECTING;
+    pass(find_suspicions, 0);
+    phase = WRITING;
+    forget_calls();
+}
+
 static const char help[] =
     "usage: shb-std [OPTION].. RECORD > TRACE\n"
     "       shb-std --windows DIR [OPTION].. RECORD\n"
@@ -167,6 +174,7 @@ static const char help[] =
     "  --scan FILE    besides, write the trace without -r, and of any length, to this file, for 'shb scan':\n"
     "                 behind each location with a bar and the variable, so that its places have one each;\n"
     "                 from a FIFO or /dev/fd/N it is read while it is made\n"
+    "  --suspicions FILE  write the variables that a lock protects nearly everywhere to this file\n"
     "  -a             also what can't conflict\n"
     "  -r             only what a race needs: leave out what locks, threads and the like order, and what repeats\n"
     "  --strip DIR    files below this folder are named by their paths from it; else a file is named by the\n"
@@ -178,12 +186,13 @@ static const char help[] =
     "Exit status: 0; 1 the trace was written, and isn't the whole run; 2 nothing can be said; 3 wrong\n"
     "command line.\n" VERSION_LINE;
 
-static const char *windows_folder, *stacks_path, *scan_path;
+static const char *windows_folder, *stacks_path, *scan_path, *suspicions_path;
 
 static void read_words(int count, char **words) {
     static const struct option options[] = {{"windows", required_argument, 0, 'w'}, {"stacks", required_argument, 0, 's'},
                                             {"strip", required_argument, 0, 'd'}, {"scan", required_argument, 0, 'o'},
-                                            {"one-by-one", no_argument, &one_by_one, 1}, {"version", no_argument, 0, 'v'},
+                                            {"suspicions", required_argument, 0, 'u'}, {"one-by-one", no_argument, &one_by_one, 1},
+                                            {"version", no_argument, 0, 'v'},
                                             {"help", no_argument, 0, 'h'}, {0, 0, 0, 0}};
     opterr = 0;
     for (int c; (c = getopt_long(count, words, "ahn:pr", options, 0)) >= 0;)
@@ -197,6 +206,7 @@ static void read_words(int count, char **words) {
         else if (c == 's') stacks_path = optarg;
         else if (c == 'd') strip_folder(optarg);
         else if (c == 'o') scan_path = optarg;
+        else if (c == 'u') suspicions_path = optarg;
         else if (c == 'a') whole_trace = 1;
         else if (c == 'r') only_open = 1;
         else if (c == 'p') whole_paths = 1;
@@ -213,6 +223,7 @@ static void prepare_windows(void) {
 
 static void end_trace(void) {
     if (windows_folder) end_windows();
+    end_suspicions();
     end_stacks();
     write_lines();
     if (fflush(stdout) || ferror(stdout)) die("cannot write the trace: %s", strerror(errno));
@@ -268,6 +279,7 @@ int main(int count, char **words) {
     if (stacks_path) open_stacks(stacks_path);
     if (windows_folder) prepare_windows();
     if (scan_path) open_scan();
+    if (suspicions_path) open_suspicions(suspicions_path);
     pass(meet_record, 1);
     threads_of_record = thread_count;
     if (!shortened) check_sum();
@@ -276,6 +288,7 @@ int main(int count, char **words) {
     pass(find_sharing, 0);
     forget_states();
     if (scan_path) begin_scan();
+    if (suspicions_path) suspect();
     if (only_open && !whole_trace) find_open();
     else only_open = 0;
     pass(write_events, 0);

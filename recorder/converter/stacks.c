@@ -342,8 +342,14 @@ static void write_names_in_blocks(void) {
     }
 }
 
+enum { MOST_LENGTH = 4096 };            /* of what has a name */
+
+const char *local_now(u64 at, const block *b) {
+    u32 depth;
+    return with_stacks && b && b->stack ? local_at(&stacks[b->thread], at, next_cut(at, at + MOST_LENGTH) - at, &depth) : "";
+}
+
 void note_name(u64 at, u32 block_number, u64 event, u32 t) {
-    enum { MOST_LENGTH = 4096 };
     const block *b = block_of(block_number);
     if (!with_stacks || !b) return;
     if (!b->stack) {

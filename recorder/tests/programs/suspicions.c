@@ -1,0 +1,191 @@
+/* Variables under locks. A queue of steps orders all: main's step comes between those of two threads, so nothing races, but for
+   `racing` where an argument asks for it. */
+#include <pthread.h>
+#include <semaphore.h>
+#include <stdatomic.h>
+
+static pthread_mutex_t m = PTHREAD_MUTEX_INITIALIZER, other = PTHREAD_MUTEX_INITIALIZER, recursive;
+static pthread_rwlock_t table_lock = PTHREAD_RWLOCK_INITIALIZER;
+static int counter, prepared, locked, ended, joined, owned, pair, rarely, single, flag, stats, hits, table, in_phase, posted, nested, twice, races;
+static volatile int often, setting, racing;
+static pthread_barrier_t phase;
+static sem_t ready, taken;
+struct shared { pthread_mutex_t guard; int total; };
+
+static pthread_mutex_t queue = PTHREAD_MUTEX_INITIALIZER;
+static pthread_cond_t changed = PTHREAD_COND_INITIALIZER;
+static int step;
+
+static void begin_step(int wanted) {
+    pthread_mutex_lock(&queue);
+    while (step < wanted) pthread_cond_wait(&changed, &queue);
+    pthread_mutex_unlock(&queue);
+}
+
+static void end_step(void) {
+    pthread_mutex_lock(&queue);
+    step++;
+    pthread_cond_broadcast(&changed);
+    pthread_mutex_unlock(&queue);
+}
+
+static int use_under_locks(struct shared *shared, int is_first) {
+    pthread_mutex_lock(&m);
+    counter++; /* LOCKED by m */
+    prepared++;
+    locked++;
+    joined++;
+    often++;
+    flag++;
+    twice++;
+    int seen = owned + pair + rarely + setting;
+    if (is_first) rarely = single++;
+    pthread_mutex_unlock(&m);
+    pthread_mutex_lock(&other);
+    seen += pair;
+    pthread_mutex_unlock(&other);
+    pthread_mutex_lock(&recursive);
+    nested++;
+    pthread_mutex_unlock(&recursive);
+    pthread_mutex_lock(&shared->guard);
+    shared->total++;
+    pthread_mutex_unlock(&shared->guard);
+    pthread_rwlock_wrlock(&table_lock);
+    hits++;
+    stats++;
+    table++;
+    pthread_rwlock_unlock(&table_lock);
+    return seen;
+}
+
+static void add_under_lock(int *sum) {
+    pthread_mutex_lock(&m);
+    ++*sum;
+    pthread_mutex_unlock(&m);
+}
+
+static int read_setting(void) {
+    pthread_mutex_lock(&m);
+    int seen = setting;
+    pthread_mutex_unlock(&m);
+    return seen;
+}
+
+static void *early(void *unused) {
+    add_under_lock(&joined);
+    return 0;
+}
+
+static void *first(void *shared) {
+    add_under_lock(&in_phase);
+    pthread_barrier_wait(&phase);
+    pthread_barrier_wait(&phase);
+    add_under_lock(&in_phase);
+    add_under_lock(&posted);
+    sem_post(&ready);
+    sem_wait(&taken);
+    add_under_lock(&posted);
+    begin_step(0);
+    prepared = 1; /* no other thread uses it before */
+    add_under_lock(&ended);
+    add_under_lock((int *)&often);
+    read_setting();
+    add_under_lock(&single);
+    use_under_locks(shared, 1);
+    end_step();
+    begin_step(3);
+    use_under_locks(shared, 1);
+    end_step();
+    if (races) racing = 1;
+    return 0;
+}
+
+static void *second(void *shared) {
+    add_under_lock(&in_phase);
+    add_under_lock(&posted);
+    pthread_barrier_wait(&phase);
+    pthread_barrier_wait(&phase);
+    add_under_lock(&in_phase);
+    begin_step(1);
+    add_under_lock(&ended);
+    add_under_lock((int *)&often);
+    read_setting();
+    use_under_locks(shared, 0);
+    end_step();
+    begin_step(4);
+    use_under_locks(shared, 0);
+    end_step();
+    return 0;
+}
+
+static int use_without_locks(struct shared *shared) {
+    int seen = counter; /* SUSPICION counter by m */
+    seen += ended; /* nobody uses it later */
+    seen += owned; /* nobody else writes it */
+    seen += often; /* these two lines are too many */
+    seen += often;
+    seen += rarely; /* three uses are under the lock */
+    seen += single; /* a thread alone uses it under the lock */
+    seen += atomic_load((_Atomic int *)&flag);
+    seen += hits; /* SUSPICION hits by table_lock */
+    seen += shared->total; /* SUSPICION shared.total of main by shared.guard of main */
+    return seen;
+}
+
+static int main_step(struct shared *shared) {
+    begin_step(2);
+    int seen = use_without_locks(shared);
+    pthread_mutex_lock(&m);
+    locked++;
+    owned++;
+    twice++;
+    pthread_mutex_lock(&other);
+    pair++; /* under both locks; each reader has one of them */
+    pthread_mutex_unlock(&other);
+    pthread_mutex_unlock(&m);
+    seen += twice; /* SUSPICION twice by m */
+    setting = 1; /* SUSPICION setting by m */
+    pthread_mutex_lock(&recursive);
+    pthread_mutex_lock(&recursive);
+    pthread_mutex_unlock(&recursive);
+    nested++;
+    pthread_mutex_unlock(&recursive);
+    seen += nested; /* SUSPICION nested by recursive */
+    pthread_rwlock_rdlock(&table_lock);
+    seen += table;
+    stats++; /* SUSPICION stats by table_lock */
+    pthread_rwlock_unlock(&table_lock);
+    end_step();
+    return seen;
+}
+
+int main(int count, char **words) {
+    struct shared shared = {PTHREAD_MUTEX_INITIALIZER, 0};
+    pthread_t a, b, c;
+    counter = prepared = locked = hits = 1; /* no other thread is there yet */
+    races = count > 1;
+    pthread_mutexattr_t may_repeat;
+    pthread_mutexattr_init(&may_repeat);
+    pthread_mutexattr_settype(&may_repeat, PTHREAD_MUTEX_RECURSIVE);
+    pthread_mutex_init(&recursive, &may_repeat);
+    pthread_barrier_init(&phase, 0, 3);
+    sem_init(&ready, 0, 0);
+    sem_init(&taken, 0, 0);
+    pthread_create(&a, 0, early, 0);
+    pthread_join(a, 0);
+    pthread_create(&b, 0, first, &shared);
+    pthread_create(&c, 0, second, &shared);
+    int seen = joined; /* the thread that used it isn't there any more */
+    pthread_barrier_wait(&phase);
+    seen += in_phase;
+    pthread_barrier_wait(&phase);
+    sem_wait(&ready);
+    seen += posted;
+    sem_post(&taken);
+    seen += main_step(&shared);
+    if (races) racing = 2;
+    pthread_join(b, 0);
+    pthread_join(c, 0);
+    seen += counter;
+    return seen == -1;
+}
