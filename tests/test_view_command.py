@@ -132,6 +132,13 @@ exec REAL "$@"
                          [("start.c:6", {"write": 1}, {"main": 1}), ("worker.c:3", {"write": 1}, {"worker": 1})])
         self.assertEqual((place["places"], place["races"], place["variables"]), (1, 1, [{"name": "count", "races": 1}]))
 
+    def test_suspicions_stand_behind_the_races(self):
+        page = self.folder / "page.html"
+        self.assertEqual(run_here(["--suspicion", "x: <b>\x1b", "--suspicion", "y: z", "--html", page, TRACE]), (0, "", ""))
+        self.assertRegex(page.read_text(), r'(?s)id="g1".*id="suspicions"><h2>Suspicions</h2>.*<li>x: &lt;b&gt;\\x1b</li>\n<li>y: z</li>')
+        self.assertEqual(run_here(["--html", page, TRACE])[0], 0)
+        self.assertNotIn("Suspicions", page.read_text())
+
     def test_a_fault_of_the_view_itself_is_no_bad_report(self):
         with mock.patch("shb_view.command.make_view", lambda *_: None):
             status, out, err = run_here([TRACE])

@@ -53,7 +53,7 @@ class View(typing.NamedTuple):
     """All that is shown. `races` is how many the trace has, `listed` how many of these a given report has. `pairs` and `groups` are
     how many there are, `sections` those that are shown. `is_sample` isn't empty where one race of each variable at each place is
     known, and says whether `EACH` variable is, or `SOME`. `notes` are what the caller said of the trace, `about` what it said of the
-    recorder; `only` are the places whose groups the text has, or None for all."""
+    recorder, `suspicions` what of variables that may race; `only` are the places whose groups the text has, or None for all."""
 
     title: str
     counts: Counts
@@ -67,6 +67,7 @@ class View(typing.NamedTuple):
     source: Source
     notes: typing.List[str]
     about: typing.List[str]
+    suspicions: typing.List[str]
     stacks: Stacks
     kinds: Kinds
     gathered: Gathered
@@ -119,9 +120,9 @@ def make_view(options, progress):
         title = readable(os.fsencode(options.title or os.path.basename(options.trace)))
         pairs = sum(group.count() for group in groups)
         source = Source(options.source, os.fstat(file.fileno()).st_mtime, stacks.sources if options.recorded_source else {})
-        notes, about = ([readable(os.fsencode(line)) for line in lines] for lines in (options.note, options.about))
+        notes, about, suspicions = ([readable(os.fsencode(line)) for line in lines] for lines in (options.note, options.about, options.suspicion))
         return View(title, head.counts, head.count, listed if options.report else head.count, pairs, count, sections, given.verdict,
-                    is_sample, source, [*notes, *warnings(options.trace)], about, stacks, asked.kinds, gathered,
+                    is_sample, source, [*notes, *warnings(options.trace)], about, suspicions, stacks, asked.kinds, gathered,
                     places_of(options.only) if options.only else None)
 
 
