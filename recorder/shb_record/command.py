@@ -66,6 +66,9 @@ def parser_of_words():
                         "FILE:FUNCTION(), in either order, and the variable, with tabs between; * stands for any text; a line that begins with "
                         "# is a comment. A line with two fields is of every variable. Lines that match nothing are reported")
     parser.add_argument("--fail-on-stale", action="store_true", help="such lines end with status 66 too")
+    parser.add_argument("--fail-on-suspicion", action="store_true",
+                        help="a suspicion ends with status 66 too: a variable that one lock protects at nearly all uses, and that wasn't in a race in "
+                        "these runs. Suspicions are shown behind the races. One is passed over where --known has its two locations and its variable")
     parser.add_argument("--source", metavar="DIR", action="append", default=[],
                         help="look for source files below this folder too; may be given again. Those of the debug information are found without it")
     parser.add_argument("--strip", metavar="DIR", help="name files below this folder by their paths from it (shb-std --help)")
@@ -145,7 +148,7 @@ def record(options):
 
 def status_of(look, own):
     unknown = look.places.unknown()
-    if unknown or look.options.fail_on_stale and look.stale():
+    if unknown or look.options.fail_on_stale and look.stale() or look.options.fail_on_suspicion and look.suspicions.unknown():
         return RACES
     if look.has_failed:
         return FAILED
@@ -157,6 +160,8 @@ def conclude(look, own):
     rows = look.places.rows()
     unknown = count(row for row in rows if not row.is_known)
     passed_over = count(rows) - unknown
+    for line in look.suspicions.lines(look.options.runs):
+        say(line)
     for words in known.words_of_stale(look.stale(), look.places.names):
         say(f"{look.options.known_path}, {words}")
     say(counted(unknown, "unknown place" if look.options.known_path else "place") + " with races"

@@ -77,10 +77,10 @@ class Conversion:
 
     def __init__(self, process, options):
         self.process, self.stacks = process, process.record.with_suffix(".stacks")
-        self.folder = process.record.with_suffix(".windows")
+        self.folder, self.suspicions = process.record.with_suffix(".windows"), process.record.with_suffix(".suspicions")
         strip = ["--strip", options.strip] if options.strip else []
-        self.words = [CONVERTER, "-r", "--windows", self.folder, "--one-by-one", "--stacks", self.stacks, *strip, "-n", str(options.window),
-                      process.record]
+        self.words = [CONVERTER, "-r", "--windows", self.folder, "--one-by-one", "--stacks", self.stacks, "--suspicions", self.suspicions, *strip,
+                      "-n", str(options.window), process.record]
         self.size, self.notes, self.cuts = "", [], []  # known at the end: how much there is, what is said of it, what makes it a part
 
     def traces(self, scan):

@@ -21,6 +21,7 @@ from shb_record.parts import ANALYSER, VIEW, now, say
 from shb_record.places import Places
 from shb_record.running import cause
 from shb_record.scanning import lacking, scanning
+from shb_record.suspicions import Suspicions
 
 
 KINDS = {b"r": "read", b"w": "written"}
@@ -68,6 +69,7 @@ class Look:
     def __init__(self, options, results):
         self.options, self.results, self.started = options, results, now()[:-3]
         self.places, self.pages, self.found = Places(options.known), [], {}
+        self.suspicions = Suspicions(self.places)
         self.runs = []  # of each run: the order of each process
         self.modules = Modules()
         self.is_cut = self.is_killed = self.has_failed = self.has_threads = False
@@ -109,6 +111,7 @@ class Look:
     def stale(self):
         """The lines of the known places that matched nothing, which is asked when all places were."""
         self.places.unknown()
+        self.suspicions.unknown()
         return self.places.given.stale() if self.runs and not self.has_failed else []
 
     def meaning(self):
@@ -171,6 +174,7 @@ class Look:
             origin = Origin(tables_in(looked.stacks), process.program)
             origin.add_modules(process.modules)
             self.modules.add(process.modules)
+            self.suspicions.add(process, origin, looked.conversion.suspicions)
         looked.new = [(one, self.places.add_new(process, one.trace, origin, one.places, one.report is not None)) for one in looked.analysed]
 
     def show(self, process, looked):
@@ -209,7 +213,7 @@ class Look:
         notes += [window_note(one.trace, looked.reach())] * one.is_window
         stacks = ["--recorded-source", "--stacks", looked.stacks] if looked.stacks else []
         words = [f"--title={process.command} ({process.name}, {self.started})", *(f"--note={note}" for note in notes), *stacks,
-                 *(f"--about={line}" for line in self.meaning()),
+                 *(f"--about={line}" for line in self.meaning()), *(f"--suspicion={line}" for line in self.suspicions.lines_of(process)),
                  *(f"--source={folder}" for folder in self.options.source), *["--window"] * one.is_window]
         self.show_trace(process, one.trace, unknown, words)
 

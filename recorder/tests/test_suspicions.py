@@ -1,6 +1,9 @@
 """Suspicions: variables that a lock protects at nearly all uses. A line of suspicions.c that makes one has the comment SUSPICION, with
 the variable and the lock."""
 
+import os
+import re
+
 import recorder
 
 
@@ -31,3 +34,53 @@ class Suspicions(recorder.Case):
     def test_programs_whose_locks_are_right(self):
         for name in ("mutex_ok.c", "barrier_ok.c", "prodcons.c", "openmp.c"):
             self.assertEqual(self.rows(name), [], name)
+
+
+class Shown(recorder.Case):
+    """By shb-record."""
+
+    def shown(self, name, *words, to=()):
+        """The status of a recording, and what was said of suspicions."""
+        program = self.folder / "app"
+        recorder.build(recorder.PROGRAMS / name, "-O1", program)
+        ran = recorder.call(recorder.BUILT / "shb-record", "-o", self.folder / "out", *words, program, *to,
+                            env={**os.environ, "SHB": str(recorder.SHB)})
+        self.said = ran.stderr.decode()
+        return ran.returncode, re.findall(r"(?m)^shb-record: (\d+ suspicion.*|  .*)$", self.said)
+
+    def test_they_stand_behind_the_races(self):
+        status, (head, *lines) = self.shown("suspicions.c", to=["race"])
+        self.assertEqual(status, 66)
+        self.assertEqual(head, "7 suspicions, no race in this run: a lock is held at nearly all uses of the variable, and not at this one")
+        self.assertEqual((len(lines), lines[-1]), (6, "  and 2 more"))
+        self.assertLess(self.said.index("racing: "), self.said.index("7 suspicions"))
+        [lone] = recorder.marked(recorder.PROGRAMS / "suspicions.c", "SUSPICION counter")
+        [locked] = recorder.marked(recorder.PROGRAMS / "suspicions.c", "LOCKED")
+        line = f"counter: main reads it at {lone} without m. 2 threads use it under m at 1 location; T3.second wrote it before, at {locked}."
+        self.assertIn(f"  {line}", lines)
+        [page] = (self.folder / "out").glob("*.html")
+        self.assertRegex(page.read_text(), rf"(?s)id=\"g1\".*<section id=\"suspicions\"><h2>Suspicions</h2>.*<li>{re.escape(line)}</li>")
+
+    def test_the_status(self):
+        """Where all are known it isn't changed, and the line isn't stale."""
+        known = self.folder / "known"
+        known.write_text("suspicions.c:*\tsuspicions.c:*\t*\n")
+        for words, wanted, count in (((), 0, 7), (("--fail-on-suspicion",), 66, 7), (("--fail-on-suspicion", "--fail-on-stale", "--known", known), 0, 0)):
+            status, lines = self.shown("suspicions.c", *words)
+            self.assertEqual((status, lines[0].split()[0] if lines else "0"), (wanted, str(count)), self.said)
+
+    def test_each_is_shown_once(self):
+        _, (head, *lines) = self.shown("suspicions.c", "--runs", "2")
+        self.assertEqual((head.partition(":")[0], len(lines)), ("7 suspicions, no race in these runs", 6))
+
+    def test_a_race_is_none(self):
+        self.assertEqual(self.shown("suspicion_race.c", "--fail-on-suspicion")[1], [])
+        self.assertIn("racing: ", self.said)
+        recorder.must(recorder.call(self.folder / "app", env=recorder.settings(self.folder / "rec")))
+        recorder.must(recorder.convert(self.folder / "rec", "--suspicions", self.folder / "file"))
+        self.assertEqual((self.folder / "file").read_text()[:9], "racing\tm\t")
+
+    def test_a_member_of_a_block(self):
+        [lone] = recorder.marked(recorder.PROGRAMS / "suspicions.cc", "SUSPICION")
+        _, (_, *lines) = self.shown("suspicions.cc")
+        self.assertEqual([line.partition(". ")[0] for line in lines], [f"  Account.balance: main reads it at {lone} without Account.lock"])

@@ -1,0 +1,47 @@
+// Two threads deposit under the account's lock, and main reads the balance without it. A queue of steps orders all.
+#include <condition_variable>
+#include <memory>
+#include <mutex>
+#include <thread>
+
+struct Account {
+    std::mutex lock;
+    int owner, balance;
+};
+
+static std::mutex queue;
+static std::condition_variable changed;
+static int step;
+
+static void begin_step(int wanted) {
+    std::unique_lock<std::mutex> holds(queue);
+    while (step < wanted) changed.wait(holds);
+}
+
+static void end_step() {
+    std::lock_guard<std::mutex> holds(queue);
+    step++;
+    changed.notify_all();
+}
+
+static void deposit(Account *account, int first, int last) {
+    for (int turn : {first, last}) {
+        begin_step(turn);
+        {
+            std::lock_guard<std::mutex> holds(account->lock);
+            account->balance++;
+        }
+        end_step();
+    }
+}
+
+int main() {
+    auto account = std::make_unique<Account>();
+    std::thread one(deposit, account.get(), 0, 3), other(deposit, account.get(), 1, 4);
+    begin_step(2);
+    int seen = account->balance; // SUSPICION Account.balance by Account.lock
+    end_step();
+    one.join();
+    other.join();
+    return seen == 3;
+}
