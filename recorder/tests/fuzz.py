@@ -25,7 +25,7 @@ HEADER = b"command a b\n0 ffff 0 /nowhere/a\n10000 20000 10000 /nowhere/libb.so\
 
 def records():
     """A record for each set of options, with a header and without."""
-    for options in range(16):
+    for options in range(32):
         for header in (b"", HEADER):
             yield bytes([options, len(header)]) + header + test_record.FRAMES + test_record.ENTRIES * 2
     yield bytes([0, 0]) + b"".join(test_record.LATE_ENTRIES)

@@ -75,6 +75,7 @@ static int prepare(const uint8_t *data, size_t size, char **words) {
     if (data[0] & 2) words[count++] = "-a";
     if (data[0] & 4) { words[count++] = "--stacks"; words[count++] = stacks; }
     if (data[0] & 8) { words[count++] = "--windows"; words[count++] = windows; words[count++] = "-n"; words[count++] = "8"; }
+    if (data[0] & 16) { words[count++] = "--suspicions"; words[count++] = "/dev/null"; }
     words[count++] = input;
     return count;
 }
