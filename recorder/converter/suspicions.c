@@ -2,7 +2,10 @@
    README.md has the rule.
 
    A pass of its own meets the accesses of variables that several threads use and one writes, with the locks that are held. A *use* is
-   a thread's reads, or its writes, of a variable at one place under the same locks. At the end each variable is judged by its uses. */
+   a thread's reads, or its writes, of a variable at one place under the same locks. At the end each variable is judged by its uses.
+   The file has a line for each variable and location without the lock, with tabs between its fields: the variable, the lock, at how many
+   locations and by how many threads it is used under the lock; location, r or w, and thread of the use without the lock; and the same of
+   a use under it that was before. */
 #define _GNU_SOURCE
 #include <errno.h>
 #include <stdlib.h>
