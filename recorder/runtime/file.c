@@ -147,15 +147,17 @@ static int may_have(uint64_t bytes) {  /* past the limit of a file's size a sign
     return 0;
 }
 
-int add_space(uint64_t from, uint64_t bytes) {
+static int add_space_in(int file, uint64_t from, uint64_t bytes) {
     static const char zeros[1 << 16];
-    if (!have_file() || !may_have(from + bytes)) return 0;
-    if (syscall(SYS_fallocate, kept[RECORD].number, 0, from, bytes) == 0) return 1;
+    if (!may_have(from + bytes)) return 0;
+    if (syscall(SYS_fallocate, file, 0, from, bytes) == 0) return 1;
     if (errno != EOPNOTSUPP && errno != ENOSYS) return 0;
     for (uint64_t at = from; at < from + bytes; at += sizeof zeros)      /* this file system has no such call */
-        if (syscall(SYS_pwrite64, kept[RECORD].number, zeros, sizeof zeros, at) != sizeof zeros) return 0;
+        if (syscall(SYS_pwrite64, file, zeros, sizeof zeros, at) != sizeof zeros) return 0;
     return 1;
 }
+
+int add_space(uint64_t from, uint64_t bytes) { return have_file() && add_space_in(kept[RECORD].number, from, bytes); }
 
 int write_file(const char *from, uint64_t bytes) {
     if (!have_file()) return 0;
@@ -239,4 +241,44 @@ int open_file(const char *command, uint64_t first_bytes) {
 void leave_file(void) {
     if (has(RECORD)) syscall(SYS_close, kept[RECORD].number);
     kept[RECORD].number = -1;
+}
+
+/* ---- the list of turns, beside the record: its file is opened for each change of its size, and these are few ---- */
+static char turns_path[PATH_MAX];
+static identity of_turns;
+
+static int open_turns(int flags) {
+    int file = syscall(SYS_openat, AT_FDCWD, turns_path, O_RDWR | O_CLOEXEC | flags, 0666);
+    if (file < 0 || flags || is_file(file, of_turns)) return file;
+    syscall(SYS_close, file);
+    return -1;
+}
+
+/* PATH.turns of PATH.rec, and of another PATH. */
+static int name_turns(void) {
+    size_t n = strlen(path), end = strlen(".rec");
+    if (n > end && !strcmp(path + n - end, ".rec")) n -= end;
+    return snprintf(turns_path, sizeof turns_path, "%.*s.turns", (int)n, path) < (int)sizeof turns_path;
+}
+
+void *map_turns(uint64_t first_bytes, uint64_t most_bytes) {
+    int file = name_turns() ? open_turns(O_CREAT | O_TRUNC) : -1;
+    if (file < 0) return MAP_FAILED;
+    of_turns = identity_of(file);
+    int has_space = add_space_in(file, 0, first_bytes);
+    void *map = has_space ? mmap(0, most_bytes, PROT_READ | PROT_WRITE, MAP_SHARED | MAP_NORESERVE, file, 0) : MAP_FAILED;
+    syscall(SYS_close, file);
+    return map;
+}
+
+int add_space_for_turns(uint64_t from, uint64_t bytes) {
+    int file = open_turns(0), done = file >= 0 && add_space_in(file, from, bytes);
+    if (file >= 0) syscall(SYS_close, file);
+    return done;
+}
+
+void cut_turns(uint64_t bytes) {
+    int file = open_turns(0), failed = file >= 0 && syscall(SYS_ftruncate, file, bytes);
+    (void)failed;                                            /* then zeros stay behind the turns */
+    if (file >= 0) syscall(SYS_close, file);
 }

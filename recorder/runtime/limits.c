@@ -13,7 +13,10 @@
 /* The record takes address space, of which only what is in use counts where the program locks its own. */
 PUBLIC int mlockall(int flags) {
     int error = REAL(mlockall)(flags);
-    if (!error) unlock_record();
+    if (!error) {
+        unlock_record();
+        unlock_list();
+    }
     thread *t = error && errno == ENOMEM && recording ? enter(NEVER_YIELD) : 0;
     if (t) {                           /* it has the turn, so nobody uses the cells */
         stop_recording("the program locks its memory (mlockall), and the record takes more than it may lock");

@@ -13,26 +13,32 @@ typedef const struct timespec *deadline;
 
 /* ---- the shapes of the calls below; r is what the real call gives ---- */
 enum { MOST_TRIES = 8 };
-/* TAKES: it may wait; recorded after it, if it was done.  The quick form is tried first, for it needs no hand-over. */
+/* TAKES: it may wait; recorded after it, if it was done.  The quick form is tried first, for it needs no hand-over.  In a
+   replay it is busy where it was then; else the one that has it may be about to give it. */
 #define TAKES(name, operation, object, busy, quick, done, parameters, arguments) \
     PUBLIC int name parameters { \
         thread *t = enter(MAY_YIELD); \
         if (!t) return REAL(name) arguments; \
-        int r = quick; \
-        for (int n = 0; busy && n < MOST_TRIES && let_another_run(t); n++) r = quick; \
-        if (busy) r = BLOCKING(t, REAL(name) arguments); \
+        int r = 0, is_busy, n = 0; \
+        do { \
+            is_busy = was_unusual(t); \
+            if (!is_busy) r = is_replaying ? REAL(name) arguments : quick; \
+            if (!is_busy && busy) is_busy = note_unusual(t); \
+        } while (is_busy && n++ < MOST_TRIES && let_another_run(t)); \
+        if (is_busy) r = waits_for_list(t) ? REAL(name) arguments : BLOCKING(t, REAL(name) arguments); \
         if (done) put(t, operation, object, 0, CALLER); \
         leave(t); \
         return r; \
     }
 /* TRIES: as TAKES, but never waits. */
-#define TRIES(name, operation, object, done, parameters, arguments) \
+#define TRIES(name, operation, object, busy, done, parameters, arguments) \
     PUBLIC int name parameters { \
         thread *t = enter(MAY_YIELD); \
-        int r = REAL(name) arguments; \
-        if (!t) return r; \
+        if (!t) return REAL(name) arguments; \
+        int is_busy = was_unusual(t), r = is_busy ? (busy) : REAL(name) arguments; \
         if (done) put(t, operation, object, 0, CALLER); \
         else note_spin(t, CALLER); \
+        if (!is_busy && !(done)) note_unusual(t); \
         leave(t); \
         return r; \
     }
@@ -68,7 +74,7 @@ enum { MOST_TRIES = 8 };
     }
 #define LOCKS(name, operation, quick, parameters, arguments) \
     TAKES(name, operation, m, r == EBUSY, REAL(quick)(m), !r || r == EOWNERDEAD, parameters, arguments)
-#define TRIES_LOCK(name, operation, type) TRIES(name, operation, m, !r || r == EOWNERDEAD, (type *m), (m))
+#define TRIES_LOCK(name, operation, type) TRIES(name, operation, m, EBUSY, !r || r == EOWNERDEAD, (type *m), (m))
 
 /* ---- locks ---- */
 LOCKS(pthread_mutex_lock, OP_LOCK, pthread_mutex_trylock, (pthread_mutex_t *m), (m))
@@ -111,36 +117,52 @@ PUBLIC int pthread_spin_lock(pthread_spinlock_t *m) {
     TAKES(name, OP_LOCK, m, r == thrd_busy, REAL(mtx_trylock)(m), r == thrd_success, parameters, arguments)
 C11_LOCKS(mtx_lock, (mtx_t *m), (m))
 C11_LOCKS(mtx_timedlock, (mtx_t *m, deadline d), (m, d))
-TRIES(mtx_trylock, OP_LOCK, m, r == thrd_success, (mtx_t *m), (m))
+TRIES(mtx_trylock, OP_LOCK, m, thrd_busy, r == thrd_success, (mtx_t *m), (m))
 GIVES(mtx_unlock, OP_UNLOCK, m, 0, (mtx_t *m), (m))
 BEGINS(mtx_init, OP_LOCK_INIT, m, 0, (mtx_t *m, int type), (m, type))
 ENDS(void, mtx_destroy, mtx_t)
 
 /* ---- conditions: the mutex is given up and taken again; a signal orders nothing by itself ---- */
-struct waking { thread *t; void *mutex; uint64_t caller; };
+struct waking { thread *t; void *mutex; uint64_t caller; int result; };
 
 static void has_woken(void *waking_) {                       /* also where the wait was cancelled */
     struct waking *waking = waking_;
     waking->t->inside = 1;
     take_turn(waking->t);
+    if (waking->result) note_unusual(waking->t);
     put(waking->t, OP_LOCK, waking->mutex, 0, waking->caller);
     leave(waking->t);
 }
 
+/* In a replay it wakes when the list says so, as a thread may that nobody woke; it has the turn and the mutex then.  0 where
+   there is no replay. */
+static int wakes_by_list(thread *t, void *mutex) {
+    if (!is_replaying || REAL(pthread_mutex_unlock)(mutex)) return 0;
+    waits_for_list(t);
+    if (REAL(pthread_mutex_trylock)(mutex) == EBUSY) BLOCKING(t, REAL(pthread_mutex_lock)(mutex));
+    return 1;
+}
+
+/* Where it had no more time in a replay, it has none left either: that is waited for. */
 #define WAITS(name, parameters, arguments) \
     PUBLIC int name parameters { \
         thread *t = enter(MAY_YIELD); \
         if (!t) return REAL(name) arguments; \
-        struct waking waking = {t, m, CALLER}; \
+        struct waking waking = {t, m, CALLER, 0}; \
         put(t, OP_USE, c, 0, CALLER); \
         put(t, OP_UNLOCK, m, 0, CALLER); \
-        int r; \
+        if (wakes_by_list(t, m)) { \
+            int r = was_unusual(t) ? REAL(name) arguments : 0; \
+            put(t, OP_LOCK, m, 0, CALLER); \
+            leave(t); \
+            return r; \
+        } \
         pthread_cleanup_push(has_woken, &waking); \
         give_turn(t); \
         leave(t); \
-        r = REAL(name) arguments; \
+        waking.result = REAL(name) arguments; \
         pthread_cleanup_pop(1); \
-        return r; \
+        return waking.result; \
     }
 WAITS(pthread_cond_wait, (pthread_cond_t *c, pthread_mutex_t *m), (c, m))
 WAITS(pthread_cond_timedwait, (pthread_cond_t *c, pthread_mutex_t *m, deadline d), (c, m, d))
@@ -160,7 +182,7 @@ ENDS(void, cnd_destroy, cnd_t)
 WAITS_FOR_TOKEN(sem_wait, (sem_t *s), (s))
 WAITS_FOR_TOKEN(sem_timedwait, (sem_t *s, deadline d), (s, d))
 WAITS_FOR_TOKEN(sem_clockwait, (sem_t *s, clockid_t c, deadline d), (s, c, d))
-TRIES(sem_trywait, OP_WAIT, s, !r, (sem_t *s), (s))
+TRIES(sem_trywait, OP_WAIT, s, (errno = EAGAIN, -1), !r, (sem_t *s), (s))
 GIVES(sem_post, OP_POST, s, 0, (sem_t *s), (s))
 ENDS(int, sem_destroy, sem_t)
 
@@ -172,6 +194,8 @@ PUBLIC int pthread_barrier_wait(pthread_barrier_t *b) {
     if (!t) return REAL(pthread_barrier_wait)(b);
     put(t, OP_ARRIVE, b, 0, CALLER);
     int r = BLOCKING(t, REAL(pthread_barrier_wait)(b));
+    if (is_replaying) r = was_unusual(t) ? PTHREAD_BARRIER_SERIAL_THREAD : 0;
+    else if (r == PTHREAD_BARRIER_SERIAL_THREAD) note_unusual(t);
     put(t, OP_DEPART, b, 0, CALLER);
     leave(t);
     return r;

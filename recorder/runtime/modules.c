@@ -71,10 +71,15 @@ static int begins_with(const char *name, const char *begin) {
     return !*begin;
 }
 
+/* What it allocates for that is no hook of the program's: whether it is looked up hangs on the order of threads. */
 void *next_symbol(const char *name) {
+    thread *t = self && !self->inside ? self : 0;
     void *p = 0;
+    if (t) t->inside = 1;
     if (begins_with(name, "pthread_cond_")) p = dlvsym(RTLD_NEXT, name, "GLIBC_2.3.2");   /* not the older interface */
-    return p ? p : dlsym(RTLD_NEXT, name);
+    if (!p) p = dlsym(RTLD_NEXT, name);
+    if (t) leave(t);
+    return p;
 }
 
 static uint64_t module_with(void *p) {

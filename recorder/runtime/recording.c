@@ -355,6 +355,8 @@ static void read_command(void) {
     strcpy(command + at + (n > 0 ? n : 0), "\n");
 }
 
+const char *own_command(void) { return command; }
+
 static uint64_t map_bytes(void) { return HEADER_BYTES + most_records * sizeof *records; }
 
 static int use_map(void *map) {

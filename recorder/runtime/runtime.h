@@ -27,6 +27,7 @@ typedef struct thread {
     _Atomic char began;                /* it was at its first hook */
     char may_be_held;                  /* there */
     int quantum;                       /* hooks until it gives the turn to a waiter */
+    uint64_t steps, kept;              /* replay.c: so far, and when it was last seen to have the turn */
     uint64_t last_read;                /* which read was its last, to see that it spins */
     int spins;                         /* how often in a row it made that one */
     struct read { uint64_t where, what, changes; } recent[RECENT_READS];    /* its last ones in the record */
@@ -35,6 +36,7 @@ typedef struct thread {
     volatile char deferred;            /* a signal came meanwhile and waits for the end of the hook */
     uint64_t written, write_caller;    /* if its last hook was of a write: the size, and who called it; else size 0 */
     char joined;
+    char idles;                        /* in a replay: it waits for what others are to do, so it is in no hurry */
     struct thread *next_ended;
     int exit_rounds;                   /* of destructors of thread-specific data */
     uint64_t new_caller;               /* who called operator new */
@@ -68,7 +70,27 @@ void give_turn(thread *t);
 void take_turn(thread *t);
 int keep_turn(thread *t);
 int let_another_run(thread *t);        /* if it may help; says whether */
+int note_unusual(thread *t);           /* with the turn: what was asked for wasn't there, or the like; gives 1 */
+int was_unusual(thread *t);            /* with the turn, in a replay: it was so at this step; else 0 */
+int waits_for_list(thread *t);         /* in a replay, in the place of a call that waits; 0 where the call has to */
 void note_spin(thread *t, uint64_t read);
+
+/* replay.c: the order of turns.  Under the guard, where nothing else is said. */
+extern volatile int is_replaying;      /* there is a list that says who gets the turn */
+void open_list(void);                  /* by the first thread, before there is a second one; it may sleep */
+void extend_list(void);                /* without the turn; it may sleep */
+void close_list(void);                 /* the recording has ended */
+void leave_list(thread *t);            /* in a process made by fork */
+void unlock_list(void);
+void begin_turn(thread *t);
+void end_turn(thread *t);
+void begin_replay(const char *path);   /* before the first turn */
+void end_replay(const char *why);
+int may_get_turn(const thread *t, const thread *holder);     /* by the list; the holder, or nobody, has not given it to t */
+uint32_t due_thread(void);             /* whose turn it is */
+int steps_to_go(const thread *t);      /* in its turn, which has begun */
+int next_is_unusual(const thread *t);  /* moves on behind what the list has of this step */
+void add_unusual(const thread *t);
 
 /* A call that may block, made inside a hook: without the turn, and its own hooks (of handlers, say) are recorded. */
 #define BLOCKING(t, call) ({ \
@@ -101,6 +123,9 @@ int has_number(void);                  /* is there a record for each process? */
 int refuse(const char *path);          /* says that it can't be written, as errno has it; gives 0 */
 int open_file(const char *command, uint64_t first_bytes);    /* will it be allowed so many? */
 int add_space(uint64_t from, uint64_t bytes);
+void *map_turns(uint64_t first_bytes, uint64_t most_bytes);  /* the list beside the record; or MAP_FAILED */
+int add_space_for_turns(uint64_t from, uint64_t bytes);
+void cut_turns(uint64_t bytes);
 int write_file(const char *from, uint64_t bytes);
 void cut_file(uint64_t bytes);
 void *map_file(void *at, uint64_t bytes);                    /* or MAP_FAILED */
@@ -121,6 +146,7 @@ void note_end(const char *how);
 const char *own_end(void);             /* as note_end takes it, where nothing stopped the recording */
 void note_stranger(void);              /* a hook met a thread that nobody saw begin: its accesses are missed */
 void note_text(const char *line);      /* adds a line to the header */
+const char *own_command(void);         /* that line of the header */
 void unlock_record(void);
 void give_back_room(void);
 /* Records of one access, its depth and its way, with sizes; of an atomic one, with those that are late; of a copy's read and write. */

@@ -110,6 +110,7 @@ __attribute__((constructor(101))) static void begin(void) {
     thread *t = new_thread();
     if (!t || !number_thread(t) || pthread_key_create(&at_exit, thread_exits) || pthread_atfork(0, 0, in_child)) return;
     at_quick_exit(end);                                      /* the last of its handlers */
+    if (getenv("SHB_REPLAY")) begin_replay(getenv("SHB_REPLAY"));
     begin_turns(setting("SHB_SLICE", 0), setting("SHB_SEED", 0));
     begin_thread(t, 0);
     watch_crashes();
@@ -187,6 +188,7 @@ enum { NOT_STARTED = -1 };
 static int create(thread *t, thread start, pthread_t *handle, const pthread_attr_t *attributes, uint64_t caller) {
     thread *child = new_thread();
     move_to_file();
+    open_list();
     if (!keep_turn(t)) take_turn(t);
     if (!child || !number_thread(child)) {
         stop_recording("too many threads");

@@ -96,7 +96,9 @@ static void wake(thread *t) {
 /* Has t the turn still?  Raises the count, so that no waiter that looked before this takes the turn over. */
 int keep_turn(thread *t) {
     uint64_t word = atomic_load_explicit(&turn, memory_order_relaxed);
-    return HOLDER(word) == NAME(t) && swap_in(t, word);
+    if (HOLDER(word) != NAME(t) || !swap_in(t, word)) return 0;
+    t->kept = t->steps;
+    return 1;
 }
 
 static int are_slices_short(void) { return slice < last_slice; }
@@ -113,8 +115,16 @@ static int draw_slice(void) {
     return 1 + draw() % (2 * slice);
 }
 
+static thread *due_waiter(void) {
+    uint32_t due = due_thread();
+    for (int i = 0; i < waiters; i++)
+        if (waiting[i]->number == due) return waiting[i];
+    return 0;
+}
+
 /* Who is next: the held thread only where no other waits. */
 static thread *draw_waiter(void) {
+    if (is_replaying) return due_waiter();
     if (!waiters) return 0;
     int i = draw() % waiters;
     return waiting[waiting[i] == held ? (i + 1) % waiters : i];
@@ -126,9 +136,10 @@ static void hand_over(thread *t, int is_slice_end) {
     lock_guard();
     uint64_t word = atomic_load(&turn);
     if (HOLDER(word) == NAME(t)) {
+        end_turn(t);
         if (held && draw() % SLICES_HELD == 0) held = 0;
         next = draw_waiter();
-        if (is_slice_end && next && next == held) {
+        if (is_slice_end && next && next == held && !is_replaying) {
             next = 0;
             t->quantum = draw_slice();
         } else atomic_store(&turn, next_word(next, word));
@@ -136,6 +147,7 @@ static void hand_over(thread *t, int is_slice_end) {
     unlock_guard();
     TEST_YIELD();
     if (next) wake(next);
+    t->steps++;
 }
 
 void give_turn(thread *t) { hand_over(t, 0); }
@@ -149,12 +161,21 @@ static void stop_waiting(thread *t) {
         }
 }
 
+static thread *holder_of(uint64_t word) { return HOLDER(word) == NOBODY ? 0 : threads[HOLDER(word) - 1]; }
+
+/* Under the guard: takes the turn that others have given, or lost. */
+static int get_turn(thread *t, uint64_t seen) {
+    if (!may_get_turn(t, holder_of(seen)) || !swap_in(t, seen)) return 0;
+    begin_turn(t);
+    return 1;
+}
+
 /* Takes the turn if nobody has it, else stands among the waiters, at its first hook perhaps as the held one. */
 static int take_free(thread *t) {
     int is_first = !t->began;
     lock_guard();
     uint64_t word = atomic_load(&turn);
-    int done = !recording || (HOLDER(word) == NOBODY && swap_in(t, word));
+    int done = !recording || (HOLDER(word) == NOBODY && get_turn(t, word));
     if (!done) waiting[waiters++] = t;
     if (is_first) held = !held && !done && t->may_be_held ? t : 0;
     unlock_guard();
@@ -179,7 +200,7 @@ void wait_for_start(const thread *child) {
 static int accept(thread *t, uint64_t seen) {
     TEST_YIELD();
     lock_guard();
-    int done = !recording || swap_in(t, seen);
+    int done = !recording || get_turn(t, seen);
     if (done) stop_waiting(t);
     unlock_guard();
     return done;
@@ -223,35 +244,102 @@ static int past_its_access(uint64_t word, struct watch *watch) {
     struct timespec now;
     clock_gettime(CLOCK_MONOTONIC, &now);
     long ticks = watch->ticks;
-    if (HOLDER(word) == NOBODY || gone_or_asleep(threads[HOLDER(word) - 1]->system_id, &ticks)) return 1;
+    if (HOLDER(word) == NOBODY || gone_or_asleep(holder_of(word)->system_id, &ticks)) return 1;
     if (word != watch->word) *watch = (struct watch){word, ticks, now.tv_sec};
     if (now.tv_sec - watch->since > stall_seconds)
         stop_recording("one thread neither slept, computed nor came to a hook for SHB_STALL seconds");
     return ticks >= watch->ticks + COMPUTES_TICKS;
 }
 
+static int may_take_over(const thread *t, uint64_t word, struct watch *watch) {
+    return may_get_turn(t, holder_of(word)) && past_its_access(word, watch);
+}
+
+/* ---- a replay that doesn't fit: the list alone says who gets the turn, and that thread doesn't come ---- */
+enum { LOOK_SECONDS = 1, LATE_SECONDS = 5 };
+struct lateness { uint64_t word; time_t since; };            /* as a waiter saw it */
+
+/* Why t gives the replay up after so many seconds, or 0.  Not where the thread that is due is on its way to its next hook,
+   nor where it sleeps as long as t would. */
+static const char *reason_to_leave(const thread *t, uint64_t word, time_t seconds) {
+    uint32_t number = due_thread();
+    const thread *awaited = HOLDER(word) ? holder_of(word) : number < thread_count ? threads[number] : 0;
+    long ticks = 0;
+    if (!awaited || (awaited->system_id && is_gone(awaited->system_id))) return "the thread that is due is gone";
+    int is_patient = t->idles || !gone_or_asleep(awaited->system_id, &ticks);
+    return seconds < (is_patient ? stall_seconds : LATE_SECONDS) ? 0 : "the thread that is due does not come";
+}
+
+static void leave_late_replay(const thread *t, uint64_t word, struct lateness *late) {
+    struct timespec now;
+    clock_gettime(CLOCK_MONOTONIC, &now);
+    if (word != late->word) *late = (struct lateness){word, now.tv_sec};
+    time_t seconds = now.tv_sec - late->since;
+    const char *reason = seconds < LOOK_SECONDS ? 0 : reason_to_leave(t, word, seconds);
+    if (!reason) return;
+    thread *next = 0;
+    lock_guard();
+    if (is_replaying && atomic_load(&turn) == word) {
+        end_replay(reason);
+        if (HOLDER(word) == NOBODY) next = draw_waiter();
+        if (next) atomic_store(&turn, next_word(next, word));
+    }
+    unlock_guard();
+    if (next) wake(next);
+}
+
 void take_turn(thread *t) {
     struct watch watch = {0, 0, 0};
     struct timespec patience = {0, waiters ? 10 * PATIENCE_NS : PATIENCE_NS};
+    struct lateness late = {0, 0};
     int look = 0, saved = errno;
+    extend_list();
     if (!take_free(t)) for (;;) {
         int wakes = atomic_load(&t->wakes);                  /* before the turn: a later wake changes it */
         uint64_t word = atomic_load(&turn);
-        if (!recording || HOLDER(word) == NAME(t) || (look && !IS_PATIENT && past_its_access(word, &watch)))
+        if (!recording || HOLDER(word) == NAME(t) || (look && !IS_PATIENT && may_take_over(t, word, &watch)))
             if (accept(t, word)) break;
+        if (look && is_replaying) leave_late_replay(t, word, &late);
         look = syscall(SYS_futex, &t->wakes, FUTEX_WAIT_PRIVATE, wakes, &patience, 0, 0) && errno == ETIMEDOUT;
     }
-    t->quantum = draw_slice();
+    t->quantum = is_replaying ? steps_to_go(t) + 1 : draw_slice();
     errno = saved;
 }
 
 /* Lets another thread run a slice, which may give back the lock that t wants: who slept in the system for it would mostly come
    too late.  Not where nobody wants the turn, nor where slices are long: there to sleep costs less. */
 int let_another_run(thread *t) {
-    if (!recording || !waiters || !are_slices_short()) return 0;
+    if (!recording) return 0;
+    int gives = is_replaying ? --t->quantum <= 0 : waiters && are_slices_short();
+    if (gives) give_turn(t);
+    else t->steps++;
+    if (gives) take_turn(t);
+    return gives;
+}
+
+/* ---- what hangs on microseconds, and not on the order of turns ---- */
+int note_unusual(thread *t) {
+    lock_guard();
+    if (HOLDER(atomic_load(&turn)) == NAME(t)) add_unusual(t);
+    unlock_guard();
+    return 1;
+}
+
+int was_unusual(thread *t) {
+    if (!is_replaying) return 0;
+    lock_guard();
+    int was = next_is_unusual(t);
+    unlock_guard();
+    return was && note_unusual(t);
+}
+
+int waits_for_list(thread *t) {
+    if (!is_replaying) return 0;
+    t->idles = 1;
     give_turn(t);
     take_turn(t);
-    return 1;
+    t->idles = 0;
+    return is_replaying;
 }
 
 /* ---- hooks ---- */
@@ -261,7 +349,8 @@ thread *enter_access(enum yields yields) {
     if (!t) note_stranger();
     if (!t || !recording || t->inside) return 0;
     t->inside = 1;
-    if (--t->quantum <= 0 && yields && waiters) hand_over(t, 1);
+    if (--t->quantum <= 0 && yields && (waiters || is_replaying)) hand_over(t, 1);
+    else t->steps++;
     return t;
 }
 
@@ -287,7 +376,7 @@ void note_spin(thread *t, uint64_t read) {
         t->spins = 0;
     } else if (++t->spins > 3) {
         t->spins = 0;
-        t->quantum = 0;
+        if (!is_replaying) t->quantum = 0;
     }
 }
 
@@ -305,6 +394,7 @@ void restart_turns(thread *t) {
     waiters = 0;
     held = 0;
     thread_count = joined_count = 0;
+    leave_list(t);
     number_thread(t);
     t->system_id = syscall(SYS_gettid);
     t->quantum = 1;
@@ -318,6 +408,7 @@ int end_turns(void) {
     int was = recording;
     recording = 0;
     for (int i = 0; i < waiters; i++) wake(waiting[i]);
+    if (was) close_list();
     unlock_guard();
     return was;
 }

@@ -1,0 +1,212 @@
+/* The order of turns: a list of them that is written beside the record, and one that the process is to follow.
+
+   A *step* of a thread is where it may lose the turn: a hook, before its record; a call that may block; a lock that is
+   busy.  Each thread counts its own, and what of its accesses is recorded changes nothing of them.  An entry of the list has a
+   thread's number and how many steps it had made when another thread got the turn; a turn that a thread gave and got back
+   is one with that before.  Who gets a lock that several want is a matter of microseconds: so where a thread didn't get one at
+   once, or a wait ended otherwise than most do, a further entry has its steps so far and UNUSUAL.
+
+   PATH.turns has HEADER bytes of text (TURNS_MAGIC, "command WORD WORD..", and where the recording ended "whole COUNT SUM",
+   hexadecimal, by which a copy that was cut or changed is known), and the entries of 8 bytes, until one of zeros or the
+   file's end.  A process made by fork has none.
+
+   In a replay only the thread of the next entry gets the turn, and loses it after as many steps.  What it waits for is no
+   lock and no signal but that turn, at whose begin it takes the lock.  The replay is left where that thread doesn't come:
+   then a wait for a condition ends, which may be at any time. */
+#define _GNU_SOURCE
+#include <fcntl.h>
+#include <stdio.h>
+#include <string.h>
+#include <sys/mman.h>
+#include <sys/stat.h>
+#include <sys/syscall.h>
+#include <unistd.h>
+#include "runtime.h"
+
+#define TURNS_MAGIC "shb-turns 1\n"
+enum { HEADER = 4096, STEP_BYTES = 1 << 20, MOST_BYTES = 128 << 20, FEW = 1 << 15 };
+
+#define UNUSUAL (1ull << 47)
+static uint64_t entry_of(const thread *t, uint64_t steps) { return (uint64_t)t->number << 48 | (steps & (UNUSUAL - 1)); }
+static uint64_t thread_of_entry(uint64_t entry) { return entry >> 48; }
+static uint64_t steps_of_entry(uint64_t entry) { return entry & (UNUSUAL - 1); }
+
+/* ---- the list that is written; under the guard where nothing else is said ---- */
+static char *header;
+static uint64_t *volatile turns;       /* 0: no more are written */
+static volatile uint64_t count;
+static _Atomic uint64_t room;          /* turns that the file has disk space for */
+static _Atomic int is_growing;
+static thread *runs;                   /* who got the turn last */
+
+/* By the first thread, before there is a second one; it may sleep. */
+void open_list(void) {
+    static int is_opened;
+    if (is_opened) return;
+    is_opened = 1;
+    char *map = map_turns(STEP_BYTES, MOST_BYTES);
+    if (map == MAP_FAILED) return;
+    snprintf(map, HEADER, TURNS_MAGIC "%s", own_command());
+    atomic_store(&room, (STEP_BYTES - HEADER) / sizeof *turns);
+    header = map;
+    turns = (uint64_t *)(map + HEADER);
+}
+
+/* By a thread without the turn; it may sleep. */
+void extend_list(void) {
+    uint64_t from = HEADER + atomic_load(&room) * sizeof *turns;
+    if (!turns || count + FEW < atomic_load(&room) || from >= MOST_BYTES || atomic_exchange(&is_growing, 1)) return;
+    if (add_space_for_turns(from, STEP_BYTES)) atomic_fetch_add(&room, STEP_BYTES / sizeof *turns);
+    atomic_store(&is_growing, 0);
+}
+
+static void add(uint64_t entry) {
+    if (!turns) return;
+    if (count < atomic_load(&room)) turns[count++] = entry;
+    else turns = 0;                    /* the list ends: no entry may be missing in it */
+}
+
+static void add_last(void) { if (runs) add(entry_of(runs, runs->kept)); }
+
+/* When the recording has ended, so no turn begins. */
+void close_list(void) {
+    uint64_t sum = 0;
+    add_last();
+    if (is_replaying) end_replay("the recording ended");
+    if (!header) return;
+    for (uint64_t i = 0; i < count; i++) sum += ((uint64_t *)(header + HEADER))[i];
+    size_t at = strlen(header);
+    snprintf(header + at, HEADER - at, "whole %lx %lx\n", count, sum);
+    cut_turns(HEADER + count * sizeof *turns);
+    munmap(header, MOST_BYTES);
+    header = 0;
+    turns = 0;
+}
+
+/* What a program locks in memory is its own. */
+void unlock_list(void) { if (header) munlock(header, MOST_BYTES); }
+
+/* ---- the list that is followed ---- */
+volatile int is_replaying;
+static const uint64_t *due;            /* the next entry is due[at]: the end of a turn that has begun or not, or what is unusual in it */
+static uint64_t due_count;
+static volatile uint64_t at;
+static uint64_t due_turns, done_turns;
+
+static int reaches(const thread *t, uint64_t entry) { return !(entry & UNUSUAL) && t->steps >= steps_of_entry(entry); }
+
+/* For the reader of the record's header. */
+static void note_number(const char *format, uint64_t number) {
+    char line[80];
+    snprintf(line, sizeof line, format, number);
+    note_text(line);
+}
+
+/* Also where all of it was followed: then it says nothing. */
+void end_replay(const char *why) {
+    done_turns += at < due_count && runs && runs->number == thread_of_entry(due[at]) && reaches(runs, due[at]);
+    note_number("replayed %lu\n", done_turns);
+    is_replaying = 0;
+    if (done_turns < due_turns)
+        tell("shb recorder: the replay is left after %lu of %lu turns, for %s\n", done_turns, due_turns, why);
+}
+
+static void move_on(void) {
+    done_turns += !(due[at] & UNUSUAL);
+    if (++at == due_count) end_replay("it ends");
+}
+
+uint32_t due_thread(void) {
+    uint64_t i = at;                   /* another thread may move it on */
+    return i < due_count ? thread_of_entry(due[i]) : THREAD_NUMBERS;
+}
+
+int steps_to_go(const thread *t) {
+    uint64_t i = at;
+    while (i + 1 < due_count && due[i] & UNUSUAL) i++;
+    uint64_t end = steps_of_entry(due[i]), steps = end > t->steps ? end - t->steps : 0;
+    return steps < INT32_MAX ? (int)steps : INT32_MAX - 1;
+}
+
+/* May t get the turn that nobody has, or that this holder has not given? */
+int may_get_turn(const thread *t, const thread *holder) {
+    uint64_t i = at;                   /* without the guard another thread may move it on */
+    if (!is_replaying || holder == t || i >= due_count) return 1;
+    if (!holder) return thread_of_entry(due[i]) == t->number;
+    return reaches(holder, due[i]) && i + 1 < due_count && thread_of_entry(due[i + 1]) == t->number;
+}
+
+void begin_turn(thread *t) {
+    if (runs != t) add_last();
+    runs = t;
+    t->kept = t->steps;
+    if (is_replaying && due_thread() != t->number) move_on();
+}
+
+void end_turn(thread *t) {
+    t->kept = t->steps;
+    if (is_replaying && reaches(t, due[at])) move_on();
+}
+
+/* Was it so when the list was written?  What is told of steps before was not met. */
+int next_is_unusual(const thread *t) {
+    while (is_replaying && due[at] & UNUSUAL && due_thread() == t->number && steps_of_entry(due[at]) <= t->steps) {
+        int is_this = steps_of_entry(due[at]) == t->steps;
+        move_on();
+        if (is_this) return 1;
+    }
+    return 0;
+}
+
+void add_unusual(const thread *t) { add(entry_of(t, t->steps) | UNUSUAL); }
+
+/* ---- begin ---- */
+/* The words of a command line without the folder of the program, which may have moved. */
+static const char *without_folder(const char *command) {
+    const char *words = command + strcspn(command, " "), *name = words;
+    while (name > command && name[-1] != '/') name--;
+    return name;
+}
+
+static int is_for_this_program(const char *list) {
+    const char *theirs = list + strlen(TURNS_MAGIC "command "), *ours = own_command() + strlen("command ");
+    theirs = without_folder(theirs);
+    ours = without_folder(ours);
+    size_t length = strcspn(ours, "\n");
+    return !strncmp(theirs, ours, length + 1);
+}
+
+static const char *mapped(const char *path, uint64_t *bytes) {
+    struct stat status;
+    int file = syscall(SYS_openat, AT_FDCWD, path, O_RDONLY | O_CLOEXEC | O_NONBLOCK, 0);
+    int is_list = file >= 0 && !fstat(file, &status) && S_ISREG(status.st_mode) && status.st_size >= HEADER;
+    void *map = is_list ? mmap(0, status.st_size, PROT_READ, MAP_PRIVATE, file, 0) : MAP_FAILED;
+    if (file >= 0) syscall(SYS_close, file);
+    if (map == MAP_FAILED) return 0;
+    *bytes = status.st_size;
+    return map;
+}
+
+/* Another process of the run may be meant: then this one says nothing. */
+void begin_replay(const char *path) {
+    uint64_t bytes;
+    const char *list = mapped(path, &bytes);
+    if (!list || strncmp(list, TURNS_MAGIC "command ", strlen(TURNS_MAGIC "command ")) || !memchr(list, 0, HEADER)) {
+        tell("shb recorder: %s is no list of turns (RUN.turns)\n", path);
+        return;
+    }
+    due = (const uint64_t *)(list + HEADER);
+    due_count = (bytes - HEADER) / sizeof *due;
+    while (due_count && !due[due_count - 1]) due_count--;
+    for (uint64_t i = 0; i < due_count; i++) due_turns += !(due[i] & UNUSUAL);
+    is_replaying = due_count && is_for_this_program(list);
+    if (is_replaying) note_number("replays %lu\n", due_turns);
+}
+
+/* In a process made by fork: the list, and the replay, are its parent's. */
+void leave_list(thread *t) {
+    header = 0;
+    turns = 0;
+    is_replaying = 0;
+    runs = t;
+}
