@@ -10,17 +10,25 @@ Properties, in every state:
   wake      no thread sleeps on its futex while the turn names it, nobody has it, or the recording has ended, unless
             some thread is on its way to wake it: no hand-over needs a timeout
   listed    a thread stands among the waiters once from its first step in take_turn to its last, else never
+  due       while a list of turns is followed nobody has the turn but the thread of its next entry
   end       from every state the end of all threads can be reached
 The steps are those at which threads meet: each load, store and swap of the turn and of a thread's wakes, the guard's
 lock, the futex calls, the look at the holder. The count in the turn's word is not stored: a thread's view of the word
 is fresh until the word changes and never again, for counts don't return; likewise its view of its wakes. A look may
 say yes wherever the holder isn't between the swap in put (or take_turn) and its access: more often than turn.c says it.
+
+A replay has a list of turns too: pairs of a thread and the number of steps (hooks, and calls that may block) after which it
+loses the turn. A waiter may leave it at each of its looks: sooner than turn.c does.
 """
 
 import typing
 
 NONE = -1
 PROGRAMS = ["hhh hhh", "hbh hsh", "hch hbh", "hsb hcb", "hxh hbh", "h h h", "h s b", "hh b h"]
+REPLAYS = [("hh hhh", ((0, 1), (1, 2), (0, 3), (1, 4))), ("hb hbh", ((1, 1), (0, 2), (1, 2), (0, 3), (1, 4))),
+           ("hsh hc", ((0, 1), (1, 1), (0, 3), (1, 2))), ("hxh hb", ((0, 2), (1, 2))),
+           ("hh hb", ((1, 3), (0, 1), (1, 9))), ("hb hh", ((0, 1), (0, 2), (1, 0), (0, 9)))]  # the last two don't fit
+LONG_REPLAYS = [("hhh hhh", ((0, 1), (1, 2), (0, 4), (1, 4))), ("h b h", ((2, 2), (1, 1), (0, 2), (1, 2)))]
 LONG_PROGRAMS = ["hhhh hhhh", "hbhsh hchbh", "hsxh hbch", "hh hh h", "hs hb h", "hx hb h", "hc hh b", "hb hs hh", "hh hh hh"]
 
 # Bugs to plant, and the property that each breaks.
@@ -31,8 +39,11 @@ TAKES_BLINDLY = "a waiter takes the turn over though its word has changed"
 WORD_FIRST = "a waiter reads the word before its wakes"
 UNLISTED = "the giver takes the next holder off the waiters"
 NAMED_RUNS = "a thread runs when it is named, without accepting"
+NOT_DUE = "a waiter that isn't due takes a turn that nobody has"
+LEAVES_IT_TO_NOBODY = "who leaves the list gives nobody the turn that nobody has"
+BUGS_OF_REPLAYS = {NOT_DUE, LEAVES_IT_TO_NOBODY}
 BUGS = {PUT_DOES_NOT_ASK: "window", PUT_SKIPS: "record", NO_COUNT: "window", TAKES_BLINDLY: "window",
-        WORD_FIRST: "wake", UNLISTED: "wake", NAMED_RUNS: "record"}
+        WORD_FIRST: "wake", UNLISTED: "wake", NAMED_RUNS: "record", NOT_DUE: "due", LEAVES_IT_TO_NOBODY: "wake"}
 
 
 class Thread(typing.NamedTuple):
@@ -43,6 +54,7 @@ class Thread(typing.NamedTuple):
     wakes: bool = False  # is its view of its wakes fresh?
     look: bool = False  # its sleep ended by the timeout: it looks at the holder
     target: int = 0  # whom it wakes
+    steps: int = 0  # in a replay, so far
 
 
 class State(typing.NamedTuple):
@@ -52,13 +64,14 @@ class State(typing.NamedTuple):
     waiting: frozenset = frozenset()
     on: bool = True  # is the recording on?
     window: int = NONE  # who is between its record and its access
+    turns: tuple = ()  # the turns to come, and the one that has begun, while they are followed
 
 
 class Broken(Exception):
     """A property that doesn't hold, and where."""
 
 
-WAITING_STEPS = {"read_wakes", "read_word", "look_at_holder", "accept", "swap_in", "wait", "sleep"}
+WAITING_STEPS = {"read_wakes", "read_word", "look_at_holder", "accept", "swap_in", "leave", "leaving", "wait", "sleep"}
 IN_ITS_ACCESS = {"check", "record", "access"}
 
 
@@ -86,6 +99,30 @@ class Step:
     def has_turn(self):
         return self.state.holder == self.number
 
+    # the list of turns
+    def has_ended(self, number):
+        return self.state.threads[number].steps >= self.state.turns[0][1]
+
+    def may_get(self):
+        turns, holder = self.state.turns, self.state.holder
+        if not turns or holder == self.number or holder == NONE and self.bug == NOT_DUE:
+            return True
+        if holder == NONE:
+            return turns[0][0] == self.number
+        return self.has_ended(holder) and len(turns) > 1 and turns[1][0] == self.number
+
+    def begun(self):
+        """The list when this thread has got the turn."""
+        turns = self.state.turns
+        return turns[1:] if turns and turns[0][0] != self.number else turns
+
+    def given(self):
+        """The list when it has given the turn."""
+        return self.state.turns[1:] if self.state.turns and self.has_ended(self.number) else self.state.turns
+
+    def next_step(self):
+        return self.thread.steps + 1 if self.state.turns else 0
+
     # between two hooks
     def next(self):
         program = self.program[self.number]
@@ -95,8 +132,12 @@ class Step:
         first = {"h": ("keep", ""), "b": ("give", "blocked"), "x": ("stop", ""), "s": ("away", ""), "c": ("away", "")}
         step, after = first[program[self.thread.at]]
         for step in ("keep", "put") if step == "keep" else (step,):  # enter; enter_access
+            is_hook = step in ("keep", "put")
+            if is_hook and self.state.turns:
+                yield self.to("give", after=step) if self.has_ended(self.number) else self.to(step, after=after, steps=self.next_step())
+                continue
             yield self.to(step, after=after)
-            if step in ("keep", "put") and self.state.waiting:  # its quantum is used up
+            if is_hook and self.state.waiting:  # its quantum is used up
                 yield self.to("give", after=step)
 
     def away(self):
@@ -157,16 +198,18 @@ class Step:
         yield from self.locked("hand_over")
 
     def hand_over(self):
-        waiting, after = self.state.waiting, self.thread.after
+        waiting, after, steps = self.state.waiting, self.thread.after, self.next_step()
         if not self.has_turn():
-            yield self.to(after, after="", shared={"guard": NONE})
-        elif not waiting:
-            yield self.to(after, after="", changed=True, shared={"guard": NONE, "holder": NONE})
-        else:
-            for next in waiting:
-                left = waiting - {next} if self.bug in (UNLISTED, NAMED_RUNS) else waiting
-                yield self.to("raise_wakes", changed=True, target=next,
-                              shared={"guard": NONE, "holder": next, "waiting": left})
+            yield self.to(after, after="", shared={"guard": NONE}, steps=steps)
+            return
+        turns = self.given()
+        candidates = waiting & {turns[0][0]} if turns else waiting
+        if not candidates:
+            yield self.to(after, after="", changed=True, shared={"guard": NONE, "holder": NONE, "turns": turns}, steps=steps)
+        for next in candidates:
+            left = waiting - {next} if self.bug in (UNLISTED, NAMED_RUNS) else waiting
+            yield self.to("raise_wakes", changed=True, target=next, steps=steps,
+                          shared={"guard": NONE, "holder": next, "waiting": left, "turns": turns})
 
     def raise_wakes(self):
         threads = list(self.state.threads)
@@ -195,8 +238,8 @@ class Step:
     def take_free(self):
         if not self.state.on:
             yield self.done()
-        elif self.state.holder == NONE:
-            yield self.done(changed=True, holder=self.number)
+        elif self.state.holder == NONE and self.may_get():
+            yield self.done(changed=True, holder=self.number, turns=self.begun())
         else:
             waiting = self.state.waiting | {self.number}
             yield self.to(self.first_of_wait, shared={"guard": NONE, "waiting": waiting})
@@ -217,6 +260,8 @@ class Step:
 
     def look_at_holder(self):
         yield self.to(self.before_sleep())
+        if self.state.turns:
+            yield self.to("leave")
         holder = self.state.holder
         if not self.thread.word or holder == NONE or self.state.threads[holder].step not in IN_ITS_ACCESS:
             yield self.to("accept")
@@ -228,10 +273,33 @@ class Step:
         waiting = self.state.waiting - {self.number}
         if not self.state.on:
             yield self.done(waiting=waiting)
-        elif self.thread.word or self.bug == TAKES_BLINDLY:
-            yield self.done(changed=True, waiting=waiting, holder=self.number)
+        elif (self.thread.word or self.bug == TAKES_BLINDLY) and self.may_get():
+            yield self.done(changed=True, waiting=waiting, holder=self.number, turns=self.begun())
         else:
             yield self.to(self.before_sleep(), shared={"guard": NONE})
+
+    # leave_late_replay
+    def leave(self):
+        yield from self.locked("leaving")
+
+    def leaving(self):
+        left = {"guard": NONE, "turns": ()}
+        if not self.thread.word:
+            yield self.to(self.before_sleep(), shared={"guard": NONE})
+        elif self.state.holder != NONE or self.bug == LEAVES_IT_TO_NOBODY:
+            yield self.to(self.before_sleep(), shared=left)
+        else:
+            for next in self.state.waiting:
+                own = {"wakes": False} if next == self.number else {}
+                yield self.to(self.before_sleep(), self.with_woken(next), changed=True, shared={**left, "holder": next}, **own)
+
+    def with_woken(self, *waiters):
+        threads = list(self.state.threads)
+        for waiter in waiters:
+            threads[waiter] = threads[waiter]._replace(wakes=False)
+            if threads[waiter].step == "sleep":
+                threads[waiter] = self.woken(threads[waiter])
+        return threads
 
     def wait(self):  # the futex sleeps only if the wakes are as they were seen
         yield self.to("sleep") if self.thread.wakes else self.to(self.first_of_wait, look=False)
@@ -244,12 +312,7 @@ class Step:
         yield from self.locked("stopping")
 
     def stopping(self):
-        threads = list(self.state.threads)
-        for waiter in self.state.waiting:
-            threads[waiter] = threads[waiter]._replace(wakes=False)
-            if threads[waiter].step == "sleep":
-                threads[waiter] = self.woken(threads[waiter])
-        yield self.to("next", threads, at=self.thread.at + 1, shared={"guard": NONE, "on": False})
+        yield self.to("next", self.with_woken(*self.state.waiting), at=self.thread.at + 1, shared={"guard": NONE, "on": False})
 
     def gone(self):
         return ()
@@ -258,16 +321,19 @@ class Step:
 def check(state, bug):
     """Raises Broken where a property of single states doesn't hold."""
     waking = {thread.target for thread in state.threads if thread.step in ("raise_wakes", "wake")}
+    if state.turns and state.holder not in (NONE, state.turns[0][0]):
+        raise Broken(f"due: thread {state.holder} has the turn of thread {state.turns[0][0]}")
     for number, thread in enumerate(state.threads):
-        if thread.step == "sleep" and number not in waking and (state.holder in (number, NONE) or not state.on):
+        is_free = state.holder == NONE and (not state.turns or state.turns[0][0] == number)
+        if thread.step == "sleep" and number not in waking and (state.holder == number or is_free or not state.on):
             raise Broken(f"wake: thread {number} sleeps and only a timeout wakes it")
         if (number in state.waiting) != (thread.step in WAITING_STEPS) and bug != UNLISTED:
             raise Broken(f"listed: thread {number} at {thread.step}")
 
 
-def search(program, bug=""):
+def search(program, bug="", turns=()):
     """Searches all states of a program, and gives their number; raises Broken at the first that breaks a property."""
-    start = State(tuple(Thread() for _ in program))
+    start = State(tuple(Thread() for _ in program), turns=turns)
     numbers, before, todo, ends = {start: 0}, [[]], [start], []
     while todo:
         state = todo.pop()
@@ -301,9 +367,9 @@ def count_leading_to(ends, before):
 
 def faults(bug):
     """What breaks in the programs where the bug is planted."""
-    for program in PROGRAMS:
+    for program, turns in REPLAYS if bug in BUGS_OF_REPLAYS else [(program, ()) for program in PROGRAMS]:
         try:
-            search(program.split(), bug)
+            search(program.split(), bug, turns)
         except Broken as broken:
             yield str(broken)
 
@@ -311,5 +377,7 @@ def faults(bug):
 if __name__ == "__main__":  # the longer search, by hand
     for words in PROGRAMS + LONG_PROGRAMS:
         print(f"{words}: {search(words.split())} states", flush=True)
+    for words, turns in REPLAYS + LONG_REPLAYS:
+        print(f"{words} by {turns}: {search(words.split(), turns=turns)} states", flush=True)
     for planted in BUGS:
         print(f"{planted}: {next(faults(planted))}", flush=True)

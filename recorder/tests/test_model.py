@@ -10,6 +10,10 @@ class Model(unittest.TestCase):
         states = sum(model.search(program.split()) for program in model.PROGRAMS)
         self.assertGreater(states, 500_000)
 
+    def test_all_interleavings_of_replays(self):
+        for program, turns in model.REPLAYS:
+            self.assertGreater(model.search(program.split(), turns=turns), 1_000, program)
+
     def test_each_planted_bug_is_found(self):
         for bug, worst in model.BUGS.items():
             with self.subTest(bug):
