@@ -15,11 +15,12 @@ from shb_common.limits import MOST_EVENTS
 from shb_common.standard import words_of
 from shb_common.stops import Stops
 from shb_common.words import counted
+from shb_record import turns
 from shb_record.looking import Look
 from shb_record.parts import LIBRARY, check_parts, say
 from shb_record.places import count
 from shb_record.results import Results
-from shb_record.running import Run
+from shb_record.running import REPLAYED, Run
 from shb_record.tables import tables_of
 
 RACES, CUT, FAILED, CANNOT_RUN, NOT_THERE = 66, 124, 125, 126, 127
@@ -61,6 +62,9 @@ def parser_of_words():
     how_often.add_argument("--runs", metavar="N", type=number(1), help="run it N times, each with another interleaving (1); each place is shown once")
     how_often.add_argument("--until-found", metavar="N", type=number(1),
                            help="run it at most N times, and end after the first run with a race that isn't known")
+    parser.add_argument("--replay", metavar="RUN.turns",
+                        help="run it with the order of turns of an earlier run, whose list is in the folder of its results where it has a place "
+                        "that isn't known, as long as that fits. After how many turns it was left is said, and from there on the run is as any other")
     parser.add_argument("--known", metavar="FILE", dest="known_path",
                         help="places to pass over, as unknown.places has them: on a line two locations, FILE:LINE, or functions, "
                         "FILE:FUNCTION(), in either order, and the variable, with tabs between; * stands for any text; a line that begins with "
@@ -104,6 +108,8 @@ def completed(options):
     except argparse.ArgumentTypeError as fault:
         raise Refused(f"SHB_SEED: {fault}") from None
     options.runs, options.until_found = options.runs or options.until_found or 1, bool(options.until_found)
+    if options.replay:
+        options.turns = turns.read(options.replay)
     options.known = known_places(options.known_path) if options.known_path else known.Known()
     return options
 
@@ -116,7 +122,9 @@ def known_places(path):
 
 
 def record(options):
-    results = Results(options.folder, shlex.join([options.program, *options.arguments]).replace("\n", "\\n"))
+    results = Results(options.folder, shlex.join([options.program, *options.arguments]).replace("\n", "\\n"), options.replay)
+    if options.replay:
+        (results.work / REPLAYED).write_bytes(options.turns.content)
     stops = Stops("shb-record: {}: what was recorded is still shown; another one ends at once, and keeps the record\n".format)
     ctypes.CDLL(None).prctl(BECOME_PARENT_OF_ORPHANS, 1, 0, 0, 0)
     look, own, status = Look(options, results), 0, FAILED
@@ -132,6 +140,8 @@ def record(options):
                 say(f"run {number:,} of at most {options.runs:,} is the first with {'an unknown place' if options.known_path else 'a place'} with races; "
                     f"its seed is {options.seed + number - 1}")
                 break
+        if options.replay and not look.has_replayed:
+            look.fail(Refused(f"{options.replay} is of `{options.turns.command}`, and no recorded process was that: nothing was replayed"))
     except (Refused, OSError) as fault:
         look.fail(fault)
     except KeyboardInterrupt:
@@ -173,6 +183,9 @@ def conclude(look, own):
         say(line)
     if len(look.runs) > 1:
         say(f"{counted(len(look.runs), 'run')} gave {counted(look.interleavings(), 'different interleaving')}")
+    if look.again and look.options.runs > 1 and not look.options.replay:
+        words = ["shb-record", "--replay", str(look.again), look.options.program, *look.options.arguments]
+        say(f"the first run with such a place again: {shlex.join(words)}")
     if look.pages:
         more = f" and {len(look.pages) - 1:,} more" if len(look.pages) > 1 else ""
         say(f"{'pages' if more else 'page'}: {look.pages[0]}{more}")

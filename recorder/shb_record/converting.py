@@ -31,6 +31,7 @@ class Process(typing.NamedTuple):
     command: str
     record: pathlib.Path
     modules: typing.List[bytes]
+    replay: typing.Optional[str] = None  # how far it followed the list of turns that was to be replayed
 
     @property
     def program(self):
@@ -60,7 +61,19 @@ def processes(folder, number):
         command = re.search(rb"^command (.*)$", header, re.M)
         words = command[1].decode(errors="backslashreplace").strip() if command else "?"
         modules = [path.replace(b"\1", b"\n") for path in MODULE.findall(header)]
-        yield Process(f"run {number}, process {record.name.split('.')[1]}", record.stem, words, record, modules)
+        yield Process(f"run {number}, process {record.name.split('.')[1]}", record.stem, words, record, modules, replay_in(header))
+
+
+def replay_in(header):
+    """How far a process followed a list of turns, by its record; None where it had none."""
+    there, done = (re.search(rb"^%s (\d+)$" % word, header, re.M) for word in (b"replays", b"replayed"))
+    if not there:
+        return None
+    if not done:
+        return f"a list of {int(there[1]):,} turns was followed, until the program was killed or became another one"
+    if done[1] == there[1]:
+        return f"all {int(there[1]):,} turns of the list were followed"
+    return f"the replay was left after {int(done[1]):,} of {int(there[1]):,} turns; from there on slices were drawn"
 
 
 def check_room(process, window):

@@ -71,6 +71,7 @@ class Look:
         self.places, self.pages, self.found = Places(options.known), [], {}
         self.suspicions = Suspicions(self.places)
         self.runs = []  # of each run: the order of each process
+        self.has_replayed, self.again = False, None  # did a process follow the list? the list of the first with an unknown place
         self.modules = Modules()
         self.is_cut = self.is_killed = self.has_failed = self.has_threads = False
 
@@ -188,6 +189,7 @@ class Look:
         self.is_cut = self.is_cut or bool(cuts) and cuts != [KILLED]
         self.is_killed = self.is_killed or cuts == [KILLED]
         self.has_threads = self.has_threads or bool(looked.starts)
+        self.keep_turns(process, any(self.places.unknown_of(new) for _, new in looked.new))
         if looked.starts and self.options.runs > 1:
             self.runs[-1].append(order_of(process.record))
         if looked.starts:
@@ -197,6 +199,16 @@ class Look:
             if looked.starts or note != KILLED:
                 more = "; SHB_RECORDS=NUMBER allows more records, of 16 bytes each" * ("SHB_RECORDS is reached" in note)
                 say(f"{process.name} ({process.command}): {note}{more}")
+
+    def keep_turns(self, process, has_unknown):
+        """Keeps the list of turns of a process with something to run again, and says how far it followed one."""
+        turns = process.record.with_suffix(".turns")
+        if turns.exists() and (has_unknown or self.options.keep):
+            kept = self.results.keep(turns, f"{process.base}.turns")
+            self.again = self.again or kept if has_unknown else self.again
+        if process.replay:
+            self.has_replayed = True
+            say(f"{process.name} ({process.command}): {process.replay}")
 
     def show_analysed(self, process, looked, one, unknown):
         """The view's page and text of a trace with new places that aren't known. Of another one what was kept is deleted."""
@@ -209,7 +221,7 @@ class Look:
             return
         self.results.path(one.trace.path.with_suffix(".report").relative_to(self.results.folder)).write_bytes(one.report)
         first = [note for note in looked.conversion.notes if note.startswith(CRASHED)] + looked.conversion.cuts
-        notes = [f"{note[0].upper()}{note[1:]}." for note in first]
+        notes = [f"{note[0].upper()}{note[1:]}." for note in [*first, *[process.replay] * bool(process.replay)]]
         notes += [window_note(one.trace, looked.reach())] * one.is_window
         stacks = ["--recorded-source", "--stacks", looked.stacks] if looked.stacks else []
         words = [f"--title={process.command} ({process.name}, {self.started})", *(f"--note={note}" for note in notes), *stacks,

@@ -15,7 +15,7 @@ from shb_record.parts import now, say
 LIST = "made-by-shb-record.txt"
 LIST_BEGIN = "# What shb-record made in this folder"
 TABLES = "unknown.places", "places.tsv", "places.json", "places.sarif"
-OURS = re.compile(r"run\d+\.\d[\d-]*\.(rec|std|scan|stacks|report|html|windows(/(window-\d+\.(std|report|html)|windows\.tsv))?)"
+OURS = re.compile(r"run\d+\.\d[\d-]*\.(rec|turns|std|scan|stacks|report|html|windows(/(window-\d+\.(std|report|html)|windows\.tsv))?)"
                   r"|work-\w+|places\.(tsv|json|sarif)|unknown\.places")
 
 
@@ -23,24 +23,28 @@ class Results:
     """The folder of the results. What is made there is named in a list first, which is locked as long as the call lasts: so no call
     takes another's files, and none deletes what it didn't make."""
 
-    def __init__(self, folder, command):
+    def __init__(self, folder, command, spared=None):
         self.folder, self.list = unused_folder(folder)
-        self.remove_earlier()
+        spared = self.remove_earlier(spared)
         self.list.truncate(0)
         self.list.write(f"{LIST_BEGIN} on {now()}, for: {command}\n")
+        for name in spared:
+            self.path(name, is_there=True)
         self.tables = {name: self.path(name) for name in TABLES}
         self.work = pathlib.Path(tempfile.mkdtemp(prefix="work-", dir=self.folder))  # records, and windows before they are looked at
         self.path(self.work.name, is_there=True)
 
-    def remove_earlier(self):
-        """Deletes what the list of an earlier call names, and says so."""
+    def remove_earlier(self, spared):
+        """Deletes what the list of an earlier call names but a file that is still needed, and says so. Gives the name of that."""
         self.list.seek(0)
         first, *names = self.list.read().splitlines() or [LIST_BEGIN]
         if not first.startswith(LIST_BEGIN):
             raise Refused(f"{self.folder / LIST} is there, and shb-record didn't make it")
-        removed = [name for name in reversed(names) if OURS.fullmatch(name) and remove(self.folder / name)]
+        kept = [name for name in names if spared and OURS.fullmatch(name) and is_same(self.folder / name, spared)]
+        removed = [name for name in reversed(names) if OURS.fullmatch(name) and name not in kept and remove(self.folder / name)]
         if removed:
             say(f"{self.folder}: the results of an earlier call are replaced{first[len(LIST_BEGIN):]}")
+        return kept
 
     def path(self, name, is_there=False):
         """The path of a file or folder that is to be made. What is there already isn't ours, and stays."""
@@ -82,6 +86,10 @@ def unused_folder(folder):
         if number > 1:
             say(f"another call uses {folder}; the results go to {path}")
         return path, file
+
+
+def is_same(path, other):
+    return path.exists() and os.path.samefile(path, other)
 
 
 def remove(path):

@@ -13,12 +13,15 @@ from shb_common.stops import STOPS
 from shb_common.words import counted
 from shb_record.parts import LIBRARY, say
 
+REPLAYED = "replayed.turns"  # in the folder of work: the list that is followed
+
 
 def environment(options, number, folder):
     """Our library stands before gcc's own, under its name: so what was built for ThreadSanitizer is recorded as it is."""
     paths = [str(LIBRARY)] + [path for path in [os.environ.get("LD_LIBRARY_PATH")] if path]
+    replay = {"SHB_REPLAY": str(folder / REPLAYED)} if options.replay else {}
     return dict(os.environ, SHB_RECORD=str(folder / f"run{number}.%p.rec"), SHB_SEED=str(options.seed + number - 1),
-                LD_LIBRARY_PATH=":".join(paths))
+                LD_LIBRARY_PATH=":".join(paths), **replay)
 
 
 class Run:

@@ -54,7 +54,7 @@ class Command(recorder.Case):
         self.assertEqual(said.splitlines()[-3:], ["shb-record: 1 place with races; the program's own status: 0; files in "
                                                   f"{self.folder}/status.shb", ONE, f"shb-record: page: {page}"])
         self.assertRegex(text_of(page), r"<title>\S+/status 0 race \(run 1, process \d+, \d{4}-\d\d-\d\d \d\d:\d\d\): 1 race at 1 place, ")
-        self.assertEqual(self.names(), [*TABLES, "run1.N.html", "run1.N.report", "run1.N.stacks", "run1.N.std",
+        self.assertEqual(self.names(), [*TABLES, "run1.N.html", "run1.N.report", "run1.N.stacks", "run1.N.std", "run1.N.turns",
                                         "unknown.places"])
         self.assertIn("     | shared = 1; /* RACE */\n", said)  # by the debug information
         self.assertIn("<code>    shared = 1; /* RACE */</code>", text_of(page))
@@ -400,7 +400,7 @@ class Command(recorder.Case):
             status, _, said = self.record("--known", "status.shb/unknown.places", "-o", f"{folder}.results", program, "0", "race")
             self.assertEqual(status, wanted, said)
             ends = {path.suffix for path in (self.folder / f"{folder}.results").glob("run*")}
-            self.assertEqual(ends, {".std", ".stacks", *[".html", ".report"] * bool(wanted)})
+            self.assertEqual(ends, {".std", ".stacks", *[".html", ".report", ".turns"] * bool(wanted)})
 
     def test_windows_without_an_unknown_place_are_deleted(self):
         """That their places are known by functions is found out when all are made."""
@@ -510,7 +510,7 @@ class Command(recorder.Case):
         self.assertEqual(sorted(found), [("./atomic_plain", "1"), ("./status 0 race", "1")])
         self.assertIn("shb-record: 2 places with races; the program's own status: 0;", said)
         self.assertEqual(self.names("make.shb"), [*TABLES, *["run1.N.html"] * 2, *["run1.N.report"] * 2,
-                                                  *["run1.N.stacks"] * 2, *["run1.N.std"] * 2, "unknown.places"])
+                                                  *["run1.N.stacks"] * 2, *["run1.N.std"] * 2, *["run1.N.turns"] * 2, "unknown.places"])
 
     def test_a_daemon_is_waited_for(self):
         status, out, said = self.record(self.program("daemon.c"))
@@ -531,7 +531,7 @@ class Command(recorder.Case):
         program = self.program()
         self.record("--keep", program, "0", "race")
         self.assertEqual(self.names(), [*TABLES, "run1.N.html", "run1.N.rec", "run1.N.report", "run1.N.stacks",
-                                        "run1.N.std", "unknown.places"])
+                                        "run1.N.std", "run1.N.turns", "unknown.places"])
         _, _, said = self.record(program, "0")
         self.assertRegex(said, rf"(?m)^shb-record: {self.folder}/status.shb: the results of an earlier call are replaced on \S+ \S+, for: "
                          rf"{program} 0 race$")
@@ -566,7 +566,7 @@ class Command(recorder.Case):
         folders = [re.search(r"files in (.*)", text)[1] for text in said]
         self.assertEqual(sorted(folders), [f"{self.folder}/sh.shb{end}" for end in ("", "-2", "-3", "-4")])
         for folder in folders:
-            self.assertEqual(self.names(folder), [*TABLES, "run1.N.html", "run1.N.report", "run1.N.stacks", "run1.N.std",
+            self.assertEqual(self.names(folder), [*TABLES, "run1.N.html", "run1.N.report", "run1.N.stacks", "run1.N.std", "run1.N.turns",
                                                   "unknown.places"])
 
     def test_a_part_of_a_run_is_called_one(self):

@@ -1,0 +1,38 @@
+"""The list of a run's turns, as the recorder leaves it beside the record (runtime/replay.c says what it has)."""
+
+import array
+import os
+import re
+import stat
+import typing
+
+from shb_common.faults import Refused
+
+HEADER_BYTES, ENTRY_BYTES, MOST_BYTES = 4096, 8, 128 << 20
+HEADER = re.compile(rb"shb-turns 1\ncommand (?P<command>[^\n]*)\n(?:whole (?P<count>[0-9a-f]+) (?P<sum>[0-9a-f]+)\n)?\0*")
+
+
+class List(typing.NamedTuple):
+    content: bytes
+    command: str
+
+
+def read(path):
+    """The list in a file, or why it can't be followed."""
+    try:
+        with open(path, "rb", opener=lambda name, flags: os.open(name, flags | os.O_NONBLOCK)) as file:
+            content = file.read(MOST_BYTES + 1) if stat.S_ISREG(os.fstat(file.fileno()).st_mode) else b""
+    except OSError as fault:
+        raise Refused(f"{path}: {fault.strerror}") from None
+    header, entries = HEADER.fullmatch(content[:HEADER_BYTES]), content[HEADER_BYTES:]
+    if not header or not HEADER_BYTES <= len(content) <= MOST_BYTES or len(entries) % ENTRY_BYTES:
+        raise Refused(f"{path} is no list of turns (RUN.turns in the folder of results)")
+    count = int(header["count"], 16) if header["count"] else len(entries) // ENTRY_BYTES
+    if header["count"] and not (count * ENTRY_BYTES <= len(entries) and sum_of(entries, count) == int(header["sum"], 16)):
+        raise Refused(f"{path} was cut or changed since the recorder wrote it")
+    return List(content, header["command"].decode(errors="backslashreplace").strip())
+
+
+def sum_of(entries, count):
+    """As the recorder takes it: zeros may follow what it counted."""
+    return sum(array.array("Q", entries)[:count]) % 2**64
