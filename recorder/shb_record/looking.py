@@ -119,7 +119,7 @@ class Look:
         """A line each on what a run says nothing about."""
         yield from self.modules.lines()
         if self.options.runs == 1 and (self.has_threads or self.places.seen):
-            yield "One interleaving of many was seen; --runs N tries others."
+            yield "One interleaving of many was seen; --runs N tries others, --until-found N stops at the first with a race."
 
     def fail(self, fault):
         say(words_of(fault))

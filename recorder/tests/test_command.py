@@ -14,7 +14,7 @@ import recorder
 PLACE = ("status.c:9", "status.c:9")
 UNKNOWN = "# status.c:9\tstatus.c:9\nstatus.c:work()\tstatus.c:work()\tshared\n"
 TABLES = ["places.json", "places.sarif", "places.tsv"]
-ONE = "shb-record: One interleaving of many was seen; --runs N tries others."
+ONE = "shb-record: One interleaving of many was seen; --runs N tries others, --until-found N stops at the first with a race."
 LIST = "made-by-shb-record.txt"
 
 
@@ -380,7 +380,7 @@ class Command(recorder.Case):
         self.assertEqual(self.record("./app")[0], 66)
         page, = (self.folder / "app.shb").glob("*.html")
         for line in ("Accesses by code without -fsanitize=thread aren&#x27;t seen: libbare.so.", "Without debug information (-g) locations are addresses: libnameless.so.",
-                     "One interleaving of many was seen; --runs N tries others."):
+                     "One interleaving of many was seen; --runs N tries others, --until-found N stops at the first with a race."):
             self.assertIn(line, text_of(page))
 
     def test_the_file_of_unknown_places_is_one_of_known_places(self):
