@@ -25,8 +25,9 @@ static map lock_map, set_map;
 static lock_set *sets;                 /* the first one is empty */
 static hold *set_holds;
 static u64 set_count, set_capacity, set_hold_count, set_hold_capacity;
-/* set: the number of the set plus one, or 0 where it isn't known; passed: the record by which it last passed a barrier or the like. */
-static struct { hold *holds; u64 count, capacity, sum, passed; u32 set; uint8_t is_joined; } threads[THREADS];
+/* set: the number of the set plus one, or 0 where it isn't known; passed: the record by which it last passed a barrier or the like;
+   left_by: the call by which it last released a lock, if it took none since. */
+static struct { hold *holds; u64 count, capacity, sum, passed, left_by; u32 set; uint8_t is_joined; } threads[THREADS];
 
 static u32 lock_number(u64 i) {
     const block *b = block_at(address_of(i));
@@ -181,19 +182,29 @@ void suspect_use(u64 i, u32 piece, int writes) {
     if (writes) add_last(&v->writes, number);
 }
 
-/* Descriptors order much by chance. */
-static int is_wait(u64 i) { return operation_of(i) == OP_DEPART || (operation_of(i) == OP_WAIT && address_of(i) < FIRST_DESCRIPTOR); }
+/* A call that releases a lock and takes it again waits for a condition. Descriptors order much by chance. */
+static int is_wait(u64 i) {
+    enum operation operation = operation_of(i);
+    return operation == OP_DEPART || (operation == OP_WAIT && address_of(i) < FIRST_DESCRIPTOR)
+        || (operation == OP_LOCK && caller_of(i) == threads[thread_of(i)].left_by);
+}
+
+static void meet_lock(u64 i) {
+    enum operation operation = operation_of(i);
+    u32 t = thread_of(i), number = lock_number(i);
+    int takes = operation == OP_LOCK || operation == OP_WRITE_LOCK || operation == OP_READ_LOCK;
+    threads[t].left_by = takes ? 0 : caller_of(i);
+    if (takes) take(t, number, operation != OP_READ_LOCK);
+    else leave(t, number);
+}
 
 void find_suspicions(u64 i) {
     enum operation operation = operation_of(i);
-    u32 t = thread_of(i);
     meet_call(i);
     if (operation == OP_JOIN) threads[other_thread_of(i)].is_joined = 1;
-    else if (is_wait(i)) threads[t].passed = i;
-    else if (operation == OP_LOCK || operation == OP_WRITE_LOCK) take(t, lock_number(i), 1);
-    else if (operation == OP_READ_LOCK) take(t, lock_number(i), 0);
-    else if (operation == OP_UNLOCK || operation == OP_RW_UNLOCK) leave(t, lock_number(i));
-    else if (operation == OP_READ || operation == OP_WRITE || is_atomic(i)) access_events(i);
+    if (is_wait(i)) threads[thread_of(i)].passed = i;
+    if (operation >= OP_LOCK && operation <= OP_RW_UNLOCK) meet_lock(i);
+    if (operation == OP_READ || operation == OP_WRITE || is_atomic(i)) access_events(i);
 }
 
 /* ---- the rule ---- */

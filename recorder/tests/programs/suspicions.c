@@ -1,12 +1,13 @@
-/* Variables under locks. A queue of steps orders all: main's step comes between those of two threads, so nothing races, but for
-   `racing` where an argument asks for it. */
+/* Variables under locks. In this run the lock of a queue orders all: main's step comes between those of two threads, so nothing races,
+   but for `racing` where an argument asks for it. */
 #include <pthread.h>
 #include <semaphore.h>
 #include <stdatomic.h>
+#include <unistd.h>
 
 static pthread_mutex_t m = PTHREAD_MUTEX_INITIALIZER, other = PTHREAD_MUTEX_INITIALIZER, recursive;
 static pthread_rwlock_t table_lock = PTHREAD_RWLOCK_INITIALIZER;
-static int counter, prepared, locked, ended, joined, owned, pair, rarely, single, flag, stats, hits, table, in_phase, posted, nested, twice, races;
+static int counter, prepared, locked, ended, joined, owned, pair, rarely, single, flag, stats, hits, table, in_phase, posted, nested, twice, waited, races;
 static volatile int often, setting, racing;
 static pthread_barrier_t phase;
 static sem_t ready, taken;
@@ -14,18 +15,37 @@ struct shared { pthread_mutex_t guard; int total; };
 
 static pthread_mutex_t queue = PTHREAD_MUTEX_INITIALIZER;
 static pthread_cond_t changed = PTHREAD_COND_INITIALIZER;
-static int step;
+static int step = -1, main_waits, is_there;
 
 static void begin_step(int wanted) {
-    pthread_mutex_lock(&queue);
-    while (step < wanted) pthread_cond_wait(&changed, &queue);
-    pthread_mutex_unlock(&queue);
+    for (int found = wanted - 1; found < wanted;) {
+        pthread_mutex_lock(&queue);
+        found = step;
+        pthread_mutex_unlock(&queue);
+        if (found < wanted) usleep(1000);
+    }
 }
 
 static void end_step(void) {
     pthread_mutex_lock(&queue);
     step++;
-    pthread_cond_broadcast(&changed);
+    pthread_mutex_unlock(&queue);
+}
+
+static void wake_main(void) {
+    for (int is_done = 0; !is_done;) {
+        pthread_mutex_lock(&queue);
+        is_done = is_there = main_waits;
+        if (is_done) pthread_cond_signal(&changed);
+        pthread_mutex_unlock(&queue);
+        if (!is_done) usleep(1000);
+    }
+}
+
+static void wait_until_woken(void) {
+    pthread_mutex_lock(&queue);
+    main_waits = 1;
+    while (!is_there) pthread_cond_wait(&changed, &queue);
     pthread_mutex_unlock(&queue);
 }
 
@@ -85,6 +105,8 @@ static void *first(void *shared) {
     sem_post(&ready);
     sem_wait(&taken);
     add_under_lock(&posted);
+    add_under_lock(&waited);
+    wake_main();
     begin_step(0);
     prepared = 1; /* no other thread uses it before */
     add_under_lock(&ended);
@@ -94,6 +116,7 @@ static void *first(void *shared) {
     use_under_locks(shared, 1);
     end_step();
     begin_step(3);
+    add_under_lock(&waited);
     use_under_locks(shared, 1);
     end_step();
     if (races) racing = 1;
@@ -113,6 +136,7 @@ static void *second(void *shared) {
     use_under_locks(shared, 0);
     end_step();
     begin_step(4);
+    add_under_lock(&waited);
     use_under_locks(shared, 0);
     end_step();
     return 0;
@@ -182,6 +206,9 @@ int main(int count, char **words) {
     sem_wait(&ready);
     seen += posted;
     sem_post(&taken);
+    wait_until_woken();
+    seen += waited;
+    end_step();
     seen += main_step(&shared);
     if (races) racing = 2;
     pthread_join(b, 0);

@@ -1,5 +1,4 @@
-// Two threads deposit under the account's lock, and main reads the balance without it. A queue of steps orders all.
-#include <condition_variable>
+// Two threads deposit under the account's lock, and main reads the balance without it. In this run the lock of a queue orders all.
 #include <memory>
 #include <mutex>
 #include <thread>
@@ -10,18 +9,18 @@ struct Account {
 };
 
 static std::mutex queue;
-static std::condition_variable changed;
 static int step;
 
 static void begin_step(int wanted) {
-    std::unique_lock<std::mutex> holds(queue);
-    while (step < wanted) changed.wait(holds);
+    for (int found = -1; found < wanted;) {
+        std::lock_guard<std::mutex> holds(queue);
+        found = step;
+    }
 }
 
 static void end_step() {
     std::lock_guard<std::mutex> holds(queue);
     step++;
-    changed.notify_all();
 }
 
 static void deposit(Account *account, int first, int last) {
