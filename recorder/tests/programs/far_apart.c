@@ -1,5 +1,7 @@
-/* The first access of one thread races with the last one of the other. Between them both write `cell` many times, which races, too. */
+/* The first access of one thread races with the last one of the other. Between them both write `cell` many times, which races, too.
+   Now and then the second waits for the first, by a call that orders nothing: else it may be through before that one wakes. */
 #include <pthread.h>
+#include <sched.h>
 #include <semaphore.h>
 enum { ROUNDS = 1000 };
 long far, cell;
@@ -16,6 +18,7 @@ static void *end(void *unused) {
     for (int i = 0; i < ROUNDS; i++) {
         cell = i; /* RACE */
         sem_post(&go);
+        for (int left = i % 4 == 0; left > 0; sem_getvalue(&go, &left)) sched_yield();
     }
     far = 2; /* RACE */
     return 0;
