@@ -13,6 +13,7 @@
    All other changes of hands are made under `guard`.  A waiter stands in `waiting` from its first step in take_turn to
    its last, put in and taken out by itself.  To be given the turn is no more than to be named in the word: until the
    waiter has accepted, by a swap like the one above, another may take the turn over, and then it just waits on.
+   In a replay the list of replay.c says to whom the turn is given, and who alone may take it over.
    tests/model.py searches all interleavings of this. */
 #define _GNU_SOURCE
 #include <errno.h>
