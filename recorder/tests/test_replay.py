@@ -40,7 +40,7 @@ class Replays(recorder.Case):
         for folder in "found", "other":  # the first has the list, which stays
             status, said = self.record("--runs", "10", "--replay", turns, "-o", folder, program)
             followed = re.findall(r"(?m)^shb-record: run \d+, process \d+ \(\S+\): all \d+ turns of the list were followed$", said)
-            found = re.findall(r"(?m)^shb-record: run \d+, .*; 1 place with races$", said)
+            found = re.findall(r"(?m)^shb-record: run \d+, .*; [1-9] places? with races$", said)
             self.assertEqual((status, len(followed), len(found)), (66, 10, 10), said)
         page = next((self.folder / "other").glob("*.html")).read_text()
         self.assertRegex(page, r"All \d+ turns of the list were followed\.")
