@@ -108,14 +108,14 @@ class Refusals(Refusing):
         return next(k for k in range(1000) if not self.run_refused(words, text, REFUSE_THREADS=k + 1)[1])
 
     def test_numbers_of_workers(self):
-        """Each worker is a thread where pairs are made of the races that were kept, and one when schedules are made; 4 where no
-        number is named. A list of more races than events is written by batches, for each of which workers start: six threads
-        with fifteen races and twelve events make three, of the variable before the racing one, of that one, and of the others.
-        `places` finds its races without workers, and so does `scan`."""
+        """Each worker is a thread where pairs or texts are made of the races that were kept, and one when schedules are made; 4 where no
+        number is named. A list of more races than events is written by batches of so many races, 65,536 where there are fewer
+        events, for each of which workers start: fifteen races of twelve events are one. `places` finds its races without
+        workers, and so does `scan`."""
         trace, many, few = self.file(racing(64)), self.file(racing(6), "many.std"), self.file(LOCKED, "few.std")
         for words, wanted in (
             (["races", "--list", few], 4),
-            (["races", "--list", many], 12),
+            (["races", "--list", many], 4),
             (["races", trace], 8),
             (["races", "--workers", "1", trace], 2),
             (["races", "--workers", "3", trace], 6),
