@@ -109,8 +109,8 @@ pub fn run<S: Source, K: Sink, R: Threads + Wait + Sync + RandomSource>(
     run_gated(rt, alloc, source, sink, settings, &FreeGate, &FreeGate)
 }
 
-/// [`run`] with gates: `pair_gate` is passed before the races of a piece are looked for, each time that they
-/// are, and `witness_gate` before the schedule of a race is made. Tests hold workers back with gates.
+/// [`run`] with gates: `pair_gate` is passed before the pairs of a piece of the races are made, or the text of its
+/// blocks, and `witness_gate` before the schedule of a race is made. Tests hold workers back with gates.
 ///
 /// # Errors
 ///

@@ -29,7 +29,7 @@ pub(crate) struct Task {
 /// What workers pass before they begin a piece of work.
 #[derive(Drop)]
 pub(crate) struct Gates<'p, 'w, P, W> {
-    /// Before the races of a piece are looked for.
+    /// Before the pairs of a piece of the races are made, or the text of its blocks.
     pub(crate) pair: &'p P,
     /// Before the schedule of a race is made.
     pub(crate) witness: &'w W,

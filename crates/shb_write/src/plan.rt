@@ -4,8 +4,8 @@ use shb_fan::Workers;
 /// How workers make the blocks of a report.
 #[derive(Drop)]
 pub struct BlockPlan<'g, G> {
-    /// How many workers make schedules, or pairs of races. The report is the same for every number of them.
+    /// How many workers make schedules, or the texts of blocks. The report is the same for every number of them.
     pub workers: Workers,
-    /// What a worker passes before it makes a schedule, or the pairs of a piece.
+    /// What a worker passes before it makes a schedule, or the text of a piece.
     pub gate: &'g G,
 }
