@@ -119,6 +119,15 @@ class Stacks(program.Case):
             self.shown(stacks(nodes, tables), "--recorded-source", "--html", page)
             self.assertEqual([text for _, text in Page(page.read_text()).all("summary")][:len(words)], words)
 
+    def test_the_function_of_a_code_box(self):
+        """It is called by its first line; where that is another one's, as of a class, by its name in the stack."""
+        page = self.folder / "page.html"
+        for head, words in ((b"class Sum {", "in add<>"), (b"int add(int n) {", "in int add(int n)"), (b"", None)):
+            code = self.file(head + b"\n" * 4 + b"  n++;\n" * 5, "code")
+            self.shown(stacks(tables=TABLES + b"source a.c\t%b\n" % bytes(code)), "--recorded-source", "--html", page)
+            found = [text for _, text in Page(page.read_text()).all("span", "faint") if text.startswith("in ")]
+            self.assertEqual(found, [words] * 2 if words else [])
+
     def test_a_lock_that_both_accesses_hold_for_reading_was_taken_once(self):
         trace = b"main|fork(T1)|a.c:1\nT1|acq(m@reader.T1)|a.c:4\nT1|w(x)|a.c:5\nmain|acq(m@reader.main)|a.c:4\nmain|w(x)|a.c:5\n"
         out = self.shown(stacks([1, 9, 5, 9, 5]), "--all", trace=trace)[1]

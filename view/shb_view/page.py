@@ -4,6 +4,7 @@ import base64
 import hashlib
 import pathlib
 
+from shb_common.stacks import bare
 from shb_common.words import counted
 from shb_view.groups import group_name
 from shb_view.issue import issue_lines, order_text
@@ -129,18 +130,25 @@ def figure(view, window, number, access):
     lock = ["holding ", *lock_parts(row.locks[-1][0])] if row.locks else [NO_LOCK]
     verb = VERBS[view.kinds.of(access, row.event.word, row.event.name)]
     caption = [element("b", number, class_="mark"), " ", code(row.event.location, NAME), f" {verb}, ", marked(lock, NAME)]
-    lines = ""
+    lines, frames = "", view.stacks.of_event(access)
     if found.line() is not None:
         acquire = view.source.place(window.events[row.locks[-1][1]].event.location) if row.locks else None
         shown_lines = excerpt(found, acquire)
         if shown_lines.head:
-            head = element("code", code_line(shown_lines.head.rstrip(b" {"), LINE))
+            head = element("code", code_line(function_words(shown_lines.head, frames, row.event.location), LINE))
             caption += [element("br"), element("span", "in ", head, class_="faint")]
         lines = code_table(shown_lines, number)
-    lines = joined([lines, access_details(view.stacks.of_event(access))])
+    lines = joined([lines, access_details(frames)])
     if found.fault:
         caption += [element("br"), element("span", found.fault, class_="fault")]
     return element("figure", element("figcaption", *caption), lines, class_="src")
+
+
+def function_words(head, frames, location):
+    """The function of a location: the line that it begins with, where this has its name, as not in a class; else its name in the stack."""
+    function = next((bare(frame.function) for frame in frames if frame.location == location), b"")
+    name = function.split(b"::")[-1].split(b"<")[0]
+    return head.rstrip(b" {") if name in head else function
 
 
 def code_table(lines, mark):
