@@ -520,7 +520,7 @@ void say_crash(void) {
     if (!crash.is_met) return;
     fprintf(stderr, "shb-std: the program crashed: SIG%s", signal_word());
     if (crash.has_address) fprintf(stderr, " at address 0x%lx", crash.address);
-    fprintf(stderr, " in %s", thread_name(crash.thread));
+    fprintf(stderr, " in thread %s", thread_name(crash.thread));
     if (!crash.node) fprintf(stderr, ": %.*s", (int)place_of(crash.caller).length, place_of(crash.caller).at);
     int said = 0;
     shown_call call;

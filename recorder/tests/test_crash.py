@@ -24,12 +24,12 @@ class Crash(recorder.Case):
     def test_what_ended_it_and_where(self):
         called = rf", from work {LINES['CALL']}"
         for way, number, said in (
-                ("store", signal.SIGSEGV, rf"SIGSEGV at address 0x40 in T1\.work: fail {LINES['STORE']}{called}"),
-                ("library", signal.SIGSEGV, rf"SIGSEGV at address 0x0 in T1\.work: .*fail {LINES['LIBRARY']}{called}"),
-                ("handled", signal.SIGSEGV, rf"SIGSEGV at address 0x40 in T1\.work: meet {LINES['HANDLED']}, from signal handler, .*from work crash\.c:\d+"),
-                ("divide", signal.SIGFPE, rf"SIGFPE in T1\.work: fail crash\.c:\d+{called}"),
-                ("abort", signal.SIGABRT, rf"SIGABRT in T1\.work: .*fail crash\.c:\d+{called}"),
-                ("resign", signal.SIGSEGV, rf"SIGSEGV in T1\.work: fail {LINES['STORE']}{called}")):
+                ("store", signal.SIGSEGV, rf"SIGSEGV at address 0x40 in thread T1\.work: fail {LINES['STORE']}{called}"),
+                ("library", signal.SIGSEGV, rf"SIGSEGV at address 0x0 in thread T1\.work: .*fail {LINES['LIBRARY']}{called}"),
+                ("handled", signal.SIGSEGV, rf"SIGSEGV at address 0x40 in thread T1\.work: meet {LINES['HANDLED']}, from signal handler, .*from work crash\.c:\d+"),
+                ("divide", signal.SIGFPE, rf"SIGFPE in thread T1\.work: fail crash\.c:\d+{called}"),
+                ("abort", signal.SIGABRT, rf"SIGABRT in thread T1\.work: .*fail crash\.c:\d+{called}"),
+                ("resign", signal.SIGSEGV, rf"SIGSEGV in thread T1\.work: fail {LINES['STORE']}{called}")):
             with self.subTest(way):
                 status, answer, [crash] = self.crashed(way, "--stacks", self.folder / "stacks")
                 self.assertEqual(status, -number)
@@ -45,7 +45,7 @@ class Crash(recorder.Case):
 
     def test_the_place_without_a_file_of_stacks(self):
         _, _, [crash] = self.crashed("store")
-        self.assertEqual(crash.decode(), f"SIGSEGV at address 0x40 in T1.work: {LINES['STORE']}")
+        self.assertEqual(crash.decode(), f"SIGSEGV at address 0x40 in thread T1.work: {LINES['STORE']}")
 
     def test_a_handler_that_goes_on(self):
         self.assertEqual(self.crashed("recover")[::2], (0, []))
@@ -55,7 +55,7 @@ class Crash(recorder.Case):
         recorder.build(SOURCE, "-O0", program)
         ran = recorder.call(recorder.BUILT / "shb-record", program, "store", cwd=self.folder, env={**os.environ, "SHB": str(recorder.SHB)})
         said = ran.stderr.decode()
-        note = f"The program crashed: SIGSEGV at address 0x40 in T1.work: fail {LINES['STORE']}, from work {LINES['CALL']}."
+        note = f"The program crashed: SIGSEGV at address 0x40 in thread T1.work: fail {LINES['STORE']}, from work {LINES['CALL']}."
         self.assertEqual((ran.returncode, said.splitlines()[1]), (66, note), said)
         self.assertNotIn("not the whole", said)
         self.assertIn("the program's own status: 139;", said)
