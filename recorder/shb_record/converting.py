@@ -121,11 +121,13 @@ class Conversion:
 
     def end(self, status, file):
         file.seek(0)
-        said = [line.replace("shb-std: ", "", 1) for line in file.read().decode(errors="backslashreplace").splitlines()]
+        lines = file.read().decode(errors="backslashreplace").splitlines()
+        said = list(dict.fromkeys(line.replace("shb-std: ", "", 1) for line in lines))  # its process for the scan says some once more
         if status not in (0, NOT_WHOLE):
             how = f"status {status}" if status > 0 else f"signal {-status}"
             raise Refused(f"{self.process.name}: {'; '.join(said) or f'shb-std ended with {how}'}")
-        self.size = ", ".join(re.sub(", 1 windows$", "", line) for line in said if re.match(r"\d+ records, ", line))
+        sizes = (re.sub(", 1 windows$", "", line) for line in said if re.match(r"\d+ records, ", line))
+        self.size = re.sub(r"\d+", lambda number: f"{int(number[0]):,}", ", ".join(sizes))
         self.notes = [line for line in said if not re.match(r"\d+ records, ", line)]
         self.cuts = [note for note in self.notes if note.startswith(CUTS)] if status == NOT_WHOLE else []
 

@@ -267,9 +267,10 @@ class Runs(recorder.Case):
         status, said = self.recorded(SHB_CELLS="0")
         self.assertEqual(status, 124, said)
         self.assertIn("SHB_RECORDS is reached", said)
+        self.assertRegex(said, r"\): \d\d,\d{3} records, ")
 
     def test_a_crash_at_the_end(self):
         status, said = self.recorded("crash")
         self.assertEqual(status, 66, said)
         self.assertIn("; 1 place with races", said)
-        self.assertIn("SIGSEGV at address 0x40 in main: main private_memory.c:", said)
+        self.assertIn("SIGSEGV at address 0x40 in thread main: main private_memory.c:", said)

@@ -383,6 +383,10 @@ class Command(recorder.Case):
                      "One interleaving of many was seen; --runs N tries others, --until-found N stops at the first with a race."):
             self.assertIn(line, text_of(page))
 
+    def test_debug_information_that_is_not_read_is_said_once(self):
+        said = self.record(self.program("status.c", "-gdwarf64"), "0", "race")[2]
+        self.assertEqual(said.count("its debug information is in the 64-bit form (-gdwarf64)"), 1, said)
+
     def test_the_file_of_unknown_places_is_one_of_known_places(self):
         program = self.program()
         self.record(program, "0", "race")
