@@ -91,6 +91,9 @@ def children():
         return []
 
 
+MARKS = {b"Go build ID": "Go", b"/rustc/": "Rust"}  # that compilers leave in a program
+
+
 def cause(program):
     """Why the program left no record, as its file tells."""
     path = shutil.which(program)
@@ -99,9 +102,12 @@ def cause(program):
             return "no program that it started was compiled with -fsanitize=thread"
         with mmap.mmap(file.fileno(), 0, access=mmap.ACCESS_READ) as content:
             has_hooks, has_library = content.find(b"__tsan_init") >= 0, content.find(b"libtsan.so") >= 0
+            languages = [language for mark, language in MARKS.items() if content.find(mark) >= 0]
     if not has_hooks:
         return ("neither it nor a program that it started was compiled with -fsanitize=thread, or that one was started without this "
                 "command's environment (SHB_RECORD, LD_LIBRARY_PATH)")
+    if not has_library and languages:
+        return f"it has code in {languages[0]}, whose compiler links ThreadSanitizer's own library; C and C++ programs are recorded"
     if not has_library:
         return ("ThreadSanitizer's own library is linked into it (by clang, or by gcc with -static-libtsan); with clang "
                 f"link with -fno-sanitize-link-runtime -L{LIBRARY} -ltsan")

@@ -452,6 +452,10 @@ class Command(recorder.Case):
             status, _, said = self.record(self.program(sanitized=compiled), "0")
             self.assertEqual(status, 125)
             self.assertIn(cause, said)
+        mark = self.folder / "mark.c"
+        mark.write_text('__attribute__((used)) const char mark[] = "Go build ID: \\"x\\"";')
+        status, _, said = self.record(self.program("status.c", mark, sanitized=("-fsanitize=thread", "-static-libtsan")), "0")
+        self.assertEqual((status, "it has code in Go, whose compiler links ThreadSanitizer's own library" in said), (125, True), said)
         status, _, said = self.record("sh", "-c", "true")
         self.assertEqual((status, "neither it nor a program that it started was compiled" in said), (125, True))
 
