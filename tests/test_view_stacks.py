@@ -60,6 +60,12 @@ class Stacks(program.Case):
         self.assertIn("\nCounts are those of the trace. The recorder omits repeats: a loop may count as two accesses.\n", out)
         self.assertIn("   block a.c:9#2 was allocated in make a.c:9, from main a.c:31\n", out)
 
+    def test_threads_that_were_created_by_the_same_calls(self):
+        trace = b"".join(b"main|fork(T%d)|a.c:30\n" % k for k in range(5)) + b"".join(b"T%d|w(x)|a.c:5\n" % k for k in range(5))
+        tables = TABLES.replace(b"thread T1\t1\n", b"".join(b"thread T%d\t%d\n" % (k, 6 if k == 4 else 1) for k in range(5)))
+        out = self.shown(stacks([1] * 10, tables), trace=trace)[1]
+        self.assertIn("   threads T0, T1, T2 and 1 more were created in main a.c:30\n   thread T4 was created in main a.c:31\n", out)
+
     def test_functions_of_the_system(self):
         """The innermost and the outermost are left out, several between others are one line, and the page has all."""
         tables = TABLES.replace(b"stack 8 6 8 9", b"stack 8 6 8 3 9 3 8").replace(b"stack 6 0 5", b"stack 6 0 5 8 3").replace(

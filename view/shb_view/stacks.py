@@ -7,10 +7,11 @@ from shb_common.stacks import BadStacks, Stacks, bare
 from shb_common.words import counted
 from shb_view.faults import Damaged
 from shb_view.names import readable
-from shb_view.words import Code, lock_parts, place
+from shb_view.words import Code, listed, lock_parts, place
 
 WITH = {b"relaxed": "relaxed", b"acquire": "with acquire", b"release": "with release", b"both": "with acquire and release"}
 MOST_ATOMICS = 3  # that are named of a group
+MOST_THREADS = 3  # that are named of those with one stack
 MAKES_FIBER, HANDLER = b"__tsan_create_fiber", b"signal handler"
 WITHOUT_LINE = {MAKES_FIBER: " (which made the fiber)", HANDLER: ""}
 
@@ -25,10 +26,12 @@ def stacks_of(path, shift, events):
 
 def origins(view, section):
     """Where the threads of a group's racing lines were created, where the blocks of its variables were allocated, and where the locks
-    that are held at its shown race were taken: what it is, as parts, with a stack. Neighbours in one block are told once."""
-    threads = sorted({thread for site in section.sites if site.partners for thread in site.threads})
-    found = [(["thread ", Code(thread), " was created"], view.stacks.of_thread(thread)) for thread in threads]
-    blocks = {}
+    that are held at its shown race were taken: what it is, as parts, with a stack. Threads that were created by the same calls are
+    told together, and neighbours in one block once."""
+    created, blocks = {}, {}
+    for thread in sorted({thread for site in section.sites if site.partners for thread in site.threads}):
+        created.setdefault(view.stacks.of_thread(thread), []).append(thread)
+    found = [(created_parts(threads), frames) for frames, threads in created.items()]
     for name in map(view.kinds.in_trace, section.group.names):
         blocks.setdefault(OFFSET.sub(b"", name), view.stacks.of_variable(name))
     found += [(["block ", Code(name), " was allocated"], frames) for name, frames in blocks.items()]
@@ -37,6 +40,12 @@ def origins(view, section):
         found += [(["lock ", *lock_parts(lock), ", held at ", place(shown.event.location), ", was taken"], view.stacks.of_event(acquire))
                   for lock, acquire in shown.locks]
     return [(list(parts), frames) for parts, frames in dict.fromkeys((tuple(parts), frames) for parts, frames in found if frames)]
+
+
+def created_parts(threads):
+    if len(threads) == 1:
+        return ["thread ", Code(threads[0]), " was created"]
+    return ["threads ", *listed(([Code(thread)] for thread in threads), MOST_THREADS), " were created"]
 
 
 def publications(stacks, sites, fact):
