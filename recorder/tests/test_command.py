@@ -117,7 +117,7 @@ class Command(recorder.Case):
             text_of(recorder.PROGRAMS / "long_race.c").splitlines(), 1) if "RACE" in line)
         status, _, said = self.record("--window", "2000", program)
         self.assertEqual(status, 66)
-        events, windows = map(int, re.search(r"(\d+) events, (\d+) windows that ", said).groups())
+        events, windows = (int(number.replace(",", "")) for number in re.search(r"([\d,]+) events, (\d+) windows that ", said).groups())
         rows = [line.split("\t") for line in text_of(self.folder / "long_race.shb" / "places.tsv").splitlines()[1:]]
         found = {row[0]: (row[1], row[8]) for row in rows}
         self.assertEqual(found, {early: (early, "window-0001.std"), late: (late, f"window-{windows:04}.std")})
