@@ -3,10 +3,13 @@
 import os
 import re
 import subprocess
+import threading
 
 import recorder
 
 HEADER = 4096
+MANY_TURNS = 40
+SECONDS = 100  # in which a replay is left
 AGAIN = r"(?m)^shb-record: the first run with such a place again: shb-record --replay (\S+) \S+$"
 
 
@@ -74,17 +77,21 @@ class Replays(recorder.Case):
         recorder.must(recorder.convert(self.folder / "again.rec"))  # it is whole
 
     def test_a_thread_that_is_due_waits_for_input(self):
-        """It had its line at once when the list was written."""
+        """It had its line at once when the list was written, and the other thread was still at work then: else nobody waits for it."""
         program = self.program()
-        _, turns = self.run_it("first", 5, program, "input")
+        runs = (self.run_it("first", seed, program, "input")[1] for seed in range(5, 105))
+        turns = next(turns for turns in runs if len(turns) > 8 * MANY_TURNS)
         said, again = self.run_it("again", 6, program, "input", replay="first")
         self.assertEqual((said, again), ("", turns))
         how = self.settings("late", 6, SHB_REPLAY=str(self.folder / "first.turns"))
         with subprocess.Popen([program, "input"], env=how, stdin=subprocess.PIPE, stderr=subprocess.PIPE) as running:
+            limit = threading.Timer(SECONDS, running.kill)
+            limit.start()
             self.assertIn(b"the replay is left after ", running.stderr.readline())
             running.stdin.write(b"a line\n")
             running.stdin.close()
             self.assertEqual((running.stderr.read(), running.wait()), (b"", 0))
+            limit.cancel()
 
     def test_a_file_that_is_no_list(self):
         program = self.program()
