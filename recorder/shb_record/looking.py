@@ -205,7 +205,8 @@ class Look:
         turns = process.record.with_suffix(".turns")
         if turns.exists() and (has_unknown or self.options.keep):
             kept = self.results.keep(turns, f"{process.base}.turns")
-            self.again = self.again or kept if has_unknown else self.again
+            if has_unknown:
+                self.again = self.again or kept
         if process.replay:
             self.has_replayed = True
             say(f"{process.name} ({process.command}): {process.replay}")
