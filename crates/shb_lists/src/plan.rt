@@ -151,21 +151,12 @@ impl BatchPlan {
         ensures alone { IfOk result (λ batch. batch.races ≡ None → batch.to ≡ from + 1) }
     {
         let until = self.end(from, settled.disciplined.sizes.variables);
-        if !self.can_keep(from) {
-            return Ok(Batch {
-                to: from + 1,
-                races: None,
-            });
-        }
-        match races_within(alloc, settled, from, until, self.most)? {
-            Some(races) => Ok(Batch {
-                to: until,
-                races: Some(races),
-            }),
-            None => Ok(Batch {
-                to: from + 1,
-                races: None,
-            }),
-        }
+        let races = if self.can_keep(from) {
+            races_within(alloc, settled, from, until, self.most)?
+        } else {
+            None
+        };
+        let to = if races.is_some() { until } else { from + 1 };
+        Ok(Batch { to, races })
     }
 }
