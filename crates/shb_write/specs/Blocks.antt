@@ -32,10 +32,13 @@ shown_from n races (schedule ∷ schedules) = with_schedule (slice_index_or race
 abbrev pub blocks_of : Bool → TraceData → List (ℕ × ℕ) → List ℕ
 blocks_of with_schedules trace races = blocks_from trace 1 (if with_schedules then map (scheduled trace) races else map alone races)
 
+-- these bytes were written or, on an error, the front of them, perhaps all
+abbrev pub WritesFront : {T E : Type 0} → Option (List ℕ) → Option (List ℕ) → Result T E → List ℕ → Type 0
+WritesFront old new r bs = MatchResult r (λ _. Appends old new bs) (λ _. AppendsFront old new bs)
+
 -- the blocks of some races were written or, on an error, the front of them, perhaps all
 abbrev pub WritesBlocks : {T E : Type 0} → Bool → TraceData → List (ℕ × ℕ) → Option (List ℕ) → Option (List ℕ) → Result T E → Type 0
-WritesBlocks with_schedules trace races old new r =
-    MatchResult r (λ _. Appends old new (blocks_of with_schedules trace races)) (λ _. AppendsFront old new (blocks_of with_schedules trace races))
+WritesBlocks with_schedules trace races old new r = WritesFront old new r (blocks_of with_schedules trace races)
 
 module _ {K : Type 0} (taken : K → Option (List ℕ)) (failures : K → ℕ) where
   -- the blocks of these races were written, and nothing else changed

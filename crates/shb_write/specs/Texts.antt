@@ -32,13 +32,13 @@ pub record HasText (trace : TraceData) (before : ℕ) (races : List (ℕ × ℕ)
 
 module _ {K : Type 0} (taken : K → Option (List ℕ)) (failures : K → ℕ) where
   -- these bytes were written, and nothing else changed
-  pub record HasTaken (start : TextWriter K) (bytes : List ℕ) (end : TextWriter K) : Type 0 where
+  pub record HasAppended (start : TextWriter K) (bytes : List ℕ) (end : TextWriter K) : Type 0 where
     pub same_sink : end.sink.ghost_name ≡ start.sink.ghost_name
     pub appended : Appends (taken start.sink.now) (taken end.sink.now) bytes
     pub counted : failures end.sink.now ≡ failures start.sink.now
 
   -- the sink failed: the front of these bytes was written
-  pub record HasRefused (start : TextWriter K) (bytes : List ℕ) (error : WriteError) (end : TextWriter K) : Type 0 where
+  pub record HasCut (start : TextWriter K) (bytes : List ℕ) (error : WriteError) (end : TextWriter K) : Type 0 where
     pub same_sink : end.sink.ghost_name ≡ start.sink.ghost_name
     pub front : AppendsFront (taken start.sink.now) (taken end.sink.now) bytes
     pub counted : failures end.sink.now ≡ failures start.sink.now + 1

@@ -14,17 +14,17 @@ pub(crate) struct TextWriter<'s, K> {
 
 impl<'s, K: Sink> Taker<Vec<u8>> for TextWriter<'s, K> {
     ghost use Rattle.std.specs.Prelude.{◌∷◌, ◌++◌, ◌-◌, ◌^◌, ◌<◌, [], flat_map};
-    ghost use Rattle.shb_write.specs.Texts.{HasRefused, HasTaken};
+    ghost use Rattle.shb_write.specs.Texts.{HasAppended, HasCut};
     ghost use Rattle.std.proofs.Common.{refl};
     ghost use Rattle.shb_io.proofs.Growth.{Appends-nil};
 
     type Error = WriteError;
 
-    ghost takes = { λ start given end. HasTaken K.taken K.failure_count start (flat_map (λ text. text.items) given) end };
+    ghost takes = { λ start given end. HasAppended K.taken K.failure_count start (flat_map (λ text. text.items) given) end };
 
     ghost may_take = { λ start _ _. K.failure_count start.sink.now < 2 ^ 64 - 1 };
 
-    ghost refuses = { λ start given text e end. HasRefused K.taken K.failure_count start (flat_map (λ text. text.items) (given ++ text ∷ [])) e end };
+    ghost refuses = { λ start given text e end. HasCut K.taken K.failure_count start (flat_map (λ text. text.items) (given ++ text ∷ [])) e end };
 
     ghost nothing = { λ s. record {
       same_sink = refl;

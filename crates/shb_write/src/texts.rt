@@ -4,7 +4,7 @@ ghost use Rattle.shb_lists.specs.Listed.{pair_in};
 ghost use Rattle.shb_write.specs.Texts.{HasText, piece_text, text_of};
 
 use crate::text::Text;
-use crate::write::write_numbered;
+use crate::write::write_listed;
 use shb_fan::Job;
 use shb_io::NoMemory;
 use shb_lines::Trace;
@@ -13,7 +13,7 @@ use std::alloc::Global;
 use std::collections::LinkedList;
 use std::marker::Model;
 
-/// Of how many races a piece is, at most. The number is this project's own.
+/// How many races a piece has at most. The number is this project's own.
 const PIECE_LENGTH: usize = 256;
 
 /// Neighbours in the race list, and how many races come before them.
@@ -65,7 +65,7 @@ fn made_text(alloc: Global, trace: &Trace, piece: &TextPiece<'_>) -> Result<Vec<
 {
     let pairs = pairs_of(alloc, piece.races)?;
     let mut text = Text::new(alloc);
-    match write_numbered(&mut text, trace, &pairs, piece.before) {
+    match write_listed(&mut text, trace, &pairs, piece.before) {
         Ok(()) => Ok(text.into_bytes()),
         Err(_) => Err(text.refusal()),
     }

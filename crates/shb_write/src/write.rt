@@ -1,11 +1,10 @@
 //! The report of a trace that lists races which are known.
-ghost use Rattle.std.specs.Prelude.{◌≡◌, ◌-◌, ◌^◌, ◌<◌, ℕ, ◌+◌, ◌++◌, All, List, OnOk, false, length, map, true};
-ghost use Rattle.std.specs.Io.KnownBytes.{Appends};
+ghost use Rattle.std.specs.Prelude.{◌≡◌, ◌-◌, ◌^◌, ◌<◌, ℕ, ◌+◌, ◌++◌, All, List, false, length, map, true};
 ghost use Rattle.shb_io.specs.Devices.{CountsFailure, IsCounted, Writes};
 ghost use Rattle.shb_format.specs.Places.{IsPairOf, IsPlaceOf, counts_in, places_of_pairs};
 ghost use Rattle.shb_format.specs.Report.{counts_of, front_bytes, pair_of, tail_bytes};
 ghost use Rattle.shb_witness.specs.Schedules.{AreRaces, AsksEach};
-ghost use Rattle.shb_write.specs.Blocks.{WritesBlocks, blocks_of};
+ghost use Rattle.shb_write.specs.Blocks.{WritesBlocks, WritesFront, blocks_of};
 ghost use Rattle.shb_write.specs.Texts.{text_of};
 ghost use Rattle.shb_write.specs.Written.{HasReported, These, write_failed};
 ghost use Rattle.shb_lines.specs.events.Race.{ends};
@@ -27,7 +26,7 @@ use std::sync::Wait;
 use std::thread::Threads;
 
 /// Writes the blocks of some races, of which so many others come before, without schedules.
-pub(crate) fn write_numbered<K: Sink>(
+pub(crate) fn write_listed<K: Sink>(
     sink: &mut K,
     trace: &Trace,
     races: &[Pair],
@@ -36,32 +35,13 @@ pub(crate) fn write_numbered<K: Sink>(
     requires countable { K.failure_count sink.old < 2 ^ 64 - 1 }
     requires room { length races.now + before < 2 ^ 64 }
     requires in_range { All (IsPairOf trace.now) races.now }
-    ensures blocks { OnOk result (Appends (K.taken sink.old) (K.taken sink.new) (text_of trace.now before (map ends races.now))) }
+    ensures blocks { WritesFront (K.taken sink.old) (K.taken sink.new) result (text_of trace.now before (map ends races.now)) }
     ensures counted { IsCounted (K.failure_count sink.old) (K.failure_count sink.new) result }
 {
     let mut writer = BlockWriter {
         sink: &mut *sink,
         trace,
         written: before,
-    };
-    writer.list(races)
-}
-
-/// Writes the blocks of some races, numbered from 1, without schedules.
-pub(crate) fn write_listed<K: Sink>(
-    sink: &mut K,
-    trace: &Trace,
-    races: &[Pair],
-) -> Result<(), Failed>
-    requires countable { K.failure_count sink.old < 2 ^ 64 - 1 }
-    requires in_range { All (IsPairOf trace.now) races.now }
-    ensures blocks { WritesBlocks false trace.now (map ends races.now) (K.taken sink.old) (K.taken sink.new) result }
-    ensures counted { IsCounted (K.failure_count sink.old) (K.failure_count sink.new) result }
-{
-    let mut writer = BlockWriter {
-        sink: &mut *sink,
-        trace,
-        written: 0,
     };
     writer.list(races)
 }
@@ -156,7 +136,7 @@ pub fn write_list<K: Sink>(
     ensures counted { IsCounted (K.failure_count sink.old) (K.failure_count sink.new) result }
 {
     write_front(sink, trace, races.len() as u64, places)?;
-    write_listed(sink, trace, races)?;
+    write_listed(sink, trace, races, 0)?;
     tail(sink)
 }
 
