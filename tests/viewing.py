@@ -1,5 +1,6 @@
 """Runs view/shb-view, as a command and in this process, on texts."""
 
+import argparse
 import contextlib
 import io
 import os
@@ -37,8 +38,8 @@ def sections(text, report, is_good=True):
         given = view.Given("report", written, Verdict(is_good, ""), None)
         counts, gathered = Counts(*shb.counts_of(shb.read_trace(text)[0])), Gathered()
         view.read_report(given, counts, gathered, QUIET)
-        asked = view.Asked(True, "trace", view.Kinds(gathered, view.Stacks()), gathered, counts.events)
-        return view.make_sections(asked, Trace(file, QUIET), given, gathered.groups())[1]
+        options, kinds = argparse.Namespace(html=True, all=False, window=False), view.Kinds(gathered, view.Stacks())
+        return view.make_sections(options, kinds, counts.events, Trace(file, QUIET), given, gathered.groups())[1]
 
 
 def windows(text, report, is_good=True):

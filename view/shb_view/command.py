@@ -11,9 +11,9 @@ from shb_common.progress import Progress
 from shb_common.report import BadReport
 from shb_common.standard import leave_standard_output, open_standard_files, words_of
 from shb_view import result, text
-from shb_view.faults import Damaged
 from shb_view.output import new_file, write_parts
 from shb_view.page import page_parts
+from shb_view.stacks import Damaged
 from shb_view.view import make_view
 
 ABOUT = """\

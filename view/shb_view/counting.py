@@ -37,21 +37,15 @@ class Kinds:
 
     def __init__(self, gathered, stacks):
         """`gathered` has the atomic of a variable that stands for what a thread wrote to it, and names of locals."""
-        self.atomics, self.locals, self.stacks, self.locks = gathered.atomics, gathered.locals, stacks, stacks.lasting_locals
+        self.gathered, self.stacks, self.locks = gathered, stacks, stacks.lasting_locals
+        self.atomics, self.locals = gathered.atomics, gathered.locals
         self.racing = {self.in_trace(variable) for variable, _ in gathered.racing}
 
     def of(self, number, word, variable):
         """The word of `words.KINDS` for an event."""
         if word != b"w":
             return word
-        return b"a" if variable in self.atomics else b"f" if self.free(number) is not None else word
-
-    def free(self, number):
-        """The number of the free that an event is of, or None."""
-        return self.stacks.free_of(number)
-
-    def is_atomic(self, variable):
-        return variable in self.atomics
+        return b"a" if variable in self.atomics else b"f" if self.stacks.free_of(number) is not None else word
 
     def in_trace(self, variable):
         """The variable as the trace has it; of an atomic that name which its threads have in common."""
@@ -80,11 +74,11 @@ class Kinds:
 
 
 class Counting:
-    def __init__(self, groups, gathered, wanted, kinds):
-        """`groups` has a number for each racing variable, `gathered` what the report says; `wanted` are the accesses to be noted,
-        `kinds` says what an access is."""
-        self.groups, self.lines, self.wanted, self.access_kinds, self.reads = groups, gathered.lines, wanted, kinds, gathered.reads
-        self.racing = set().union(*gathered.racing.values())
+    def __init__(self, groups, wanted, kinds):
+        """`groups` has a number for each racing variable; `wanted` are the accesses to be noted, `kinds` says what an access is."""
+        self.groups, self.wanted, self.access_kinds = groups, wanted, kinds
+        self.lines, self.reads = kinds.gathered.lines, kinds.gathered.reads
+        self.racing = set().union(*kinds.gathered.racing.values())
         self.bare = set()  # those of the racing events whose thread holds no lock
         # By group, how many accesses there are of each kind: its location (None where lines aren't told apart any more),
         # thread, word of `words.KINDS` and the names of the locks held (None where they aren't counted).
@@ -117,20 +111,12 @@ class Counting:
                 except ValueError:
                     thread, operation, _ = fields_of(line)
                 if operation[1] != OPENS:
-                    self.other(number, thread, operation)
+                    self.held[thread].take(operation, number)
+                    if operation.startswith(b"fork("):
+                        self.forks[operation[5:-1]] = number
                 elif operation in groups:
                     self.access(number, without_end(line), operation, groups[operation])
                 recent[thread].append(number)
-
-    def other(self, number, thread, operation):
-        """An event that is no access."""
-        word, _, name = operation[:-1].partition(b"(")
-        if word == b"acq":
-            self.held[thread].acquire(name, number)
-        elif word == b"rel":
-            self.held[thread].release(name)
-        elif word == b"fork":
-            self.forks[name] = number
 
     def access(self, number, line, operation, group):
         """Counts an access to a variable of the group."""
@@ -153,7 +139,7 @@ class Counting:
             self.noted[number] = Noted(array.array("I", self.recent[thread]), *held.newest())
         counts, thread = self.counts[group], self.names.setdefault(thread, thread)
         kind = (location[0] if location else b"", thread, self.access_kinds.of(number, word, variable), held.names())
-        access = Access(number, variable, kind, self.access_kinds.free(number) if word == b"w" else None)
+        access = Access(number, variable, kind, self.access_kinds.stacks.free_of(number) if word == b"w" else None)
         last, self.before[group, thread] = self.before.get((group, thread)), access
         if last and self.is_part(access, last, kind, thread):
             return
@@ -175,5 +161,5 @@ class Counting:
         of an atomic reads what each thread wrote."""
         if access.free is not None:
             return access.free == last.free
-        is_read = self.access_kinds.is_atomic(access.variable) and kind[2] == b"r" and kind == last.kind
+        is_read = access.variable in self.access_kinds.atomics and kind[2] == b"r" and kind == last.kind
         return is_read and access.variable != last.variable and self.is_next(last, thread)

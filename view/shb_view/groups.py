@@ -59,10 +59,6 @@ class Group(typing.NamedTuple):
         """The pairs of racing lines, in each the lesser first."""
         return {pair.locations for pair in self.pairs}
 
-    def accesses(self):
-        race = self.closest()
-        return race.first, race.second
-
 
 def distance(race):
     return race.second - race.first, race.first
@@ -150,11 +146,6 @@ def object_of(group):
     things = {part["base"] + (part["block"] or b"") + part["of"] for part in parts}
     is_known = len(things) == 1 and not parts[0]["base"].startswith(b"stack.")
     return things.pop() if is_known else None
-
-
-def joined_groups(groups):
-    """Several groups as one."""
-    return Group(*(sum(parts, ()) for parts in zip(*groups)))
 
 
 def group_name(view, group):

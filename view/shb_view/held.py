@@ -35,6 +35,14 @@ class Held:
         self.locks = {}  # by name: the acquire since which it is held, and how often it was acquired since
         self.kept_names = self.kept_newest = None  # answers, until the locks change
 
+    def take(self, operation, event):
+        """Takes an acquire or a release; other operations change nothing."""
+        word, _, lock = operation[:-1].partition(b"(")
+        if word == b"acq":
+            self.acquire(lock, event)
+        elif word == b"rel":
+            self.release(lock)
+
     def acquire(self, lock, event):
         lock = called(lock, self.locals)
         nest = self.locks.get(lock)

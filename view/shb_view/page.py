@@ -108,17 +108,13 @@ def section_part(view, number, section):
         names = listed([[Code(name)] for name in section.group.variables], MOST_VARIABLES)
         parts.append(element("p", "Variables: ", marked(names, NAME), class_="variables"))
     them = "it" if len(section.group.variables) == 1 else "them"
-    parts += [source_pair(view, section.window), element("h3", f"Every line that uses {them}"),
+    figures = [figure(view, section.window, mark, access) for mark, access in enumerate(section.window.accesses, 1)]
+    parts += [element("div", *figures, class_="pair") if any(figures) else None, element("h3", f"Every line that uses {them}"),
               site_table(view, section), callers_details(section), origin_details(view, section),
-              window_details(view, section.window, anchor), issue_details(view, section),
+              window_details(view, section.window, anchor),
+              element("details", element("summary", "As text, for an issue"), element("pre", "\n".join(issue_lines(view, section))), class_="issue"),
               line_details(section.window, anchor)]
     return element("section", joined(filter(None, parts), "\n"), id=f"g{number}")
-
-
-def source_pair(view, window):
-    """The two lines of code, side by side, where the source has them."""
-    figures = [figure(view, window, number, access) for number, access in enumerate(window.accesses, 1)]
-    return element("div", *figures, class_="pair") if any(figures) else None
 
 
 def figure(view, window, number, access):
@@ -239,11 +235,6 @@ def window_details(view, window, anchor):
     return element("details", element("summary", f"What comes before one of the races (events {first} and {second})"),
                    element("p", f"{LEGEND} {order_text(view, window)}", class_="faint"),
                    element("div", picture(window, anchor), class_="wide picture"))
-
-
-def issue_details(view, section):
-    text = "\n".join(issue_lines(view, section))
-    return element("details", element("summary", "As text, for an issue"), element("pre", text), class_="issue")
 
 
 def line_details(window, anchor):

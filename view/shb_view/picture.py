@@ -111,14 +111,11 @@ class Drawing:
         location = short(event.location, TEXT - len(f" · {number}")) if event.location else "(no location)"
         return front + operation_text(event, TEXT - len(front)), location
 
-    def height(self):
-        return self.band + BAND + 2
-
 
 def picture(window, anchor):
     """The SVG of a race. The number of an event is a link to the anchor's text with the number after it."""
     drawing = Drawing(window)
-    width, height = drawing.width(), drawing.height()
+    width, height = drawing.width(), drawing.band + BAND + 2
     first, second = window.accesses
     band = element("rect", class_="band", x=1, y=drawing.band, width=width - 2, height=BAND, rx=6)
     parts = [part for draw in (lane_parts, bar_parts, edge_parts, event_parts, access_parts) for part in draw(drawing, anchor)]

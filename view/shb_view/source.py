@@ -91,17 +91,9 @@ class Source:
 def best(path, candidates):
     """Of the files with a location's base name those whose paths have the longest end in common with it."""
     wanted = [part for part in path.split(b"/") if part not in (b"", b".", b"..")][::-1]
-
-    def common(item):
-        count = 0
-        for one, other in zip(wanted, item[0].split(b"/")[::-1]):
-            if one != other:
-                break
-            count += 1
-        return count
-
-    longest = max(map(common, candidates.items()), default=0)
-    return [item for item in candidates.items() if common(item) == longest]
+    common = {name: len(os.path.commonprefix([wanted, name.split(b"/")[::-1]])) for name in candidates}
+    longest = max(common.values(), default=0)
+    return [(name, file) for name, file in candidates.items() if common[name] == longest]
 
 
 def function_head(place):

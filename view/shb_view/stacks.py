@@ -5,7 +5,6 @@ import os
 from shb_common.known import OFFSET
 from shb_common.stacks import BadStacks, Stacks, bare
 from shb_common.words import counted
-from shb_view.faults import Damaged
 from shb_view.names import readable
 from shb_view.words import Code, listed, lock_parts, place
 
@@ -14,6 +13,10 @@ MOST_ATOMICS = 3  # that are named of a group
 MOST_THREADS = 3  # that are named of those with one stack
 MAKES_FIBER, HANDLER = b"__tsan_create_fiber", b"signal handler"
 WITHOUT_LINE = {MAKES_FIBER: " (which made the fiber)", HANDLER: ""}
+
+
+class Damaged(Exception):
+    """The words say what is wrong with a file beside the trace: with its call stacks or its places."""
 
 
 def stacks_of(path, shift, events):

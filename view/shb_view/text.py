@@ -34,9 +34,6 @@ class Colours:
     def red(self, text):
         return self.coded("31", text)
 
-    def faint(self, text):
-        return self.coded("2", text)
-
 
 flat = flat_in(NAME)
 

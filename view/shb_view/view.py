@@ -18,12 +18,11 @@ from shb_common.words import counted
 from shb_view.analyser import MOST_LISTED, Analyser, Verdict
 from shb_view.counting import Counting, Kinds
 from shb_view.facts import Fact, Site, fact_of, sites_of
-from shb_view.faults import Damaged
-from shb_view.groups import Gathered, Group, joined_groups, object_of
+from shb_view.groups import Gathered, Group, object_of
 from shb_view.names import by_numbers, readable
 from shb_view.refused import warnings
 from shb_view.source import Source
-from shb_view.stacks import publications, stacks_of
+from shb_view.stacks import Damaged, publications, stacks_of
 from shb_view.trace import CHANGED, Trace
 from shb_view.windows import Window, make_windows
 
@@ -110,19 +109,17 @@ def make_view(options, progress):
         listed, has_schedules = read_report(given, head.counts, gathered, progress) if options.report or head.count else (0, True)
         if options.report and not has_schedules:
             given = given._replace(verdict=NO_SCHEDULES)
-        is_whole = bool(options.html or options.all)
-        whole = "window" if options.window else "trace"
         stacks = stacks_of(options.stacks, options.shift, head.counts.events) if options.stacks else Stacks()
         gathered.name_locals(stacks)
         groups = gathered.groups()
-        asked = Asked(is_whole, whole, Kinds(gathered, stacks), gathered, head.counts.events)
-        count, sections = make_sections(asked, Trace(file, progress), given, groups)
+        kinds = Kinds(gathered, stacks)
+        count, sections = make_sections(options, kinds, head.counts.events, Trace(file, progress), given, groups)
         title = readable(os.fsencode(options.title or os.path.basename(options.trace)))
         pairs = sum(group.count() for group in groups)
         source = Source(options.source, os.fstat(file.fileno()).st_mtime, stacks.sources if options.recorded_source else {})
         notes, about, suspicions = ([readable(os.fsencode(line)) for line in lines] for lines in (options.note, options.about, options.suspicion))
         return View(title, head.counts, head.count, listed if options.report else head.count, pairs, count, sections, given.verdict,
-                    is_sample, source, [*notes, *warnings(options.trace)], about, suspicions, stacks, asked.kinds, gathered,
+                    is_sample, source, [*notes, *warnings(options.trace)], about, suspicions, stacks, kinds, gathered,
                     places_of(options.only) if options.only else None)
 
 
@@ -201,30 +198,21 @@ def read_report(given, counts, gathered, progress):
     return report.count, report.has_schedules
 
 
-class Asked(typing.NamedTuple):
-    """What is asked of a trace. `is_whole` says whether windows are shown too, `whole` what the facts are of: a trace or a window of
-    one; `gathered` is what the report says, and `events` how many events the trace has."""
-
-    is_whole: bool
-    whole: str
-    kinds: Kinds
-    gathered: Gathered
-    events: int
-
-
-def make_sections(asked, trace, given, groups):
+def make_sections(options, kinds, events, trace, given, groups):
     """How many groups there are, and those that are shown, in the order of their facts and then most races first; with their windows
-    if these are asked for."""
+    if these are asked for. The trace has so many events."""
     if not groups:
         return 0, []
-    wanted = {access for group in groups for access in group.accesses()}
+    wanted = {access for race in (group.closest() for group in groups) for access in (race.first, race.second)}
     variables = {variable: number for number, group in enumerate(groups) for variable in group.names}
-    counting = Counting(variables, asked.gathered, wanted, asked.kinds)
+    counting = Counting(variables, wanted, kinds)
     try:
-        counting.read(trace, asked.events)
+        counting.read(trace, events)
         found = merged_groups(groups, counting.counts)
-        sections = [make_section(it.group, it.counts, asked, counting) for it in first_groups(found)]
-        if asked.is_whole:
+        first = sorted(found, key=lambda it: (it.rank, -it.group.races()))[:MOST_GROUPS]
+        whole = "window" if options.window else "trace"
+        sections = [make_section(it.group, it.counts, whole, counting) for it in first]
+        if options.html or options.all:
             windows = make_windows(trace, [section.group.closest() for section in sections], counting, given.order)
             sections = [section._replace(window=window) for section, window in zip(sections, windows)]
     except (IndexError, KeyError):
@@ -254,7 +242,8 @@ def merged_groups(groups, counts):
 
 def merged(parts):
     """Several groups as one."""
-    group, counts = joined_groups([part.group for part in parts]), joined_counts([part.counts for part in parts])
+    group = Group(*(sum(fields, ()) for fields in zip(*(part.group for part in parts))))
+    counts = joined_counts([part.counts for part in parts])
     return Ranked(fact_of(sites_of(group, counts), "").rank, group, counts)
 
 
@@ -267,25 +256,19 @@ def joined_counts(counts):
     return found
 
 
-def first_groups(groups):
-    """The groups that are shown. Of the others nothing is kept."""
-    return sorted(groups, key=lambda it: (it.rank, -it.group.races()))[:MOST_GROUPS]
-
-
-def make_section(group, counts, asked, counting):
-    """A group as it is shown, but for its window."""
-    sites, places = sites_of(group, counts), group.places()
-    fact = fact_of(sites, asked.whole)
+def make_section(group, counts, whole, counting):
+    """A group as it is shown, but for its window. `whole` is what the facts are of: a trace or a window of one."""
+    sites, places, kinds = sites_of(group, counts), group.places(), counting.access_kinds
+    fact = fact_of(sites, whole)
     seen = sorted((pair for pair in counting.seen if tuple(sorted(pair)) in places), key=lambda pair: list(map(by_numbers, pair)))
-    return Section(group, sites, fact, None, callers_of(group, asked, counting.bare), seen,
-                   publications(asked.kinds.stacks, sites, fact))
+    return Section(group, sites, fact, None, callers_of(group, kinds, counting.bare), seen, publications(kinds.stacks, sites, fact))
 
 
-def callers_of(group, asked, bare):
+def callers_of(group, kinds, bare):
     """The stacks of the racing accesses of each racing line, each with whether it is told that no lock is held: where that is so at
     some of them. `bare` are the events at which none is."""
     events = {}
     for variable in group.names:
         for location in group.locations():
-            events.setdefault(location, set()).update(asked.gathered.racing.get((variable, location), ()))
-    return {location: asked.kinds.stacks.counted(found, bare if found & bare != found else set()) for location, found in events.items()}
+            events.setdefault(location, set()).update(kinds.gathered.racing.get((variable, location), ()))
+    return {location: kinds.stacks.counted(found, bare if found & bare != found else set()) for location, found in events.items()}

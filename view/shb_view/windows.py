@@ -7,6 +7,8 @@ from shb_common.report import Race
 from shb_view.held import Held, called
 from shb_view.trace import OPENS, Event, event_of, fields_of, line_of
 
+SOURCES = {b"acq": b"rel", b"r": b"w"}  # what an operation waits for or sees
+
 
 class Shown(typing.NamedTuple):
     """An event that is shown. `named` is the event with the program's name for its variable or lock, and `line` its line with that.
@@ -74,7 +76,7 @@ class Moments:
                 if number in wanted or operation in tracked:
                     self.note(number, thread, operation)
                 if operation[1] != OPENS:
-                    self.take(number, thread, operation)
+                    self.held[thread].take(operation, number)
                 last[thread] = number
             if first + len(lines) > end:
                 break
@@ -92,26 +94,20 @@ class Moments:
         if operation in self.tracked:
             self.latest[operation] = number, thread, moment
 
-    def take(self, number, thread, operation):
-        """Keeps the locks that the thread holds."""
-        word, _, lock = operation[:-1].partition(b"(")
-        if word == b"acq":
-            self.held[thread].acquire(lock, number)
-        elif word == b"rel":
-            self.held[thread].release(lock)
-
 
 def make_windows(trace, races, counting, order):
     """A window for each race. `order` gives some events in the order of a race's schedule, and the schedule's length."""
-    accesses = {access for race in races for access in (race.first, race.second)}
+    accesses = {access: event_of(line).thread for race in races
+                for access, line in ((race.first, race.first_line), (race.second, race.second_line))}
     before = {event for access in accesses for event in counting.noted[access].before}
-    forks = {access: counting.forks.get(race_thread, 0) for access, race_thread in threads_of(races)}
+    forks = {access: counting.forks.get(thread, 0) for access, thread in accesses.items()}
     acquires = {acquire for access in accesses for _, acquire in counting.noted[access].locks}
     events = {number: event_of(found.line) for number, found in trace.find(before).items()}
     joined = {number: counting.recent[event.name][-1] for number, event in events.items()
               if event.word == b"join" and counting.recent.get(event.name)}
     wanted = {*accesses, *before, *filter(None, forks.values()), *acquires, *joined.values()}
-    moments = Moments(wanted, sources_of(events), counting.access_kinds.locks)
+    sources = {number: b"%b(%b)" % (SOURCES[event.word], event.name) for number, event in events.items() if event.word in SOURCES}
+    moments = Moments(wanted, sources, counting.access_kinds.locks)
     moments.read(trace)
     moments.found.update(joined)
     found = trace.find(moments.moments)
@@ -125,24 +121,6 @@ def shown_event(number, found, kinds, moment, source):
     named = kinds.named(number, event)
     line = line_of(named) if named != event else found.line
     return Shown(number, found.row, line, event, named, moment.previous, source, *moment[1:])
-
-
-def threads_of(races):
-    """The accesses of some races, each with its thread."""
-    for race in races:
-        for access, line in ((race.first, race.first_line), (race.second, race.second_line)):
-            yield access, event_of(line).thread
-
-
-def sources_of(events):
-    """For each acquire and each read the operation that is its source."""
-    found = {}
-    for number, event in events.items():
-        if event.word == b"acq":
-            found[number] = b"rel(" + event.name + b")"
-        elif event.word == b"r":
-            found[number] = b"w(" + event.name + b")"
-    return found
 
 
 def window(race, counting, forks, shown, order):
