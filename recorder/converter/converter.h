@@ -80,15 +80,18 @@ void note_caller(u64 caller);
 void find_places(void);                /* of all callers that were noted */
 part place_of(u64 caller);
 int is_own_place(u64 caller);          /* not in a header or a library of the system */
+int is_of_system(u64 caller);          /* is it in a module of the system's, other than the recorder? */
+int is_of_recorder(u64 caller);
 /* The frames of a place in the code, the innermost first; of inlined code there are several. */
 typedef struct inlined_frame {
     struct inlined_frame *outer;
     const char *function, *location;
     u32 number;                        /* in the file of stacks, or 0 */
     uint8_t has_line, in_system_file;                        /* as a header of the C++ library is */
-    uint8_t in_system, is_hidden;      /* the module is the system's; the recorder's own */
+    uint8_t in_system;                 /* the module is the system's */
 } inlined_frame;
-int may_have_lines(const char *module);    /* lines.c: or is it a module of the system without debug information? */
+int has_own_lines(const char *module);     /* lines.c: are they in this file itself? */
+int may_have_lines(const char *module);    /* or in one of their own? Of a module of the system mostly not */
 inlined_frame *frames_of(u64 caller);  /* null where it wasn't noted */
 inlined_frame *outermost(inlined_frame *f);
 int in_one_function(u64 caller, u64 other);

@@ -232,13 +232,16 @@ bytes map_debug_file(const char *module) {
     return map_module(path);
 }
 
-/* Of a module of the system mostly not, and then the tool that would tell of them need not be run. */
-int may_have_lines(const char *module) {
-    bytes file = map_debug_file(module);
-    int may = getenv("DEBUGINFOD_URLS") || has_section(file, ".debug_line") || has_section(file, ".zdebug_line");
+static int has_lines(bytes file) {
+    int has = has_section(file, ".debug_line") || has_section(file, ".zdebug_line");
     unmap_module(file);
-    return may;
+    return has;
 }
+
+int has_own_lines(const char *module) { return has_lines(map_module(module)); }
+
+/* Where it has none the tool that would tell of them need not be run. */
+int may_have_lines(const char *module) { return getenv("DEBUGINFOD_URLS") || has_lines(map_debug_file(module)); }
 
 void note_sources_of(const char *module) {
     bytes file = map_debug_file(module);

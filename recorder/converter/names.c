@@ -14,7 +14,7 @@
 
 enum { MAX_MODULES = 512, LINE_BYTES = 8192 };
 typedef struct { u64 at, size; char *name; int twice; } symbol;
-typedef struct { u64 low, high, base; char *path; symbol *symbols; u64 count; int read; struct members *members; } module;
+typedef struct { u64 low, high, base; char *path; symbol *symbols; u64 count; int read, asked, is_late; struct members *members; } module;
 
 static module modules[MAX_MODULES];
 static int module_count;
@@ -154,6 +154,16 @@ static const char *leaf(const char *path) {
 static int is_recorder(const module *m) {
     const char *slash = strrchr(m->path, '/');
     return slash && !strncmp(slash, "/libtsan.so", 11);
+}
+
+int is_of_recorder(u64 caller) {
+    const module *m = module_at(caller);
+    return m && is_recorder(m);
+}
+
+int is_of_system(u64 caller) {
+    const module *m = module_at(caller);
+    return m && in_system(m->path) && !is_recorder(m);
 }
 
 /* Where a lambda begins in a function's name that isn't in an argument of a template or a parameter; or null. */
@@ -383,8 +393,7 @@ static void read_frames(FILE *f, module *m) {
         int with_line = has_line(place);
         int named = *function != '?' && (with_line || !in_system(m->path));   /* else the name may be a neighbour's */
         *next = new_frame(named ? copy(cleaned(function)) : "", with_line ? copy(place) : 0, with_line);
-        if (with_line && !is_recorder(m)) note_file_of(place);
-        (*next)->is_hidden = is_recorder(m);
+        if (with_line && !m->is_late) note_file_of(place);
         (*next)->in_system = in_system(m->path);
         (*next)->in_system_file = in_system(place) || (*next)->in_system;
         next = &(*next)->outer;
@@ -395,6 +404,7 @@ static void read_frames(FILE *f, module *m) {
 static void ask_for_lines(module *m) {
     const char *words[] = {"llvm-addr2line", "-aifC", "-e", m->path, 0};
     u64 bytes = size_of_module(m->path);
+    m->asked = 1;
     if (!bytes) return;
     FILE *addresses = tmpfile();
     if (!addresses) die("cannot write to " P_tmpdir ": %s", strerror(errno));
@@ -435,29 +445,50 @@ static void find_place(u64 caller, u32 number) {
     places[number].is_own = m && !is_recorder(m) && !(chosen ? chosen->in_system_file : in_system(m->path));
     if (places[number].frames) return;
     places[number].frames = new_frame("", places[number].text, 0);
-    places[number].frames->is_hidden = m && is_recorder(m);
     places[number].frames->in_system = places[number].frames->in_system_file = m && in_system(m->path);
 }
 
+/* Of all callers whose module was asked, or that are in none. */
+static void find_asked_places(void) {
+    for (u64 i = 0; i < callers.capacity; i++) {
+        map_entry e = callers.entries[i];
+        if (!e.value || places[e.value].text) continue;
+        const module *m = module_at(e.a);
+        if (!m || m->asked) find_place(e.a, e.value);
+    }
+}
+
+/* A library of the system whose lines are in a file of their own, and the recorder's, is late: it is asked when a frame of it is
+   shown, and mostly none is. Its source files aren't the program's, so the names of those don't hang on it. */
 void find_places(void) {
     places = zeroed(callers.count + 1, sizeof *places);
-    for (int i = 0; i < module_count; i++) {
-        if (!in_system(modules[i].path) && !is_recorder(&modules[i])) note_sources_of(modules[i].path);
-        ask_for_lines(&modules[i]);
+    for (module *m = modules; m < modules + module_count; m++) {
+        if (!in_system(m->path) && !is_recorder(m)) note_sources_of(m->path);
+        m->is_late = is_recorder(m) || (in_system(m->path) && !has_own_lines(m->path));
+        if (!m->is_late) ask_for_lines(m);
     }
-    for (u64 i = 0; i < callers.capacity; i++)
-        if (callers.entries[i].value) find_place(callers.entries[i].a, callers.entries[i].value);
+    find_asked_places();
+}
+
+/* The number of a caller, whose place is known then; 0 of one that wasn't noted. */
+static u32 found_place(u64 caller) {
+    u32 number = caller_number(caller);
+    if (number && !places[number].text) {
+        ask_for_lines(module_at(caller));
+        find_asked_places();
+    }
+    return number;
 }
 
 /* Of a caller that was noted. */
 part place_of(u64 caller) {
-    u32 number = caller_number(caller);
+    u32 number = found_place(caller);
     return (part){places[number].text, places[number].length};
 }
 
 int is_own_place(u64 caller) { return places[caller_number(caller)].is_own; }
 
-inlined_frame *frames_of(u64 caller) { return places[map_find(&callers, caller, 0)].frames; }
+inlined_frame *frames_of(u64 caller) { return places[found_place(caller)].frames; }
 
 inlined_frame *outermost(inlined_frame *f) {
     while (f && f->outer) f = f->outer;

@@ -285,7 +285,7 @@ static u64 allocated_by(u32 block_number) { return block_number < block_count ? 
 static void note_in_block(u64 at, u32 block_number, u64 length) {
     static map met;
     u64 caller = allocated_by(block_number);
-    inlined_frame *f = caller ? frames_of(caller) : 0;
+    inlined_frame *f = caller && !is_of_system(caller) ? frames_of(caller) : 0;
     if (!f || !f->in_system_file || f->in_system || map_number(&met, at, block_number) <= in_block_count) return;
     GROW(in_blocks, in_block_count, in_block_capacity);
     in_blocks[in_block_count++] = (in_block){.at = at, .length = length, .block = block_number};
@@ -443,10 +443,14 @@ static u32 called_in(u32 k) {
     return 0;
 }
 
-/* Of what called the outermost function only the program's own is shown; of a way only what is one. */
-static int is_shown(const node *n, u32 outer, const inlined_frame *f) {
-    if (n->is_way && !outer) return 0;
-    return !f->is_hidden && (n->outer || !n->function || (!f->in_system && f->has_line));
+/* Of the recorder's own nothing is shown, of a way only what is one, and of what called the outermost function only the program's own. */
+static int is_outermost(const node *n) { return !n->outer && n->function; }
+static int is_shown(const node *n, const inlined_frame *f) { return !is_outermost(n) || (!f->in_system && f->has_line); }
+
+/* Null where none would be shown: they aren't asked for then. */
+static inlined_frame *frames_to_show(const node *n, u32 outer) {
+    if (is_of_recorder(n->caller) || (n->is_way && !outer) || (is_outermost(n) && is_of_system(n->caller))) return 0;
+    return frames_of(n->caller);
 }
 
 /* The frames of a node's innermost call, and the node of the stack further out. Where code without hooks lies in between the
@@ -456,16 +460,15 @@ typedef struct { inlined_frame *at[MOST_FRAMES_OF_A_CALL], between; int count; u
 /* Does the recorder call a handler of a signal there? */
 static int calls_handler(u64 caller) {
     char name[20];
-    inlined_frame *f = frames_of(caller);
-    return f && f->is_hidden && !strcmp(function_name(caller - 1, name, sizeof name), "call_in_frame");
+    return is_of_recorder(caller) && !strcmp(function_name(caller - 1, name, sizeof name), "call_in_frame");
 }
 
 static void find_call(u32 k, shown_call *call) {
     u32 outer = called_in(k);
     const node *n = &nodes[k];
     call->count = 0;
-    for (inlined_frame *f = frames_of(n->caller); f && call->count < MOST_FRAMES_OF_A_CALL - 1; f = f->outer)
-        if (is_shown(n, outer, f)) call->at[call->count++] = f;
+    for (inlined_frame *f = frames_to_show(n, outer); f && call->count < MOST_FRAMES_OF_A_CALL - 1; f = f->outer)
+        if (is_shown(n, f)) call->at[call->count++] = f;
     inlined_frame *last = !outer && n->outer ? entered(n->outer) : 0;
     if (last && *last->function) {     /* of the recorder's own only __tsan_create_fiber was entered */
         call->between = (inlined_frame){.function = last->function, .location = "", .in_system_file = last->in_system_file};

@@ -227,6 +227,22 @@ class Programs(recorder.Case):
         self.assertIn(b"|inlined.cc:", without.stdout)
         self.assertEqual(without.stdout, with_all.stdout)
 
+    def asked(self, source):
+        """The modules that a tool is asked of for the stacks of a program. Where a server may have debug information, libraries may have lines."""
+        record, log, tool = self.recorded(recorder.PROGRAMS / source, "-O1"), self.folder / "asked", self.folder / "tools" / "llvm-addr2line"
+        tool.parent.mkdir(exist_ok=True)
+        tool.write_text(f'#!/bin/sh\necho "$3" >> "{log}"\n')
+        tool.chmod(0o755)
+        log.write_text("")
+        there = {**os.environ, "PATH": f"{tool.parent}:{os.environ['PATH']}", "DEBUGINFOD_URLS": "http://localhost:1"}
+        recorder.must(recorder.call(recorder.BUILT / "shb-std", "--stacks", self.folder / "app.stacks", record, env=there))
+        return [os.path.basename(path) for path in log.read_text().splitlines()]
+
+    def test_no_tool_is_asked_of_libraries_without_a_frame(self):
+        """Of the C library where it calls the program back, as by qsort."""
+        self.assertEqual(self.asked("names.c"), ["program"])
+        self.assertIn("libc.so.6", self.asked("calls.c"))
+
     def test_code_of_headers_is_told_by_the_programs_own_lines(self):
         source, program, record = recorder.PROGRAMS / "headers.cc", self.folder / "program", self.folder / "app.rec"
         lines = source.read_text().splitlines()
