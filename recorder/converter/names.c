@@ -111,6 +111,7 @@ static void mark_doubles(module *m) {  /* variables of one name, static in sever
     free(sorted);
 }
 
+/* With a plugin, though it be none: else nm loads those for link-time optimisation, as LLVM's, which takes it most of its time. */
 static void read_symbols(module *m) {
     char line[LINE_BYTES], type;
     u64 capacity = 0, at, size;
@@ -118,7 +119,7 @@ static void read_symbols(module *m) {
     m->read = 1;
     u64 bytes = size_of_module(m->path);
     if (!bytes) return;
-    const char *const words[] = {"nm", "-C", "-S", "--defined-only", "--", m->path, 0};
+    const char *const words[] = {"nm", "--plugin", "/dev/null", "-C", "-S", "--defined-only", "--", m->path, 0};
     tool nm = run_tool(words, -1, bytes);
     say_missing(nm, *words);
     while (fgets(line, sizeof line, nm.output)) {
