@@ -1,7 +1,7 @@
 """Converts, analyses and shows the processes of all runs."""
 
 import json
-import subprocess
+import os
 import sys
 import tempfile
 import typing
@@ -17,7 +17,7 @@ from shb_common.stops import APART
 from shb_common.words import counted
 from shb_record.converting import CRASHED, KILLED, Conversion, Trace, check_room, order_of, processes
 from shb_record.modules import Modules
-from shb_record.parts import ANALYSER, VIEW, now, say
+from shb_record.parts import ANALYSER, now, say
 from shb_record.places import Places
 from shb_record.running import cause
 from shb_record.scanning import lacking, scanning
@@ -236,8 +236,9 @@ class Look:
         page = self.results.path(trace.path.with_suffix(".html").relative_to(self.results.folder))
         lines = b"".join(line for one in unknown for line in lines_of_new(one))
         only.write_bytes(lines)
-        words = [VIEW, *words, f"--shift={trace.number(0)}", "--text", "--only", only, "--json", found, "--html", page, trace.path]
-        if subprocess.run(words, stdout=sys.stderr, **APART).returncode:
+        words = [*words, f"--shift={trace.number(0)}", "--text", "--only", only, "--json", found, "--html", page, trace.path]
+        from shb_view.command import explain  # takes its time, and a run without a place does without
+        if explain(list(map(os.fspath, words)), ANALYSER, sys.stderr, **APART):
             print(lines.decode(errors="backslashreplace"), end="", file=sys.stderr)
             return
         self.pages.append(page)

@@ -20,12 +20,11 @@ def part(*paths):
 LIBRARY = part("lib/libtsan.so", "libtsan.so").parent
 CONVERTER = part("shb-std")
 ANALYSER = pathlib.Path(os.environ.get("SHB") or part("../bin/shb", "../../bin/shb"))
-VIEW = part("../view/shb-view", "shb-view")
 
 
 def check_parts():
     """Fails where something is missing that is needed after the program ran."""
-    for path in (LIBRARY / "libtsan.so", CONVERTER, VIEW):
+    for path in (LIBRARY / "libtsan.so", CONVERTER):
         if not path.exists():
             raise Refused(f"{path} isn't there; in a checkout `make recorder` builds the recorder")
     if not shutil.which(ANALYSER):

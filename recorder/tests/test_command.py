@@ -726,6 +726,16 @@ class Command(recorder.Case):
             self.assertIn(f"the record is kept: {record}\n", said)
             recorder.must(recorder.convert(record))
 
+    def test_a_second_signal_while_a_page_is_made(self):
+        """The places are known by then."""
+        fake = self.folder / "shb"
+        fake.write_text(f'#!/bin/sh\n[ "$1" = races ] || exec {recorder.SHB} "$@"\nkill -INT $PPID; kill -TERM $PPID; exec sleep 1000\n')
+        fake.chmod(0o755)
+        status, _, said = self.record(self.program(), "0", "race", SHB=str(fake))
+        self.assertEqual((status, "stopped at once" in said, "1 place with races" in said), (66, True, True), said)
+        self.assertIn("run1.N.rec", self.names())
+        self.assertNotIn("run1.N.html", self.names())
+
     def test_without_an_analyser_the_program_does_not_run(self):
         status, out, said = self.record(self.program(), "0", SHB="/nowhere/shb")
         self.assertEqual((status, out), (125, ""))
@@ -753,6 +763,6 @@ class Command(recorder.Case):
             shutil.copy(recorder.BUILT / name, home)
         (prefix / "bin" / "shb-record").symlink_to("../lib/shb/shb-record")
         (prefix / "bin" / "shb").symlink_to(recorder.SHB)
-        (home / "shb-view").symlink_to(recorder.SOURCES.parent / "view" / "shb-view")
+        shutil.copytree(recorder.SOURCES.parent / "view" / "shb_view", home / "shb_view")
         status, _, said = self.record(self.program(), "0", "race", command=prefix / "bin" / "shb-record", SHB="")
         self.assertEqual((status, "status.c:9" in said), (66, True), said)

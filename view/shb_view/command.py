@@ -57,22 +57,22 @@ def arguments(words, program):
     return parser.parsed(words)
 
 
-def show(options, progress, is_open):
-    """Writes what was asked for, and gives the status."""
+def show(options, progress, out):
+    """Writes what was asked for, the text to `out` if there is one, and gives the status."""
     wants_text = options.text or not (options.html or options.json)
-    if wants_text and not is_open:
+    if wants_text and not out:
         raise Refused("standard output is closed")
     inputs = [options.trace, options.report or options.trace]
-    with new_file(options.html, inputs) if options.html else contextlib.nullcontext() as out:
+    with new_file(options.html, inputs) if options.html else contextlib.nullcontext() as page:
         view = make_view(options, progress)
-        if out:
-            write_parts(out, map(str.encode, page_parts(view)), options.html)
+        if page:
+            write_parts(page, map(str.encode, page_parts(view)), options.html)
     if options.json:
-        with new_file(options.json, inputs) as out:
-            write_parts(out, [result.document(view)], options.json)
+        with new_file(options.json, inputs) as file:
+            write_parts(file, [result.document(view)], options.json)
     progress.clear()
     if wants_text:
-        write_text(text.text_lines(view, text.Colours(is_coloured(sys.stdout)), options.all))
+        write_text(text.text_lines(view, text.Colours(is_coloured(out)), options.all), out)
     return 1 if view.verdict.is_good is False else 0
 
 
@@ -80,20 +80,22 @@ def is_coloured(out):
     return out.isatty() and not os.environ.get("NO_COLOR") and os.environ.get("TERM") != "dumb"
 
 
-def write_text(lines):
-    sys.stdout.reconfigure(errors="backslashreplace")
+def write_text(lines, out):
+    out.reconfigure(errors="backslashreplace")
     try:
-        write_parts(sys.stdout, (f"{line}\n" for line in lines), "standard output")
+        write_parts(out, (f"{line}\n" for line in lines), "standard output")
     except OSError:
-        leave_standard_output()
+        if out is sys.stdout:
+            leave_standard_output()
         raise
 
 
-def main(words, program=None):
-    is_open = open_standard_files()
+def explain(words, program, out, **how):
+    """Does what the words ask for, and gives the status. The text goes to `out`; `how` says how `shb` is started."""
     options, progress = arguments(words, program), Progress("shb-view", sys.stderr)
+    options.how = how
     try:
-        return show(options, progress, is_open)
+        return show(options, progress, out)
     except BrokenPipeError:
         return 2
     except BadReport as fault:
@@ -104,10 +106,18 @@ def main(words, program=None):
         status, said = 2, words_of(fault)
     except MemoryError:
         status, said = 2, "out of memory"
-    except KeyboardInterrupt:
-        status, said = 2, "stopped"
     except Exception:
         status, said = 2, traceback.format_exc().rstrip()  # 1, with which Python would end, says that the report is bad
-    progress.clear()
+    finally:
+        progress.clear()
     print(f"shb-view: {said}", file=sys.stderr)
     return status
+
+
+def main(words, program=None):
+    is_open = open_standard_files()
+    try:
+        return explain(words, program, sys.stdout if is_open else None)
+    except KeyboardInterrupt:
+        print("shb-view: stopped", file=sys.stderr)
+        return 2

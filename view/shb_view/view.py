@@ -101,7 +101,7 @@ def make_view(options, progress):
     """The view of what the options name."""
     with contextlib.ExitStack() as stack:
         file = stack.enter_context(open_regular(options.trace))
-        analyser = Analyser(options.shb, file)
+        analyser = Analyser(options.shb, file, options.how)
         gathered = Gathered()
         head = analyser.head(None if options.report else gathered.share)
         is_sample = "" if options.report or head.count <= MOST_LISTED else analyser.share_variables(head, gathered.share)
