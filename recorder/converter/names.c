@@ -401,6 +401,38 @@ static void read_frames(FILE *f, module *m) {
     }
 }
 
+/* A function's name with lambdas as nm has them, where addr2line has 'lambda0'(int) or <lambda(int)>. */
+static char *with_lambdas(const char *name) {
+    enum { BEFORE = sizeof a_lambda - 1 };     /* the bracket of its parameters */
+    char *text = copy(name), *to = text;
+    for (const char *at = text; *at; to++) {
+        const char *end = at + BEFORE - 1;
+        int is_lambda = (*at == '\'' || *at == '<') && !strncmp(at + 1, a_lambda + 1, BEFORE - 2);
+        if (is_lambda && *at == '\'') end += strspn(end, "0123456789") + 1;
+        if (is_lambda && *end == '(') {
+            memcpy(to, a_lambda, BEFORE - 1);
+            to += BEFORE - 1;
+            at = end;
+        }
+        *to = *at++;
+    }
+    *to = 0;
+    return text;
+}
+
+/* Names a lambda's frame as threads are named that run it; where it is inlined, by the functions of the C++ library around it. */
+static void name_lambda(inlined_frame *f) {
+    char *text = with_lambdas(f->function), *found = own_lambda(text) ? lambda_among(text) : 0;
+    int is_bare = !strcmp(f->function, "operator()");
+    for (const inlined_frame *g = f->outer; is_bare && !found && g && g->in_system_file; g = g->outer) {
+        free(text);
+        text = with_lambdas(g->function);
+        found = lambda_among(text);
+    }
+    if (found) f->function = found;
+    free(text);
+}
+
 /* Has a tool tell of the callers in a module. */
 static void ask_for_lines(module *m) {
     const char *words[] = {"llvm-addr2line", "-aifC", "-e", m->path, 0};
@@ -439,6 +471,7 @@ static void find_place(u64 caller, u32 number) {
     inlined_frame *chosen = 0;
     for (inlined_frame *f = places[number].frames; f; f = f->outer) {
         f->location = f->has_line ? location_of(f->location) : address_place(caller);
+        if (f->has_line && !f->in_system_file) name_lambda(f);
         if (f->has_line && (!chosen || (chosen->in_system_file && !f->in_system_file))) chosen = f;
     }
     places[number].text = chosen ? copy(chosen->location) : address_place(caller);

@@ -125,9 +125,13 @@ class Threads(recorder.Case):
         for option in "-O0", "-O1", "-O2":
             recorder.build(source, option, self.folder / "app")
             recorder.must(recorder.call(self.folder / "app", env=recorder.settings(self.folder / "app.rec")))
-            trace = recorder.must(recorder.convert(self.folder / "app.rec", "-a")).stdout.decode()
+            stacks = self.folder / "stacks"
+            trace = recorder.must(recorder.convert(self.folder / "app.rec", "-a", "--stacks", stacks)).stdout.decode()
             found = re.findall(r"(?m)^main\|fork\((.*?)\)", trace)
             self.assertRegex("\n".join(found), r"\AT1\.start::lambda\nT2\.main::lambda\nT3\.Pool::\S*lambda\nT4\.main::lambda\Z", option)
+            frames = re.findall(r"(?m)^frame (.*(?:lambda|operator).*)\t(own\.cc:(?:6|11|19))$", stacks.read_text(errors="replace"))
+            self.assertEqual(set(frames), {("start::lambda", "own.cc:6"), (found[2][3:], "own.cc:11"), ("main::lambda", "own.cc:19")}, option)
+
 
 
 class Files(recorder.Case):
