@@ -48,6 +48,23 @@ static inline const char *string_at(bytes b, u64 offset) {
     return b.is_bad ? "" : string(&b);
 }
 
+static inline bytes taken(bytes *b, u64 count) {
+    bytes found = *b;
+    skip(b, count);
+    found.end = b->at;
+    return found;
+}
+
+/* What is behind the length of a unit, which tells of how many bytes offsets into sections are: 8 in the 64-bit form. */
+static inline bytes unit_of(bytes *b, unsigned *offset_bytes) {
+    enum { WIDE = 0xffffffff, LONGEST = 0xfffffff0 };
+    u64 length = fixed(b, 4);
+    *offset_bytes = length == WIDE ? 8 : 4;
+    if (length == WIDE) length = fixed(b, 8);
+    else if (length >= LONGEST) b->is_bad = 1;
+    return taken(b, length);
+}
+
 /* How a value is written. */
 enum form { FORM_ADDRESS = 1, FORM_BLOCK2 = 3, FORM_BLOCK4, FORM_DATA2, FORM_DATA4, FORM_DATA8, FORM_STRING, FORM_BLOCK, FORM_BLOCK1,
             FORM_DATA1, FORM_FLAG, FORM_SDATA, FORM_STRP, FORM_UDATA, FORM_REF_ADDRESS, FORM_REF1, FORM_REF2, FORM_REF4, FORM_REF8,
@@ -55,7 +72,8 @@ enum form { FORM_ADDRESS = 1, FORM_BLOCK2 = 3, FORM_BLOCK4, FORM_DATA2, FORM_DAT
             FORM_DATA16 = 30, FORM_LINE_STRING, FORM_SIGNATURE, FORM_CONSTANT, FORM_LOCATIONS_NUMBER, FORM_RANGES_NUMBER,
             FORM_STRING_NUMBER1 = 37, FORM_STRING_NUMBER4 = 40, FORM_ADDRESS_NUMBER1, FORM_ADDRESS_NUMBER4 = 44 };
 
-/* lines.c */
+/* debug_files.c */
+enum { WHOLE_PATH = 4096, PATH_BYTES = 3 * WHOLE_PATH };
 bytes map_module(const char *path);    /* none where it can't be read */
 void unmap_module(bytes file);
 bytes map_debug_file(const char *module);                    /* the file of its own that its debug information is in, or the module */

@@ -1,19 +1,12 @@
 /* The source files that a module's debug information names, by the headers of its line tables (DWARF 5; of older ones none):
    all of them, whatever ran.  A module may be any file, so each step is held inside its section. */
-#define _GNU_SOURCE
-#include <dlfcn.h>
-#include <elf.h>
-#include <fcntl.h>
 #include <stdio.h>
 #include <stdlib.h>
-#include <sys/mman.h>
-#include <sys/stat.h>
-#include <unistd.h>
 #include "dwarf.h"
 
 typedef struct { bytes lines, strings; } tables;
 enum { CONTENT_PATH = 1, CONTENT_FOLDER };
-enum { MOST_FORMS = 16, WHOLE_PATH = 4096, MOST_INFLATED = 1 << 30 };
+enum { MOST_FORMS = 16 };
 
 /* ---- a table of folders or of files: the forms of its columns, then its rows ---- */
 typedef struct { u64 count, content[MOST_FORMS], form[MOST_FORMS]; } columns;
@@ -29,14 +22,14 @@ static columns read_columns(bytes *b) {
     return c;
 }
 
-static row read_row(bytes *b, bytes strings, const columns *c) {
+static row read_row(bytes *b, bytes strings, unsigned offset_bytes, const columns *c) {
     row r = {"", 0};
     for (u64 k = 0; k < c->count && !b->is_bad; k++) {
         u64 number = 0;
         const char *text = "";
         switch (c->form[k]) {
         case FORM_STRING: text = string(b); break;
-        case FORM_LINE_STRING: text = string_at(strings, fixed(b, 4)); break;
+        case FORM_LINE_STRING: text = string_at(strings, fixed(b, offset_bytes)); break;
         case FORM_UDATA: number = variable(b); break;
         case FORM_DATA1: number = fixed(b, 1); break;
         case FORM_DATA2: number = fixed(b, 2); break;
@@ -62,174 +55,33 @@ static void note_file(row file, const char *const *folders, u64 folder_count) {
 }
 
 /* A unit's header, behind its version. */
-static void read_header(bytes b, bytes strings) {
+static void read_header(bytes b, bytes strings, unsigned offset_bytes) {
     enum { MOST_FOLDERS = 65536 };
     static const char *folders[MOST_FOLDERS];
-    enum { BEFORE_OPCODES = 1 + 1 + 4 + 1 + 1 + 1 + 1 + 1 };   /* sizes of addresses, the header's length, how steps are told */
-    skip(&b, BEFORE_OPCODES);
+    enum { SIZES = 2, STEPS = 5 };         /* of addresses; how steps are told. Between them is the header's length */
+    skip(&b, SIZES + offset_bytes + STEPS);
     u64 opcodes = fixed(&b, 1);
     skip(&b, opcodes ? opcodes - 1 : 0);
     columns c = read_columns(&b);
     u64 folder_count = variable(&b);
     if (folder_count > MOST_FOLDERS) return;
-    for (u64 k = 0; k < folder_count && !b.is_bad; k++) folders[k] = read_row(&b, strings, &c).name;
+    for (u64 k = 0; k < folder_count && !b.is_bad; k++) folders[k] = read_row(&b, strings, offset_bytes, &c).name;
     c = read_columns(&b);
     u64 file_count = variable(&b);
     for (u64 k = 0; k < file_count && c.count && !b.is_bad; k++) {
-        row file = read_row(&b, strings, &c);
+        row file = read_row(&b, strings, offset_bytes, &c);
         if (!b.is_bad) note_file(file, folders, folder_count);
     }
 }
 
 static void read_units(tables t) {
-    enum { DWARF = 5, LONGEST = 0xfffffff0 };
-    bytes *b = &t.lines;
-    while (b->at < b->end && !b->is_bad) {
-        u64 length = fixed(b, 4);
-        bytes unit = *b;
-        skip(b, length);
-        if (b->is_bad || length >= LONGEST) return;
-        unit.end = b->at;
-        if (fixed(&unit, 2) == DWARF) read_header(unit, t.strings);
+    enum { DWARF = 5 };
+    while (t.lines.at < t.lines.end) {
+        unsigned offset_bytes;
+        bytes unit = unit_of(&t.lines, &offset_bytes);
+        if (t.lines.is_bad) return;
+        if (fixed(&unit, 2) == DWARF) read_header(unit, t.strings, offset_bytes);
     }
-}
-
-/* ---- the sections of a file ---- */
-static bytes part_of(bytes file, u64 offset, u64 size) {
-    skip(&file, offset);
-    if (file.is_bad || size > (u64)(file.end - file.at)) return (bytes){0};
-    return (bytes){file.at, file.at + size, 0};
-}
-
-static Elf64_Shdr section(bytes table, u64 number) {
-    Elf64_Shdr header = {0};
-    bytes part = part_of(table, number * sizeof header, sizeof header);
-    if (part.at) memcpy(&header, part.at, sizeof header);
-    return header;
-}
-
-/* The header of the section with this name, of type SHT_NULL where there is none. */
-static Elf64_Shdr header_of(bytes file, const char *name) {
-    Elf64_Ehdr elf;
-    Elf64_Shdr none = {0};
-    bytes part = part_of(file, 0, sizeof elf);
-    if (!part.at) return none;
-    memcpy(&elf, part.at, sizeof elf);
-    if (memcmp(elf.e_ident, ELFMAG, SELFMAG) || elf.e_ident[EI_CLASS] != ELFCLASS64 || elf.e_ident[EI_DATA] != ELFDATA2LSB) return none;
-    bytes table = part_of(file, elf.e_shoff, (u64)elf.e_shnum * sizeof(Elf64_Shdr));
-    Elf64_Shdr named = section(table, elf.e_shstrndx);
-    bytes names = part_of(file, named.sh_offset, named.sh_size);
-    for (u64 k = 0; k < elf.e_shnum; k++) {
-        Elf64_Shdr s = section(table, k);
-        if (s.sh_type != SHT_NOBITS && !strcmp(string_at(names, s.sh_name), name)) return s;
-    }
-    return none;
-}
-
-/* What a section has that was compressed (-gz), by the library of its form where that is on the machine; it stays for good. */
-static bytes inflated(bytes section) {
-    typedef int of_zlib(uint8_t *, unsigned long *, const uint8_t *, unsigned long);
-    typedef size_t of_zstd(void *, size_t, const void *, size_t);
-    enum { ZLIB = 1, ZSTD };
-    Elf64_Chdr head = {0};
-    if ((u64)(section.end - section.at) < sizeof head) return (bytes){0};
-    memcpy(&head, section.at, sizeof head);
-    skip(&section, sizeof head);
-    void *library = dlopen(head.ch_type == ZLIB ? "libz.so.1" : "libzstd.so.1", RTLD_NOW);
-    void *function = library ? dlsym(library, head.ch_type == ZLIB ? "uncompress" : "ZSTD_decompress") : 0;
-    uint8_t *to = function && head.ch_size && head.ch_size <= MOST_INFLATED ? malloc(head.ch_size) : 0;
-    unsigned long size = head.ch_size, from = section.end - section.at;
-    int is_done = to && (head.ch_type == ZLIB ? !((of_zlib *)function)(to, &size, section.at, from)
-                         : head.ch_type == ZSTD && ((of_zstd *)function)(to, size, section.at, from) == size);
-    if (is_done) return (bytes){to, to + size, 0};
-    free(to);
-    return (bytes){0};
-}
-
-u64 size_of_module(const char *path) {
-    struct stat status;
-    return strchr(path, '/') && !stat(path, &status) && S_ISREG(status.st_mode) ? status.st_size : 0;
-}
-
-bytes section_of(bytes file, const char *name) {
-    Elf64_Shdr s = header_of(file, name);
-    bytes section = s.sh_type ? part_of(file, s.sh_offset, s.sh_size) : (bytes){0};
-    return s.sh_flags & SHF_COMPRESSED ? inflated(section) : section;
-}
-
-int has_section(bytes file, const char *name) { return header_of(file, name).sh_type != SHT_NULL; }
-
-bytes map_module(const char *path) {
-    struct stat status;
-    bytes found = {0};
-    if (!strchr(path, '/')) return found;  /* as the kernel's own "linux-vdso.so.1", which is no file of this folder */
-    int f = open(path, O_RDONLY | O_NONBLOCK | O_CLOEXEC);
-    if (f >= 0 && !fstat(f, &status) && S_ISREG(status.st_mode) && status.st_size) {
-        uint8_t *file = mmap(0, status.st_size, PROT_READ, MAP_PRIVATE, f, 0);
-        if (file != MAP_FAILED) found = (bytes){file, file + status.st_size, 0};
-    }
-    if (f >= 0) close(f);
-    return found;
-}
-
-void unmap_module(bytes file) {
-    if (file.at) munmap((void *)file.at, file.end - file.at);
-}
-
-/* ---- debug information in a file of its own ---- */
-enum { PATH_BYTES = 3 * WHOLE_PATH };
-
-/* The identity that the linker gave a file: what is behind the head of its note. */
-static bytes identity_of(bytes file) {
-    enum { HEAD = 16, MOST = 64 };     /* sizes, type and name */
-    bytes note = section_of(file, ".note.gnu.build-id");
-    skip(&note, HEAD);
-    return note.is_bad || note.end - note.at > MOST ? (bytes){0} : note;
-}
-
-static int is_of(const char *path, bytes identity) {
-    bytes file = map_module(path), other = identity_of(file);
-    u64 length = identity.end - identity.at;
-    int is_it = has_section(file, ".debug_info") && (!length || (length == (u64)(other.end - other.at) && !memcmp(identity.at, other.at, length)));
-    unmap_module(file);
-    return is_it;
-}
-
-static int find_by_identity(bytes identity, char *path) {
-    char *end = path + sprintf(path, "/usr/lib/debug/.build-id/");
-    for (const uint8_t *at = identity.at; at < identity.end; at++) end += sprintf(end, at == identity.at ? "%02x/" : "%02x", *at);
-    strcpy(end, ".debug");
-    return identity.end > identity.at && is_of(path, identity);
-}
-
-/* By the name that the module has of it: beside it, or where the system has such. */
-static int find_by_name(bytes link, const char *module, bytes identity, char *path) {
-    static const char *const around[][2] = {{"", ""}, {"", "/.debug"}, {"/usr/lib/debug", ""}};
-    char *real = realpath(module, 0), *slash = real ? strrchr(real, '/') : 0;
-    const char *name = string(&link);
-    int found = 0;
-    if (slash && *name && !link.is_bad) {
-        *slash = 0;
-        for (int k = 0; k < 3 && !found; k++) {
-            snprintf(path, PATH_BYTES, "%s%.4000s%s/%.4000s", around[k][0], real, around[k][1], name);
-            found = is_of(path, identity);
-        }
-    }
-    free(real);
-    return found;
-}
-
-static int find_debug_file(bytes file, const char *module, char *path) {
-    bytes identity = identity_of(file);
-    return find_by_identity(identity, path) || find_by_name(section_of(file, ".gnu_debuglink"), module, identity, path);
-}
-
-bytes map_debug_file(const char *module) {
-    char path[PATH_BYTES];
-    bytes file = map_module(module);
-    if (has_section(file, ".debug_info") || !find_debug_file(file, module, path)) return file;
-    unmap_module(file);
-    return map_module(path);
 }
 
 static int has_lines(bytes file) {

@@ -1,4 +1,4 @@
-/* Debug information of a module's types, as members.c reads it: what blocks.c needs of it. */
+/* Debug information of a module's types and code, as it is read for names of members, locals and blocks. */
 #include "dwarf.h"
 
 enum tag { TAG_ARRAY = 1, TAG_CLASS, TAG_PARAMETER = 5, TAG_LEXICAL_BLOCK = 11, TAG_MEMBER = 13, TAG_POINTER = 15, TAG_REFERENCE,
@@ -11,49 +11,70 @@ enum { OP_ADDRESS = 3, OP_FRAME_POINTER = 86, OP_STACK_POINTER, OP_FROM_STACK_PO
        OP_ADDRESS_NUMBER = 161 };
 enum { MOST_CODES = 1 << 16, MOST_DIMENSIONS = 8, MOST_STEPS = 64, DWARF4 = 4, DWARF5 };
 
+/* The sections of debug information that tell of each other. */
+enum section { INFO, ABBREVIATIONS, STRINGS, LINE_STRINGS, STRING_OFFSETS, ADDRESSES, RANGES, LOCATIONS, SECTIONS };
+typedef struct { bytes of[SECTIONS]; u64 begin; } sections;  /* and the offset of its first entry */
 typedef struct { u64 tag, has_children; bytes attributes; } abbreviation;
+/* What a unit's entry tells for all others: where its code begins, and its part of some sections. */
+typedef struct { u64 low, strings, addresses, ranges, locations; } bases;
 typedef struct {
-    u64 begin, end, first, abbreviations;                    /* where it and its abbreviations stand in their sections */
-    u64 version, low, strings, addresses, ranges, locations; /* where its code begins, and its part of these sections */
-    abbreviation *codes;               /* these, by their codes; null until they are read */
+    const sections *in;
+    bytes whole;                       /* from its header on */
+    u64 begin, end, first;             /* its header and its first entry, as entries are counted */
+    u64 version, abbreviations;        /* where these stand in their section */
+    bases bases;
+    abbreviation *codes;               /* these, by their codes */
     u64 code_count, code_capacity;
+    unsigned offset_bytes;             /* of offsets into sections */
+    uint8_t has_bases, is_ready;       /* ready: these are read */
 } unit;
-/* An entry of the debug information. Offsets are in the section, and 0 where there is no such thing. */
+/* An entry of the debug information. Offsets of entries count through all units, and are 0 where there is no such thing. */
 typedef struct {
+    const unit *in;
     u64 tag, next, sibling, type, specification, size, count, place, address;    /* count: of an array's elements; 0: not known */
     u64 origin, low, high, ranges, locations;                /* of code: from `low`, up to before `high` */
-    u64 bases[4];                      /* of a unit: strings, addresses, ranges, locations */
     bytes name, location, frame_base;
     uint8_t has_children, has_place, has_bits, has_ranges, has_locations;
 } entry;
-typedef struct { u32 unit; u64 type; } typed;
 typedef struct { char *type, *rest; } named_part;            /* "Account", ".balance"; null where there is no such type */
 struct members {
-    bytes info, abbreviations, strings, line_strings, string_offsets, addresses, ranges, locations;
-    unit *units;
-    u64 unit_count, unit_capacity;
+    sections main;
+    unit *units;                       /* in the order of their offsets */
+    u64 unit_count, unit_capacity, last_unit;                /* the last one is the one that was asked for last */
     map by_address, by_begin;          /* the numbers of variables, and of functions */
-    typed *variables, *functions;      /* of a function the type is its entry */
+    u64 *variables, *functions;        /* the type of a variable; the entry of a function */
     u64 variable_count, variable_capacity, function_count, function_capacity;
     map by_call, by_part;              /* the numbers of what calls allocate, and of what lies inside of that */
-    typed *calls;
+    u64 *calls;                        /* types */
     named_part *parts;
     u64 call_count, call_capacity, part_count, part_capacity;
     const char *unread;                /* what of it isn't read, or null */
-    int has_code, has_types;           /* does it tell of code, and of what a function gives? */
+    int has_code, has_types;           /* does it tell of code, and of types? */
 };
 
-void read_abbreviations(const struct members *m, unit *u);   /* before an entry of the unit is read */
-entry read_entry(const struct members *m, const unit *u, u64 offset);    /* a tag of 0 where there is none */
-u64 behind(const struct members *m, const unit *u, const entry *e, int depth);     /* where the entry behind it and its children begins */
-int covers(const struct members *m, const unit *u, const entry *e, u64 pc);        /* has it this code? */
-u64 plain_type(const struct members *m, const unit *u, u64 type);        /* without typedefs and qualifiers */
-entry type_at(const struct members *m, const unit *u, u64 type);         /* the same's entry */
-u64 size_of_type(const struct members *m, const unit *u, u64 type);      /* in bytes; 0 where it isn't known */
+/* entries.c: units, and their entries. */
+sections read_sections(bytes file);
+void read_units(struct members *m, sections *in);
+void forget_abbreviations(unit *u);    /* they are read again when an entry is */
+unit *unit_at(struct members *m, u64 offset);                /* that has this entry, or null */
+entry read_entry(struct members *m, u64 offset);             /* a tag of 0 where there is none */
+u64 behind(struct members *m, const entry *e, int depth);    /* where the entry behind it and its children begins */
+u64 numbered_address(const unit *u, u64 index);
+
+/* lists.c: ranges of code. */
+#define ANY_CODE (-1ull)
+typedef struct { u64 begin, end; bytes location; } range;
+int find_range(const unit *u, int has_locations, u64 offset, u64 pc, range *r);  /* of a list, the one that has this code; 0: none has */
+int covers(const entry *e, u64 pc);    /* has it this code? */
+
+/* members.c: types. */
+u64 plain_type(struct members *m, u64 type);                 /* without typedefs and qualifiers */
+entry type_at(struct members *m, u64 type);                  /* the same's entry */
+u64 size_of_type(struct members *m, u64 type);               /* in bytes; 0 where it isn't known */
 /* The member, or the base class, that has all of these bytes; a tag of 0 where there is none. */
-entry member_with(const struct members *m, const unit *u, const entry *of, u64 offset, u64 length);
+entry member_with(struct members *m, const entry *of, u64 offset, u64 length);
 
 /* A text that is written, and what is in it behind its last name: so many bytes. */
 typedef struct { char *at; size_t room; u64 rest; } text;
 void add_name(text *to, const char *before, const char *name, u64 rest);
-void add_members(const struct members *m, const unit *u, u64 type, u64 offset, u64 length, text *to);
+void add_members(struct members *m, u64 type, u64 offset, u64 length, text *to);

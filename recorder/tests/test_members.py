@@ -70,50 +70,6 @@ class Blocks(recorder.Case):
                         self.assertEqual({place: found.get(place) for place in wanted}, wanted)
 
 
-UNREAD = {("-g0",): "isn't there (no -g)", ("-g1",): "has no types (-g1)",
-          ("-g", "-gdwarf64"): "is in the 64-bit form (-gdwarf64)", ("-g", "-gsplit-dwarf"): "is in other files (-gsplit-dwarf)",
-          ("-g", "-gdwarf-4", "-gsplit-dwarf"): "isn't there (no -g, or -gsplit-dwarf)",
-          ("-g", "-fdebug-types-section"): "has types apart (-fdebug-types-section)",
-          ("-g", "-gdwarf-4", "-fdebug-types-section"): "has types apart (-fdebug-types-section)",
-          ("-gdwarf-3",): "is older than DWARF 4 or newer than 5"}
-
-
-class Forms(recorder.Case):
-    """Debug information as gcc writes it on demand: it is read, or a line says which isn't and why."""
-
-    def found(self, *options, work=lambda program: None):
-        """Whether the member has its name, and what is said of the debug information."""
-        source, program, record = self.folder / "st.c", self.folder / "st", self.folder / "app.rec"
-        source.write_text("#include <pthread.h>\nstruct pair { int a, b; } st;\nvoid *run(void *p) { st.b++; return p; }\n"
-                          "int main(void) {\n    pthread_t t;\n    pthread_create(&t, 0, run, 0);\n    st.b++;\n    return pthread_join(t, 0);\n}\n")
-        recorder.must(recorder.call("gcc", "-w", "-O1", "-fsanitize=thread", f"-B{recorder.BUILT}/lib/", *options, source, "-o", program,
-                                    cwd=self.folder))
-        work(program)
-        recorder.must(recorder.call(program, env=recorder.settings(record)))
-        answer = recorder.must(recorder.convert(record))
-        said = re.findall(rf"(?m)^shb-std: {program}: .*, for its debug information (.*)$", answer.stderr.decode())
-        return b"|w(st.b)|" in answer.stdout, said
-
-    def test_forms_that_are_read(self):
-        for options in (), ("-gdwarf-4",), ("-gz",), ("-flto",):
-            self.assertEqual(self.found("-g", *options), (True, []), options)
-
-    def test_forms_that_are_not_read_are_said(self):
-        for options, why in UNREAD.items():
-            self.assertEqual(self.found(*options), (False, [why]), options)
-
-    def test_a_file_of_its_own(self):
-        def apart(program, is_there):
-            own = program.with_suffix(".debug")
-            recorder.must(recorder.call("objcopy", "--only-keep-debug", program, own))
-            recorder.must(recorder.call("strip", "-g", program))
-            recorder.must(recorder.call("objcopy", f"--add-gnu-debuglink={own}", program))
-            if not is_there:
-                own.unlink()
-        self.assertEqual(self.found("-g", work=lambda program: apart(program, True)), (True, []))
-        self.assertEqual(self.found("-g", work=lambda program: apart(program, False)), (False, ["is in a file that isn't there (.gnu_debuglink)"]))
-
-
 class Damaged(recorder.Case):
     def record(self, program):
         """One in which two threads write pieces of many sizes of each variable of the program."""

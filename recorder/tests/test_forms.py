@@ -1,0 +1,105 @@
+"""Debug information in each form of it: names are read, or a line says of which module they aren't, and why."""
+
+import os
+import re
+import shutil
+import sys
+
+import recorder
+
+sys.path.insert(0, str(recorder.SOURCES.parent / "common"))
+from shb_common.stacks import Stacks  # noqa: E402
+
+
+class Names(recorder.Case):
+    """A static, an array, a block and a local have their names."""
+
+    def build(self, compiler, options):
+        library, program = recorder.BUILT / "lib", self.folder / "app"
+        linked = [f"-B{library}/"] if compiler == "g++" else ["-fno-sanitize-link-runtime", f"-L{library}", "-ltsan"]
+        flags = ["-w", "-O1", "-fsanitize=thread", "-pthread", *options]
+        recorder.must(recorder.call(compiler, *flags, "-c", recorder.PROGRAMS / "forms.cc", cwd=self.folder))
+        recorder.must(recorder.call(compiler, *flags, "forms.o", *linked, "-o", program, cwd=self.folder))
+        return program
+
+    def found(self, program):
+        """By line, the names of what is written there; and what is said of the debug information."""
+        record, path, found = self.folder / "app.rec", self.folder / "app.stacks", {}
+        recorder.must(recorder.call(program, env=recorder.settings(record, SHB_CELLS="0")))
+        answer = recorder.must(recorder.convert(record, "-a", "--stacks", path))
+        lines = answer.stdout.splitlines()
+        stacks = Stacks(path, 0, len(lines))
+        for event, line in enumerate(lines, 1):
+            access = re.fullmatch(rb"[^|]*\|w\((.*?)\)\|(forms\.cc:\d+)", line)
+            if access:
+                name = stacks.local_of(access[1], event) or stacks.lasting_locals.get(access[1], access[1])
+                found.setdefault(access[2].decode(), set()).add(re.sub(r"[#~].*", "", name.decode()))
+        return found, re.findall(r", for its debug information (.*)\n", answer.stderr.decode())
+
+    def check(self, *options, compilers=("g++", "clang++"), work=lambda program: None):
+        wanted = recorder.marked(recorder.PROGRAMS / "forms.cc", "IS")
+        self.assertEqual(len(wanted), 5)
+        for compiler in compilers:
+            if shutil.which(compiler):
+                with self.subTest(compiler=compiler, options=options):
+                    program = self.build(compiler, options)
+                    work(program)
+                    found, said = self.found(program)
+                    self.assertEqual(({place: found.get(place) for place in wanted}, said), (wanted, []))
+
+    def test_versions(self):
+        for version in 4, 5:
+            self.check("-g", f"-gdwarf-{version}")
+
+    def test_compressed(self):
+        self.check("-g", "-gz")
+
+    def test_64_bits(self):
+        for version in 4, 5:
+            self.check(f"-gdwarf-{version}", "-gdwarf64")
+
+    def test_link_time_optimisation(self):
+        self.check("-g", "-flto", compilers=["g++"])
+        if shutil.which("ld.lld"):
+            for option in "-flto", "-flto=thin":
+                self.check("-g", option, "-fuse-ld=lld", compilers=["clang++"])
+
+
+UNREAD = {("-g0",): "isn't there (no -g)", ("-g1",): "has no types (-g1)",
+          ("-g", "-gsplit-dwarf"): "is in other files (-gsplit-dwarf)",
+          ("-g", "-gdwarf-4", "-gsplit-dwarf"): "isn't there (no -g, or -gsplit-dwarf)",
+          ("-g", "-fdebug-types-section"): "has types apart (-fdebug-types-section)",
+          ("-g", "-gdwarf-4", "-fdebug-types-section"): "has types apart (-fdebug-types-section)",
+          ("-gdwarf-3",): "is older than DWARF 4 or newer than 5"}
+
+
+class Said(recorder.Case):
+    """Debug information that isn't read, or only where a file is found."""
+
+    def found(self, *options, work=lambda program: None):
+        """Whether the member has its name, and what is said of the debug information."""
+        source, program, record = self.folder / "st.c", self.folder / "st", self.folder / "app.rec"
+        source.write_text("#include <pthread.h>\nstruct pair { int a, b; } st;\nvoid *run(void *p) { st.b++; return p; }\n"
+                          "int main(void) {\n    pthread_t t;\n    pthread_create(&t, 0, run, 0);\n    st.b++;\n    return pthread_join(t, 0);\n}\n")
+        recorder.must(recorder.call("gcc", "-w", "-O1", "-fsanitize=thread", f"-B{recorder.BUILT}/lib/", *options, source, "-o", program,
+                                    cwd=self.folder))
+        work(program)
+        recorder.must(recorder.call(program, env=recorder.settings(record)))
+        answer = recorder.must(recorder.convert(record))
+        said = re.findall(rf"(?m)^shb-std: {program}: .*, for its debug information (.*)$", answer.stderr.decode())
+        return b"|w(st.b)|" in answer.stdout, said
+
+    def test_forms_that_are_not_read_are_said(self):
+        for options, why in UNREAD.items():
+            self.assertEqual(self.found(*options), (False, [why]), options)
+
+    def test_a_file_of_its_own(self):
+        def apart(program, is_there):
+            own = program.with_suffix(".debug")
+            recorder.must(recorder.call("objcopy", "--only-keep-debug", program, own))
+            recorder.must(recorder.call("strip", "-g", program))
+            recorder.must(recorder.call("objcopy", f"--add-gnu-debuglink={own}", program))
+            if not is_there:
+                own.unlink()
+        self.assertEqual(self.found("-g", work=lambda program: apart(program, True)), (True, []))
+        self.assertEqual(self.found("-g", work=lambda program: apart(program, False)), (False, ["is in a file that isn't there (.gnu_debuglink)"]))
