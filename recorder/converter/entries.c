@@ -15,12 +15,13 @@ static int read_unit(struct members *m, sections *in, bytes *b) {
     u64 kind = u.version == DWARF5 ? fixed(&head, 1) : OF_CODE;
     if (u.version == DWARF5) skip(&head, 1);
     u.abbreviations = fixed(&head, u.offset_bytes);
-    if (u.version == DWARF4) skip(&head, 1);
+    if (u.version < DWARF5) skip(&head, 1);
     u.first = u.begin + (head.at - u.whole.at);
-    if (u.version != DWARF4 && u.version != DWARF5) m->unread = "is older than DWARF 4 or newer than 5";
+    int is_read = u.version >= DWARF3 && u.version <= DWARF5;
+    if (!is_read) m->unread = "is older than DWARF 3 or newer than 5";
     else if (kind == OF_TYPES) m->unread = "has types apart (-fdebug-types-section)";
     else if (kind == WITH_OTHER_FILE) m->unread = "is in other files (-gsplit-dwarf)";
-    if (head.is_bad || kind != OF_CODE || (u.version != DWARF4 && u.version != DWARF5)) return 1;
+    if (head.is_bad || kind != OF_CODE || !is_read) return 1;
     GROW(m->units, m->unit_count, m->unit_capacity);
     m->units[m->unit_count++] = u;
     return 1;
@@ -28,7 +29,7 @@ static int read_unit(struct members *m, sections *in, bytes *b) {
 
 sections read_sections(bytes file) {
     static const char *const names[] = {".debug_info", ".debug_abbrev", ".debug_str", ".debug_line_str", ".debug_str_offsets", ".debug_addr",
-                                        ".debug_rnglists", ".debug_loclists"};
+                                        ".debug_rnglists", ".debug_loclists", ".debug_ranges", ".debug_loc"};
     sections found = {0};
     for (int k = 0; k < SECTIONS; k++) found.of[k] = section_of(file, names[k]);
     return found;

@@ -1,7 +1,7 @@
-/* Lists of ranges of code, and of where a variable lies in each (DWARF 5). */
+/* Lists of ranges of code, and of where a variable lies in each. */
 #include "members.h"
 
-/* The next one; 0 at the end of the list, or where it can't be read. */
+/* The next one of DWARF 5; 0 at the end of the list, or where it can't be read. */
 static int next_range(const unit *u, bytes *b, u64 *base, int has_locations, range *r) {
     enum { BASE_NUMBER = 1, NUMBERS, NUMBER_LENGTH, OFFSETS, BASE, ADDRESSES, ADDRESS_LENGTH, ELSEWHERE = 5 };
     for (;;) {
@@ -21,13 +21,30 @@ static int next_range(const unit *u, bytes *b, u64 *base, int has_locations, ran
     }
 }
 
+/* The same of DWARF 3 and 4: begin and end, both 0 at the list's end; behind the greatest number stands another base. */
+static int next_older_range(bytes *b, u64 *base, int has_locations, range *r) {
+    for (;;) {
+        r->begin = fixed(b, 8);
+        r->end = fixed(b, 8);
+        if (b->is_bad || (!r->begin && !r->end)) return 0;
+        if (r->begin == -1ull) {
+            *base = r->end;
+            continue;
+        }
+        r->begin += *base;
+        r->end += *base;
+        if (has_locations) r->location = taken(b, fixed(b, 2));
+        return !b->is_bad;
+    }
+}
+
 /* The range of a list that has this code; 0 where none has. */
 int find_range(const unit *u, int has_locations, u64 offset, u64 pc, range *r) {
-    bytes b = u->in->of[has_locations ? LOCATIONS : RANGES];
+    int is_older = u->version < DWARF5;
+    bytes b = u->in->of[is_older ? has_locations ? OLDER_LOCATIONS : OLDER_RANGES : has_locations ? LOCATIONS : RANGES];
     u64 base = u->bases.low;
     skip(&b, offset);
-    if (b.is_bad || u->version != DWARF5) return 0;
-    while (next_range(u, &b, &base, has_locations, r))
+    while (is_older ? next_older_range(&b, &base, has_locations, r) : next_range(u, &b, &base, has_locations, r))
         if (pc == ANY_CODE || (pc >= r->begin && pc < r->end)) return 1;
     return 0;
 }

@@ -9,10 +9,10 @@ enum attribute { AT_SIBLING = 1, AT_LOCATION, AT_NAME, AT_BYTE_SIZE = 11, AT_BIT
                  AT_STRINGS_BASE = 114, AT_ADDRESSES_BASE, AT_RANGES_BASE, AT_LOCATIONS_BASE = 140 };
 enum { OP_ADDRESS = 3, OP_FRAME_POINTER = 86, OP_STACK_POINTER, OP_FROM_STACK_POINTER = 119, OP_FROM_FRAME_BASE = 145, OP_TOP = 156,
        OP_ADDRESS_NUMBER = 161 };
-enum { MOST_CODES = 1 << 16, MOST_DIMENSIONS = 8, MOST_STEPS = 64, DWARF4 = 4, DWARF5 };
+enum { MOST_CODES = 1 << 16, MOST_DIMENSIONS = 8, MOST_STEPS = 64, DWARF3 = 3, DWARF5 = 5 };
 
 /* The sections of debug information that tell of each other. */
-enum section { INFO, ABBREVIATIONS, STRINGS, LINE_STRINGS, STRING_OFFSETS, ADDRESSES, RANGES, LOCATIONS, SECTIONS };
+enum section { INFO, ABBREVIATIONS, STRINGS, LINE_STRINGS, STRING_OFFSETS, ADDRESSES, RANGES, LOCATIONS, OLDER_RANGES, OLDER_LOCATIONS, SECTIONS };
 typedef struct { bytes of[SECTIONS]; u64 begin; } sections;  /* and the offset of its first entry */
 typedef struct { u64 tag, has_children; bytes attributes; } abbreviation;
 /* What a unit's entry tells for all others: where its code begins, and its part of some sections. */

@@ -48,7 +48,7 @@ class Names(recorder.Case):
                     self.assertEqual(({place: found.get(place) for place in wanted}, said), (wanted, []))
 
     def test_versions(self):
-        for version in 4, 5:
+        for version in 3, 4, 5:
             self.check("-g", f"-gdwarf-{version}")
 
     def test_compressed(self):
@@ -70,7 +70,7 @@ UNREAD = {("-g0",): "isn't there (no -g)", ("-g1",): "has no types (-g1)",
           ("-g", "-gdwarf-4", "-gsplit-dwarf"): "isn't there (no -g, or -gsplit-dwarf)",
           ("-g", "-fdebug-types-section"): "has types apart (-fdebug-types-section)",
           ("-g", "-gdwarf-4", "-fdebug-types-section"): "has types apart (-fdebug-types-section)",
-          ("-gdwarf-3",): "is older than DWARF 4 or newer than 5"}
+          ("-gdwarf-2",): "is older than DWARF 3 or newer than 5"}
 
 
 class Said(recorder.Case):

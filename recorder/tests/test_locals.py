@@ -35,19 +35,19 @@ def of_events(path, trace):
 
 
 class Programs(recorder.Case):
-    def recorded(self, compiler, option, source):
+    def recorded(self, compiler, option, source, *options):
         """The record of a program."""
         program, record = self.folder / "app", self.folder / "app.rec"
         library = recorder.BUILT / "lib"
         linked = [f"-B{library}/"] if compiler == "gcc" else ["-fno-sanitize-link-runtime", f"-L{library}", "-ltsan"]
-        recorder.must(recorder.call(compiler, "-w", "-g", option, "-fsanitize=thread", "-pthread", recorder.PROGRAMS / source, *linked,
+        recorder.must(recorder.call(compiler, "-w", "-g", option, *options, "-fsanitize=thread", "-pthread", recorder.PROGRAMS / source, *linked,
                                     "-o", program))
         recorder.must(recorder.call(program, env=recorder.settings(record, SHB_CELLS="0")))
         return record
 
-    def found(self, compiler, option):
+    def found(self, compiler, option, *options):
         """By line, the names of what it accesses."""
-        record, path = self.recorded(compiler, option, "locals.c"), self.folder / "app.stacks"
+        record, path = self.recorded(compiler, option, "locals.c", *options), self.folder / "app.stacks"
         names = {}
         for place, name in of_events(path, recorder.must(recorder.convert(record, "-a", "--stacks", path)).stdout):
             names.setdefault(place, set()).add(name)
@@ -93,6 +93,15 @@ class Programs(recorder.Case):
             for place, names in wanted.items():
                 with self.subTest(option=option, place=place):
                     self.assertEqual(found.get(place), names)
+
+    def test_older_lists_of_locations(self):
+        """They tell the same as those of DWARF 5."""
+        for compiler in "gcc", "clang":
+            if shutil.which(compiler):
+                newest = self.found(compiler, "-O2", "-gdwarf-5")
+                for version in 3, 4:
+                    with self.subTest(compiler=compiler, version=version):
+                        self.assertEqual(self.found(compiler, "-O2", f"-gdwarf-{version}"), newest)
 
     def test_by_clang(self):
         """It doesn't tell of each where it lies, and may have no hooks for members; a part of one may be a variable of its own."""
