@@ -61,9 +61,6 @@ class Run:
     def __enter__(self):
         return self
 
-    def __exit__(self, *_):
-        self.close()
-
     def answer(self):
         """Waits for the end. What it writes to a pipe isn't read any more."""
         if self.out:
@@ -73,7 +70,7 @@ class Run:
         self.said.seek(0)
         return Answer(self.process.returncode, self.said.read(MOST_SAID), usage.ru_utime + usage.ru_stime, usage.ru_maxrss)
 
-    def close(self):
+    def __exit__(self, *_):
         """Ends the command where it still runs."""
         if self.out:
             self.out.close()

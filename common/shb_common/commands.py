@@ -5,14 +5,16 @@ import os
 import sys
 
 from shb_common.printable import printable
-from shb_common.version import version_of, with_version
+from shb_common.version import installed
 
 
 class Parser(argparse.ArgumentParser):
-    """The words of a command: what it is about, its options, and notes below these. Wrong words end it with `status`."""
+    """The words of a command: what it is about, its options, and notes below these, with what is installed. Wrong words end it with
+    `status`."""
 
     def __init__(self, command, about, notes, status=3, **more):
-        super().__init__(prog=command, description=about, epilog=with_version(notes), formatter_class=argparse.RawDescriptionHelpFormatter, **more)
+        notes = f"{notes.rstrip()}\n\nshb {installed()}\n" if installed() else notes
+        super().__init__(prog=command, description=about, epilog=notes, formatter_class=argparse.RawDescriptionHelpFormatter, **more)
         self.status = status
 
     def error(self, message):
@@ -21,7 +23,7 @@ class Parser(argparse.ArgumentParser):
 
     def parsed(self, words):
         """The options of these words."""
-        self.add_argument("--version", action="version", version=version_of(self.prog), help="say of which package this is")
+        self.add_argument("--version", action="version", version=f"{self.prog} {installed() or 'of a checkout'}", help="say of which package this is")
         if any("\0" in word for word in words):
             self.error("a word has a NUL")
         return self.parse_args(words)

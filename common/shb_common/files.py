@@ -54,12 +54,8 @@ def put(path, text, room=None):
 
 def put_file(new, path):
     """Puts a finished file in place."""
-    os.chmod(new, 0o666 & ~mask_of_new_files())
-    pathlib.Path(path).parent.mkdir(parents=True, exist_ok=True)
-    os.replace(new, path)
-
-
-def mask_of_new_files():
     mask = os.umask(0)
     os.umask(mask)
-    return mask
+    os.chmod(new, 0o666 & ~mask)
+    pathlib.Path(path).parent.mkdir(parents=True, exist_ok=True)
+    os.replace(new, path)

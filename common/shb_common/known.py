@@ -17,7 +17,7 @@ from shb_common.files import read_at_most
 from shb_common.printable import printable
 from shb_common.refused import MARK
 
-STAR = re.compile(rb"\\\*|\*")
+STAR = re.compile(rb"(?<!\\)\*")
 MOST_BYTES = 64 << 20       # of a file of known places
 MOST_OFFSETS = 4            # of one block or object, that are written one by one
 MOST_STALE = 20             # lines that are said to match nothing
@@ -147,14 +147,7 @@ def lines_of(places):
 
 def pieces_of(text):
     """What stands before, between and after the stars of a field."""
-    pieces, start = [b""], 0
-    for found in STAR.finditer(text):
-        pieces[-1] += text[start:found.start()]
-        pieces += [b""] if found[0] == b"*" else []
-        pieces[-1] += b"*" if found[0] != b"*" else b""
-        start = found.end()
-    pieces[-1] += text[start:]
-    return tuple(pieces)
+    return tuple(piece.replace(b"\\*", b"*") for piece in STAR.split(text))
 
 
 def matches(pieces, text):
@@ -183,7 +176,7 @@ def side_in(field):
 
 def words_of_old(known):
     """What is said of lines that name no variable."""
-    old = known.of_every_variable()
+    old = [line for line in known.lines if line.variable is None]
     if old:
         more = f" and {len(old) - 1:,} more" if len(old) > 1 else ""
         yield f"line {old[0].number}{more}: no variable is named, so every variable there is known; a third field names one"
@@ -268,7 +261,3 @@ class Known:
     def stale(self):
         """The lines that nothing matched so far."""
         return [line for number, line in enumerate(self.lines) if number not in self.used]
-
-    def of_every_variable(self):
-        """The lines that name no variable."""
-        return [line for line in self.lines if line.variable is None]

@@ -11,13 +11,3 @@ def installed():
         return FILE.read_text().strip()
     except FileNotFoundError:
         return None
-
-
-def version_of(command):
-    """What `--version` of a command prints."""
-    return f"{command} {installed() or 'of a checkout'}"
-
-
-def with_version(text):
-    """A help text with a last line that says what is installed; as it is in a checkout."""
-    return f"{text.rstrip()}\n\nshb {installed()}\n" if installed() else text
