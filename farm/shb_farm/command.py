@@ -8,7 +8,6 @@ import shutil
 import signal
 import sys
 import traceback
-import typing
 
 from shb_common import known
 from shb_common.commands import Parser, number
@@ -72,13 +71,6 @@ Environment:
 """
 
 
-class Farm(typing.NamedTuple):
-    engine: str
-    jobs: int
-    memory: typing.List[int]    # the MiB of each pass
-    sbatch: typing.List[str]    # further words
-
-
 def arguments(words):
     parser = Parser("shb-farm", ABOUT, NOTES)
     parser.add_argument("--known", metavar="FILE", help="places to pass over")
@@ -120,11 +112,9 @@ def numbers(text):
     return sorted(map(number(1), text.split(",")))
 
 
-def memory_of(options):
-    """The MiB of each pass."""
-    if options.memory:
-        return options.memory
-    if options.engine == "slurm":
+def memory_of(engine):
+    """The MiB of each pass, where none were asked for."""
+    if engine == "slurm":
         return [256, 1024, 4096, 16384]
     most = limits.memory_of_this_machine()
     return [mib for mib in (256, 1024, 4096) if mib < most] + [most]
@@ -161,21 +151,16 @@ def known_in(path):
     return found
 
 
-def check_sources(folder):
-    if folder and not os.path.isdir(folder):
-        raise Refused(f"{folder}: no such folder of sources")
-
-
-def run_passes(farm, work, names, outside=()):
+def run_passes(options, work, names, outside=()):
     """Runs the traces of these names, and gives how each ended. A trace begins with the first pass that has room for its size,
     and goes on to the next where it ran out of memory or got no outcome. `outside` are links that aren't followed."""
-    last = work._replace(memory=farm.memory[-1])
+    last = work._replace(memory=options.memory[-1])
     endings = {name: merging.ending_of(last, name, outside) for name in names}
-    for memory in farm.memory:
+    for memory in options.memory:
         now = work._replace(memory=memory, last=memory == last.memory)
         waiting = waiting_for(now, endings, memory == last.memory)
         if waiting:
-            engines.run_pass(now._replace(names=waiting), farm)
+            engines.run_pass(now._replace(names=waiting), options)
             endings.update((name, merging.ending_of(last, name)) for name in waiting)
     return endings
 
@@ -188,11 +173,11 @@ def waiting_for(work, endings, is_last):
     return sorted(found, key=lambda name: -endings[name].size)
 
 
-def with_reports(farm, work, rows):
+def with_reports(options, work, rows):
     """The rows of places, those that aren't known with the full report of their example."""
     examples = sorted({row.example for row in rows if not row.is_known})
     full = work._replace(form=passes.FULL)
-    endings = run_passes(farm, full, examples)
+    endings = run_passes(options, full, examples)
     return [row if row.is_known else row._replace(report=report_of(full, row.example, endings[row.example])) for row in rows]
 
 
@@ -205,17 +190,18 @@ def report_of(work, name, ending):
 
 def run(options):
     """Runs the farm, writes its tables, and gives the status."""
-    check_sources(options.source)
+    if options.source and not os.path.isdir(options.source):
+        raise Refused(f"{options.source}: no such folder of sources")
     known_places, earlier = known_in(options.known), since.read(options.since) if options.since else None
-    farm = Farm(options.engine, options.jobs, memory_of(options), options.sbatch)
+    options.memory = options.memory or memory_of(options.engine)
     with passes.room_in(os.path.realpath(options.out)) as room:
         work = pass_of(options, room)
         names, outside = traces.names_in(work.traces, work.out, work.links)
         if not names:
             raise Refused(f"{options.traces}: there is no trace in this folder and below (NAME.std, NAME.std.gz or NAME.std.xz)")
-        endings, calls = run_passes(farm, work, names, outside), Calls(work.traces)
+        endings, calls = run_passes(options, work, names, outside), Calls(work.traces)
         rows, files = merging.rows_of(endings, known_places, calls)
-        rows = with_reports(farm, work, rows)
+        rows = with_reports(options, work, rows)
         found = found_of(options, rows, endings, known_places, len(calls.damaged), earlier)
         for words in known.words_of_stale(found.stale, files):
             engines.say(f"{options.known}, {words}")

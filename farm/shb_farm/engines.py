@@ -29,10 +29,10 @@ LOOK_SECONDS = 0.2
 MANY = 100              # traces of a pass, of which some words are said meanwhile
 
 
-def run_xargs(work, path, farm):
+def run_xargs(work, path, options):
     """Runs a pass here, as many traces at once as there are processors and memory for."""
     count = len(work.names)
-    at_once = max(1, min(farm.jobs, count, limits.free_memory() // work.memory))
+    at_once = max(1, min(options.jobs, count, limits.free_memory() // work.memory))
     jobs = min(count, max(8 * at_once, count // TRACES_A_JOB))
     say(f"{counted(count, 'trace')} with {work.memory} MiB each, {at_once} at once")
     numbers = "".join(f"{number}\n" for number in range(jobs))
@@ -40,7 +40,7 @@ def run_xargs(work, path, farm):
     run_group(words, numbers, Watch(work))
 
 
-def run_slurm(work, path, farm):
+def run_slurm(work, path, options):
     """Runs a pass as one job array, and waits for its end."""
     count = len(work.names)
     tasks = min(count, MOST_TASKS, max(100, count // TRACES_A_JOB))
@@ -49,7 +49,7 @@ def run_slurm(work, path, farm):
     job = shlex.join([*JOB, path, str(tasks)])
     words = ["sbatch", "--parsable", "--requeue", f"--job-name=shb-farm-{work.memory}", f"--array=0-{tasks - 1}", "--ntasks=1",
              "--cpus-per-task=1", f"--mem={work.memory + BESIDE_MIB}", "--open-mode=append", f"--output={log}/%A_%a",
-             *farm.sbatch, "--wrap", f"exec {job}"]
+             *options.sbatch, "--wrap", f"exec {job}"]
     status, said, why = call(words)
     if status:
         say(f"sbatch ended with status {status}: {why.strip()}")
@@ -128,9 +128,6 @@ class Watch:
             say(f"{done:,} of {counted(self.whole, 'trace')} done")
         self.said = max(self.said, tenth)
 
-    def clear(self):
-        self.progress.clear()
-
 
 def run_group(words, given, watch):
     """Runs a command with all that it starts in a process group of its own, which ends with this process, however that ends."""
@@ -154,13 +151,13 @@ def run_group(words, given, watch):
         started.wait()
         raise
     finally:
-        watch.clear()
+        watch.progress.clear()
 
 
-def run_pass(work, farm):
+def run_pass(work, options):
     """Runs a pass to its end with the engine that was asked for."""
     path = passes.write(work)
-    ENGINES[farm.engine](work, path, farm)
+    ENGINES[options.engine](work, path, options)
     os.unlink(path)
 
 

@@ -47,13 +47,6 @@ def make_outcome(work, name):
     return new.kind
 
 
-def note_done(work):
-    """Counts a trace as done, for who watches the pass."""
-    number = os.open(pathlib.Path(work.room) / passes.DONE, os.O_WRONLY | os.O_APPEND | os.O_CREAT, 0o666)
-    os.write(number, b".")
-    os.close(number)
-
-
 def main(words):
     end_with(os.getppid())
     if len(words) > 2 and not has_parent_in_session():     # what started it is of its session, and has ended already
@@ -68,7 +61,8 @@ def main(words):
         except (OSError, running.NotHere) as fault:
             kind = "failed"
             print(f"shb-farm: {name}: {words_of(fault)}", file=sys.stderr)
-        note_done(work)
+        with open(pathlib.Path(work.room) / passes.DONE, "ab") as done:
+            done.write(b".")    # counted by who watches the pass
         if kind == "failed":
             status = 1
     return status

@@ -96,23 +96,14 @@ def outcome_path(out, form, name):
     return pathlib.Path(out) / FOLDER_OF[form] / f"{key_of(name)}.outcome"
 
 
-def report_path(out, name):
-    return pathlib.Path(out) / FOLDER_OF[FULL] / f"{key_of(name)}.report"
-
-
 def found_path(out, name):
     """What the view says of the places of a trace."""
     return pathlib.Path(out) / FOLDER_OF[FULL] / f"{key_of(name)}.json"
 
 
-def scan_path(out, name):
-    """What `shb scan` writes of a trace that is too long for a report."""
-    return pathlib.Path(out) / FOLDER_OF[FULL] / f"{key_of(name)}.scan"
-
-
 def kept_path(out, name, words):
-    """What was kept of a trace whose outcome has these words in a pass for full reports."""
-    return (scan_path if words.startswith(SCAN) else report_path)(out, name)
+    """What was kept of a trace whose outcome has these words in a pass for full reports: a report, or a scan where it is too long."""
+    return pathlib.Path(out) / FOLDER_OF[FULL] / f"{key_of(name)}.{'scan' if words.startswith(SCAN) else 'report'}"
 
 
 def stands(outcome, work, name, stamp):

@@ -33,32 +33,26 @@ def analysed(work, name, trace):
 def analysed_text(work, name, trace):
     """The same of a trace that isn't packed."""
     if os.fstat(trace.fileno()).st_size <= MOST_TEXT:
-        end, places = report_of(work, name, trace)
+        end, places = kept(work, name, trace, work.form, Report)
         if end.kind != "refused" or not end.words.endswith(refused.LIMITS):
             return end, places
-    return scan_of(work, name, trace)
+    end, places = kept(work, name, trace, passes.SCAN, Scan)
+    return end._replace(words=f"{end.words}; {SCANNED}") if end.kind == "report" and work.form != passes.FULL else end, places
 
 
-def report_of(work, name, trace):
-    """The same by the report of a trace. A full one is put in place, with what the view says of the trace."""
-    with temporary_file(work.room) as (report, new):
-        end, places = written(work, work.form, trace, report, Report)
-        if end.kind == "report" and work.form == passes.FULL:
-            if work.view:
-                put_found(work, trace, new, name)
-            put_file(new, passes.report_path(work.out, name))
-            return End("report", str(os.fstat(report.fileno()).st_size)), []
-        return end, places
-
-
-def scan_of(work, name, trace):
-    """The same by its scan, which has no schedules. It is put in place of a full report."""
-    with temporary_file(work.room) as (scan, new):
-        end, places = written(work, passes.SCAN, trace, scan, Scan)
-        if end.kind == "report" and work.form == passes.FULL:
-            put_file(new, passes.scan_path(work.out, name))
-            return End("report", f"scan {os.fstat(scan.fileno()).st_size}"), []
-        return end._replace(words=f"{end.words}; {SCANNED}") if end.kind == "report" else end, places
+def kept(work, name, trace, form, read):
+    """The same by the report of a trace, or by its scan, which has no schedules. In a pass for full reports it is put in place, a report
+    with what the view says of the trace."""
+    with temporary_file(work.room) as (out, new):
+        end, places = written(work, form, trace, out, read)
+        if end.kind != "report" or work.form != passes.FULL:
+            return end, places
+        if work.view and read is Report:
+            put_found(work, trace, new, name)
+        size = os.fstat(out.fileno()).st_size
+        words = f"{passes.SCAN} {size}" if read is Scan else str(size)
+        put_file(new, passes.kept_path(work.out, name, words))
+        return End("report", words), []
 
 
 def written(work, form, trace, out, read):
@@ -76,12 +70,8 @@ def written(work, form, trace, out, read):
         return End("failed", f"`shb` wrote no whole report: {fault}"), []
     except analyser.Failed as fault:
         return running.end_of(work, fault.answer.status, fault.answer.words, work.size), []
-    return End("report", f"{counts}; {MARKED}" if is_marked(trace) else counts), places
-
-
-def is_marked(trace):
-    """Whether a trace begins with a byte order mark, which some editors write."""
-    return os.pread(trace.fileno(), len(refused.MARK), 0) == refused.MARK
+    is_marked = os.pread(trace.fileno(), len(refused.MARK), 0) == refused.MARK
+    return End("report", f"{counts}; {MARKED}" if is_marked else counts), places
 
 
 def places_of(work, form, trace, read):

@@ -51,7 +51,8 @@ def read(path):
         found = json.loads(text)
         if found["form"] != result.FORM or found["version"] != result.VERSION:
             raise ValueError(f"it isn't of form {result.FORM}, version {result.VERSION}")
-        return [(keys_of_entry(entry), gone_of(entry)) for entry in found["places"]]
+        return [(keys_of_entry(entry), [*(access["location"] for access in entry["accesses"]), ", ".join(one["name"] for one in entry["variables"])])
+                for entry in found["places"]]
     except (ValueError, KeyError, TypeError, AttributeError, RecursionError) as fault:
         said = str(fault) if isinstance(fault, ValueError) else "a part of it is missing, or of another kind"
         raise Refused(f"{printable(os.fsencode(path))}: {said}") from None
@@ -69,10 +70,6 @@ def side_of(access):
     file, _ = parts_of(name)
     functions = sorted(function.encode("utf-8", "surrogatepass") for function in access["functions"])
     return known.side_of(name, [b"%b:%b%b" % (file, function, known.CALL) for function in functions])
-
-
-def gone_of(entry):
-    return [access["location"] for access in entry["accesses"]] + [", ".join(one["name"] for one in entry["variables"])]
 
 
 def compared(name, earlier, rows):

@@ -58,11 +58,6 @@ def traces_table(endings):
     return b"".join(lines)
 
 
-def facts_table(facts):
-    """A line for each fact: its name and its number."""
-    return "".join(f"{name}\t{count}\n" for name, count in facts.items()).encode()
-
-
 def why(ending):
     """Why a trace has no report, for a reader."""
     return {"memory": f"out of memory in {ending.words} MiB", "time": f"not done in {ending.words} s of processor time",
@@ -71,9 +66,7 @@ def why(ending):
 
 def note_of(ending):
     """What a reader must know of a trace that has a report; nothing mostly."""
-    if ending.kind != "report":
-        return ""
-    return ending.words.partition("; ")[2]
+    return ending.words.partition("; ")[2] if ending.kind == "report" else ""
 
 
 def aligned(lines):
@@ -96,11 +89,10 @@ def text(found):
         lines += ["", *aligned([head, *table])]
     if found.since and found.since.gone:
         lines += ["", *aligned([[b"gone", *map(os.fsencode, gone)] for gone in found.since.gone])]
-    lost = [(name, ending) for name, ending in endings.items() if ending.kind != "report"]
+    lost = [[b"missing" if ending.kind == "missing" else b"refused", field(name), field(why(ending))]
+            for name, ending in endings.items() if ending.kind != "report"]
     if lost:
-        words = ["missing" if ending.kind == "missing" else "refused" for _, ending in lost]
-        table = [[field(word), field(name), field(why(ending))] for word, (name, ending) in zip(words, lost)]
-        lines += ["", *aligned(table)]
+        lines += ["", *aligned(lost)]
     noted = [[b"report", field(name), field(note_of(ending))] for name, ending in endings.items() if note_of(ending)]
     if noted:
         lines += ["", *aligned(noted)]
@@ -140,7 +132,8 @@ def notification_of(name, ending):
 def write(out, room, found, sources, stacks):
     """Writes all tables, each whole, and gives the text. `sources` has the files that locations name, `stacks` the call stacks."""
     said, entries = text(found), calls.entries_of(found.rows, out)
-    for name, content in (("places.tsv", places_table(found)), ("traces.tsv", traces_table(found.endings)), ("facts.tsv", facts_table(found.facts)),
+    facts = "".join(f"{name}\t{count}\n" for name, count in found.facts.items()).encode()
+    for name, content in (("places.tsv", places_table(found)), ("traces.tsv", traces_table(found.endings)), ("facts.tsv", facts),
                           ("unknown.places", unknown_places(found.rows)), ("places.txt", said.encode("utf-8", "surrogateescape")),
                           ("places.json", document(found, entries)),
                           ("places.sarif", log(found, sources, entries, stacks.accesses_of(found.rows, out)))):

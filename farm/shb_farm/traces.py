@@ -5,14 +5,11 @@ import errno
 import gzip
 import lzma
 import os
-import resource
 import signal
 import zlib
 
 from shb_common.files import temporary_file
-from shb_farm.children import end_with
-from shb_farm.limits import MIB
-from shb_farm.running import METER, End, check_machine
+from shb_farm.running import METER, End, check_machine, set_limits
 
 SUFFIXES = (".std", ".std.gz", ".std.xz")
 OPENERS = {".gz": gzip.open, ".xz": lzma.open}
@@ -83,8 +80,7 @@ def unpack(opener, trace, text, work):
     child = os.fork()
     if not child:
         try:
-            end_with(parent)
-            set_limits(work)
+            set_limits(work._replace(memory=UNPACKING_MIB), parent)
             status, said = unpack_here(opener, trace, text)
             os.write(into, said.encode("utf-8", "backslashreplace"))
             os._exit(status)
@@ -103,12 +99,6 @@ def unpack(opener, trace, text, work):
         raise BadPacking(End("size", str(work.size)))
     if os.WEXITSTATUS(status) != WHOLE:
         raise BadPacking(End("refused", f"it can't be unpacked: {words}"))
-
-
-def set_limits(work):
-    resource.setrlimit(resource.RLIMIT_CORE, (0, 0))
-    for name, limit in ((resource.RLIMIT_AS, UNPACKING_MIB * MIB), (resource.RLIMIT_FSIZE, work.size * MIB), (resource.RLIMIT_CPU, work.seconds)):
-        resource.setrlimit(name, (limit, resource.getrlimit(name)[1]))
 
 
 def unpack_here(opener, trace, text):
