@@ -71,6 +71,9 @@ class Run:
         return Answer(self.process.returncode, self.said.read(MOST_SAID), usage.ru_utime + usage.ru_stime, usage.ru_maxrss)
 
     def __exit__(self, *_):
+        self.close()
+
+    def close(self):
         """Ends the command where it still runs."""
         if self.out:
             self.out.close()
