@@ -14,6 +14,7 @@ import program
 import shb
 from viewing import EXAMPLES, VIEW, run, run_here, settings
 
+from shb_common import standard
 from shb_view import output
 
 TRACE = EXAMPLES / "fork-join.std"
@@ -323,7 +324,9 @@ class Files(Fake):
         self.addCleanup(resource.setrlimit, resource.RLIMIT_FSIZE, limit)
         with self.assertRaises(OSError) as fault, output.new_file(str(page), []) as out:
             resource.setrlimit(resource.RLIMIT_FSIZE, (4096, limit[1]))
-            output.write_parts(out, [b"a" * 3000] * 5, "the page")
+            with standard.faults_of("the page"):
+                out.writelines([b"a" * 3000] * 5)
+                out.flush()
         self.assertEqual((fault.exception.filename, fault.exception.strerror), ("the page", "File too large"))
         self.assertEqual(list(self.folder.iterdir()), [page])
 

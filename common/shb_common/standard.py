@@ -1,5 +1,6 @@
 """Standard input, output and error, and what is said of a fault of the system."""
 
+import contextlib
 import os
 import sys
 
@@ -24,6 +25,28 @@ def open_standard_files():
 def leave_standard_output():
     """After a fault of standard output: else Python tries again at its end, in words and with a status of its own."""
     os.dup2(os.open(os.devnull, os.O_WRONLY), sys.stdout.fileno())
+
+
+@contextlib.contextmanager
+def faults_of(name):
+    """Faults of the system are said with this name of a file."""
+    try:
+        yield
+    except OSError as fault:
+        raise OSError(fault.errno, fault.strerror, name) from None
+
+
+def write_texts(texts, out):
+    """Writes texts to standard output or error one after the other, whatever signs they have."""
+    out.reconfigure(errors="backslashreplace")
+    try:
+        with faults_of("standard output" if out is sys.stdout else "standard error"):
+            out.writelines(texts)
+            out.flush()
+    except OSError:
+        if out is sys.stdout:
+            leave_standard_output()
+        raise
 
 
 def words_of(fault):

@@ -12,7 +12,7 @@ import traceback
 from shb_common import known
 from shb_common.commands import Parser, number
 from shb_common.faults import Refused
-from shb_common.standard import leave_standard_output, open_standard_files, words_of
+from shb_common.standard import open_standard_files, words_of, write_texts
 from shb_farm import engines, files, limits, merging, passes, since, tables, traces
 from shb_farm.calls import Calls
 from shb_farm.sources import Sources
@@ -205,7 +205,7 @@ def run(options):
         found = found_of(options, rows, endings, known_places, len(calls.damaged), earlier)
         for words in known.words_of_stale(found.stale, files):
             engines.say(f"{options.known}, {words}")
-        write_out(tables.write(pathlib.Path(work.out), room, found, Sources(options.source), calls))
+        write_texts([tables.write(pathlib.Path(work.out), room, found, Sources(options.source), calls)], sys.stdout)
         return found.status
 
 
@@ -217,17 +217,8 @@ def found_of(options, rows, endings, known_places, damaged, earlier):
     return tables.Found(rows, endings, facts, stale, compared, merging.status_of(facts, options.fail_on_stale))
 
 
-def write_out(text):
-    try:
-        print(text, end="", flush=True)
-    except OSError as fault:
-        leave_standard_output()
-        raise OSError(fault.errno, fault.strerror, "standard output") from None
-
-
 def main(words):
     open_standard_files()
-    sys.stdout.reconfigure(errors="backslashreplace")
     sys.stderr.reconfigure(errors="backslashreplace")
     for name in (signal.SIGTERM, signal.SIGHUP):
         signal.signal(name, lambda number, frame: sys.exit(128 + number))

@@ -83,9 +83,9 @@ def text(found):
              f"places {facts['places']} unknown {facts['unknown']} known {facts['known']}"]
     lines += [f"since {found.since.name}: new {facts['new']} gone {facts['gone']} same {facts['same']}"] if found.since else []
     if rows:
-        head = [b"traces", b"state", b"first", b"second", b"variables", b"example", *[b"since"] * bool(found.since)]
+        head = [b"traces", b"state", b"first", b"second", b"variables", b"example", *([b"since"] if found.since else [])]
         table = [[b"%d" % row.traces, field(row.state()), *row.names, variables_of(row), field(row.example),
-                  *[field(found.since.state_of(row)) for _ in [0] if found.since]] for row in rows]
+                  *([field(found.since.state_of(row))] if found.since else [])] for row in rows]
         lines += ["", *aligned([head, *table])]
     if found.since and found.since.gone:
         lines += ["", *aligned([[b"gone", *map(os.fsencode, gone)] for gone in found.since.gone])]

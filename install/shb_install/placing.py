@@ -13,6 +13,7 @@ import shutil
 import typing
 
 from shb_common.faults import Refused
+from shb_common.standard import faults_of
 
 LISTED = "lib/shb/installed"
 FOLDER = "/"                # the last sign of a line that names a folder
@@ -120,19 +121,12 @@ def put(tree, name, place):
     if source.is_symlink():
         target = place / os.path.relpath(source.parent / os.readlink(source), tree)
         target.parent.mkdir(parents=True, exist_ok=True)
-        new.symlink_to(os.path.relpath(real(target), os.path.realpath(new.parent)))
+        real = os.path.join(os.path.realpath(target.parent), target.name)
+        new.symlink_to(os.path.relpath(real, os.path.realpath(new.parent)))
         return
-    try:
-        with open(source, "rb") as content, open(new, "xb") as file:
-            shutil.copyfileobj(content, file)
-    except OSError as fault:
-        raise OSError(fault.errno, fault.strerror, str(place / name)) from None     # a full disk names no file
+    with faults_of(str(place / name)), open(source, "rb") as content, open(new, "xb") as file:
+        shutil.copyfileobj(content, file)   # a full disk names no file
     new.chmod(0o755 if os.access(source, os.X_OK) else 0o644)
-
-
-def real(path):
-    """A file's path without links in the folders that lead to it."""
-    return os.path.join(os.path.realpath(path.parent), path.name)
 
 
 def remove(path):

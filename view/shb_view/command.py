@@ -9,9 +9,9 @@ from shb_common.commands import Parser
 from shb_common.faults import Refused
 from shb_common.progress import Progress
 from shb_common.report import BadReport
-from shb_common.standard import leave_standard_output, open_standard_files, words_of
+from shb_common.standard import faults_of, open_standard_files, words_of, write_texts
 from shb_view import result, text
-from shb_view.output import new_file, write_parts
+from shb_view.output import new_file
 from shb_view.page import page_parts
 from shb_view.stacks import Damaged
 from shb_view.view import make_view
@@ -66,28 +66,19 @@ def show(options, progress, out):
     with new_file(options.html, inputs) if options.html else contextlib.nullcontext() as page:
         view = make_view(options, progress)
         if page:
-            write_parts(page, map(str.encode, page_parts(view)), options.html)
+            with faults_of(options.html):
+                page.writelines(map(str.encode, page_parts(view)))
     if options.json:
-        with new_file(options.json, inputs) as file:
-            write_parts(file, [result.document(view)], options.json)
+        with new_file(options.json, inputs) as file, faults_of(options.json):
+            file.write(result.document(view))
     progress.clear()
     if wants_text:
-        write_text(text.text_lines(view, text.Colours(is_coloured(out)), options.all), out)
+        write_texts((f"{line}\n" for line in text.text_lines(view, text.Colours(is_coloured(out)), options.all)), out)
     return 1 if view.verdict.is_good is False else 0
 
 
 def is_coloured(out):
     return out.isatty() and not os.environ.get("NO_COLOR") and os.environ.get("TERM") != "dumb"
-
-
-def write_text(lines, out):
-    out.reconfigure(errors="backslashreplace")
-    try:
-        write_parts(out, (f"{line}\n" for line in lines), "standard output")
-    except OSError:
-        if out is sys.stdout:
-            leave_standard_output()
-        raise
 
 
 def explain(words, program, out, **how):

@@ -6,6 +6,7 @@ import stat
 
 from shb_common.faults import Refused
 from shb_common.files import put_file, temporary_file
+from shb_common.standard import faults_of
 from shb_view.names import readable
 
 
@@ -18,21 +19,9 @@ def new_file(path, inputs):
     if os.path.exists(path) and not stat.S_ISREG(os.stat(path).st_mode):
         raise Refused(f"{readable(os.fsencode(path))} isn't a regular file")
     with contextlib.ExitStack() as stack:
-        try:
+        with faults_of(path):
             out, new = stack.enter_context(temporary_file(os.path.dirname(os.path.abspath(path))))
-        except OSError as fault:
-            raise OSError(fault.errno, fault.strerror, path) from None
         yield out
+        with faults_of(path):
+            out.flush()
         put_file(new, path)
-
-
-def write_parts(out, parts, name):
-    """Writes parts one after the other, and flushes the file. A fault of it is said with this name."""
-    try:
-        for part in parts:
-            out.write(part)
-        out.flush()
-    except BrokenPipeError:
-        raise
-    except OSError as fault:
-        raise OSError(fault.errno, fault.strerror, name) from None

@@ -12,6 +12,7 @@ from shb_common.faults import Refused
 from shb_common.limits import MOST_TEXT
 from shb_common.report import BadReport, Counts, Report, in_order
 from shb_common.result import text
+from shb_common.standard import faults_of
 from shb_common.stacks import AtomicUse, Stacks
 from shb_common.variables import without_block
 from shb_common.words import counted
@@ -151,10 +152,8 @@ def given_report(options, analyser, stack):
     """The report that the options name. What can't be read twice is copied."""
     file = sys.stdin.buffer if options.report == "-" else stack.enter_context(open(options.report, "rb"))
     if not stat.S_ISREG(os.fstat(file.fileno()).st_mode) or file.tell():
-        try:
+        with faults_of(options.report):
             file = copy_of(file, stack)
-        except OSError as fault:
-            raise OSError(fault.errno, fault.strerror, options.report) from None
     if os.fstat(file.fileno()).st_size > MOST_TEXT:
         raise BadReport(f"the report is longer than {MOST_TEXT} bytes")
     return Given(options.report, file, analyser.check(file) if options.check else NOT_ASKED, None)
@@ -185,16 +184,15 @@ def read_report(given, counts, gathered, progress):
     verdict is said too."""
     size = os.fstat(given.file.fileno()).st_size
     try:
-        report = Report(given.file)
-        check_counts(report, counts)
-        for race, accesses in report.races():
-            gathered.add(race, *accesses, given.places)
-            progress.step("reading the report", report.lines.bytes, size)
+        with faults_of(given.name):
+            report = Report(given.file)
+            check_counts(report, counts)
+            for race, accesses in report.races():
+                gathered.add(race, *accesses, given.places)
+                progress.step("reading the report", report.lines.bytes, size)
     except BadReport as fault:
         said = f"; `shb check` says `{given.verdict.words}`" if given.verdict.is_good is False else ""
         raise BadReport(f"{fault}{said}") from None
-    except OSError as fault:
-        raise OSError(fault.errno, fault.strerror, given.name) from None
     return report.count, report.has_schedules
 
 
