@@ -15,8 +15,8 @@
 enum { MOST_USES = 1 << 20, LEAST_SHARE = 4, LEAST_LOCATIONS = 10 };
 
 /* ---- which locks a thread holds ---- */
-/* is_foreign: another thread released it; judged: the last variable that was judged by it. */
-typedef struct { u64 at; u32 block, judged; uint8_t is_foreign; const char *local; } lock;
+/* is_foreign: another thread released it; candidate_of: the last variable that may be judged by it, with `uses` under it. */
+typedef struct { u64 at; u32 block, candidate_of, uses; uint8_t is_foreign; const char *local; } lock;
 typedef struct { u32 lock, depth; uint8_t may_write; } hold;
 typedef struct { u32 first, count; } lock_set;               /* of `set_holds` */
 static lock *locks;
@@ -133,17 +133,17 @@ static u32 use_number(u64 i, u32 piece, int writes) {
 
 static use *use_of(u32 number) { return number ? &uses[number - 1] : 0; }
 
+static const hold *holds_of(const use *u) { return &set_holds[sets[u->set].first]; }
+
 static int has_lock(const use *u, u32 number) {
-    for (u32 k = 0; k < sets[u->set].count; k++) {
-        const hold *h = &set_holds[sets[u->set].first + k];
-        if (h->lock == number) return h->may_write || !u->writes;
-    }
+    for (u32 k = 0; k < sets[u->set].count; k++)
+        if (holds_of(u)[k].lock == number) return holds_of(u)[k].may_write || !u->writes;
     return 0;
 }
 
 static int have_common_lock(const use *one, const use *other) {
     for (u32 k = 0; k < sets[one->set].count; k++) {
-        u32 number = set_holds[sets[one->set].first + k].lock;
+        u32 number = holds_of(one)[k].lock;
         if (has_lock(one, number) && has_lock(other, number)) return 1;
     }
     return 0;
@@ -214,9 +214,9 @@ static u64 last_by_other(const variable *v, u32 t) {
     return one && one->thread != t ? one->last : other ? other->last : 0;
 }
 
-/* Is it a use without the lock that a race may come of? */
+/* May a race come of this use without the lock? */
 static int is_lone(const variable *v, const use *u, u32 number) {
-    return u->opposite && !has_lock(u, number) && has_lock(use_of(u->opposite), number) && last_by_other(v, u->thread) > u->met;
+    return u->opposite && has_lock(use_of(u->opposite), number) && last_by_other(v, u->thread) > u->met;
 }
 
 /* Uses, and how many there are of them, by location, kind and thread; locations, and threads. */
@@ -264,7 +264,7 @@ static int is_suspicious(const variable *v, u32 number, counted *locked, counted
     for (const use *u = use_of(v->uses); u; u = use_of(u->next))
         if (has_lock(u, number)) add_use(locked, u);
         else if (is_lone(v, u, number)) add_use(lone, u);
-    if (!lone->count || locked->count < LEAST_SHARE) return 0;
+    if (!lone->count) return 0;
     count_uses(locked);
     count_uses(lone);
     u64 most = locked->locations < 2 * LEAST_LOCATIONS ? 1 : locked->locations / LEAST_LOCATIONS;
@@ -306,22 +306,32 @@ static void write_suspicion(const variable *v, u32 piece_number, u32 number, con
     }
 }
 
-/* By the lock that most uses are under. */
+/* Of the locks that an opposite is under, the one that most uses are under: its number plus one; or 0. */
+static u32 likely_lock(const variable *v, u32 piece_number) {
+    u32 found = 0, most = 0;
+    for (const use *u = use_of(v->uses); u; u = use_of(u->next)) {
+        const use *other = use_of(u->opposite);
+        for (u32 k = 0; other && k < sets[other->set].count; k++) {
+            lock *l = &locks[holds_of(other)[k].lock];
+            l->candidate_of = piece_number;
+            l->uses = 0;
+        }
+    }
+    for (const use *u = use_of(v->uses); u; u = use_of(u->next))
+        for (u32 k = 0; k < sets[u->set].count; k++) {
+            lock *l = &locks[holds_of(u)[k].lock];
+            if (l->candidate_of != piece_number || l->is_foreign || ++l->uses <= most) continue;
+            most = l->uses;
+            found = holds_of(u)[k].lock + 1;
+        }
+    return found;
+}
+
 static void judge(u32 piece_number) {
     static counted locked, lone;
     const variable *v = &variables[piece_number - 1];
-    u64 most = 0;
-    u32 found = 0;
-    for (const use *u = use_of(v->uses); u; u = use_of(u->next))
-        for (u32 k = 0; u->opposite && k < sets[use_of(u->opposite)->set].count; k++) {
-            u32 number = set_holds[sets[use_of(u->opposite)->set].first + k].lock;
-            if (locks[number].is_foreign || locks[number].judged == piece_number) continue;
-            locks[number].judged = piece_number;
-            if (!is_suspicious(v, number, &locked, &lone) || locked.uses <= most) continue;
-            most = locked.uses;
-            found = number;
-        }
-    if (most && is_suspicious(v, found, &locked, &lone)) write_suspicion(v, piece_number, found, &locked, &lone);
+    u32 number = likely_lock(v, piece_number);
+    if (number && is_suspicious(v, number - 1, &locked, &lone)) write_suspicion(v, piece_number, number - 1, &locked, &lone);
 }
 
 void end_suspicions(void) {

@@ -18,10 +18,11 @@ class Suspicions(recorder.Case):
 
     def test_the_rule(self):
         wanted = recorder.marked(recorder.PROGRAMS / "suspicions.c", "SUSPICION")
-        self.assertEqual(len(wanted), 7)
+        self.assertEqual(len(wanted), 14)
         for seed, option in enumerate(("-O0", "-O1", "-O2"), 1):
             rows = self.rows("suspicions.c", option, seed)
             self.assertEqual({row[4]: {f"{row[0]} by {row[1]}"} for row in rows}, wanted)
+            self.assertEqual(len(rows), len(wanted), "a line each")
             self.assertEqual([row for row in rows if row[6] != "main" or row[9] == "main"], [])  # main has the uses without locks
 
     def test_what_is_told_of_one(self):
@@ -30,6 +31,11 @@ class Suspicions(recorder.Case):
         [lone] = recorder.marked(recorder.PROGRAMS / "suspicions.c", "SUSPICION counter")
         [locked] = recorder.marked(recorder.PROGRAMS / "suspicions.c", "LOCKED")
         self.assertEqual(row, ["counter", "m", "1", "2", lone, "r", "main", locked, "w", "T3.second"])
+
+    def test_the_limit_of_uses(self):
+        """What is used beyond it is passed over, and not what is used as before."""
+        [place] = recorder.marked(recorder.PROGRAMS / "suspicions_many.c", "SUSPICION known")
+        self.assertEqual([(row[0], row[4]) for row in self.rows("suspicions_many.c")], [("known", place)])
 
     def test_programs_whose_locks_are_right(self):
         for name in ("mutex_ok.c", "barrier_ok.c", "prodcons.c", "openmp.c"):
@@ -51,9 +57,9 @@ class Shown(recorder.Case):
     def test_they_stand_behind_the_races(self):
         status, (head, *lines) = self.shown("suspicions.c", to=["race"])
         self.assertEqual(status, 66)
-        self.assertEqual(head, "7 suspicions, no race in this run: a lock is held at nearly all uses of the variable, and not at this one")
-        self.assertEqual((len(lines), lines[-1]), (6, "  and 2 more"))
-        self.assertLess(self.said.index("racing: "), self.said.index("7 suspicions"))
+        self.assertEqual(head, "14 suspicions, no race in this run: a lock is held at nearly all uses of the variable, and not at this one")
+        self.assertEqual((len(lines), lines[-1]), (6, "  and 9 more"))
+        self.assertLess(self.said.index("racing: "), self.said.index("14 suspicions"))
         [lone] = recorder.marked(recorder.PROGRAMS / "suspicions.c", "SUSPICION counter")
         [locked] = recorder.marked(recorder.PROGRAMS / "suspicions.c", "LOCKED")
         line = f"counter: main reads it at {lone} without m. 2 threads use it under m at 1 location; T3.second wrote it before, at {locked}."
@@ -65,13 +71,13 @@ class Shown(recorder.Case):
         """Where all are known it isn't changed, and the line isn't stale."""
         known = self.folder / "known"
         known.write_text("suspicions.c:*\tsuspicions.c:*\t*\n")
-        for words, wanted, count in (((), 0, 7), (("--fail-on-suspicion",), 66, 7), (("--fail-on-suspicion", "--fail-on-stale", "--known", known), 0, 0)):
+        for words, wanted, count in (((), 0, 14), (("--fail-on-suspicion",), 66, 14), (("--fail-on-suspicion", "--fail-on-stale", "--known", known), 0, 0)):
             status, lines = self.shown("suspicions.c", *words)
             self.assertEqual((status, lines[0].split()[0] if lines else "0"), (wanted, str(count)), self.said)
 
     def test_each_is_shown_once(self):
         _, (head, *lines) = self.shown("suspicions.c", "--runs", "2")
-        self.assertEqual((head.partition(":")[0], len(lines)), ("7 suspicions, no race in these runs", 6))
+        self.assertEqual((head.partition(":")[0], len(lines)), ("14 suspicions, no race in these runs", 6))
 
     def test_a_race_is_none(self):
         self.assertEqual(self.shown("suspicion_race.c", "--fail-on-suspicion")[1], [])

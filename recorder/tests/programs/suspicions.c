@@ -5,12 +5,15 @@
 #include <stdatomic.h>
 #include <unistd.h>
 
-static pthread_mutex_t m = PTHREAD_MUTEX_INITIALIZER, other = PTHREAD_MUTEX_INITIALIZER, recursive;
+static pthread_mutex_t m = PTHREAD_MUTEX_INITIALIZER, other = PTHREAD_MUTEX_INITIALIZER, handed = PTHREAD_MUTEX_INITIALIZER, recursive;
 static pthread_rwlock_t table_lock = PTHREAD_RWLOCK_INITIALIZER;
 static int counter, prepared, locked, ended, joined, owned, pair, rarely, single, flag, stats, hits, table, in_phase, posted, nested, twice, waited, races;
-static volatile int often, setting, racing;
+static int mostly_m, mostly_other, few, mixed, given, late, cleared, relocked;
+static volatile int often, setting, racing, wide, narrow;
 static pthread_barrier_t phase;
 static sem_t ready, taken;
+static int tube[2];
+static int *lent, *of_any_length;
 struct shared { pthread_mutex_t guard; int total; };
 
 static pthread_mutex_t queue = PTHREAD_MUTEX_INITIALIZER;
@@ -58,12 +61,28 @@ static int use_under_locks(struct shared *shared, int is_first) {
     often++;
     flag++;
     twice++;
+    cleared++;
+    pthread_mutex_lock(&other);
+    mostly_m++;
+    mostly_other++;
+    pthread_mutex_unlock(&other);
+    mostly_m++;
     int seen = owned + pair + rarely + setting;
     if (is_first) rarely = single++;
     pthread_mutex_unlock(&m);
     pthread_mutex_lock(&other);
     seen += pair;
+    mostly_other++;
     pthread_mutex_unlock(&other);
+    pthread_mutex_lock(&m);
+    pthread_mutex_lock(&other);
+    mostly_m++;
+    mostly_other++;
+    pthread_mutex_unlock(&other);
+    pthread_mutex_unlock(&m);
+    pthread_mutex_lock(&handed);
+    given++;
+    pthread_mutex_unlock(&handed);
     pthread_mutex_lock(&recursive);
     nested++;
     pthread_mutex_unlock(&recursive);
@@ -84,6 +103,73 @@ static void add_under_lock(int *sum) {
     pthread_mutex_unlock(&m);
 }
 
+static void add_under_other(int *sum) {
+    pthread_mutex_lock(&other);
+    ++*sum;
+    pthread_mutex_unlock(&other);
+}
+
+static void add_with_other_held(int *sum) {
+    pthread_mutex_lock(&other);
+    add_under_lock(sum);
+    pthread_mutex_unlock(&other);
+}
+
+/* At 20 lines, and at 19. */
+static void use_at_lines(void) {
+    pthread_mutex_lock(&m);
+    wide++;
+    wide++, narrow++;
+    wide++, narrow++;
+    wide++, narrow++;
+    wide++, narrow++;
+    wide++, narrow++;
+    wide++, narrow++;
+    wide++, narrow++;
+    wide++, narrow++;
+    wide++, narrow++;
+    wide++, narrow++;
+    wide++, narrow++;
+    wide++, narrow++;
+    wide++, narrow++;
+    wide++, narrow++;
+    wide++, narrow++;
+    wide++, narrow++;
+    wide++, narrow++;
+    wide++, narrow++;
+    wide++, narrow++;
+    pthread_mutex_unlock(&m);
+}
+
+static __attribute__((noinline)) int read_late(void) {
+    return late; /* SUSPICION late by m */
+}
+
+/* The next two have their locals at one address. */
+static __attribute__((noinline)) void lend_box(void) {
+    int box = 1;
+    lent = &box;
+    end_step();
+    begin_step(2);
+}
+
+static __attribute__((noinline)) void lend_bin(void) {
+    int bin = 2;
+    lent = &bin;
+    end_step();
+    begin_step(5);
+}
+
+static void use_step(struct shared *shared, int is_first) {
+    use_under_locks(shared, is_first);
+    use_at_lines();
+    add_under_lock(&few);
+    add_with_other_held(&few);
+    add_under_lock(&relocked);
+    add_under_lock(lent);
+    add_under_lock(of_any_length);
+}
+
 static int read_setting(void) {
     pthread_mutex_lock(&m);
     int seen = setting;
@@ -98,6 +184,8 @@ static void *early(void *unused) {
 
 static void *first(void *shared) {
     add_under_lock(&in_phase);
+    add_under_lock(&mixed);
+    add_under_other(&relocked);
     pthread_barrier_wait(&phase);
     pthread_barrier_wait(&phase);
     add_under_lock(&in_phase);
@@ -113,12 +201,18 @@ static void *first(void *shared) {
     add_under_lock((int *)&often);
     read_setting();
     add_under_lock(&single);
-    use_under_locks(shared, 1);
+    late = 1; /* main reads this first */
+    use_step(shared, 1);
     end_step();
     begin_step(3);
     add_under_lock(&waited);
-    use_under_locks(shared, 1);
+    add_under_lock(&late);
+    use_step(shared, 1);
+    pthread_mutex_lock(&handed);
     end_step();
+    begin_step(6);
+    add_under_lock(&late);
+    add_under_lock(&mixed);
     if (races) racing = 1;
     return 0;
 }
@@ -126,6 +220,7 @@ static void *first(void *shared) {
 static void *second(void *shared) {
     add_under_lock(&in_phase);
     add_under_lock(&posted);
+    add_under_other(&relocked);
     pthread_barrier_wait(&phase);
     pthread_barrier_wait(&phase);
     add_under_lock(&in_phase);
@@ -133,11 +228,18 @@ static void *second(void *shared) {
     add_under_lock(&ended);
     add_under_lock((int *)&often);
     read_setting();
-    use_under_locks(shared, 0);
+    use_step(shared, 0);
+    pthread_mutex_lock(&other);
+    mixed++; /* after a barrier */
+    pthread_mutex_unlock(&other);
+    if (write(tube[1], "", 1) < 1) return 0;
     end_step();
     begin_step(4);
+    pthread_mutex_unlock(&handed); /* the other thread took it */
     add_under_lock(&waited);
-    use_under_locks(shared, 0);
+    add_under_lock(&mixed);
+    add_under_lock(&late);
+    use_step(shared, 0);
     end_step();
     return 0;
 }
@@ -153,17 +255,33 @@ static int use_without_locks(struct shared *shared) {
     seen += atomic_load((_Atomic int *)&flag);
     seen += hits; /* SUSPICION hits by table_lock */
     seen += shared->total; /* SUSPICION shared.total of main by shared.guard of main */
+    seen += mostly_m; /* SUSPICION mostly_m by m */
+    seen += mostly_other; /* SUSPICION mostly_other by other */
+    seen += atomic_load((_Atomic int *)&cleared);
+    seen += cleared;
+    wide++; /* SUSPICION wide by m */
+    seen += narrow;
+    wide++; /* SUSPICION wide by m */
+    seen += narrow; /* 19 lines are too few for two */
+    few++; /* a read and a write, and four uses under the lock, with or without another */
+    seen += mixed; /* written before under the other lock */
+    seen += given; /* its lock is released by another thread */
+    seen += relocked; /* SUSPICION relocked by m */
+    seen += *of_any_length; /* has no name */
     return seen;
 }
 
 static int main_step(struct shared *shared) {
-    begin_step(2);
-    int seen = use_without_locks(shared);
+    char byte;
+    lend_box();
+    if (read(tube[0], &byte, 1) < 1) return 0; /* what passes through a descriptor tells nothing */
+    int seen = use_without_locks(shared) + read_late();
     pthread_mutex_lock(&m);
     locked++;
     owned++;
     twice++;
     pthread_mutex_lock(&other);
+    twice++;
     pair++; /* under both locks; each reader has one of them */
     pthread_mutex_unlock(&other);
     pthread_mutex_unlock(&m);
@@ -179,6 +297,8 @@ static int main_step(struct shared *shared) {
     seen += table;
     stats++; /* SUSPICION stats by table_lock */
     pthread_rwlock_unlock(&table_lock);
+    lend_bin();
+    seen += read_late() + mixed; /* SUSPICION mixed by m */
     end_step();
     return seen;
 }
@@ -187,6 +307,10 @@ int main(int count, char **words) {
     struct shared shared = {PTHREAD_MUTEX_INITIALIZER, 0};
     pthread_t a, b, c;
     counter = prepared = locked = hits = 1; /* no other thread is there yet */
+    int array[count + 1];
+    array[0] = 0;
+    of_any_length = array;
+    if (pipe(tube)) return 1;
     races = count > 1;
     pthread_mutexattr_t may_repeat;
     pthread_mutexattr_init(&may_repeat);
@@ -200,6 +324,7 @@ int main(int count, char **words) {
     pthread_create(&b, 0, first, &shared);
     pthread_create(&c, 0, second, &shared);
     int seen = joined; /* the thread that used it isn't there any more */
+    add_under_other(&relocked);
     pthread_barrier_wait(&phase);
     seen += in_phase;
     pthread_barrier_wait(&phase);
@@ -208,11 +333,10 @@ int main(int count, char **words) {
     sem_post(&taken);
     wait_until_woken();
     seen += waited;
-    end_step();
     seen += main_step(&shared);
     if (races) racing = 2;
     pthread_join(b, 0);
     pthread_join(c, 0);
-    seen += counter;
+    seen += counter + read_late();
     return seen == -1;
 }

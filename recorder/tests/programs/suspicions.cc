@@ -8,6 +8,11 @@ struct Account {
     int owner, balance;
 };
 
+struct Ledger {
+    std::mutex lock;
+    int first, last;
+};
+
 static std::mutex queue;
 static int step;
 
@@ -35,6 +40,10 @@ static void deposit(Account *account, int first, int last) {
 }
 
 int main() {
+    {
+        auto ledger = std::make_unique<Ledger>(); // the account takes its place
+        std::lock_guard<std::mutex> holds(ledger->lock);
+    }
     auto account = std::make_unique<Account>();
     std::thread one(deposit, account.get(), 0, 3), other(deposit, account.get(), 1, 4);
     begin_step(2);
