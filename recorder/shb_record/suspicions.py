@@ -3,7 +3,7 @@
 
 import typing
 
-from shb_common import known
+from shb_common import known, result, sarif
 from shb_common.printable import printable
 from shb_common.variables import local_name
 from shb_common.words import counted
@@ -15,7 +15,7 @@ READS, WROTE = {b"r": "reads", b"w": "writes"}, {b"r": "read", b"w": "wrote"}
 
 class Use(typing.NamedTuple):
     location: bytes
-    kind: bytes  # r or w
+    word: bytes  # r or w
     thread: bytes
 
 
@@ -64,7 +64,7 @@ class Suspicions:
         for key, seen in self.places.seen.items():
             racing.update(seen.variables, ((known.lasting(name), location) for name in seen.variables for location in key),
                           key if seen.has_more else ())
-        return {key: row for key, (row, sides) in self.found.items()
+        return {key: (row, sides) for key, (row, sides) in self.found.items()
                 if racing.isdisjoint([row.variable, (key[0], sides[0]), sides[0]]) and not self.is_known(row, sides)}
 
     def is_known(self, row, sides):
@@ -72,7 +72,7 @@ class Suspicions:
 
     def lines(self, runs):
         """What is said of all."""
-        told = told_of(self.unknown().values())
+        told = told_of(row for row, _ in self.unknown().values())
         if told:
             yield f"{counted(len(told), 'suspicion')}, no race in {'this run' if runs == 1 else 'these runs'}: {HEAD}"
             yield from (f"  {line}" for line in first_of(told, MOST_SHOWN))
@@ -80,14 +80,29 @@ class Suspicions:
     def lines_of(self, process):
         """The same of a process, for its page."""
         keys = self.of_process.get(process.name, ())
-        return first_of(told_of(row for key, row in self.unknown().items() if key in keys), MOST_ON_PAGE)
+        return first_of(told_of(row for key, (row, _) in self.unknown().items() if key in keys), MOST_ON_PAGE)
+
+    def entries(self):
+        """All for programs, as FORMATS.md has them."""
+        return [{"variable": result.text(row.variable), "lock": result.text(row.lock), "locations": row.locations, "threads": row.threads,
+                 "accesses": [result.access(name, side, use.location, read=use)
+                              for name, side, use in zip(self.names_of(sides), sides, (row.lone, row.locked))]}
+                for row, sides in self.unknown().values()]
+
+    def alerts(self):
+        """All for code review."""
+        return [sarif.Suspicion(sides, self.names_of(sides), row.variable, row.lock, words_of([row])) for row, sides in self.unknown().values()]
+
+    def names_of(self, sides):
+        """What two locations are called over all programs."""
+        return tuple(known.written(self.places.names.name(side)) for side in sides)
 
 
 def told_of(rows):
     """A line for each lock and location without it, with all variables."""
     together = {}
     for row in rows:
-        together.setdefault((row.lock, row.lone.location, row.lone.kind), []).append(row)
+        together.setdefault((row.lock, row.lone.location, row.lone.word), []).append(row)
     return [words_of(found) for found in together.values()]
 
 
@@ -96,9 +111,9 @@ def words_of(rows):
     it = "it" if len(names) == 1 else "them"
     more = f" and {len(names) - MOST_VARIABLES:,} more" * (len(names) > MOST_VARIABLES)
     lone, locked, lock = row.lone, row.locked, printable(row.lock)
-    return (f"{', '.join(names[:MOST_VARIABLES])}{more}: {printable(lone.thread)} {READS[lone.kind]} {it} at {printable(lone.location)} without {lock}. "
+    return (f"{', '.join(names[:MOST_VARIABLES])}{more}: {printable(lone.thread)} {READS[lone.word]} {it} at {printable(lone.location)} without {lock}. "
             f"{counted(row.threads, 'thread')} use {it} under {lock} at {counted(row.locations, 'location')}; {printable(locked.thread)} "
-            f"{WROTE[locked.kind]} {it} before, at {printable(locked.location)}.")
+            f"{WROTE[locked.word]} {it} before, at {printable(locked.location)}.")
 
 
 def first_of(lines, most):

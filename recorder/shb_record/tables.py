@@ -18,10 +18,11 @@ def tables_of(look, status):
 
 def document(look, rows, entries, status):
     """All places with what is known of them, as `result.document` has them."""
-    stale, unknown = look.stale(), count(row for row in rows if not row.is_known)
-    summary = {"places": count(rows), "unknown": unknown, "known": count(rows) - unknown, "stale": len(stale), "status": status,
-               "runs": len(look.runs)}
-    return result.document("shb-record", summary, [entry(row, entries) for row in rows], stale=result.stale_of(stale), notes=list(look.meaning()))
+    stale, unknown, suspicions = look.stale(), count(row for row in rows if not row.is_known), look.suspicions.entries()
+    summary = {"places": count(rows), "unknown": unknown, "known": count(rows) - unknown, "suspicions": len(suspicions), "stale": len(stale),
+               "status": status, "runs": len(look.runs)}
+    return result.document("shb-record", summary, [entry(row, entries) for row in rows], stale=result.stale_of(stale), notes=list(look.meaning()),
+                           suspicions=suspicions)
 
 
 def entry(row, entries):
@@ -41,4 +42,4 @@ def log(look, rows, entries, status):
         facts = " ".join(result.entry_of(entries, row).get("facts", ()))
         alerts.append(sarif.Alert(row, facts, f"Seen in {process}, {trace.path.name}", os.fsencode(trace.path.relative_to(look.results.folder)), (), {}))
     notes = [("note", line) for line in look.meaning()]
-    return sarif.log(alerts, sarif.NoSources(), notes, not look.has_failed and not look.is_cut, status)
+    return sarif.log(alerts, sarif.NoSources(), notes, not look.has_failed and not look.is_cut, status, look.suspicions.alerts())

@@ -1,6 +1,7 @@
 """Suspicions: variables that a lock protects at nearly all uses. A line of suspicions.c that makes one has the comment SUSPICION, with
 the variable and the lock."""
 
+import json
 import os
 import re
 
@@ -90,3 +91,24 @@ class Shown(recorder.Case):
         [lone] = recorder.marked(recorder.PROGRAMS / "suspicions.cc", "SUSPICION")
         _, (_, *lines) = self.shown("suspicions.cc")
         self.assertEqual([line.partition(". ")[0] for line in lines], [f"  Account.balance: main reads it at {lone} without Account.lock"])
+
+    def test_for_programs(self):
+        """Races are in neither list, and known suspicions aren't."""
+        [lone], [locked] = (recorder.marked(recorder.PROGRAMS / "suspicions.cc", word) for word in ("SUSPICION", "LOCKED"))
+        known = self.folder / "known"
+        known.write_text("suspicions.cc:*\tsuspicions.cc:*\tAccount.balance\n")
+        for words, count in (((), 1), (("--known", known), 0)):
+            self.shown("suspicions.cc", *words)
+            found, log = (json.loads((self.folder / "out" / f"places.{end}").read_text()) for end in ("json", "sarif"))
+            self.assertEqual((found["summary"]["suspicions"], len(found["suspicions"]), len(log["runs"][0]["results"])), (count, count, count))
+            if not count:
+                continue
+            [one], [result] = found["suspicions"], log["runs"][0]["results"]
+            self.assertEqual({name: one[name] for name in ("variable", "lock", "locations", "threads")},
+                             {"variable": "Account.balance", "lock": "Account.lock", "locations": 1, "threads": 2})
+            self.assertEqual([(use["location"], use["operation"]) for use in one["accesses"]], [(lone, "read"), (locked, "write")])
+            self.assertEqual((one["accesses"][0]["thread"], one["accesses"][0]["file"]), ("main", str(recorder.PROGRAMS / "suspicions.cc")))
+            self.assertEqual((result["ruleId"], result["level"]), ("suspicion", "note"))
+            self.assertTrue(result["message"]["text"].startswith(f"Account.balance: main reads it at {lone} without Account.lock. "), result)
+            lines = [result[name][0]["physicalLocation"]["region"]["startLine"] for name in ("locations", "relatedLocations")]
+            self.assertEqual([f"suspicions.cc:{line}" for line in lines], [lone, locked])

@@ -33,7 +33,7 @@ static void deposit(Account *account, int first, int last) {
         begin_step(turn);
         {
             std::lock_guard<std::mutex> holds(account->lock);
-            account->balance++;
+            account->balance++; // LOCKED by Account.lock
         }
         end_step();
     }
