@@ -214,7 +214,7 @@ class Programs(recorder.Case):
             lines = recorder.must(recorder.convert(self.recorded(source, option), "--stacks", path)).stdout.decode().splitlines()
             looked = next(event for event, line in enumerate(lines, 1) if line.endswith(f"|inlined.cc:{numbers['LOOK']}"))
             frames = Stacks(path, 0, len(lines)).of_event(looked)[:2]
-            self.assertEqual([name(frame) for frame in frames], ["look", "operator"])
+            self.assertEqual([name(frame) for frame in frames], ["look", "lambda"])
             self.assertEqual([frame.location.decode() for frame in frames], [f"inlined.cc:{numbers[it]}" for it in ("LOOK", "LAMBDA")])
 
     def test_without_llvm_the_lines_are_the_same(self):
