@@ -71,7 +71,7 @@ def put_commands(folder, tree):
         (tree / "bin" / source.name).symlink_to(os.path.relpath(home / source.name, tree / "bin"))
     for package in sorted(folder.glob("shb_*")):
         shutil.copytree(package, home / package.name)
-    for source in sorted((folder / "lib").glob("*")):
+    for source in sorted((folder / "lib").glob("libtsan*")):
         copy(source, home / source.name)
 
 

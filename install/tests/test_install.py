@@ -34,6 +34,7 @@ class Tree(installing.Case):
         files = contents(self.prefix)
         self.assertEqual([name for name in WANTED if name not in files], [])
         self.assertEqual([name for name in files if not name.startswith(SHARED + OWN)], [])
+        self.assertEqual([name for name in files if name.endswith(".inc")], [])     # made while the recorder is built
 
     def test_all_can_read_it(self):
         for path in [self.prefix, *self.prefix.rglob("*")]:
