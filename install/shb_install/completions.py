@@ -2,6 +2,7 @@
 
 import re
 
+RUNS = "PROGRAM [ARGUMENT].."      # in the usage of a command that runs another one
 FILES = re.compile(r"FILE|DIR|PAGE|PROGRAM|TRACES?|RECORD|REPORT|OUT|SHB|PATH")
 
 
@@ -63,7 +64,15 @@ def bash_options(help_):
         elif option.value:
             lines.append(f"        {'|'.join(option.names)}) return ;;")
     lines = [*lines, "    esac"] if len(lines) > 1 else []
-    return lines + [f"    case $word in -*) {offered(names(help_))} ;; esac"]
+    return lines + [f"    case $word in -*) {offered(names(help_))} ;; esac", *(bash_program(help_) if RUNS in help_.usage else ())]
+
+
+def bash_program(help_):
+    """Where a command runs another one: the first word that is no option and no value of one is completed as a command."""
+    valued = "|".join(name for option in help_.options if option.value for name in option.names)
+    return ["    local at", "    for ((at = 1; at < COMP_CWORD; at++)); do",
+            f"        case ${{COMP_WORDS[at]}} in {valued}) ((at += 1)) ;; -*) ;; *) return ;; esac", "    done",
+            "    [[ $word == -* ]] || COMPREPLY=($(compgen -c -- \"$word\"))"]
 
 
 # ---- zsh ----

@@ -1,7 +1,9 @@
 """A manual page from a command's help."""
 
+import itertools
 import re
 
+EXIT_STATUS = "Exit status:"    # as the paragraph begins in a help without headings
 ARGUMENTS, OPTIONS = "positional arguments", ("options", "optional arguments")     # as argparse calls them
 
 ESCAPES = (("\\", r"\e"), ("-", r"\-"), ("'", r"\(aq"), ("`", r"\(ga"), ("^", r"\(ha"), ("~", r"\(ti"), ('"', r"\(dq"))
@@ -12,17 +14,23 @@ def page(help_, version, date, others):
     name = name_of(help_.command)
     lines = [f'.TH {name.upper()} 1 "{date}" "shb {version}" "shb"', ".SH NAME", rf"{roff(name)} \- {roff(help_.about)}",
              ".SH SYNOPSIS", ".nh", roff(help_.usage).replace("\\-", "-").replace("-", "\\-"), ".hy", ".SH DESCRIPTION"]
-    for head, body in help_.parts:
-        if not head:
-            lines += [*as_it_is(body), ".PP"]
+    free = [paragraph for head, body in help_.parts if not head for paragraph in paragraphs(body)]
+    lines += [line for paragraph in free if not paragraph[0].startswith(EXIT_STATUS) for line in [*as_it_is(paragraph), ".PP"]]
     for head, body in help_.parts:
         if head.lower() in OPTIONS:
             lines += [".SH OPTIONS", *options(help_)]
         elif head:
             lines += [".SH " + roff("ARGUMENTS" if head == ARGUMENTS else head.upper()), *as_it_is(body)]
+    for first, *rest in (paragraph for paragraph in free if paragraph[0].startswith(EXIT_STATUS)):
+        lines += [".SH EXIT STATUS", *as_it_is([first[len(EXIT_STATUS):].strip(), *rest])]
     if others:
         lines += [".SH SEE ALSO", ",\n".join(f".BR {roff(other)} (1)" for other in others)]
     return "\n".join(lines) + "\n"
+
+
+def paragraphs(body):
+    """The lines of each, which empty ones are between."""
+    return [list(lines) for is_text, lines in itertools.groupby(body, lambda line: bool(line.strip())) if is_text]
 
 
 def name_of(command):

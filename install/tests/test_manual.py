@@ -64,7 +64,7 @@ COMMANDS = "Finds x\n\nUsage: shb <COMMAND>\n\nCommands:\n  races  Writes 'it': 
 
 
 WITHOUT_HEADINGS = """\
-usage: shb-r [OPTION].. PROGRAM
+usage: shb-r [OPTION].. PROGRAM [ARGUMENT]..
 
 Runs a program.
 
@@ -80,7 +80,7 @@ Exit status: 66 if there is a race;
 class Parts(installing.Case):
     def test_options_without_a_heading(self):
         found = helptext.parse("shb-r", WITHOUT_HEADINGS)
-        self.assertEqual((found.about, found.usage), ("runs a program", "shb-r [OPTION].. PROGRAM"))
+        self.assertEqual((found.about, found.usage), ("runs a program", "shb-r [OPTION].. PROGRAM [ARGUMENT].."))
         self.assertEqual(found.options, [Option(["-o"], "DIR", "the folder of results"), Option(["--keep"], "", "keep it")])
 
     def test_clap(self):
@@ -108,6 +108,12 @@ class Parts(installing.Case):
         found = helptext.parse("shb-std", C_TEXT)
         self.assertEqual(found.about, "turns a record into a trace")
         self.assertEqual(found.options, [Option(["-a"], "", "write everything"), Option(["-n"], "EVENTS", "at most so many")])
+
+    def test_the_exit_status_has_a_section(self):
+        for text, lines in ((WITHOUT_HEADINGS, "66 if there is a race;\n125 if not."), (CLAP, "0\ndone")):
+            page = manual.page(helptext.parse("shb-r", text), "1", "today", [])
+            self.assertEqual(page.partition(".SH EXIT STATUS\n.nf\n")[2].partition("\n.fi\n")[0], lines)
+            self.assertNotIn("Exit status:", page)
 
     def test_commands(self):
         self.assertEqual(helptext.parse("shb", COMMANDS).commands, {"races": "Writes 'it': [all]"})
@@ -169,7 +175,7 @@ class Completions(installing.Case):
 
     def setUp(self):
         super().setUp()
-        texts = {"shb": COMMANDS, "shb races": CLAP, "shb-x": ARGPARSE}
+        texts = {"shb": COMMANDS, "shb races": CLAP, "shb-x": ARGPARSE, "shb-r": WITHOUT_HEADINGS}
         self.helps = {words: helptext.parse(words, text) for words, text in texts.items()}
         (self.folder / "in").mkdir()
         (self.folder / "in" / "app.std").touch()
@@ -210,6 +216,9 @@ class Completions(installing.Case):
         self.need("bash")
         self.expect_all(self.bash)
         self.assertEqual(self.bash("shb-x", "ap"), set())       # bash completes files then
+        for words in ((), ("--keep",), ("-o", "ls"), ("--",)):  # before a program's name
+            self.assertIn("ls", self.bash("shb-r", *words, "l"))
+        self.assertEqual(self.bash("shb-r", "ls", "l"), set())
 
     def test_fish(self):
         self.need("fish")
