@@ -19,10 +19,6 @@ def subcommands(help_, helps):
     return {name: helps[f"{help_.command} {name}"] for name in help_.commands if f"{help_.command} {name}" in helps}
 
 
-def identifier(command):
-    return "_" + re.sub("[^a-z]", "_", command)
-
-
 def quoted(text):
     return "'" + text.replace("'", "'\\''") + "'"
 
@@ -31,7 +27,7 @@ def quoted(text):
 def bash(help_, helps):
     """Words that begin with a dash are options; for others, where nothing is said here, bash completes files."""
     inner = subcommands(help_, helps)
-    name = identifier(help_.command)
+    name = "_" + re.sub("[^a-z]", "_", help_.command)
     lines = [f"# Completes {help_.command} in bash; made from its help.", f"{name}() {{",
              "    local word=${COMP_WORDS[COMP_CWORD]} previous=${COMP_WORDS[COMP_CWORD-1]} command=${COMP_WORDS[1]}",
              "    COMPREPLY=()"]

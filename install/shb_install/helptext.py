@@ -44,18 +44,9 @@ def parse(command, text):
             if is_text and parts[-1][0] and parts[-1][1] and not parts[-1][1][-1]:
                 parts.append(("", []))      # a paragraph without a heading ends the part before
             parts[-1][1].append(line)
-    parts = [(head, stripped(body)) for head, body in parts]
+    parts = [(head, "\n".join(line.rstrip() for line in body).strip("\n").splitlines()) for head, body in parts]
     parts = [part for part in parts if part[0] or part[1]]
     return Help(command, sentence(parts), usage, parts, options_in(parts), commands_in(parts))
-
-
-def stripped(lines):
-    """The lines without empty ones at both ends."""
-    while lines and not lines[0].strip():
-        lines = lines[1:]
-    while lines and not lines[-1].strip():
-        lines = lines[:-1]
-    return lines
 
 
 def sentence(parts):

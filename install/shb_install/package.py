@@ -2,8 +2,6 @@
 
 import hashlib
 import io
-import lzma
-import os
 import re
 import tarfile
 
@@ -36,23 +34,13 @@ def proved_text(tree, name, commit, seconds):
 
 
 def archive(tree, top, seconds):
-    """A tree as a tar.xz: sorted names below `top`, one time for all files, no owner of this machine."""
+    """A tree as a tar.xz: sorted names below `top`, one time for all files, no owner and no mask of this machine."""
+    def alike(entry):
+        entry.mtime, entry.uid, entry.gid, entry.uname, entry.gname = seconds, 0, 0, "root", "root"
+        entry.mode = 0o777 if entry.issym() else 0o755 if entry.mode & 0o100 else 0o644
+        return entry
+
     packed = io.BytesIO()
-    folders = {str(path.relative_to(tree)) for path in tree.rglob("*") if path.is_dir() and not path.is_symlink()}
-    with tarfile.open(fileobj=packed, mode="w", format=tarfile.GNU_FORMAT) as tar:
-        for name in [".", *sorted(folders | set(files_in(tree)))]:
-            path = tree / name
-            entry = tarfile.TarInfo(os.path.normpath(f"{top}/{name}"))
-            entry.mtime, entry.uname, entry.gname = seconds, "root", "root"
-            if path.is_symlink():
-                entry.type, entry.linkname = tarfile.SYMTYPE, os.readlink(path)
-                entry.mode = 0o777
-                tar.addfile(entry)
-            elif path.is_dir():
-                entry.type, entry.mode = tarfile.DIRTYPE, 0o755
-                tar.addfile(entry)
-            else:
-                content = path.read_bytes()
-                entry.size, entry.mode = len(content), 0o755 if os.access(path, os.X_OK) else 0o644
-                tar.addfile(entry, io.BytesIO(content))
-    return lzma.compress(packed.getvalue(), preset=9)
+    with tarfile.open(fileobj=packed, mode="w:xz", preset=9, format=tarfile.GNU_FORMAT) as tar:
+        tar.add(tree, top, filter=alike)
+    return packed.getvalue()

@@ -56,11 +56,7 @@ def build_recorder(folder, library, version):
 def copy(source, place):
     """Copies a file, executable if the source is, or a link."""
     place.parent.mkdir(parents=True, exist_ok=True)
-    if source.is_symlink():
-        place.symlink_to(os.readlink(source))
-        return
-    shutil.copyfile(source, place)
-    place.chmod(0o755 if os.access(source, os.X_OK) else 0o644)
+    shutil.copy(source, place, follow_symlinks=False)
 
 
 def put_commands(folder, tree):
