@@ -47,7 +47,7 @@ static u64 allocated_type(struct members *m, entry function, u64 size) {
 /* Adds a type's name with those of the namespaces and classes that it is in: "bank::Account". 0 where it has none. */
 static int add_type_name(struct members *m, u64 type, text *to) {
     entry named = read_entry(m, type);
-    u64 last = named.name.at ? type : named.specification;
+    u64 last = named.specification ? named.specification : type;
     const unit *u = unit_at(m, last);
     u64 at = u ? read_entry(m, u->first).next : 0;
     const char *before = "";

@@ -4,31 +4,41 @@
 #include "members.h"
 
 /* ---- units ---- */
-static int read_unit(struct members *m, sections *in, bytes *b) {
-    enum { OF_CODE = 1, OF_TYPES, WITH_OTHER_FILE = 4 };
-    unit u = {.in = in, .whole = *b, .begin = in->begin + (b->at - in->of[INFO].at)};
+static void note_type(type_units *to, u64 signature, u64 type) {
+    if (map_number(&to->by_signature, signature, 0) <= to->count) return;
+    GROW(to->types, to->count, to->capacity);
+    to->types[to->count++] = type;
+}
+
+static int read_unit(struct members *m, const sections *in, enum section section, bytes *b) {
+    enum { OF_CODE = 1, OF_TYPES, PARTIAL, WITH_OTHER_FILE };
+    unit u = {.in = in, .whole = *b, .begin = m->end + (b->at - in->of[section].at)};
     bytes head = unit_of(b, &u.offset_bytes);
     if (b->is_bad) return 0;
     u.whole.end = b->at;
     u.end = u.begin + (b->at - u.whole.at);
     u.version = fixed(&head, 2);
-    u64 kind = u.version == DWARF5 ? fixed(&head, 1) : OF_CODE;
+    u64 kind = u.version == DWARF5 ? fixed(&head, 1) : section == TYPES ? OF_TYPES : OF_CODE;
     if (u.version == DWARF5) skip(&head, 1);
     u.abbreviations = fixed(&head, u.offset_bytes);
     if (u.version < DWARF5) skip(&head, 1);
+    if (kind == OF_TYPES) {
+        u64 signature = fixed(&head, 8);
+        note_type(&m->type_units, signature, u.begin + fixed(&head, u.offset_bytes));
+    }
+    u.has_code = kind == OF_CODE;
     u.first = u.begin + (head.at - u.whole.at);
     int is_read = u.version >= DWARF3 && u.version <= DWARF5;
     if (!is_read) m->unread = "is older than DWARF 3 or newer than 5";
-    else if (kind == OF_TYPES) m->unread = "has types apart (-fdebug-types-section)";
     else if (kind == WITH_OTHER_FILE) m->unread = "is in other files (-gsplit-dwarf)";
-    if (head.is_bad || kind != OF_CODE || !is_read) return 1;
+    if (head.is_bad || kind > PARTIAL || !is_read) return 1;
     GROW(m->units, m->unit_count, m->unit_capacity);
     m->units[m->unit_count++] = u;
     return 1;
 }
 
 sections read_sections(bytes file) {
-    static const char *const names[] = {".debug_info", ".debug_abbrev", ".debug_str", ".debug_line_str", ".debug_str_offsets", ".debug_addr",
+    static const char *const names[] = {".debug_info", ".debug_types", ".debug_abbrev", ".debug_str", ".debug_line_str", ".debug_str_offsets", ".debug_addr",
                                         ".debug_rnglists", ".debug_loclists", ".debug_ranges", ".debug_loc"};
     sections found = {0};
     for (int k = 0; k < SECTIONS; k++) found.of[k] = section_of(file, names[k]);
@@ -36,7 +46,12 @@ sections read_sections(bytes file) {
 }
 
 void read_units(struct members *m, sections *in) {
-    for (bytes b = in->of[INFO]; b.at < b.end && read_unit(m, in, &b);) {}
+    in->begin = m->end;
+    in->type_units = &m->type_units;
+    for (enum section k = INFO; k <= TYPES; k++) {
+        for (bytes b = in->of[k]; b.at < b.end && read_unit(m, in, k, &b);) {}
+        m->end += in->of[k].end - in->of[k].at;
+    }
 }
 
 static int has_entry(const unit *u, u64 offset) { return offset >= u->first && offset < u->end; }
@@ -119,6 +134,13 @@ static value reference_to_unit(const unit *u, u64 offset) {
     return reference(u->in->begin, u->in->begin + (info->end - info->at), offset);
 }
 
+/* To a type in a unit of its own, which may not be there. */
+static value reference_to_type(const unit *u, u64 signature) {
+    const type_units *units = u->in->type_units;
+    u32 found = map_find(&units->by_signature, signature, 0);
+    return (value){found ? units->types[found - 1] : 0, .is_number = 1, .is_reference = 1};
+}
+
 static value read_value(const unit *u, bytes *b, u64 form, bytes *constants) {
     switch (form) {
     case FORM_ADDRESS: return address(fixed(b, 8));
@@ -130,7 +152,8 @@ static value read_value(const unit *u, bytes *b, u64 form, bytes *constants) {
         return string_numbered(u, fixed(b, form - FORM_STRING_NUMBER1 + 1));
     case FORM_RANGES_NUMBER: return list(u->in->of[RANGES], u->bases.ranges, variable(b), u->offset_bytes);
     case FORM_LOCATIONS_NUMBER: return list(u->in->of[LOCATIONS], u->bases.locations, variable(b), u->offset_bytes);
-    case FORM_DATA8: case FORM_SIGNATURE: return number(fixed(b, 8));
+    case FORM_SIGNATURE: return reference_to_type(u, fixed(b, 8));
+    case FORM_DATA8: return number(fixed(b, 8));
     case FORM_DATA1: case FORM_FLAG: return number(fixed(b, 1));
     case FORM_DATA2: return number(fixed(b, 2));
     case FORM_DATA4: return number(fixed(b, 4));
@@ -189,6 +212,7 @@ static void take_value(const unit *u, entry *e, u64 attribute, value v) {
     take_bound(e, attribute, v);
     if (attribute == AT_SIBLING) e->sibling = v.number;
     if (attribute == AT_TYPE) e->type = v.number;
+    if (attribute == AT_SIGNATURE) e->elsewhere = v.number;
     if (attribute == AT_SPECIFICATION) e->specification = v.number;
     if (attribute == AT_BYTE_SIZE) e->size = v.number;
     if (attribute == AT_COUNT && !v.is_reference) e->count = v.number;

@@ -48,7 +48,6 @@ static void say_unread(const struct members *m, bytes file, const char *path) {
     const char *why = m->unread;
     if (!m->main.of[INFO].at && (has_section(file, ".debug_info") || has_section(file, ".zdebug_info"))) why = "is compressed in a form that can't be read here (-gz)";
     else if (!m->main.of[INFO].at) why = has_section(file, ".gnu_debuglink") ? "is in a file that isn't there (.gnu_debuglink)" : "isn't there (no -g)";
-    else if (!why && has_section(file, ".debug_types")) why = "has types apart (-fdebug-types-section)";
     else if (!why && !m->has_code) why = "isn't there (no -g, or -gsplit-dwarf)";
     else if (!why && !m->has_types) why = "has no types (-g1)";
     if (why && file.at && !in_system(path))
@@ -61,7 +60,7 @@ struct members *read_members(const char *path) {
     m->main = read_sections(file);
     read_units(m, &m->main);
     for (u64 k = 0; k < m->unit_count; k++) {
-        find_variables(m, &m->units[k]);
+        if (m->units[k].has_code) find_variables(m, &m->units[k]);
         forget_abbreviations(&m->units[k]);                  /* only few are asked for again */
     }
     say_unread(m, file, path);
@@ -73,7 +72,8 @@ static int is_only_named(u64 tag) { return tag == TAG_TYPEDEF || tag == TAG_CONS
 
 u64 plain_type(struct members *m, u64 type) {
     entry e = read_entry(m, type);
-    for (int steps = 0; is_only_named(e.tag) && steps < MOST_STEPS; steps++) e = read_entry(m, type = e.type);
+    for (int steps = 0; (e.elsewhere || is_only_named(e.tag)) && steps < MOST_STEPS; steps++)
+        e = read_entry(m, type = e.elsewhere ? e.elsewhere : e.type);
     return type;
 }
 

@@ -5,15 +5,16 @@ enum tag { TAG_ARRAY = 1, TAG_CLASS, TAG_PARAMETER = 5, TAG_LEXICAL_BLOCK = 11, 
            TAG_STRUCTURE = 19, TAG_TYPEDEF = 22, TAG_BASE_CLASS = 28, TAG_INLINED, TAG_BOUND = 33, TAG_CONST = 38, TAG_FUNCTION = 46,
            TAG_TYPE_ARGUMENT, TAG_VARIABLE = 52, TAG_VOLATILE = 53, TAG_NAMESPACE = 57, TAG_MOVED_REFERENCE = 66, TAG_ATOMIC = 71 };
 enum attribute { AT_SIBLING = 1, AT_LOCATION, AT_NAME, AT_BYTE_SIZE = 11, AT_BIT_SIZE = 13, AT_LOW = 17, AT_HIGH, AT_UPPER_BOUND = 47,
-                 AT_ORIGIN = 49, AT_COUNT = 55, AT_PLACE, AT_FRAME_BASE = 64, AT_SPECIFICATION = 71, AT_TYPE = 73, AT_RANGES = 85,
+                 AT_ORIGIN = 49, AT_COUNT = 55, AT_PLACE, AT_FRAME_BASE = 64, AT_SPECIFICATION = 71, AT_TYPE = 73, AT_RANGES = 85, AT_SIGNATURE = 105,
                  AT_STRINGS_BASE = 114, AT_ADDRESSES_BASE, AT_RANGES_BASE, AT_LOCATIONS_BASE = 140 };
 enum { OP_ADDRESS = 3, OP_FRAME_POINTER = 86, OP_STACK_POINTER, OP_FROM_STACK_POINTER = 119, OP_FROM_FRAME_BASE = 145, OP_TOP = 156,
        OP_ADDRESS_NUMBER = 161 };
 enum { MOST_CODES = 1 << 16, MOST_DIMENSIONS = 8, MOST_STEPS = 64, DWARF3 = 3, DWARF5 = 5 };
 
 /* The sections of debug information that tell of each other. */
-enum section { INFO, ABBREVIATIONS, STRINGS, LINE_STRINGS, STRING_OFFSETS, ADDRESSES, RANGES, LOCATIONS, OLDER_RANGES, OLDER_LOCATIONS, SECTIONS };
-typedef struct { bytes of[SECTIONS]; u64 begin; } sections;  /* and the offset of its first entry */
+enum section { INFO, TYPES, ABBREVIATIONS, STRINGS, LINE_STRINGS, STRING_OFFSETS, ADDRESSES, RANGES, LOCATIONS, OLDER_RANGES, OLDER_LOCATIONS, SECTIONS };
+typedef struct { map by_signature; u64 *types; u64 count, capacity; } type_units;
+typedef struct { bytes of[SECTIONS]; u64 begin; const type_units *type_units; } sections;        /* begin: of INFO, as entries are counted */
 typedef struct { u64 tag, has_children; bytes attributes; } abbreviation;
 /* What a unit's entry tells for all others: where its code begins, and its part of some sections. */
 typedef struct { u64 low, strings, addresses, ranges, locations; } bases;
@@ -26,12 +27,13 @@ typedef struct {
     abbreviation *codes;               /* these, by their codes */
     u64 code_count, code_capacity;
     unsigned offset_bytes;             /* of offsets into sections */
-    uint8_t has_bases, is_ready;       /* ready: these are read */
+    uint8_t has_code, has_bases, is_ready;                   /* ready: these are read */
 } unit;
 /* An entry of the debug information. Offsets of entries count through all units, and are 0 where there is no such thing. */
 typedef struct {
     const unit *in;
     u64 tag, next, sibling, type, specification, size, count, place, address;    /* count: of an array's elements; 0: not known */
+    u64 elsewhere;                     /* the type that this one stands for, in a unit of its own */
     u64 origin, low, high, ranges, locations;                /* of code: from `low`, up to before `high` */
     bytes name, location, frame_base;
     uint8_t has_children, has_place, has_bits, has_ranges, has_locations;
@@ -39,6 +41,8 @@ typedef struct {
 typedef struct { char *type, *rest; } named_part;            /* "Account", ".balance"; null where there is no such type */
 struct members {
     sections main;
+    type_units type_units;
+    u64 end;                           /* behind the last unit */
     unit *units;                       /* in the order of their offsets */
     u64 unit_count, unit_capacity, last_unit;                /* the last one is the one that was asked for last */
     map by_address, by_begin;          /* the numbers of variables, and of functions */

@@ -58,6 +58,10 @@ class Names(recorder.Case):
         for version in 4, 5:
             self.check(f"-gdwarf-{version}", "-gdwarf64")
 
+    def test_types_in_units_of_their_own(self):
+        for version in 4, 5:
+            self.check(f"-gdwarf-{version}", "-fdebug-types-section")
+
     def test_link_time_optimisation(self):
         self.check("-g", "-flto", compilers=["g++"])
         if shutil.which("ld.lld"):
@@ -68,8 +72,6 @@ class Names(recorder.Case):
 UNREAD = {("-g0",): "isn't there (no -g)", ("-g1",): "has no types (-g1)",
           ("-g", "-gsplit-dwarf"): "is in other files (-gsplit-dwarf)",
           ("-g", "-gdwarf-4", "-gsplit-dwarf"): "isn't there (no -g, or -gsplit-dwarf)",
-          ("-g", "-fdebug-types-section"): "has types apart (-fdebug-types-section)",
-          ("-g", "-gdwarf-4", "-fdebug-types-section"): "has types apart (-fdebug-types-section)",
           ("-gdwarf-2",): "is older than DWARF 3 or newer than 5"}
 
 
