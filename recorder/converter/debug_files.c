@@ -103,10 +103,14 @@ static bytes identity_of(bytes file) {
     return note.is_bad || note.end - note.at > MOST ? (bytes){0} : note;
 }
 
+static int are_equal(bytes one, bytes other) {
+    u64 length = one.end - one.at;
+    return length == (u64)(other.end - other.at) && (!length || !memcmp(one.at, other.at, length));
+}
+
 static int is_of(const char *path, bytes identity) {
-    bytes file = map_module(path), other = identity_of(file);
-    u64 length = identity.end - identity.at;
-    int is_it = has_section(file, ".debug_info") && (!length || (length == (u64)(other.end - other.at) && !memcmp(identity.at, other.at, length)));
+    bytes file = map_module(path);
+    int is_it = has_section(file, ".debug_info") && (identity.at == identity.end || are_equal(identity, identity_of(file)));
     unmap_module(file);
     return is_it;
 }
@@ -140,10 +144,45 @@ static int find_debug_file(bytes file, const char *module, char *path) {
     return find_by_identity(identity, path) || find_by_name(section_of(file, ".gnu_debuglink"), module, identity, path);
 }
 
-bytes map_debug_file(const char *module) {
-    char path[PATH_BYTES];
+bytes map_debug_file(const char *module, char *path) {
     bytes file = map_module(module);
-    if (has_section(file, ".debug_info") || !find_debug_file(file, module, path)) return file;
+    int is_other = !has_section(file, ".debug_info") && find_debug_file(file, module, path);
+    if (!is_other) {
+        snprintf(path, PATH_BYTES, "%s", module);
+        return file;
+    }
     unmap_module(file);
     return map_module(path);
+}
+
+/* ---- what several files have in common, in one more (`dwz -m`) ---- */
+/* Its name, and behind that its identity. In the file itself the name is empty. */
+static bytes shared_link(bytes file) {
+    enum { VERSION_AND_KIND = 3 };
+    bytes link = section_of(file, ".gnu_debugaltlink");
+    if (link.at) return link;
+    link = section_of(file, ".debug_sup");
+    skip(&link, VERSION_AND_KIND);
+    return link;
+}
+
+static int is_shared(const char *path, bytes identity) {
+    bytes file = map_module(path), link = shared_link(file);
+    string(&link);
+    int is_it = is_of(path, identity) || (!link.is_bad && are_equal(identity, link));
+    unmap_module(file);
+    return is_it;
+}
+
+bytes map_shared_file(bytes file, const char *path) {
+    enum { MOST = 64 };
+    char other[PATH_BYTES];
+    bytes link = shared_link(file);
+    const char *name = string(&link);
+    char *real = realpath(path, 0), *slash = real ? strrchr(real, '/') : 0;
+    int folder = slash && *name != '/' ? slash + 1 - real : 0, has_one = slash && *name && link.at < link.end && link.end - link.at <= MOST;
+    if (has_one) snprintf(other, sizeof other, "%.*s%.4000s", folder, real, name);
+    int is_found = has_one && (is_shared(other, link) || find_by_identity(link, other));
+    free(real);
+    return is_found ? map_module(other) : (bytes){0};
 }

@@ -38,8 +38,8 @@ static int read_unit(struct members *m, const sections *in, enum section section
 }
 
 sections read_sections(bytes file) {
-    static const char *const names[] = {".debug_info", ".debug_types", ".debug_abbrev", ".debug_str", ".debug_line_str", ".debug_str_offsets", ".debug_addr",
-                                        ".debug_rnglists", ".debug_loclists", ".debug_ranges", ".debug_loc"};
+    static const char *const names[] = {".debug_info", ".debug_types", ".debug_abbrev", ".debug_str", ".debug_line_str", ".debug_str_offsets",
+                                        ".debug_addr", ".debug_rnglists", ".debug_loclists", ".debug_ranges", ".debug_loc"};
     sections found = {0};
     for (int k = 0; k < SECTIONS; k++) found.of[k] = section_of(file, names[k]);
     return found;
@@ -129,10 +129,11 @@ static value reference(u64 begin, u64 end, u64 offset) {
 
 static value reference_in_unit(const unit *u, u64 offset) { return reference(u->begin, u->end, offset); }
 
-static value reference_to_unit(const unit *u, u64 offset) {
-    const bytes *info = &u->in->of[INFO];
-    return reference(u->in->begin, u->in->begin + (info->end - info->at), offset);
+static value reference_to_unit(const sections *in, u64 offset) {
+    return in ? reference(in->begin, in->begin + (in->of[INFO].end - in->of[INFO].at), offset) : reference(0, 0, 0);
 }
+
+static value shared_text(const unit *u, u64 offset) { return text_at(u->in->shared ? u->in->shared->of[STRINGS] : (bytes){0}, offset); }
 
 /* To a type in a unit of its own, which may not be there. */
 static value reference_to_type(const unit *u, u64 signature) {
@@ -158,7 +159,11 @@ static value read_value(const unit *u, bytes *b, u64 form, bytes *constants) {
     case FORM_DATA2: return number(fixed(b, 2));
     case FORM_DATA4: return number(fixed(b, 4));
     case FORM_OFFSET: return number(fixed(b, u->offset_bytes));
-    case FORM_REF_ADDRESS: return reference_to_unit(u, fixed(b, u->offset_bytes));
+    case FORM_REF_ADDRESS: return reference_to_unit(u->in, fixed(b, u->offset_bytes));
+    case FORM_GNU_REF_SHARED: return reference_to_unit(u->in->shared, fixed(b, u->offset_bytes));
+    case FORM_REF_SHARED4: return reference_to_unit(u->in->shared, fixed(b, 4));
+    case FORM_REF_SHARED8: return reference_to_unit(u->in->shared, fixed(b, 8));
+    case FORM_GNU_STRP_SHARED: case FORM_STRP_SHARED: return shared_text(u, fixed(b, u->offset_bytes));
     case FORM_UDATA: case FORM_SDATA: return number(variable(b));
     case FORM_CONSTANT: return number(variable(constants));
     case FORM_PRESENT: return number(1);

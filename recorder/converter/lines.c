@@ -93,10 +93,14 @@ static int has_lines(bytes file) {
 int has_own_lines(const char *module) { return has_lines(map_module(module)); }
 
 /* Where it has none the tool that would tell of them need not be run. */
-int may_have_lines(const char *module) { return getenv("DEBUGINFOD_URLS") || has_lines(map_debug_file(module)); }
+int may_have_lines(const char *module) {
+    char path[PATH_BYTES];
+    return getenv("DEBUGINFOD_URLS") || has_lines(map_debug_file(module, path));
+}
 
 void note_sources_of(const char *module) {
-    bytes file = map_debug_file(module);
+    char path[PATH_BYTES];
+    bytes file = map_debug_file(module, path);
     read_units((tables){section_of(file, ".debug_line"), section_of(file, ".debug_line_str")});
     unmap_module(file);
 }

@@ -12,9 +12,15 @@ enum { OP_ADDRESS = 3, OP_FRAME_POINTER = 86, OP_STACK_POINTER, OP_FROM_STACK_PO
 enum { MOST_CODES = 1 << 16, MOST_DIMENSIONS = 8, MOST_STEPS = 64, DWARF3 = 3, DWARF5 = 5 };
 
 /* The sections of debug information that tell of each other. */
-enum section { INFO, TYPES, ABBREVIATIONS, STRINGS, LINE_STRINGS, STRING_OFFSETS, ADDRESSES, RANGES, LOCATIONS, OLDER_RANGES, OLDER_LOCATIONS, SECTIONS };
+enum section { INFO, TYPES, ABBREVIATIONS, STRINGS, LINE_STRINGS, STRING_OFFSETS, ADDRESSES, RANGES, LOCATIONS, OLDER_RANGES, OLDER_LOCATIONS,
+               SECTIONS };
 typedef struct { map by_signature; u64 *types; u64 count, capacity; } type_units;
-typedef struct { bytes of[SECTIONS]; u64 begin; const type_units *type_units; } sections;        /* begin: of INFO, as entries are counted */
+typedef struct sections {
+    bytes of[SECTIONS];
+    u64 begin;                         /* of INFO, as entries are counted */
+    const type_units *type_units;
+    const struct sections *shared;     /* of the file that several have in common, or null */
+} sections;
 typedef struct { u64 tag, has_children; bytes attributes; } abbreviation;
 /* What a unit's entry tells for all others: where its code begins, and its part of some sections. */
 typedef struct { u64 low, strings, addresses, ranges, locations; } bases;
@@ -40,7 +46,7 @@ typedef struct {
 } entry;
 typedef struct { char *type, *rest; } named_part;            /* "Account", ".balance"; null where there is no such type */
 struct members {
-    sections main;
+    sections main, shared;
     type_units type_units;
     u64 end;                           /* behind the last unit */
     unit *units;                       /* in the order of their offsets */

@@ -62,6 +62,35 @@ class Names(recorder.Case):
         for version in 4, 5:
             self.check(f"-gdwarf-{version}", "-fdebug-types-section")
 
+    def share(self, program, *options):
+        """Puts what the program has in common with another one into a third file."""
+        other = self.folder / "other"
+        shutil.copy(program, other)
+        recorder.must(recorder.call("dwz", *options, "-m", self.folder / "shared.debug", "-M", "shared.debug", program, other))
+
+    def test_shared_by_files(self):
+        if not shutil.which("dwz"):
+            self.skipTest("dwz isn't installed")
+        self.check("-gdwarf-4", work=self.share)
+        self.check("-gdwarf-5", compilers=["g++"], work=self.share)
+        self.check("-gdwarf-5", compilers=["g++"], work=lambda program: self.share(program, "--dwarf-5"))
+
+    def test_shared_file_that_is_another_or_not_there(self):
+        """Nothing of it is read."""
+        if not shutil.which("dwz"):
+            self.skipTest("dwz isn't installed")
+        program, shared = self.build("g++", ["-g"]), self.folder / "shared.debug"
+        self.share(program)
+        self.assertEqual(self.found(program)[1], [])
+        good = shared.read_bytes()
+        identity = bytes.fromhex(re.search(r"Build ID: (\w+)", recorder.must(recorder.call("readelf", "-n", shared)).stdout.decode())[1])
+        self.assertEqual(good.count(identity), 1)
+        for content in good.replace(identity, identity[::-1]), None:
+            shared.write_bytes(content) if content else shared.unlink()
+            found, said = self.found(program)
+            self.assertEqual(said, ["is in part in a file that isn't there, or not of this build (dwz -m)"])
+            self.assertIn({"one+8"}, found.values())
+
     def test_link_time_optimisation(self):
         self.check("-g", "-flto", compilers=["g++"])
         if shutil.which("ld.lld"):
