@@ -195,6 +195,7 @@ static void piece_events(u64 i, use u, u32 number) {
     if (only_open && is_left_out(i, u, number)) return;
     if (!u.writes && !u.writes_atomically && repeats(i, u, number)) return;
     piece *p = piece_of(number);
+    is_at_open = is_open(number) || is_mixed_open(number);
     if (shared) event(t, u.writes ? "w" : "r", variable_name(p->at, block_of(p->block)), "", caller_of(i));
     if (u.writes) p->writes++;
     if (u.writes_atomically && is_read_by_others(users, t)) {

@@ -234,7 +234,10 @@ extern u64 event_limit, events;
 extern int into_windows;               /* the events go to windows, and no limit cuts them */
 extern const char *cut_reason;         /* null while the trace goes on */
 extern const char *too_many_threads;   /* what it is then */
-void begin_scan_trace(void);           /* with the limits of shb scan, and the variable behind each location, after a bar */
+/* With the limits of shb scan, and behind the location of an access, after a bar, its variable; where order.c knows the order only if it
+   leaves a pair of accesses of that open. */
+void begin_scan_trace(int is_order_known);
+extern int is_at_open;                 /* does it, of the variable of the events that come next? */
 void name_thread(u32 t, u64 function); /* by the function that it runs, where it has no name yet */
 void name_by_own(u32 t, u64 function); /* the same, by one that it enters, if that is the program's own */
 void give_name(u32 t, const char *piece, int is_first);      /* a piece of one that the program gave; the main thread keeps its own */

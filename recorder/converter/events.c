@@ -10,10 +10,12 @@ u64 event_limit = SHB_EVENTS, events;
 int into_windows;
 const char *cut_reason, *too_many_threads = "before a thread too many: shb takes 1,024";
 static u64 bytes, byte_limit = SHB_BYTES;
-static int for_scan;
+static int for_scan, is_order_known;
+int is_at_open;
 
-void begin_scan_trace(void) {
+void begin_scan_trace(int is_order_known_) {
     for_scan = 1;
+    is_order_known = is_order_known_;
     event_limit = SCAN_EVENTS;
     byte_limit = -1;
     thread_limit = SCAN_THREADS;
@@ -174,7 +176,7 @@ static char *add_line(char *to, u32 t, const char *operation, part name, const c
     to = add_text(to, tail);
     to = add_text(to, ")|");
     to = add(to, place);
-    if (for_scan && !operation[1]) {  /* of accesses: so the places of shb scan have a variable each */
+    if (for_scan && !operation[1] && (is_at_open || !is_order_known)) {          /* so the places of shb scan have a variable each */
         *to++ = '|';
         to = add_text(add(to, name), tail);
     }

@@ -3,8 +3,8 @@
    Passes over the record.  The first meets the blocks of memory and finds those that one thread alone uses; the
    second cuts what is left into pieces; the third finds which pieces and objects are shared, and who reads what; the
    last writes the events, into one trace or into windows.  With -r two come before it: one finds what is left open, the
-   other what repeats.  With --suspicions one of its own comes before these.  With --scan a process of its own makes the last pass beside these, without -r and
-   without windows.  README.md has the table of what becomes what. */
+   other what repeats; between these is that of --suspicions.  With --scan a process of its own makes the last pass beside
+   those after the first of these, with all that -r leaves out, and without windows.  README.md has the table of what becomes what. */
 #define _GNU_SOURCE
 #include <errno.h>
 #include <getopt.h>
@@ -141,10 +141,14 @@ static void find_open(void) {
     phase = ORDERING;
     pass(find_order, 0);
     forget_states();
+    phase = WRITING;
     only_open = order_is_known();
+}
+
+static void leave_out_repeated(void) {
     phase = FINDING_REPEATED;
     begin_times();
-    if (only_open) pass(find_repeated, 0);
+    pass(find_repeated, 0);
     phase = WRITING;
     begin_times();
     forget_states();
@@ -172,8 +176,9 @@ static const char help[] =
     "                 allocated, and which locals the variables on stacks are\n"
     "  -n EVENTS      at most so many events, of the trace or of each window (4194304)\n"
     "  --scan FILE    besides, write the trace without -r, and of any length, to this file, for 'shb scan':\n"
-    "                 behind each location with a bar and the variable, so that its places have one each;\n"
-    "                 from a FIFO or /dev/fd/N it is read while it is made\n"
+    "                 behind each location with a bar and the variable, so that its places have one each (with\n"
+    "                 -r not of a variable whose accesses locks and the like order all); from a FIFO or\n"
+    "                 /dev/fd/N it is read while it is made\n"
     "  --suspicions FILE\n"
     "                 write the variables that one lock protects at nearly all uses to this file; those on stacks\n"
     "                 only with --stacks\n"
@@ -246,9 +251,9 @@ static void open_scan(void) {
 static void write_scan(void) {
     const char *shortened_before = shortened;
     if (dup2(fileno(scan_file), STDOUT_FILENO) < 0) die("cannot write to %s: %s", scan_path, strerror(errno));
+    begin_scan_trace(only_open);
     into_windows = only_open = 0;
     leave_stacks();
-    begin_scan_trace();
     pass(write_events, 0);
     write_lines();
     if (fflush(stdout) || ferror(stdout)) die("cannot write to %s: %s", scan_path, strerror(errno));
@@ -289,10 +294,11 @@ int main(int count, char **words) {
     find_places();
     pass(find_sharing, 0);
     forget_states();
+    only_open = only_open && !whole_trace;
+    if (only_open) find_open();
     if (scan_path) begin_scan();
     if (suspicions_path) suspect();
-    if (only_open && !whole_trace) find_open();
-    else only_open = 0;
+    if (only_open) leave_out_repeated();
     pass(write_events, 0);
     end_trace();
     int scan_is_cut = scan_path && end_scan();

@@ -1,6 +1,7 @@
 """`shb scan` on all that a process recorded, while a smaller trace is made for the pages.
 
-What it reads has behind each location a bar and the variable, so each of its places has one variable; here they are taken apart.
+What it reads has behind each location of a variable that may race a bar and the variable, so each of its places has one variable; here
+they are taken apart.
 """
 
 import contextlib
@@ -70,7 +71,7 @@ def places_of(scan):
     """By place: its first so many variables, each with a race of it."""
     found, more = {}, set()
     for race, accesses in scan.races():
-        one, other = (access._replace(location=access.location.rpartition(b"|")[0]) for access in accesses)
+        one, other = (access._replace(location=access.location.partition(b"|")[0]) for access in accesses)
         place = one.location, other.location
         by_variable = found.setdefault(place, {})
         if len(by_variable) == MOST_VARIABLES:

@@ -174,6 +174,14 @@ class Command(recorder.Case):
         self.assertEqual((text_of(self.folder / "status.shb" / "unknown.places"), self.names()),
                          ("", [*TABLES, "run1.N.stacks", "run1.N.std", "unknown.places"]))
 
+    def test_a_scan_without_variables(self):
+        """Where a fault takes a variable for one that can't race, its place is found all the same."""
+        fake = self.folder / "shb"
+        fake.write_text(f'#!/bin/sh\n[ "$1" = scan ] || exec {recorder.SHB} "$@"\nsed "s/^\\([^|]*|[^|]*|[^|]*\\)|.*/\\1/" | {recorder.SHB} scan\n')
+        fake.chmod(0o755)
+        status, _, said = self.record(self.program(), "0", "race", SHB=str(fake))
+        self.assertEqual((status, text_of(self.folder / "status.shb" / "unknown.places")), (66, UNKNOWN), said)
+
     def test_a_scan_that_fails(self):
         fake = self.folder / "shb"
         for answer, wanted in (("exit 4", "`shb scan` ended with status 4: "), ("echo shb-scan 1", "`shb scan` wrote no whole text: line 2 of the scan is missing"),

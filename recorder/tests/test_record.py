@@ -90,7 +90,7 @@ class Canned(recorder.Case):
         self.assertNotIn(b"cut", recorder.convert(self.record, "-n", str(len(TRACE))).stderr)
 
     def test_the_trace_for_scan(self):
-        """It has the variable behind the location of each access, and neither -r nor a limit nor windows change it, nor it the trace."""
+        """It has the variable behind the location of each access, which all race; neither -r nor a limit nor windows change it, nor it the trace."""
         wanted = [line + "|" + line.split("(")[1].split(")")[0] if line.split("|")[1][:2] in ("r(", "w(") else line for line in TRACE]
         scan = self.folder / "scan"
         for words in ((), ("-r",), ("-n", "5"), ("--windows", self.folder / "windows"), ("-r", "--stacks", self.folder / "stacks")):
@@ -98,6 +98,21 @@ class Canned(recorder.Case):
             answer = recorder.convert(self.record, "--scan", scan, *words)
             self.assertEqual((answer.returncode, answer.stdout, answer.stderr), (before.returncode, before.stdout, before.stderr))
             self.assertEqual(scan.read_text().splitlines(), wanted)
+
+    def test_the_trace_for_scan_of_what_is_ordered(self):
+        """With -r a variable that a lock orders isn't behind its locations. Events are left out of neither."""
+        events = [(0, "WRITE", RANGE, 0x111, 8), (0, "LOCK", LOCK, 0x112), (0, "WRITE", RANGE + 64, 0x113, 8), (0, "UNLOCK", LOCK, 0x114),
+                  (1, "LOCK", LOCK, 0x212), (1, "WRITE", RANGE + 64, 0x213, 8), (1, "UNLOCK", LOCK, 0x214), (1, "WRITE", RANGE, 0x211, 8),
+                  (0, "WRITE", RANGE, 0x115, 8)]
+        self.record.write_bytes(HEADER + entry(0, "FORK", 1, 0x101) + b"".join(entry(*event) for event in events) + bytes(64))
+        found = {}
+        for words in (), ("-r",):
+            recorder.must(recorder.convert(self.record, "--scan", self.folder / "scan", *words))
+            found[words] = [line for line in (self.folder / "scan").read_text().splitlines() if "|w(" in line]
+        self.assertEqual(found[()], [f"{thread}|w({name})|{location}|{name}" for thread, name, location in
+                                     [("main", "0x40000000", "0x111"), ("main", "0x40000040", "0x113"), ("T1", "0x40000040", "0x213"),
+                                      ("T1", "0x40000000", "0x211"), ("main", "0x40000000", "0x115")]])
+        self.assertEqual(found["-r",], [line.replace("|0x40000040", "") for line in found[()]])
 
     def test_a_trace_for_scan_that_nobody_reads_on(self):
         """Where its reader ends early the trace is whole all the same; where it can't be written there is none."""
