@@ -24,6 +24,7 @@ class Scanning:
 
     def __init__(self, room):
         self.text = tempfile.TemporaryFile(dir=room)
+        self.unexpected = set()  # places without a variable: the converter took their accesses for ordered
         reading, self.descriptor = os.pipe()
         with open(reading, "rb") as pipe:
             self.run = analyser.Run([ANALYSER, *analyser.SCAN], pipe, self.text, **APART)
@@ -46,9 +47,25 @@ class Scanning:
             raise Refused(f"`shb scan` ended with status {answer.status}: {answer.words}")
         self.text.seek(0)
         try:
-            return places_of(Scan(self.text))
+            return self.places_of(Scan(self.text))
         except BadReport as fault:
             raise Refused(f"`shb scan` wrote no whole text: {fault}") from None
+
+    def places_of(self, scan):
+        """By place: its first so many variables, each with a race of it."""
+        found, more = {}, set()
+        for race, accesses in scan.races():
+            locations = [access.location.partition(b"|") for access in accesses]
+            place = tuple(location for location, _, _ in locations)
+            if not all(bar for _, bar, _ in locations):
+                self.unexpected.add(place)
+            one, other = (access._replace(location=location) for access, location in zip(accesses, place))
+            by_variable = found.setdefault(place, {})
+            if len(by_variable) == MOST_VARIABLES:
+                more.add(place)
+            else:
+                by_variable[one.name] = Found((race.first, race.second), (one, other), 1)
+        return [Place(*place, by_variable, place in more) for place, by_variable in found.items()]
 
     def copy(self, path):
         """Puts what it wrote into a file."""
@@ -65,20 +82,6 @@ def scanning(room):
         yield scan
     finally:
         scan.close()
-
-
-def places_of(scan):
-    """By place: its first so many variables, each with a race of it."""
-    found, more = {}, set()
-    for race, accesses in scan.races():
-        one, other = (access._replace(location=access.location.partition(b"|")[0]) for access in accesses)
-        place = one.location, other.location
-        by_variable = found.setdefault(place, {})
-        if len(by_variable) == MOST_VARIABLES:
-            more.add(place)
-        else:
-            by_variable[one.name] = Found((race.first, race.second), (one, other), 1)
-    return [Place(*place, by_variable, place in more) for place, by_variable in found.items()]
 
 
 def lacking(places, others):

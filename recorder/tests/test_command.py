@@ -175,12 +175,16 @@ class Command(recorder.Case):
                          ("", [*TABLES, "run1.N.stacks", "run1.N.std", "unknown.places"]))
 
     def test_a_scan_without_variables(self):
-        """Where a fault takes a variable for one that can't race, its place is found all the same."""
+        """Where a fault takes a variable for one that can't race, its place is found all the same, and the fault is noticed."""
         fake = self.folder / "shb"
         fake.write_text(f'#!/bin/sh\n[ "$1" = scan ] || exec {recorder.SHB} "$@"\nsed "s/^\\([^|]*|[^|]*|[^|]*\\)|.*/\\1/" | {recorder.SHB} scan\n')
         fake.chmod(0o755)
         status, _, said = self.record(self.program(), "0", "race", SHB=str(fake))
         self.assertEqual((status, text_of(self.folder / "status.shb" / "unknown.places")), (66, UNKNOWN), said)
+        self.assertIn("1 place may have more variables, since shb-std took races for ordered: this is a fault of shb-std", said)
+        known = self.folder / "known.places"
+        known.write_text(UNKNOWN)
+        self.assertEqual(self.record("--known", str(known), self.program(), "0", "race", SHB=str(fake))[0], 125)
 
     def test_a_scan_that_fails(self):
         fake = self.folder / "shb"
