@@ -21,6 +21,7 @@ FIRST, SECOND = (re.compile(word + rb" (([^\n|]+)\|([rw])\(([^\n|]+)\)(?:\|([^\n
 SCHEDULE = re.compile(rb"schedule %b:" % NUMBER)
 END = re.compile(rb"end\n")
 LONGEST = 60        # columns of a line that a refusal shows
+MOST_KNOWN = 10_000  # lines of accesses that are kept
 
 
 class BadReport(Exception):
@@ -64,6 +65,7 @@ class Lines:
         self.number = 0             # of the lines taken
         self.start = self.bytes = 0     # where the next line begins, and where it ends, counted from the report's first byte
         self.line = b""
+        self.known = {FIRST: {}, SECOND: {}}    # accesses by their lines, most of which come again
         self.advance()
 
     def advance(self):
@@ -102,8 +104,16 @@ class Lines:
 
     def access(self, pattern, form):
         """The line of an access, and its fields."""
-        line, *fields, location = self.next(pattern, form)
-        return line, Access(*fields, location or b"")
+        line, known = self.line, self.known[pattern]
+        if line in known:
+            self.number += 1
+            self.advance()
+            return known[line]
+        access, *fields, location = self.next(pattern, form)
+        if len(known) == MOST_KNOWN:
+            known.clear()
+        known[line] = access, Access(*fields, location or b"")
+        return known[line]
 
     def end(self):
         """Takes the last line, after which nothing stands."""

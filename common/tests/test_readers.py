@@ -190,6 +190,18 @@ class Readers(side_by_side.Case):
                 with self.subTest(name, text=changed):
                     read(changed)
 
+    def test_accesses_that_come_again(self):
+        """They are what they were; a line of a first access is none of a second one."""
+        again = b"race 2: 1 3\nfirst T1|w(x)|a.c:1\nsecond T2|w(x)|b.c:2\n"
+        text = REPORT.replace(b"schedule 0:\n", again).replace(b"events 2", b"events 3").replace(b"races 1", b"races 2").replace(b"place 1: 1", b"place 1: 2")
+        one, other = (accesses for _, accesses in Report(io.BytesIO(text)).races())
+        self.assertEqual(one, other)
+        for before, after, wanted in ((b"second T2|w(x)|b.c:2\nend", b"first T1|w(x)|a.c:1\nend", "line 13 of the report is `first T1|w(x)|a.c:1`; it should be `second ACCESS`"),
+                                      (b"1 3\nfirst T1|w(x)|a.c:1", b"1 3\nsecond T2|w(x)|b.c:2", "line 12 of the report is `second T2|w(x)|b.c:2`; it should be `first ACCESS`")):
+            with self.assertRaises(BadReport) as refused:
+                list(Report(io.BytesIO(text.replace(before, after))).races())
+            self.assertEqual(str(refused.exception), wanted)
+
     def test_words_name_the_line(self):
         for number, line in enumerate(LINES.splitlines(True), 2):
             path = self.folder / "a.stacks"

@@ -72,6 +72,7 @@ class Gathered:
         self.locals = {}  # by a variable on a stack: the local that it is
         self.pairs = {}  # by the two locations, the lesser first
         self.above = {}  # by location pair or variable: another one of its group
+        self.joined = set()  # pairs of accesses whose lines and variable are of one group by it
         self.lines = {}  # the line of each event that is named
         self.texts = {}  # each line once
         self.racing = {}  # by variable and location: the events of the races that were read
@@ -82,10 +83,12 @@ class Gathered:
         """Takes the variable of two racing accesses that aren't shown themselves, which stand for so many races."""
         by_variable = self.variables.setdefault((first.location, second.location), {})
         by_variable[first.name] = by_variable.get(first.name, 0) + races
-        atomic = atomic_of(first, second)
-        if atomic:
-            self.atomics[first.name] = atomic
-        self.join(tuple(sorted((first.location, second.location))), atomic or first.name)
+        if (first, second) not in self.joined:
+            self.joined.add((first, second))
+            atomic = atomic_of(first, second)
+            if atomic:
+                self.atomics[first.name] = atomic
+            self.join(tuple(sorted((first.location, second.location))), atomic or first.name)
         self.racing.setdefault((first.name, first.location), set()).add(race.first)
         self.racing.setdefault((second.name, second.location), set()).add(race.second)
         if second.word == b"r":
