@@ -13,7 +13,7 @@ from shb_common import known
 from shb_common.commands import Parser, number
 from shb_common.faults import Refused
 from shb_common.standard import open_standard_files, words_of, write_texts
-from shb_farm import engines, files, limits, merging, passes, since, tables, traces
+from shb_farm import engines, limits, merging, outcomes, passes, since, tables, traces
 from shb_farm.calls import Calls
 from shb_farm.sources import Sources
 
@@ -138,7 +138,7 @@ def pass_of(options, room):
     if not shb:
         raise Refused("there is no shb where this command was installed; SHB can name it")
     with open(shb, "rb") as program:
-        checksum = files.checksum_of_file(program)
+        checksum = outcomes.checksum_of_file(program)
     traces, out = os.path.realpath(options.traces), os.path.realpath(options.out)
     view = command_of("SHB_VIEW", "../view/shb-view", "shb-view")
     return passes.Pass(shb, checksum, traces, out, str(room), view or "", options.links, seconds=options.seconds, size=options.size)

@@ -17,7 +17,7 @@ sys.path[:0] = [str(HOME), str(HOME.parent / "common")]     # installed, all pac
 
 from shb_common.files import open_regular, put
 from shb_common.standard import words_of
-from shb_farm import files, outcomes, passes, reports, running, traces
+from shb_farm import outcomes, passes, reports, running, traces
 from shb_farm.children import end_with, has_parent_in_session
 from shb_farm.outcomes import Cost
 from shb_farm.running import METER
@@ -28,14 +28,14 @@ def make_outcome(work, name):
     has the stamp of before, and doesn't count."""
     path, place = pathlib.Path(work.traces) / name, passes.outcome_path(work.out, work.form, name)
     old = outcomes.read(place, name)
-    if passes.stands(old, work, name, files.stamp_of(os.stat(path))):
+    if passes.stands(old, work, name, outcomes.stamp_of(os.stat(path))):
         return old.kind
     if not work.links and not traces.is_below(os.path.realpath(path), work.traces):
         raise running.NotHere(traces.LEADS_OUT)
     METER.clear()
     with open_regular(path) as trace:
-        stamp = files.stamp_of(os.fstat(trace.fileno()))
-        checksum = files.checksum_of_file(trace)
+        stamp = outcomes.stamp_of(os.fstat(trace.fileno()))
+        checksum = outcomes.checksum_of_file(trace)
         if old is not None and old.trace == checksum and passes.is_final(old, work, name):
             new = old._replace(stamp=stamp)
         else:

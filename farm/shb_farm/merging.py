@@ -7,7 +7,7 @@ import typing
 
 from shb_common.places import Places, in_order
 from shb_common.variables import local_name
-from shb_farm import files, outcomes, passes, traces
+from shb_farm import outcomes, passes, traces
 
 
 class Ending(typing.NamedTuple):
@@ -39,7 +39,7 @@ def ending_of(work, name, outside=()):
         why = "its job didn't end"
     elif outcome.program != work.program:
         why = "its outcome is of another program"
-    elif outcome.stamp != files.stamp_of(state):
+    elif outcome.stamp != outcomes.stamp_of(state):
         why = "it has changed since"
     elif outcome.kind == "failed":
         why = outcome.words

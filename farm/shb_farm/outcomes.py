@@ -17,13 +17,13 @@ KIND and WORDS are `report` and what the trace has; `refused` and the program's 
 the limit that didn't suffice (MiB, seconds of processor time, MiB); or `failed` and why. What failed is tried again.
 """
 
+import hashlib
 import os
 import pathlib
 import typing
 
 from shb_common.analyser import Place
 from shb_common.known import written
-from shb_farm import files
 
 FIRST = b"shb-farm 2\n"
 HEAD = b"name", b"program", b"trace", b"stamp", b"cost"
@@ -46,6 +46,23 @@ class Outcome(typing.NamedTuple):
     places: typing.List[Place]      # by variable the events of one race
 
 
+def stamp_of(state):
+    """What tells that a file is as it was, from its `stat`."""
+    return f"{state.st_size}:{state.st_mtime_ns}"
+
+
+def checksum_of(text):
+    return hashlib.blake2b(text, digest_size=32).hexdigest()
+
+
+def checksum_of_file(file):
+    """The checksum of what is left of an open file."""
+    found = hashlib.blake2b(digest_size=32)
+    for part in iter(lambda: file.read(1 << 20), b""):
+        found.update(part)
+    return found.hexdigest()
+
+
 def text_of(outcome):
     cost = f"{outcome.cost.seconds:.2f} {outcome.cost.kib} {outcome.cost.text}"
     head = [f"program {outcome.program}", f"trace {outcome.trace}", f"stamp {outcome.stamp}", f"cost {cost}",
@@ -56,7 +73,7 @@ def text_of(outcome):
         lines += b"at %s\nand %s\n" % place[:2]
         lines += b"".join(b"on %d %d %s\n" % (*events, variable) for variable, events in place.variables.items())
         lines += b"more\n" * place.has_more
-    return lines + f"sum {files.checksum_of(lines)}\n".encode()
+    return lines + f"sum {checksum_of(lines)}\n".encode()
 
 
 def read(path, name):
@@ -66,7 +83,7 @@ def read(path, name):
     except OSError:
         return None
     body, _, last = text.rpartition(b"sum ")
-    if not text.startswith(FIRST) or last != files.checksum_of(body).encode() + b"\n":
+    if not text.startswith(FIRST) or last != checksum_of(body).encode() + b"\n":
         return None
     try:
         return outcome_in(body[len(FIRST):-1].split(b"\n"), name)

@@ -9,7 +9,7 @@ import time
 
 import farm
 from farm import BAD, CLEAN, RACE
-from shb_farm import files, outcomes
+from shb_farm import outcomes
 from shb_farm.outcomes import Cost, Outcome, Place
 from shb_farm.passes import key_of
 
@@ -63,7 +63,7 @@ class Files(farm.Case):
         for number in range(len(lines)):
             for bad in (b"", b"on", b"on x y z", b"and q", b"cost x", b"more"):
                 text = b"shb-farm 2\n" + b"".join(line + b"\n" for line in [*lines[:number], bad, *lines[number + 1:]])
-                path.write_bytes(text + b"sum " + files.checksum_of(text).encode() + b"\n")
+                path.write_bytes(text + b"sum " + outcomes.checksum_of(text).encode() + b"\n")
                 outcomes.read(path, "n")    # None or an outcome, and no fault
 
 

@@ -7,15 +7,14 @@ import typing
 
 from shb_common.analyser import FULL, HEAD, LIST, REFUSED, Run, rewound
 from shb_common.faults import Refused
-from shb_common.refused import without_note
+from shb_common.refused import line_and_hint, without_note
 from shb_common.report import BadReport, Race, Report
 from shb_common.variables import TooLong, variables_in, write_copy
 from shb_view.names import short
-from shb_view.refused import refused_line
 from shb_view.words import EACH, SOME
 
 MOST_BYTES = 4_096  # of a verdict that are looked at
-MOST_SAID = 200  # columns of the program's words that are shown
+MOST_SAID, MOST_SHOWN = 200, 100  # columns of the program's words and of a refused line that are shown
 MOST_LISTED = 100_000  # races of a list that is read to its end
 BAD = 5  # the status of `shb check` for a bad report
 
@@ -47,9 +46,17 @@ class Analyser:
             return answer.status
         said = short(without_note(answer.said).rstrip(b"\n"), MOST_SAID)
         if answer.status == REFUSED and said:
-            raise Refused(f"`shb` refuses the trace: {said}{refused_line(self.trace, said)}")
+            raise Refused(f"`shb` refuses the trace: {said}{self.refused_line(said)}")
         how = f"was ended by signal {-answer.status}" if answer.status < 0 else f"ended with status {answer.status}"
         raise Refused(f"`shb {' '.join(words)}` {how}{': ' if said else ''}{said}")
+
+    def refused_line(self, said):
+        """The line that the program's words name, below them, with a hint where one is known; nothing where they name none."""
+        found = line_and_hint(said, self.trace)
+        if not found:
+            return ""
+        line, hint = found
+        return f"\n  {short(line, MOST_SHOWN)}" + (f"\n  hint: {hint}" if hint else "")
 
     def head(self, take=None, trace=None):
         """The report of `races --list` of the trace, or of this open one. The accesses of its races are given to `take`, if there is

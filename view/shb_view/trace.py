@@ -2,12 +2,15 @@
 
 import bisect
 import os
+import re
 import typing
 
 from shb_common.faults import Refused
+from shb_common.refused import CARRIAGE_RETURNS, MARK
 from shb_common.variables import without_end
 
 BATCH = 65_536  # bytes of lines that are read at once
+ALONE = re.compile(rb"\r[^\n]")
 OPENS = ord("(")  # the second byte of `r(X)` and `w(X)` alone
 CHANGED = "the trace isn't the one that `shb` read: it was changed in between"
 
@@ -40,6 +43,16 @@ def event_of(line):
 def line_of(event):
     """The line of an event with an operand."""
     return event.thread + b"|" + event.word + b"(" + event.name + b")" + (b"|" + event.location if event.location else b"")
+
+
+def warnings(path):
+    """What a trace that isn't refused begins with, where that isn't what it looks like."""
+    with open(path, "rb") as file:
+        start = file.read(BATCH)
+    if start.startswith(MARK):
+        yield "The trace begins with a byte order mark, which is a part of the first thread's name."
+    if ALONE.search(start):
+        yield f"In the trace {CARRIAGE_RETURNS}."
 
 
 class Found(typing.NamedTuple):

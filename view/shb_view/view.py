@@ -21,10 +21,9 @@ from shb_view.counting import Counting, Kinds
 from shb_view.facts import Fact, Site, fact_of, sites_of
 from shb_view.groups import Gathered, Group, object_of
 from shb_view.names import by_numbers, readable
-from shb_view.refused import warnings
 from shb_view.source import Source
 from shb_view.stacks import Damaged, publications, stacks_of
-from shb_view.trace import CHANGED, Trace
+from shb_view.trace import CHANGED, Trace, warnings
 from shb_view.windows import Window, make_windows
 
 MOST_GROUPS = 200
