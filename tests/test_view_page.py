@@ -199,6 +199,12 @@ class Pages(program.Case):
         self.assertIn("The report wasn't checked (--check does it).", [text for _, text in unchecked.all("p")])
         self.assertNotIn("come next", "".join(text for _, text in unchecked.all("body")))
 
+    def test_commands_in_sentences_are_code(self):
+        """And are between backticks in the text for an issue alone."""
+        page = self.page(self.example("places"))
+        self.assertIn("shb places", [text for _, text in page.all("code")])
+        self.assertEqual([text for _, text in page.all("p") if "`" in text], [])
+
     def test_a_bad_verdict_comes_first_and_is_red(self):
         path = self.folder / "page.html"
         report = (EXAMPLES / "places.report").read_bytes().replace(b"schedule 0:", b"schedule 1: 1", 1)

@@ -1,5 +1,6 @@
 """view/shb-view --stacks: the call stacks of racing lines, of threads and of blocks."""
 
+import os
 import re
 import struct
 
@@ -289,6 +290,17 @@ class Stacks(program.Case):
             self.assertIn(f"1. a.c:9#2: {words} (1 race, 1 place)\n", out)
             self.assertEqual(([text for _, text in Page(page.read_text()).all("h2")], [text for _, text in Page(page.read_text()).all("span", "tag")]),
                              ([f"1 a.c:9#2: {words}"], [words]))
+
+    def test_its_lines_are_marked_in_the_code(self):
+        """Those that the first sentence names, where they are near an access."""
+        (self.folder / "a.c").write_text("".join(f"line {number}\n" for number in range(1, 20)))
+        os.utime(self.folder / "a.c", (1000, 1000))
+        trace = b"main|fork(T1)|a.c:1\nmain|w(a.c:9#2)|a.c:5\nT1|r(a.c:9#2)|a.c:7\nmain|join(T1)|a.c:8\nmain|fork(T2)|a.c:9\n"
+        tables = b"atomic slot\tmain\ta.c:6\tstore relaxed\natomic slot\tT1\ta.c:15\tload acquire\n"
+        page = self.folder / "page.html"
+        self.shown(stacks(tables=TABLES + tables), "--source", self.folder, "--html", page, trace=trace)
+        rows = [text for _, text in Page(page.read_text()).all("tr") if "\u2022" in text]
+        self.assertEqual(rows, ["6\u2022line 6"] * 2)
 
     def test_the_callers_that_hold_no_lock(self):
         """Of a line that holds one at other accesses: add, as `main` calls it here. Where all accesses hold none, nothing more is said."""

@@ -32,6 +32,11 @@ def code(name, most):
     return element("code", short(name, most))
 
 
+def with_commands(text):
+    """Words of our own, with what stands between backticks as code."""
+    return joined(element("code", part) if number % 2 else part for number, part in enumerate(text.split("`")))
+
+
 def marked(parts, most):
     """Parts of `words`, the names as code."""
     return joined(code(part, most) if isinstance(part, Code) else part for part in parts)

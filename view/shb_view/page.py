@@ -8,7 +8,7 @@ from shb_common.stacks import bare
 from shb_common.words import counted
 from shb_view.groups import group_name
 from shb_view.issue import issue_lines, order_text
-from shb_view.markup import Markup, code, element, joined, marked
+from shb_view.markup import Markup, code, element, joined, marked, with_commands
 from shb_view.names import code_line, short
 from shb_view.picture import picture
 from shb_view.source import excerpt
@@ -66,7 +66,7 @@ def header(view):
         words = f": {view.verdict.words}. What follows rests on this report alone."
         verdict = [element("p", element("code", "shb check"), " finds the report bad", words, class_="verdict bad")]
     races, size = summary(view)
-    notes = [element("p", note, class_="verdict good" if view.verdict.is_good and not number else "faint")
+    notes = [element("p", with_commands(note), class_="verdict good" if view.verdict.is_good and not number else "faint")
              for number, note in enumerate(notes_of(view))]
     notes += [element("p", line, class_="faint") for line in view.about]
     given = [element("p", note, class_="verdict bad") for note in view.notes]
@@ -108,18 +108,22 @@ def section_part(view, number, section):
         names = listed([[Code(name)] for name in section.group.variables], MOST_VARIABLES)
         parts.append(element("p", "Variables: ", marked(names, NAME), class_="variables"))
     them = "it" if len(section.group.variables) == 1 else "them"
-    figures = [figure(view, section.window, mark, access) for mark, access in enumerate(section.window.accesses, 1)]
-    parts += [element("div", *figures, class_="pair") if any(figures) else None, element("h3", f"Every line that uses {them}"),
+    parts += [source_pair(view, section), element("h3", f"Every line that uses {them}"),
               site_table(view, section), callers_details(section), origin_details(view, section),
-              window_details(view, section.window, anchor),
-              element("details", element("summary", "As text, for an issue"), element("pre", "\n".join(issue_lines(view, section))), class_="issue"),
+              window_details(view, section.window, anchor), issue_details(view, section),
               line_details(section.window, anchor)]
     return element("section", joined(filter(None, parts), "\n"), id=f"g{number}")
 
 
-def figure(view, window, number, access):
+def source_pair(view, section):
+    """The two lines of code, side by side, where the source has them."""
+    figures = [figure(view, section, number, access) for number, access in enumerate(section.window.accesses, 1)]
+    return element("div", *figures, class_="pair") if any(figures) else None
+
+
+def figure(view, section, number, access):
     """The lines of code around an access, with a bar from the acquire of its newest lock to it."""
-    row = window.events[access]
+    window, row = section.window, section.window.events[access]
     found = view.source.place(row.event.location)
     if not found:
         return ""
@@ -133,7 +137,7 @@ def figure(view, window, number, access):
         if shown_lines.head:
             head = element("code", code_line(function_words(shown_lines.head, frames, row.event.location), LINE))
             caption += [element("br"), element("span", "in ", head, class_="faint")]
-        lines = code_table(shown_lines, number)
+        lines = code_table(shown_lines, number, atomic_lines(view, section, found))
     lines = joined([lines, access_details(frames)])
     if found.fault:
         caption += [element("br"), element("span", found.fault, class_="fault")]
@@ -147,13 +151,19 @@ def function_words(head, frames, location):
     return head.rstrip(b" {") if name in head else function
 
 
-def code_table(lines, mark):
+def atomic_lines(view, section, found):
+    """The lines of this file at which atomics are used that hand on without order."""
+    uses = [view.source.place(use.location) for pair in section.publications for use in pair]
+    return {use.number for use in uses if use and use.path == found.path}
+
+
+def code_table(lines, mark, atomics):
     rows = []
     for number in lines.numbers:
         is_hit = number == lines.place.number
         text = code_line(lines.place.lines[number - 1].rstrip(), LINE)
         rows.append(element("tr", element("td", class_="lock on" if number in lines.held else "lock"),
-                            element("td", number, class_="n"), element("td", mark if is_hit else "", class_="hitmark"),
+                            element("td", number, class_="n"), element("td", mark if is_hit else "•" if number in atomics else "", class_="hitmark"),
                             element("td", element("code", text)), class_="hit" if is_hit else None))
     return element("table", element("tbody", *rows), class_="code")
 
@@ -233,8 +243,12 @@ def origin_details(view, section):
 def window_details(view, window, anchor):
     first, second = window.accesses
     return element("details", element("summary", f"What comes before one of the races (events {first} and {second})"),
-                   element("p", f"{LEGEND} {order_text(view, window)}", class_="faint"),
+                   element("p", with_commands(f"{LEGEND} {order_text(view, window)}"), class_="faint"),
                    element("div", picture(window, anchor), class_="wide picture"))
+
+
+def issue_details(view, section):
+    return element("details", element("summary", "As text, for an issue"), element("pre", "\n".join(issue_lines(view, section))), class_="issue")
 
 
 def line_details(window, anchor):

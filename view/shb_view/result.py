@@ -31,9 +31,7 @@ def entry(view, section, pair, origin, names):
             found["code"] = result.text(code)
         if location in sites:
             found.update(site_entry(sites[location]))
-        found["stacks"] = [{"accesses": count, "frames": [{"function": result.text(frame.function), "location": result.text(frame.location)}
-                                                          for frame in frames[:MOST_FRAMES]]}
-                           for (frames, _), count in section.callers.get(location, ())[:MOST_STACKS] if frames]
+        found["stacks"] = [stack_entry(frames, count) for (frames, _), count in section.callers.get(location, ())[:MOST_STACKS] if frames]
         accesses.append(found)
     return {"places": len(pair.orders), "accesses": accesses, "variables": view.variables(pair), "races": pair.races,
             "headline": flat(headline(section)), "facts": [flat(parts) for parts in sentences(section)]}
@@ -46,3 +44,8 @@ def site_entry(site):
     return {"uses": {KINDS[word]: count for word, count in sorted(site.accesses.items()) if count},
             "threads": {result.text(thread): count for thread, count in sorted(site.threads.items())},
             "locks": locks, "without_lock": site.bare}
+
+
+def stack_entry(frames, count):
+    return {"accesses": count, "frames": [{"function": result.text(frame.function), "location": result.text(frame.location)}
+                                          for frame in frames[:MOST_FRAMES]]}
