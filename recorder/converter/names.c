@@ -498,7 +498,7 @@ void find_places(void) {
     places = zeroed(callers.count + 1, sizeof *places);
     for (module *m = modules; m < modules + module_count; m++) {
         if (!in_system(m->path) && !is_recorder(m)) note_sources_of(m->path);
-        m->is_late = is_recorder(m) || (in_system(m->path) && !has_own_lines(m->path));
+        m->is_late = is_recorder(m) || (m > modules && in_system(m->path) && !has_own_lines(m->path));
         if (!m->is_late) ask_for_lines(m);
     }
     find_asked_places();
