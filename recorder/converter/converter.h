@@ -168,6 +168,7 @@ void note_crash(u64 i);                /* a record OP_CRASH */
 void say_crash(void);                  /* at the end */
 void note_free(u64 first, u64 last);   /* the events of one call that frees a block */
 void note_name(u64 at, u32 block, u64 event, u32 t);         /* of a piece or an object: this event of a thread is of it */
+void note_functions(u64 caller);        /* it lies in these, and no event need be there */
 void note_atomic(u64 i, u64 object);   /* a use of an atomic that several threads use */
 void forget_calls(void);               /* between the passes that meet them */
 void leave_stacks(void);               /* in a process that writes no stacks */

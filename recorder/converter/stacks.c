@@ -428,6 +428,13 @@ static u32 frame_number(inlined_frame *f) {
     return f->number = ++frame_count;
 }
 
+static u64 *callers, caller_count, caller_capacity;          /* without an event, whose functions are told */
+
+void note_functions(u64 caller) {
+    GROW(callers, caller_count, caller_capacity);
+    callers[caller_count++] = caller;
+}
+
 static inlined_frame *entered(u32 number) { return outermost(frames_of(nodes[number].function)); }
 
 /* The node of the function that a node's call lies in: the next further out, where all hooks told. Functions that were left
@@ -542,6 +549,8 @@ void leave_stacks(void) { with_stacks = 0; }
 void end_stacks(void) {
     if (!with_stacks) return;
     write_nodes();
+    for (u64 i = 0; i < caller_count; i++)
+        for (inlined_frame *f = frames_of(callers[i]); f; f = f->outer) frame_number(f);
     for (u32 t = 0; t < thread_bound(); t++) use(thread_nodes[t]);
     for (u64 b = 1; b < block_count; b++)
         if (block_of(b)->named) use(block_nodes[b]);

@@ -289,6 +289,7 @@ static void write_named(u64 at, u32 block, const char *local) {
 
 static void write_use(const use *u) {
     part location = place_of(u->caller);
+    note_functions(u->caller);
     fprintf(file, "\t%.*s\t%s\t%s", (int)location.length, location.at, u->writes ? "w" : "r", thread_name(u->thread));
 }
 

@@ -96,7 +96,7 @@ class Shown(recorder.Case):
         """Races are in neither list, and known suspicions aren't."""
         [lone], [locked] = (recorder.marked(recorder.PROGRAMS / "suspicions.cc", word) for word in ("SUSPICION", "LOCKED"))
         known = self.folder / "known"
-        known.write_text("suspicions.cc:*\tsuspicions.cc:*\tAccount.balance\n")
+        known.write_text("suspicions.cc:main()\tsuspicions.cc:deposit()\tAccount.balance\n")
         for words, count in (((), 1), (("--known", known), 0)):
             self.shown("suspicions.cc", *words)
             found, log = (json.loads((self.folder / "out" / f"places.{end}").read_text()) for end in ("json", "sarif"))
@@ -106,7 +106,8 @@ class Shown(recorder.Case):
             [one], [result] = found["suspicions"], log["runs"][0]["results"]
             self.assertEqual({name: one[name] for name in ("variable", "lock", "locations", "threads")},
                              {"variable": "Account.balance", "lock": "Account.lock", "locations": 1, "threads": 2})
-            self.assertEqual([(use["location"], use["operation"]) for use in one["accesses"]], [(lone, "read"), (locked, "write")])
+            self.assertEqual([(use["location"], use["functions"], use["operation"]) for use in one["accesses"]],
+                             [(lone, ["main"], "read"), (locked, ["deposit"], "write")])
             self.assertEqual((one["accesses"][0]["thread"], one["accesses"][0]["file"]), ("main", str(recorder.PROGRAMS / "suspicions.cc")))
             self.assertEqual((result["ruleId"], result["level"]), ("suspicion", "note"))
             self.assertTrue(result["message"]["text"].startswith(f"Account.balance: main reads it at {lone} without Account.lock. "), result)
