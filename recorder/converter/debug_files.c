@@ -26,8 +26,8 @@ static Elf64_Shdr section(bytes table, u64 number) {
     return header;
 }
 
-/* The header of the section with this name, of type SHT_NULL where there is none. */
-static Elf64_Shdr header_of(bytes file, const char *name) {
+/* The header of the next section with this name, from a number on, which is put behind it; of type SHT_NULL where there is none. */
+static Elf64_Shdr next_header(bytes file, const char *name, u64 *number) {
     Elf64_Ehdr elf;
     Elf64_Shdr none = {0};
     bytes part = part_of(file, 0, sizeof elf);
@@ -37,11 +37,16 @@ static Elf64_Shdr header_of(bytes file, const char *name) {
     bytes table = part_of(file, elf.e_shoff, (u64)elf.e_shnum * sizeof(Elf64_Shdr));
     Elf64_Shdr named = section(table, elf.e_shstrndx);
     bytes names = part_of(file, named.sh_offset, named.sh_size);
-    for (u64 k = 0; k < elf.e_shnum; k++) {
-        Elf64_Shdr s = section(table, k);
+    while (*number < elf.e_shnum) {
+        Elf64_Shdr s = section(table, (*number)++);
         if (s.sh_type != SHT_NOBITS && !strcmp(string_at(names, s.sh_name), name)) return s;
     }
     return none;
+}
+
+static Elf64_Shdr header_of(bytes file, const char *name) {
+    u64 first = 0;
+    return next_header(file, name, &first);
 }
 
 /* What a section has that was compressed (-gz), by the library of its form where that is on the machine; it stays for good. */
@@ -70,7 +75,12 @@ u64 size_of_module(const char *path) {
 }
 
 bytes section_of(bytes file, const char *name) {
-    Elf64_Shdr s = header_of(file, name);
+    u64 first = 0;
+    return next_section(file, name, &first);
+}
+
+bytes next_section(bytes file, const char *name, u64 *number) {
+    Elf64_Shdr s = next_header(file, name, number);
     bytes section = s.sh_type ? part_of(file, s.sh_offset, s.sh_size) : (bytes){0};
     return s.sh_flags & SHF_COMPRESSED ? inflated(section) : section;
 }
@@ -152,6 +162,18 @@ bytes map_debug_file(const char *module, char *path) {
         return file;
     }
     unmap_module(file);
+    return map_module(path);
+}
+
+/* ---- files beside the objects (-gsplit-dwarf) ---- */
+bytes map_split_file(const char *folder, const char *name, const char *module) {
+    char path[PATH_BYTES];
+    int is_whole = *name == '/';
+    snprintf(path, sizeof path, "%.4000s%s%.4000s", is_whole ? "" : folder, is_whole ? "" : "/", name);
+    bytes file = map_module(path);
+    const char *slash = strrchr(name, '/'), *end = strrchr(module, '/');
+    if (file.at || !end) return file;
+    snprintf(path, sizeof path, "%.*s/%.4000s", (int)(end - module), module, slash ? slash + 1 : name);
     return map_module(path);
 }
 

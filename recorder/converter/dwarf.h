@@ -71,7 +71,8 @@ enum form { FORM_ADDRESS = 1, FORM_BLOCK2 = 3, FORM_BLOCK4, FORM_DATA2, FORM_DAT
             FORM_REF_UDATA, FORM_OFFSET = 23, FORM_EXPRESSION, FORM_PRESENT, FORM_STRING_NUMBER, FORM_ADDRESS_NUMBER,
             FORM_DATA16 = 30, FORM_LINE_STRING, FORM_SIGNATURE, FORM_CONSTANT, FORM_LOCATIONS_NUMBER, FORM_RANGES_NUMBER,
             FORM_STRING_NUMBER1 = 37, FORM_STRING_NUMBER4 = 40, FORM_ADDRESS_NUMBER1, FORM_ADDRESS_NUMBER4 = 44,
-            FORM_REF_SHARED4 = 28, FORM_STRP_SHARED, FORM_REF_SHARED8 = 36, FORM_GNU_REF_SHARED = 0x1f20, FORM_GNU_STRP_SHARED };
+            FORM_REF_SHARED4 = 28, FORM_STRP_SHARED, FORM_REF_SHARED8 = 36,
+            FORM_GNU_ADDRESS_NUMBER = 0x1f01, FORM_GNU_STRING_NUMBER, FORM_GNU_REF_SHARED = 0x1f20, FORM_GNU_STRP_SHARED };
 
 /* debug_files.c */
 enum { WHOLE_PATH = 4096, PATH_BYTES = 3 * WHOLE_PATH };
@@ -79,5 +80,7 @@ bytes map_module(const char *path);    /* none where it can't be read */
 void unmap_module(bytes file);
 bytes map_debug_file(const char *module, char *path);        /* the file of its own that its debug information is in, or the module; and its path */
 bytes map_shared_file(bytes file, const char *path);         /* what it has in common with others (dwz); none where it isn't there */
+bytes next_section(bytes file, const char *name, u64 *number);               /* the next of several, from a number on, which is put behind it */
+bytes map_split_file(const char *folder, const char *name, const char *module);      /* by its path, or beside the module; or none */
 int has_section(bytes file, const char *name);
 bytes section_of(bytes file, const char *name);              /* none where there is none, or it is compressed and can't be read */

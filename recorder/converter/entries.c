@@ -1,5 +1,6 @@
 /* The units of a module's debug information, and their entries, in the forms that gcc and clang write.  A module may be any file, so
    each step is held inside its section. */
+#include <stdio.h>
 #include <stdlib.h>
 #include "members.h"
 
@@ -11,7 +12,7 @@ static void note_type(type_units *to, u64 signature, u64 type) {
 }
 
 static int read_unit(struct members *m, const sections *in, enum section section, bytes *b) {
-    enum { OF_CODE = 1, OF_TYPES, PARTIAL, WITH_OTHER_FILE };
+    enum { OF_CODE = 1, OF_TYPES, PARTIAL, SKELETON, SPLIT_CODE, SPLIT_TYPES };
     unit u = {.in = in, .whole = *b, .begin = m->end + (b->at - in->of[section].at)};
     bytes head = unit_of(b, &u.offset_bytes);
     if (b->is_bad) return 0;
@@ -22,26 +23,32 @@ static int read_unit(struct members *m, const sections *in, enum section section
     if (u.version == DWARF5) skip(&head, 1);
     u.abbreviations = fixed(&head, u.offset_bytes);
     if (u.version < DWARF5) skip(&head, 1);
-    if (kind == OF_TYPES) {
+    if (kind == SKELETON || kind == SPLIT_CODE) u.bases.id = fixed(&head, 8);
+    if (kind == OF_TYPES || kind == SPLIT_TYPES) {
         u64 signature = fixed(&head, 8);
         note_type(&m->type_units, signature, u.begin + fixed(&head, u.offset_bytes));
     }
-    u.has_code = kind == OF_CODE;
+    u.has_code = kind == OF_CODE || kind == SPLIT_CODE;
+    u.may_be_split = kind == SKELETON || (kind == OF_CODE && u.version < DWARF5 && in->of[ADDRESSES].at);
     u.first = u.begin + (head.at - u.whole.at);
     int is_read = u.version >= DWARF3 && u.version <= DWARF5;
     if (!is_read) m->unread = "is older than DWARF 3 or newer than 5";
-    else if (kind == WITH_OTHER_FILE) m->unread = "is in other files (-gsplit-dwarf)";
-    if (head.is_bad || kind > PARTIAL || !is_read) return 1;
+    if (head.is_bad || kind > SPLIT_TYPES || !is_read) return 1;
+    m->last_unit = 0;                  /* they may move */
     GROW(m->units, m->unit_count, m->unit_capacity);
     m->units[m->unit_count++] = u;
     return 1;
 }
 
-sections read_sections(bytes file) {
+sections read_sections(bytes file, const char *suffix) {
     static const char *const names[] = {".debug_info", ".debug_types", ".debug_abbrev", ".debug_str", ".debug_line_str", ".debug_str_offsets",
                                         ".debug_addr", ".debug_rnglists", ".debug_loclists", ".debug_ranges", ".debug_loc"};
     sections found = {0};
-    for (int k = 0; k < SECTIONS; k++) found.of[k] = section_of(file, names[k]);
+    for (int k = 0; k < SECTIONS; k++) {
+        char name[40];
+        snprintf(name, sizeof name, "%s%s", names[k], suffix);
+        found.of[k] = section_of(file, name);
+    }
     return found;
 }
 
@@ -58,15 +65,14 @@ static int has_entry(const unit *u, u64 offset) { return offset >= u->first && o
 
 unit *unit_at(struct members *m, u64 offset) {
     u64 low = 0, high = m->unit_count;
-    if (m->last_unit < high && has_entry(&m->units[m->last_unit], offset)) return &m->units[m->last_unit];
+    if (m->last_unit && has_entry(m->last_unit, offset)) return m->last_unit;
     while (low < high) {
         u64 middle = (low + high) / 2;
         if (m->units[middle].end <= offset) low = middle + 1;
         else high = middle;
     }
     if (low == m->unit_count || !has_entry(&m->units[low], offset)) return 0;
-    m->last_unit = low;
-    return &m->units[low];
+    return m->last_unit = &m->units[low];
 }
 
 /* ---- abbreviations ---- */
@@ -102,8 +108,7 @@ static value text_at(bytes strings, u64 offset) {
     return (value){.block = strings, .is_text = !strings.is_bad};
 }
 
-/* In a table of numbers. */
-static u64 number_at(bytes table, u64 base, u64 index, unsigned size) {
+u64 number_at(bytes table, u64 base, u64 index, unsigned size) {
     skip(&table, base);
     skip(&table, index < 1ull << 32 ? index * size : -1ull);
     return fixed(&table, size);
@@ -142,13 +147,14 @@ static value reference_to_type(const unit *u, u64 signature) {
     return (value){found ? units->types[found - 1] : 0, .is_number = 1, .is_reference = 1};
 }
 
-static value read_value(const unit *u, bytes *b, u64 form, bytes *constants) {
+/* Inline at both of its calls: most of the time of reading is spent here. */
+static inline __attribute__((always_inline)) value read_value(const unit *u, bytes *b, u64 form, bytes *constants) {
     switch (form) {
     case FORM_ADDRESS: return address(fixed(b, 8));
-    case FORM_ADDRESS_NUMBER: return address(numbered_address(u, variable(b)));
+    case FORM_ADDRESS_NUMBER: case FORM_GNU_ADDRESS_NUMBER: return address(numbered_address(u, variable(b)));
     case FORM_ADDRESS_NUMBER1 ... FORM_ADDRESS_NUMBER4:
         return address(numbered_address(u, fixed(b, form - FORM_ADDRESS_NUMBER1 + 1)));
-    case FORM_STRING_NUMBER: return string_numbered(u, variable(b));
+    case FORM_STRING_NUMBER: case FORM_GNU_STRING_NUMBER: return string_numbered(u, variable(b));
     case FORM_STRING_NUMBER1 ... FORM_STRING_NUMBER4:
         return string_numbered(u, fixed(b, form - FORM_STRING_NUMBER1 + 1));
     case FORM_RANGES_NUMBER: return list(u->in->of[RANGES], u->bases.ranges, variable(b), u->offset_bytes);
@@ -194,7 +200,7 @@ static void take_location(const unit *u, entry *e, value v) {
     e->locations = v.number;
     u64 operation = v.block.at ? fixed(&v.block, 1) : 0, at = 0;
     if (operation == OP_ADDRESS) at = fixed(&v.block, 8);
-    if (operation == OP_ADDRESS_NUMBER) at = numbered_address(u, variable(&v.block));
+    if (operation == OP_ADDRESS_NUMBER || operation == OP_GNU_ADDRESS_NUMBER) at = numbered_address(u, variable(&v.block));
     if (v.block.at == v.block.end) e->address = at;          /* else it is only begun from there */
 }
 
@@ -230,50 +236,70 @@ static void take_value(const unit *u, entry *e, u64 attribute, value v) {
 static void take_base(bases *to, u64 attribute, value v) {
     if (attribute == AT_LOW) to->low = v.number;
     if (attribute == AT_STRINGS_BASE) to->strings = v.number;
-    if (attribute == AT_ADDRESSES_BASE) to->addresses = v.number;
-    if (attribute == AT_RANGES_BASE) to->ranges = v.number;
+    if (attribute == AT_ADDRESSES_BASE || attribute == AT_GNU_ADDRESSES_BASE) to->addresses = v.number;
+    if (attribute == AT_RANGES_BASE || attribute == AT_GNU_RANGES_BASE) to->ranges = v.number;
+    if (attribute == AT_GNU_SPLIT_ID) to->id = v.number;
+    if (attribute == AT_FOLDER && v.is_text) to->folder = v.block;
+    if ((attribute == AT_SPLIT_FILE || attribute == AT_GNU_SPLIT_FILE) && v.is_text) to->split_file = v.block;
     if (attribute == AT_LOCATIONS_BASE) to->locations = v.number;
 }
 
 /* ---- entries ---- */
-static void prepare(unit *u);
-static entry read_attributes(unit *u, u64 offset, bases *of_unit) {
+static entry read_entry_of(unit *u, u64 offset) {
     entry e = {.in = u, .next = offset + 1};
     bytes b = u->whole;
     skip(&b, offset - u->begin);
-    if (!u->is_ready) prepare(u);
+    if (!u->is_ready) prepare_unit(u);
     u64 code = variable(&b);
     if (b.is_bad || code >= u->code_count || !u->codes[code].tag) return e;
     bytes attributes = u->codes[code].attributes;
     e.tag = u->codes[code].tag;
     e.has_children = u->codes[code].has_children;
     for (u64 name, form; name = variable(&attributes), form = variable(&attributes), name || form;) {
-        value v = read_value(u, &b, form, &attributes);
-        take_value(u, &e, name, v);
-        if (of_unit) take_base(of_unit, name, v);
+        take_value(u, &e, name, read_value(u, &b, form, &attributes));
         if (b.is_bad || attributes.is_bad) return (entry){.in = u, .next = u->end};
     }
     e.next = u->begin + (b.at - u->whole.at);
     return e;
 }
 
-/* Reads what is needed before the entries: abbreviations, and what the unit's own entry tells. */
-static void prepare(unit *u) {
-    bases found = {0};
+/* Before a unit's entry is read: its parts of sections of its own file are the first ones there. */
+static bases first_bases(const unit *u) {
+    enum { TAIL = 4, LIST_TAIL = 8 };  /* of a section's header, behind its length */
+    u64 length = u->offset_bytes == 8 ? 12 : 4;
+    bases found = {.id = u->bases.id};
+    if (!u->in->are_split || u->version < DWARF5) return found;
+    found.strings = length + TAIL;
+    found.ranges = found.locations = length + LIST_TAIL;
+    return found;
+}
+
+static bases read_bases(const unit *u) {
+    bases found = first_bases(u);
+    bytes b = u->whole;
+    skip(&b, u->first - u->begin);
+    u64 code = variable(&b);
+    if (b.is_bad || code >= u->code_count) return found;
+    bytes attributes = u->codes[code].attributes;
+    for (u64 name, form; name = variable(&attributes), form = variable(&attributes), !b.is_bad && !attributes.is_bad && (name || form);)
+        take_base(&found, name, read_value(u, &b, form, &attributes));
+    return found;
+}
+
+/* Abbreviations, and what the unit's own entry tells. */
+void prepare_unit(unit *u) {
     u->is_ready = 1;
     read_abbreviations(u);
     if (u->has_bases) return;
-    read_attributes(u, u->first, &found);
-    u->bases = found;
-    read_attributes(u, u->first, &found);                    /* where its code begins may be a number in what it tells of */
-    u->bases = found;
+    u->bases = read_bases(u);
+    u->bases = read_bases(u);          /* where its code begins may be a number in what it tells of */
     u->has_bases = 1;
 }
 
 /* Its tag is 0 where there is none, as at the end of some children. */
 entry read_entry(struct members *m, u64 offset) {
     unit *u = unit_at(m, offset);
-    return u ? read_attributes(u, offset, 0) : (entry){.next = offset + 1};
+    return u ? read_entry_of(u, offset) : (entry){.next = offset + 1};
 }
 
 u64 behind(struct members *m, const entry *e, int depth) {

@@ -38,13 +38,25 @@ static int next_older_range(bytes *b, u64 *base, int has_locations, range *r) {
     }
 }
 
+/* The same of locations of DWARF 4 in a file of their own. */
+static int next_split_range(const unit *u, bytes *b, range *r) {
+    enum { NUMBERS = 2, NUMBER_LENGTH };
+    u64 kind = fixed(b, 1);
+    if (kind != NUMBERS && kind != NUMBER_LENGTH) return 0;
+    r->begin = numbered_address(u, variable(b));
+    r->end = kind == NUMBERS ? numbered_address(u, variable(b)) : r->begin + fixed(b, 4);
+    r->location = taken(b, fixed(b, 2));
+    return !b->is_bad;
+}
+
 /* The range of a list that has this code; 0 where none has. */
 int find_range(const unit *u, int has_locations, u64 offset, u64 pc, range *r) {
     int is_older = u->version < DWARF5;
     bytes b = u->in->of[is_older ? has_locations ? OLDER_LOCATIONS : OLDER_RANGES : has_locations ? LOCATIONS : RANGES];
     u64 base = u->bases.low;
-    skip(&b, offset);
-    while (is_older ? next_older_range(&b, &base, has_locations, r) : next_range(u, &b, &base, has_locations, r))
+    skip(&b, is_older && !has_locations ? u->bases.ranges + offset : offset);
+    while (!is_older ? next_range(u, &b, &base, has_locations, r)
+           : has_locations && u->in->are_split ? next_split_range(u, &b, r) : next_older_range(&b, &base, has_locations, r))
         if (pc == ANY_CODE || (pc >= r->begin && pc < r->end)) return 1;
     return 0;
 }

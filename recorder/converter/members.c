@@ -49,7 +49,7 @@ static void say_unread(const struct members *m, bytes file, const char *path) {
     int has_one = has_section(file, ".debug_info") || has_section(file, ".zdebug_info"), is_elsewhere = has_section(file, ".gnu_debuglink");
     if (!m->main.of[INFO].at && has_one) why = "is compressed in a form that can't be read here (-gz)";
     else if (!m->main.of[INFO].at) why = is_elsewhere ? "is in a file that isn't there (.gnu_debuglink)" : "isn't there (no -g)";
-    else if (!why && !m->has_code) why = "isn't there (no -g, or -gsplit-dwarf)";
+    else if (!why && !m->has_code) why = "isn't there (no -g)";
     else if (!why && !m->has_types) why = "has no types (-g1)";
     if (why && file.at && !in_system(path))
         fprintf(stderr, "shb-std: %s: members of variables, and locals, may have no names, for its debug information %s\n", path, why);
@@ -57,7 +57,7 @@ static void say_unread(const struct members *m, bytes file, const char *path) {
 
 static void read_shared(struct members *m, bytes file) {
     if (!file.at) m->unread = "is in part in a file that isn't there, or not of this build (dwz -m)";
-    m->shared = read_sections(file);
+    m->shared = read_sections(file, "");
     m->main.shared = &m->shared;
     read_units(m, &m->shared);
 }
@@ -66,8 +66,9 @@ struct members *read_members(const char *path) {
     struct members *m = zeroed(1, sizeof *m);
     char debug_path[PATH_BYTES];
     bytes file = map_debug_file(path, debug_path);           /* for good: names are looked up in it */
-    m->main = read_sections(file);
+    m->main = read_sections(file, "");
     read_units(m, &m->main);
+    read_split_units(m, path);
     u64 own = m->unit_count;
     if (has_section(file, ".gnu_debugaltlink") || has_section(file, ".debug_sup")) read_shared(m, map_shared_file(file, debug_path));
     for (u64 k = 0; k < own; k++) {

@@ -43,8 +43,7 @@ class Names(recorder.Case):
             if shutil.which(compiler):
                 with self.subTest(compiler=compiler, options=options):
                     program = self.build(compiler, options)
-                    work(program)
-                    found, said = self.found(program)
+                    found, said = self.found(work(program) or program)
                     self.assertEqual(({place: found.get(place) for place in wanted}, said), (wanted, []))
 
     def test_versions(self):
@@ -91,6 +90,45 @@ class Names(recorder.Case):
             self.assertEqual(said, ["is in part in a file that isn't there, or not of this build (dwz -m)"])
             self.assertIn({"one+8"}, found.values())
 
+    def test_split(self):
+        for version in 4, 5:
+            for more in (), ("-fdebug-types-section",):
+                self.check(f"-gdwarf-{version}", "-gsplit-dwarf", *more)
+        self.check("-g", "-gsplit-dwarf=single", compilers=["clang++"])
+
+    def test_split_files_beside_the_program(self):
+        def moved(program):
+            folder = self.folder / "elsewhere"
+            shutil.rmtree(folder, ignore_errors=True)
+            folder.mkdir()
+            for path in program, self.folder / "forms.dwo":
+                path.rename(folder / path.name)
+            return folder / program.name
+        self.check("-g", "-gsplit-dwarf", work=moved)
+
+    def test_packages_of_split_files(self):
+        def pack(tool, program):
+            recorder.must(recorder.call(tool, "-e", program, "-o", f"{program}.dwp", cwd=self.folder))
+            (self.folder / "forms.dwo").unlink()
+        for tool, version, compilers in ("dwp", 4, ["g++", "clang++"]), ("llvm-dwp", 5, ["clang++"]):
+            for more in (), ("-fdebug-types-section",):
+                if shutil.which(tool):
+                    self.check(f"-gdwarf-{version}", "-gsplit-dwarf", *more, compilers=compilers, work=lambda program: pack(tool, program))
+
+    def test_split_file_of_another_build_or_not_there(self):
+        """Nothing of it is read."""
+        for version in 4, 5:
+            program, split, kept = self.build("g++", [f"-gdwarf-{version}", "-gsplit-dwarf"]), self.folder / "forms.dwo", self.folder / "kept"
+            program.rename(kept)
+            self.assertEqual(self.found(kept)[1], [])
+            self.build("g++", [f"-gdwarf-{version}", "-gsplit-dwarf", "-O0"])
+            for is_there in True, False:
+                if not is_there:
+                    split.unlink()
+                found, said = self.found(kept)
+                self.assertEqual(said, ["is in other files that aren't there, or not of this build (-gsplit-dwarf)"])
+                self.assertIn({"one+8"}, found.values())
+
     def test_link_time_optimisation(self):
         self.check("-g", "-flto", compilers=["g++"])
         if shutil.which("ld.lld"):
@@ -99,8 +137,6 @@ class Names(recorder.Case):
 
 
 UNREAD = {("-g0",): "isn't there (no -g)", ("-g1",): "has no types (-g1)",
-          ("-g", "-gsplit-dwarf"): "is in other files (-gsplit-dwarf)",
-          ("-g", "-gdwarf-4", "-gsplit-dwarf"): "isn't there (no -g, or -gsplit-dwarf)",
           ("-gdwarf-2",): "is older than DWARF 3 or newer than 5"}
 
 
