@@ -1,15 +1,18 @@
 #!/usr/bin/env python3
-"""Gives shb-std changed records and shb-windows changed traces for some time, by clang's libFuzzer with its sanitizers.
+"""Gives shb-std changed records, its reader of debug information changed modules, and shb-windows changed traces for some time, by
+clang's libFuzzer with its sanitizers.
 
-    fuzz.py SECONDS FOLDER [records|traces]
+    fuzz.py SECONDS FOLDER [records|modules|traces]
 
 Each has so many seconds. FOLDER gets the programs, the inputs by which a new way was gone, which a later call begins with, and what was
 found (crash-.., timeout-..). The last lines are libFuzzer's: how many inputs there were.
 """
 
 import pathlib
+import re
 import subprocess
 import sys
+import tempfile
 
 HERE = pathlib.Path(__file__).resolve().parent
 SOURCES = HERE.parent
@@ -31,7 +34,62 @@ def records():
     yield bytes([0, 0]) + b"".join(test_record.LATE_ENTRIES)
 
 
+SOURCE = """struct pair { int id; struct { long low; int high[4]; } range; } one;
+static struct pair many[3];
+struct pair *make(long);
+static inline struct pair *allocate(long size) { return make(size); }
+struct pair *work(int n) { struct pair both = {n}; if (n > 2) { struct pair other = both; make((long)&other); } make((long)&both);
+    many[n % 3].id = one.id; return allocate(sizeof one); }
+"""
+FORMS = [["-gdwarf-3"], ["-gdwarf-4"], ["-gdwarf-5"], ["-gdwarf64"], ["-fdebug-types-section"], ["-gdwarf-4", "-fdebug-types-section"],
+         ["-gsplit-dwarf"], ["-gdwarf-4", "-gsplit-dwarf"], ["-gsplit-dwarf", "-fdebug-types-section"]]
+
+
+def with_sections(program, sections):
+    """Adds sections to a program's file, with these contents."""
+    for name, content in sections.items():
+        part = program.with_suffix(".part")
+        part.write_bytes(content)
+        subprocess.run(["objcopy", "--add-section", f"{name}={part}", program], check=True)
+
+
+def split_sections(path):
+    """The sections of a split file or package, by their names."""
+    listed = subprocess.run(["readelf", "-SW", path], capture_output=True, check=True).stdout.decode()
+    content = path.read_bytes()
+    return {name: content[int(at, 16):int(at, 16) + int(size, 16)]
+            for name, at, size in re.findall(r"\] (\.debug_\S+) +\S+ +[0-9a-f]+ ([0-9a-f]+) ([0-9a-f]+) ", listed)}
+
+
+def modules():
+    """Small libraries by gcc and clang in each form; split files, packages and what is shared are in the same file."""
+    with tempfile.TemporaryDirectory() as name:
+        folder = pathlib.Path(name)
+        (folder / "input.cc").write_text(SOURCE)
+        for compiler in "g++", "clang++":
+            for form in FORMS:
+                program = folder / "program"
+                subprocess.run([compiler, "-w", "-g", "-O1", "-fPIC", *form, "-c", "input.cc"], cwd=folder, check=True)
+                subprocess.run([compiler, "-shared", "-nostdlib", "-Wl,--build-id", "input.o", "-o", program], cwd=folder, check=True)
+                plain = program.read_bytes()
+                noted = subprocess.run(["readelf", "-n", program], capture_output=True, check=True).stdout.decode()
+                identity = bytes.fromhex(re.search(r"Build ID: (\w+)", noted)[1])
+                with_sections(program, {".gnu_debugaltlink": b"input.dwo\0" + identity})
+                yield from (plain, program.read_bytes())
+                if "-gsplit-dwarf" in form:
+                    program.write_bytes(plain)
+                    with_sections(program, split_sections(folder / "input.dwo"))
+                    yield program.read_bytes()
+                if form == ["-gdwarf-4", "-gsplit-dwarf"]:
+                    subprocess.run(["dwp", "input.dwo", "-o", "package"], cwd=folder, check=True)
+                    program.write_bytes(plain)
+                    with_sections(program, split_sections(folder / "package"))
+                    yield program.read_bytes()
+
+
+LONGEST = {"records": 8192, "modules": 32768, "traces": 8192}
 WHAT = {"records": ([], sorted(SOURCES.glob("converter/*.c")), list(records())),
+        "modules": (["-DFUZZ_MODULES"], sorted(SOURCES.glob("converter/*.c")), modules()),
         "traces": (["-DFUZZ_TRACES"], [SOURCES / "windows/main.c", SOURCES / "converter/windows.c", SOURCES / "converter/tables.c"], [TRACE])}
 
 
@@ -54,7 +112,7 @@ def main(seconds, folder, names):
     folder.mkdir(parents=True, exist_ok=True)
     for name in names or WHAT:
         program = build(name, folder)
-        subprocess.run([program, f"-max_total_time={seconds}", "-max_len=8192", "-timeout=300", "-print_final_stats=1", "-verbosity=1",
+        subprocess.run([program, f"-max_total_time={seconds}", f"-max_len={LONGEST[name]}", "-timeout=300", "-print_final_stats=1", "-verbosity=1",
                         f"{name}-inputs"], cwd=folder, stdin=subprocess.DEVNULL)
 
 

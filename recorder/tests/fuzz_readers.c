@@ -1,5 +1,6 @@
-/* libFuzzer's side of fuzz.py: each input is given to shb-std as a record, or to shb-windows as a trace, in a process of its own, for
-   both commands are written to run once.  What the process counted of the ways that it went is added to the counts here. */
+/* libFuzzer's side of fuzz.py: each input is given to shb-std as a record, or to its reader of debug information as a module, or to
+   shb-windows as a trace, in a process of its own, for all of them are written to run once.  What the process counted of the ways that
+   it went is added to the counts here. */
 #define _GNU_SOURCE
 #include <fcntl.h>
 #include <signal.h>
@@ -11,13 +12,16 @@
 #include <sys/wait.h>
 #include <unistd.h>
 #include "../record.h"
+#ifdef FUZZ_MODULES
+#include "../converter/members.h"
+#endif
 
 enum { SECONDS = 120, LONGEST = 1 << 16 };
 int command(int count, char **words);  /* main of the command that is tried */
 extern uint8_t __start___sancov_cntrs, __stop___sancov_cntrs;
 void __sanitizer_cov_8bit_counters_init(uint8_t *start, uint8_t *stop);      /* linkers drop clang's own call of it */
 static uint8_t *counted;               /* shared with the process */
-static char folder[] = "/tmp/shb-fuzz-XXXXXX", windows[64], stacks[64], input[64], said[64];
+static char folder[] = "/tmp/shb-fuzz-XXXXXX", windows[64], stacks[64], input[64], package[64], said[64];
 static int file, words_file;
 
 static size_t count_bytes(void) { return &__stop___sancov_cntrs - &__start___sancov_cntrs; }
@@ -34,7 +38,9 @@ int LLVMFuzzerInitialize(int *count, char ***words) {
     if (counted == MAP_FAILED || !mkdtemp(folder)) abort();
     snprintf(windows, sizeof windows, "%s/windows", folder);
     snprintf(stacks, sizeof stacks, "%s/stacks", folder);
-    snprintf(input, sizeof input, "%s/input", folder);
+    snprintf(input, sizeof input, "%s/input.dwo", folder);    /* it is also what a module's split files and package are */
+    snprintf(package, sizeof package, "%s/input.dwo.dwp", folder);
+    if (symlink("input.dwo", package)) abort();
     snprintf(said, sizeof said, "%s/said", folder);
     file = open(input, O_RDWR | O_CREAT | O_TRUNC, 0600);
     words_file = open(said, O_RDWR | O_CREAT | O_TRUNC | O_APPEND, 0600);
@@ -56,6 +62,29 @@ static int prepare(const uint8_t *data, size_t size, char **words) {
     char *all[] = {"shb-windows", "-n", most, "-o", windows, input};
     memcpy(words, all, sizeof all);
     return 6;
+}
+#elif defined FUZZ_MODULES
+static int prepare(const uint8_t *data, size_t size, char **words) {
+    put(data, size, 0);
+    return 0;
+}
+
+/* Asks for a name in each variable, of locals of each function, and of blocks that it allocates. */
+static int read_module(void) {
+    enum { MOST = 64 };
+    char name[NAME_BYTES];
+    note_sources_of(input);
+    struct members *m = read_members(input);
+    for (u64 k = 0; k < m->by_address.capacity && k < 16 * MOST; k++)
+        for (u64 offset = 0; m->by_address.entries[k].value && offset < MOST; offset += 4)
+            add_member(m, m->by_address.entries[k].a, offset, 4, name, sizeof name);
+    for (u64 k = 0; k < m->by_begin.capacity && k < 16 * MOST; k++)
+        for (u64 at = 0; m->by_begin.entries[k].value && at < MOST; at += 4) {
+            u64 function = m->by_begin.entries[k].a;
+            add_local(m, (place_of_local){function, function + at, at, at, 4}, name, sizeof name);
+            add_in_block(m, (place_in_block){function, function + at, MOST, at, 4}, name, sizeof name);
+        }
+    return 0;
 }
 #else
 /* The first byte says which options there are, the second how many bytes of the header come before the records. */
@@ -88,7 +117,11 @@ static void run(const uint8_t *data, size_t size) {
     alarm(SECONDS);
     atexit(end_process);
     int count = prepare(data, size, words);
+#ifdef FUZZ_MODULES
+    exit(read_module());
+#else
     exit(command(count, words));
+#endif
 }
 
 /* Shows what the process said, and ends so that libFuzzer keeps the input. */
