@@ -31,8 +31,8 @@ SUSPICION = {
     "id": "suspicion",
     "name": "Suspicion",
     "shortDescription": {"text": "A lock is held at nearly all uses of a variable, and not at this one."},
-    "fullDescription": {"text": "In a recorded run several threads use a variable under one lock, and one use isn't under it. Nothing raced there, but "
-                                "in another interleaving it may, unless something else orders the uses."},
+    "fullDescription": {"text": "In a recorded run several threads use a variable under one lock, and one use isn't under it. Nothing raced "
+                                "there, but in another interleaving it may, unless something else orders the uses."},
     "help": {"text": "Take the lock here too. Where an atomic, a message or another lock orders the uses, add a line with both locations and "
                      "the variable to the file of known places."},
     "defaultConfiguration": {"level": "note"},
