@@ -38,7 +38,7 @@ static void find_variables(struct members *m, const unit *u) {
         if (e.tag == TAG_VARIABLE && e.address) note_variable(m, &e);
         if (e.tag == TAG_FUNCTION) note_function(m, &e, at);
         m->has_code |= e.tag == TAG_FUNCTION && (e.high || e.has_ranges);
-        m->has_types |= (e.tag == TAG_FUNCTION || e.tag == TAG_VARIABLE) && e.type;
+        m->has_types |= e.tag == TAG_FUNCTION && e.type;
         at = e.has_children && e.sibling > at && e.tag != TAG_NAMESPACE ? e.sibling : e.next;
     }
 }

@@ -396,8 +396,8 @@ class Command(recorder.Case):
             self.assertIn(line, text_of(page))
 
     def test_debug_information_that_is_not_read_is_said_once(self):
-        said = self.record(self.program("status.c", "-gdwarf64"), "0", "race")[2]
-        self.assertEqual(said.count("its debug information is in the 64-bit form (-gdwarf64)"), 1, said)
+        said = self.record(self.program("status.c", "-g1"), "0", "race")[2]
+        self.assertEqual(said.count("its debug information has no types (-g1)"), 1, said)
 
     def test_the_file_of_unknown_places_is_one_of_known_places(self):
         program = self.program()
