@@ -1,6 +1,6 @@
 # `make` alone says what can be made. Times are on four cores of 2.5 GHz.
 
-.PHONY: help build run test test-all changed quick end-to-end recorder install uninstall dist bench
+.PHONY: help build run test test-all changed quick end-to-end recorder install uninstall dist deb bench
 
 PREFIX = /usr/local
 DESTDIR =
@@ -18,7 +18,8 @@ make recorder           builds what records C and C++ programs                 s
 make install            builds bin/shb if it isn't built, and installs it:     seconds beside the build
      PREFIX=/usr/local  commands, manual pages, completions, recorder
 make uninstall PREFIX=/usr/local
-make dist               makes the package of the commit                        seconds beside the build
+make dist               makes the package of the commit, with its checksum     seconds beside the build
+make deb                makes the same as a package of Debian                  seconds beside the build
 make quick BASE=main    checks a part of what a change can have broken         minutes
 make changed BASE=main  checks all that a change can have broken               minutes to an hour
 make test               what a merge must pass                                 docs/GATE.md
@@ -26,7 +27,7 @@ make test-all           the same with every must-fail edit                     d
 make end-to-end         tests the built program                                minutes
 make bench              measures the built program                             minutes
 
-SHB=PATH names a program that is built already: then install and dist need no kit.
+SHB=PATH names a program that is built already: then install, dist and deb need no kit.
 endef
 
 help:
@@ -67,7 +68,7 @@ recorder:
 
 # A program that SHB names isn't built here; its path may have blanks.
 ifeq ($(SHB),bin/shb)
-install dist: bin/shb
+install dist deb: bin/shb
 endif
 
 # Puts the commands, manual pages, completions and examples below PREFIX, and takes them away again.
@@ -77,9 +78,9 @@ install:
 uninstall:
 	install/install --prefix "$(PREFIX)" --destdir "$(DESTDIR)" uninstall
 
-# Makes shb-VERSION-x86_64-linux.tar.xz for machines without the kit.
-dist:
-	install/install --shb "$(SHB)" dist
+# Make shb-VERSION-x86_64-linux.tar.xz and shb_VERSION_amd64.deb, each with its checksum, for machines without the kit.
+dist deb:
+	install/install --shb "$(SHB)" $@
 
 # Run by hand: it times the built program and prints ratios.
 bench: build

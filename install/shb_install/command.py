@@ -22,8 +22,8 @@ def arguments(words):
     parser.add_argument("--shb", type=pathlib.Path, default=sources.TOP / "bin" / "shb", help="the built program (%(default)s)")
     parser.add_argument("--prefix", default="/usr/local", help="where the commands will be used (%(default)s)")
     parser.add_argument("--destdir", default="", help="a folder to install below, as packagers need it")
-    parser.add_argument("--out", type=pathlib.Path, default=sources.TOP, help="with dist: the folder for the package (%(default)s)")
-    parser.add_argument("what", choices=("install", "uninstall", "dist"))
+    parser.add_argument("--out", type=pathlib.Path, default=sources.TOP, help="with dist and deb: the folder for the package (%(default)s)")
+    parser.add_argument("what", choices=("install", "uninstall", "dist", "deb"))
     return parser.parse_args(words)
 
 
@@ -59,21 +59,41 @@ def uninstall(options):
     print(f"uninstalled from {place}" if was_there else f"nothing is installed in {place}: there is no {place / placing.LISTED}")
 
 
-def dist(options):
-    """Makes the package, of the commit alone."""
+def packaged(options, made, prefix, library):
+    """Makes the tree of a package in an empty folder, of the commit alone. Its version, and the commit's time."""
     files, changed = sources.listed(), sources.changed()
     if changed:
         raise Refused(f"a package is made of a commit, and these files are changed since: {', '.join(changed)}")
     machine.check(options.shb)
     name, commit, seconds = sources.version()
-    top = f"shb-{name}-x86_64-linux"
+    tree.make(made, options.shb, prefix, library, files, name, sources.day(seconds))
+    (made / "share/doc/shb/PROVED.md").write_text(package.proved_text(made, name, commit, seconds))
+    return name, seconds
+
+
+def dist(options):
     with tempfile.TemporaryDirectory() as room:
         made = pathlib.Path(room)
-        tree.make(made, options.shb, "PREFIX", "libtsan.so.2", files, name, sources.day(seconds))
-        (made / "share/doc/shb/PROVED.md").write_text(package.proved_text(made, name, commit, seconds))
-        content = package.archive(made, top, seconds)
-    path = options.out / f"{top}.tar.xz"
+        name, seconds = packaged(options, made, "PREFIX", "libtsan.so.2")
+        (made / "README.md").symlink_to("share/doc/shb/README.md")
+        top = f"shb-{name}-x86_64-linux"
+        write_package(options.out / f"{top}.tar.xz", package.archive(made, top, seconds))
+
+
+def deb(options):
+    package.need_dpkg()
+    with tempfile.TemporaryDirectory() as room:
+        made = pathlib.Path(room, "tree", "usr")
+        made.mkdir(parents=True)
+        name, seconds = packaged(options, made, "/usr", "/usr/lib/shb/libtsan.so")
+        version = package.debian_version(name)
+        write_package(options.out / f"shb_{version}_amd64.deb", package.debian(made, version, sources.author(), seconds))
+
+
+def write_package(path, content):
+    """Writes a package, and beside it its checksum, as `sha256sum --check` reads it."""
     put(path, content)
+    put(path.with_name(f"{path.name}.sha256"), package.checksum_line(content, path.name))
     print(path)
 
 
@@ -82,7 +102,7 @@ def main(words):
     options = arguments(words)
     os.umask(0o022)
     try:
-        {"install": install, "uninstall": uninstall, "dist": dist}[options.what](options)
+        {"install": install, "uninstall": uninstall, "dist": dist, "deb": deb}[options.what](options)
         return 0
     except (Refused, OSError) as fault:
         said = words_of(fault)

@@ -1,10 +1,14 @@
-"""The package for machines without the kit: an archive whose bytes follow from the commit."""
+"""The packages for machines without the kit: an archive and a package of Debian, whose bytes follow from the commit."""
 
 import hashlib
 import io
+import os
 import re
+import shutil
+import subprocess
 import tarfile
 
+from shb_common.faults import Refused
 from shb_install import machine
 from shb_install.placing import files_in
 from shb_install.sources import TOP, day
@@ -21,6 +25,22 @@ and on what it rests.
 The commands need Linux on x86-64, a processor of level x86-64-v{level} or higher, for which shb is built, and
 glibc {glibc} or later, the highest version of a symbol that their files ask for. shb-farm and shb-view need Python 3.8 or later too,
 shb-record also gcc and binutils.
+"""
+
+CONTROL = """\
+Package: shb
+Version: {version}
+Architecture: amd64
+Maintainer: {author}
+Section: devel
+Priority: optional
+Depends: libc6 (>= {glibc})
+Recommends: python3 (>= 3.8), gcc, binutils
+Description: data races of a recorded run of a concurrent program
+ shb lists the data races of a trace by schedulable happens-before, each with
+ a schedule that shows it. It is proved to list all of them and nothing else.
+ shb-record records C and C++ programs, shb-view explains their races, and
+ shb-farm analyses many traces.
 """
 
 
@@ -44,3 +64,31 @@ def archive(tree, top, seconds):
     with tarfile.open(fileobj=packed, mode="w:xz", preset=9, format=tarfile.GNU_FORMAT) as tar:
         tar.add(tree, top, filter=alike)
     return packed.getvalue()
+
+
+def checksum_line(content, name):
+    return f"{hashlib.sha256(content).hexdigest()}  {name}\n".encode()
+
+
+def need_dpkg():
+    if not shutil.which("dpkg-deb"):
+        raise Refused("dpkg-deb isn't installed; it makes packages of Debian")
+
+
+def debian_version(name):
+    """The version of a package of Debian, where a hyphen would begin a revision of the packaging."""
+    return name.replace("-", "+")
+
+
+def debian(made, version, author, seconds):
+    """The tree of /usr as a package of Debian, with one time for all files."""
+    top = made.parent
+    (top / "DEBIAN").mkdir()
+    glibc = machine.glibc_of([made / name for name in files_in(made)])
+    (top / "DEBIAN/control").write_text(CONTROL.format(version=version, author=author, glibc=glibc))
+    for path in [top, *top.rglob("*")]:
+        os.utime(path, (seconds, seconds), follow_symlinks=False)
+    package = top.with_suffix(".deb")
+    environment = {**os.environ, "SOURCE_DATE_EPOCH": str(seconds)}
+    subprocess.run(["dpkg-deb", "--root-owner-group", "-Zxz", "--build", top, package], env=environment, stdout=subprocess.DEVNULL, check=True)
+    return package.read_bytes()

@@ -40,5 +40,10 @@ def version():
     return name + ("-changed" if changed() else ""), commit, int(seconds)
 
 
+def author():
+    """Of the last commit, as mail has it."""
+    return git("log", "-1", "--format=%an <%ae>").strip()
+
+
 def day(seconds):
     return time.strftime("%Y-%m-%d", time.gmtime(seconds))

@@ -43,6 +43,33 @@ class Package(installing.Case):
         checksum = call("sha256sum", installing.SHB).split()[0]
         for wanted in (f"commit {commit} of 2026-01-02", checksum, f"(logic {LOGIC})", "(docs/GUARANTEES.md)"):
             self.assertIn(wanted, proved)
+        self.assertEqual((unpacked / "README.md").read_text(), README.read_text())
+        call("sha256sum", "--check", f"{package.name}.sha256", cwd=copy)
+
+    def debian(self, folder):
+        """A package of Debian that is made in a copy of the repository."""
+        copy = self.folder / folder
+        call("git", "clone", "-q", installing.packaged()[0], copy)
+        call("make", "-s", "-C", copy, "deb", f"SHB={installing.SHB}")
+        [package] = copy.glob("*.deb")
+        call("sha256sum", "--check", f"{package.name}.sha256", cwd=copy)
+        return package
+
+    def test_a_package_of_debian(self):
+        """The same bytes from two folders; unpacked, its commands run."""
+        self.need("dpkg-deb")
+        package, tree = self.debian("one"), self.folder / "tree"
+        self.assertEqual(package.read_bytes(), self.debian("another folder").read_bytes())
+        commit = call("git", "-C", package.parent, "rev-parse", "HEAD").strip()
+        version = f"{COMMIT_DAY}+{commit[:12]}"
+        self.assertEqual(package.name, f"shb_{version}_amd64.deb")
+        fields = call("dpkg-deb", "--field", package, "Package", "Version", "Architecture", "Maintainer")
+        self.assertEqual(fields, f"Package: shb\nVersion: {version}\nArchitecture: amd64\nMaintainer: n <e>\n")
+        call("dpkg-deb", "--extract", package, tree)
+        self.assertEqual([path.name for path in tree.iterdir()], ["usr"])
+        said = call(tree / "usr/bin/shb", "races", "--list", tree / "usr/share/doc/shb/examples/fork-join.std")
+        self.assertIn("race 1: 4 5\n", said)
+        self.assertIn(f"{COMMIT_DAY}-{commit[:12]}", call(tree / "usr/bin/shb-view", "--version"))
 
     def test_the_glibc_is_the_highest_that_a_file_asks_for(self):
         unpacked = installing.packaged()[2]
