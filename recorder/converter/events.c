@@ -191,8 +191,8 @@ static enum window_kind kind_of(const char *operation) {
 }
 
 /* A record that was changed may tell what no trace has. */
-static void refuse_fault(const char *line, const char *end, const char *fault) {
-    if (fault) die("event %lu, %.*s: %s", events + 1, (int)(end - line - 1), line, fault);
+static void need_event(int may_come, const char *line, const char *end) {
+    if (!may_come) die("event %lu, %.*s: no trace has this there", events + 1, (int)(end - line - 1), line);
 }
 
 void hold_event(u32 t, const char *operation, part name, const char *tail, u64 caller, u32 stack) {
@@ -203,12 +203,12 @@ void hold_event(u32 t, const char *operation, part name, const char *tail, u64 c
     const char *operand = line + thread.length + strlen(operation) + 2;
     part operand_part = {operand, name.length + strlen(tail)};
     if (!threads[t].in_windows) threads[t].in_windows = window_thread(thread.at, thread.length);
-    if (into_windows) refuse_fault(line, end, window_event(line, length, kind_of(operation), threads[t].in_windows, operand_part, place));
+    if (into_windows) need_event(window_event(line, length, kind_of(operation), threads[t].in_windows, operand_part, place), line, end);
     else {
         if (events == event_limit) cut_reason = "at the limit of events";
         else if (bytes + length + 1 > byte_limit) cut_reason = "at 1 GiB of text";
         if (cut_reason) return;
-        refuse_fault(line, end, trace_event(length, kind_of(operation), threads[t].in_windows, operand_part, place));
+        need_event(trace_event(length, kind_of(operation), threads[t].in_windows, operand_part, place), line, end);
         bytes += length + 1;
         lines_bytes += length + 1;
     }

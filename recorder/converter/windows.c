@@ -258,7 +258,7 @@ void end_windows(void) {
 
 u64 count_windows(void) { return window_count; }
 
-/* ---- one line: what shb would say of it, and what it does ---- */
+/* ---- one line: may it come there, and what it does ---- */
 static inline int is(part p, const char *word) { return p.length == strlen(word) && !memcmp(p.at, word, strlen(word)); }
 
 static enum window_kind kind_of(part word) {
@@ -279,23 +279,18 @@ static part before(part p, char byte, part *rest) {
 }
 
 /* An event: its thread, its operation, and the lock that it takes or releases or the thread that it forks or joins. */
-static const char too_long[] = "the line is longer than 4096 bytes", no_operand[] = "the operand is not a name in parentheses";
 typedef struct { enum window_kind kind; u32 t, lock, other; part place; } operation;
 
-static const char *fork_fault(u32 t, u32 child) {
-    if (t == child) return "a thread cannot fork itself";
-    if (threads[child].started) return "the forked thread has started already";
-    if (threads[child].forked) return "the thread was forked before";
-    return threads[child].joined ? "the forked thread was joined before" : 0;
-}
+static int may_be_forked(const thread *child) { return !child->started && !child->forked && !child->joined; }
 
-static const char *fault_of(operation o) {
+/* Windows are made of what may come alone: shb reads one without what is before it. Why something may not, shb scan says of the whole. */
+static int may_come(operation o) {
     u32 holder = o.lock ? locks[o.lock].holder : 0;
-    if (threads[o.t].joined) return "the thread was joined before";
-    if (o.kind == WINDOW_ACQUIRE && holder && holder != o.t) return "the lock is held by another thread";
-    if (o.kind == WINDOW_RELEASE && holder != o.t) return "the lock is not held by this thread";
-    if (o.kind == WINDOW_FORK) return fork_fault(o.t, o.other);
-    return o.kind == WINDOW_JOIN && o.other == o.t ? "a thread cannot join itself" : 0;
+    if (threads[o.t].joined) return 0;
+    if (o.kind == WINDOW_ACQUIRE) return !holder || holder == o.t;
+    if (o.kind == WINDOW_RELEASE) return holder == o.t;
+    if (o.kind == WINDOW_FORK) return o.other != o.t && may_be_forked(&threads[o.other]);
+    return o.kind != WINDOW_JOIN || o.other != o.t;
 }
 
 static void take(operation o) {
@@ -313,52 +308,45 @@ static operation operation_of_parts(enum window_kind kind, u32 t, part operand, 
     return o;
 }
 
-/* The fields of a line without its end; what is wrong with them comes in the order in which shb answers it. */
-static const char *read_fields(part all, operation *found) {
+/* The fields of a line without its end; 0 where it isn't one of an event. */
+static int read_fields(part all, operation *found) {
     part rest, operand, place, name = before(all, '|', &rest), whole = before(rest, '|', &place);
     part word = before(whole, '(', &operand);
-    if (name.length == all.length) return "the line has no operation field";
-    if (!name.length) return "the thread name is empty";
     enum window_kind kind = kind_of(word);
-    if (kind == WINDOW_UNKNOWN) return "the operation is not known";
+    if (name.length == all.length || !name.length || kind == WINDOW_UNKNOWN) return 0;
     int closed = operand.length && operand.at[operand.length - 1] == ')';
     int bare = word.length == whole.length;
-    if (kind == WINDOW_MARK ? !bare && !closed : !closed || operand.length < 2) return no_operand;
+    if (kind == WINDOW_MARK ? !bare && !closed : !closed || operand.length < 2) return 0;
     operand.length -= closed;
     *found = operation_of_parts(kind, window_thread(name.at, name.length), operand, place);
-    return 0;
+    return 1;
 }
 
-static const char *add_operation(const char *line, u64 length, operation o) {
-    const char *fault = fault_of(o);
-    if (fault) return fault;
+static int add_operation(const char *line, u64 length, operation o) {
+    if (!may_come(o)) return 0;
     write_line(line, length, o.t, o.other);
     take(o);
-    return 0;
+    return 1;
 }
 
-const char *window_event(const char *line, u64 length, enum window_kind kind, u32 thread, part operand, part place) {
-    if (length > SHB_LINE || !operand.length) return length > SHB_LINE ? too_long : no_operand;
-    return add_operation(line, length, operation_of_parts(kind, thread, operand, place));
+int window_event(const char *line, u64 length, enum window_kind kind, u32 thread, part operand, part place) {
+    return length <= SHB_LINE && operand.length && add_operation(line, length, operation_of_parts(kind, thread, operand, place));
 }
 
 u32 thread_limit = SHB_THREADS;
 
-const char *trace_event(u64 length, enum window_kind kind, u32 thread, part operand, part place) {
-    if (length > SHB_LINE || !operand.length) return length > SHB_LINE ? too_long : no_operand;
+int trace_event(u64 length, enum window_kind kind, u32 thread, part operand, part place) {
+    if (length > SHB_LINE || !operand.length) return 0;
     operation o = operation_of_parts(kind, thread, operand, place);
-    const char *fault = fault_of(o);
-    if (!fault && thread_names.count > thread_limit) fault = "there are too many threads";
-    if (!fault) take(o);
-    return fault;
+    if (!may_come(o) || thread_names.count > thread_limit) return 0;
+    take(o);
+    return 1;
 }
 
-const char *window_line(const char *line, u64 length) {
+int window_line(const char *line, u64 length) {
     operation o;
     part all = {line, length - (length && line[length - 1] == '\n')};
-    if (all.length > SHB_LINE) return too_long;
+    if (all.length > SHB_LINE) return 0;
     all.length -= all.length && line[all.length - 1] == '\r';
-    if (!all.length) return 0;
-    const char *fault = read_fields(all, &o);
-    return fault ? fault : add_operation(line, all.length, o);
+    return !all.length || (read_fields(all, &o) && add_operation(line, all.length, o));
 }

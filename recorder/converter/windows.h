@@ -14,12 +14,12 @@ typedef struct { const char *at; uint64_t length; } part;    /* of a text, witho
 enum window_kind { WINDOW_ACCESS, WINDOW_ACQUIRE, WINDOW_RELEASE, WINDOW_FORK, WINDOW_JOIN, WINDOW_MARK, WINDOW_UNKNOWN };
 
 void begin_windows(const char *folder, uint64_t most_events);        /* in a window */
-const char *window_line(const char *line, size_t length);            /* gives what is wrong with it, in shb's words, or null */
+int window_line(const char *line, size_t length);                    /* 0 where no trace has it there: shb says why */
 /* The same of a line without its end whose parts are known: no need to look for them. */
-const char *window_event(const char *line, size_t length, enum window_kind kind, uint32_t thread, part operand, part place);
+int window_event(const char *line, size_t length, enum window_kind kind, uint32_t thread, part operand, part place);
 /* The same of an event of a trace that isn't cut up, and has at most so many threads. */
 extern uint32_t thread_limit;
-const char *trace_event(size_t length, enum window_kind kind, uint32_t thread, part operand, part place);
+int trace_event(size_t length, enum window_kind kind, uint32_t thread, part operand, part place);
 uint32_t window_thread(const char *name, size_t length);     /* its number, from 1 */
 extern int one_by_one;                 /* write the row of each whole window to standard output, and wait for a line on standard input */
 void end_windows(void);                /* ends the last window and writes the table of all, windows.tsv */

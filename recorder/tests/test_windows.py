@@ -50,7 +50,7 @@ window-0002.std	4	5	2
 window-0003.std	5	7	2
 window-0004.std	6	9	1
 """
-REFUSED = [  # a trace, the line with its fault, and what shb says of it
+REFUSED = [  # a trace, the line with its fault, and what shb scan says of it
     ("A|end\nA\n", 2, "the line has no operation field"),
     ("|w(x)\n", 1, "the thread name is empty"),
     ("A|write(x)\n", 1, "the operation is not known"),
@@ -172,10 +172,9 @@ class Windows(recorder.Case):
         for trace, line, reason in REFUSED:
             with self.subTest(reason):
                 answer = self.cut(trace.encode())
-                said = f"line {line}: {reason}\n".encode()
-                self.assertEqual((answer.returncode, answer.stderr), (2, said))
-                refused = recorder.call(recorder.SHB, "races", "--list", input=trace.encode())
-                self.assertEqual(refused.stderr, said)
+                self.assertEqual((answer.returncode, answer.stderr), (2, f"line {line}: no trace has this there; `shb scan` says why\n".encode()))
+                refused = recorder.call(recorder.SHB, "scan", input=trace.encode())
+                self.assertEqual(refused.stderr, f"line {line}: {reason}\n".encode())
                 self.assertNotIn("windows.tsv", self.files())
 
     def test_the_races_of_windows_are_those_of_the_whole(self):

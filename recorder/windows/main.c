@@ -26,7 +26,7 @@ static const char help[] =
     "  --version     say of which package this is\n"
     "  -h, --help    this text\n"
     "\n"
-    "Exit status: 0; 2 the trace is refused, as shb would refuse it; 3 wrong command line;\n"
+    "Exit status: 0; 2 the trace is refused, as shb scan refuses it; 3 wrong command line;\n"
     "4 a file can't be read or written.\n" VERSION_LINE;
 
 static const char *folder;
@@ -57,9 +57,8 @@ static void cut_up(FILE *trace) {
         for (int byte; length < LINE_ROOM && (byte = getc_unlocked(trace)) != EOF;)
             if ((line[length++] = byte) == '\n') break;
         if (!length) return;
-        const char *fault = window_line(line, length);
-        if (!fault) continue;
-        fprintf(stderr, "line %lu: %s\n", number, fault);
+        if (window_line(line, length)) continue;
+        fprintf(stderr, "line %lu: no trace has this there; `shb scan` says why\n", number);
         exit(REFUSED);
     }
 }
