@@ -190,9 +190,9 @@ static enum window_kind kind_of(const char *operation) {
     return *operation == 'a' ? WINDOW_ACQUIRE : *operation == 'r' ? WINDOW_RELEASE : *operation == 'f' ? WINDOW_FORK : WINDOW_JOIN;
 }
 
-/* A record that was changed may tell what no trace has. */
-static void need_event(int may_come, const char *line, const char *end) {
-    if (!may_come) die("event %lu, %.*s: no trace has this there", events + 1, (int)(end - line - 1), line);
+/* A record that was changed may have events that a trace can't go on with. */
+static void need_event(int can_follow, const char *line, const char *end) {
+    if (!can_follow) die("event %lu, %.*s: a trace can't go on with this event", events + 1, (int)(end - line - 1), line);
 }
 
 void hold_event(u32 t, const char *operation, part name, const char *tail, u64 caller, u32 stack) {

@@ -258,7 +258,7 @@ void end_windows(void) {
 
 u64 count_windows(void) { return window_count; }
 
-/* ---- one line: may it come there, and what it does ---- */
+/* ---- one line: can the trace go on with it, and what it does ---- */
 static inline int is(part p, const char *word) { return p.length == strlen(word) && !memcmp(p.at, word, strlen(word)); }
 
 static enum window_kind kind_of(part word) {
@@ -283,8 +283,8 @@ typedef struct { enum window_kind kind; u32 t, lock, other; part place; } operat
 
 static int may_be_forked(const thread *child) { return !child->started && !child->forked && !child->joined; }
 
-/* Windows are made of what may come alone: shb reads one without what is before it. Why something may not, shb scan says of the whole. */
-static int may_come(operation o) {
+/* Can the trace go on with it? A window alone doesn't show that, for shb reads it without what comes before. shb scan prints the reason. */
+static int can_follow(operation o) {
     u32 holder = o.lock ? locks[o.lock].holder : 0;
     if (threads[o.t].joined) return 0;
     if (o.kind == WINDOW_ACQUIRE) return !holder || holder == o.t;
@@ -323,7 +323,7 @@ static int read_fields(part all, operation *found) {
 }
 
 static int add_operation(const char *line, u64 length, operation o) {
-    if (!may_come(o)) return 0;
+    if (!can_follow(o)) return 0;
     write_line(line, length, o.t, o.other);
     take(o);
     return 1;
@@ -338,7 +338,7 @@ u32 thread_limit = SHB_THREADS;
 int trace_event(u64 length, enum window_kind kind, u32 thread, part operand, part place) {
     if (length > SHB_LINE || !operand.length) return 0;
     operation o = operation_of_parts(kind, thread, operand, place);
-    if (!may_come(o) || thread_names.count > thread_limit) return 0;
+    if (!can_follow(o) || thread_names.count > thread_limit) return 0;
     take(o);
     return 1;
 }

@@ -14,7 +14,7 @@ typedef struct { const char *at; uint64_t length; } part;    /* of a text, witho
 enum window_kind { WINDOW_ACCESS, WINDOW_ACQUIRE, WINDOW_RELEASE, WINDOW_FORK, WINDOW_JOIN, WINDOW_MARK, WINDOW_UNKNOWN };
 
 void begin_windows(const char *folder, uint64_t most_events);        /* in a window */
-int window_line(const char *line, size_t length);                    /* 0 where no trace has it there: shb says why */
+int window_line(const char *line, size_t length);                    /* 0 where the trace can't go on with it */
 /* The same of a line without its end whose parts are known: no need to look for them. */
 int window_event(const char *line, size_t length, enum window_kind kind, uint32_t thread, part operand, part place);
 /* The same of an event of a trace that isn't cut up, and has at most so many threads. */

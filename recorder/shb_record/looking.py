@@ -149,8 +149,8 @@ class Look:
             self.fail(Refused(f"{process.name}: {counted(made_up, 'place')} of its trace can't be, since the whole has no such race: this is a fault "
                              "of shb-std"))
         if scan.unexpected:
-            self.fail(Refused(f"{process.name}: {counted(len(scan.unexpected), 'place')} may have more variables, since shb-std took races for ordered: this "
-                             "is a fault of shb-std"))
+            self.fail(Refused(f"{process.name}: {counted(len(scan.unexpected), 'place')} may have more variables, since shb-std treats accesses that race as ordered: "
+                             "this is a fault of shb-std"))
         rest = list(lacking(looked.whole, looked.places.values()))
         if rest:
             path = self.results.path(f"{process.base}.scan")

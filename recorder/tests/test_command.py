@@ -181,7 +181,7 @@ class Command(recorder.Case):
         fake.chmod(0o755)
         status, _, said = self.record(self.program(), "0", "race", SHB=str(fake))
         self.assertEqual((status, text_of(self.folder / "status.shb" / "unknown.places")), (66, UNKNOWN), said)
-        self.assertIn("1 place may have more variables, since shb-std took races for ordered: this is a fault of shb-std", said)
+        self.assertIn("1 place may have more variables, since shb-std treats accesses that race as ordered: this is a fault of shb-std", said)
         known = self.folder / "known.places"
         known.write_text(UNKNOWN)
         self.assertEqual(self.record("--known", str(known), self.program(), "0", "race", SHB=str(fake))[0], 125)

@@ -475,7 +475,7 @@ class Damaged(recorder.Case):
                 with self.subTest(reason, options=options):
                     answer = recorder.convert(record, *options)
                     self.assertEqual(answer.returncode, 2)
-                    self.assertRegex(answer.stderr.decode(), r"event \d+, \w+\|.*: no trace has this there")
+                    self.assertRegex(answer.stderr.decode(), r"event \d+, \w+\|.*: a trace can't go on with this event")
 
     def test_a_number_that_is_used_again(self):
         """After its thread was joined: the next one that is forked with it is another thread."""

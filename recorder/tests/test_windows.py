@@ -172,7 +172,7 @@ class Windows(recorder.Case):
         for trace, line, reason in REFUSED:
             with self.subTest(reason):
                 answer = self.cut(trace.encode())
-                self.assertEqual((answer.returncode, answer.stderr), (2, f"line {line}: no trace has this there; `shb scan` says why\n".encode()))
+                self.assertEqual((answer.returncode, answer.stderr), (2, f"line {line}: a trace can't go on with this line; `shb scan` prints the reason\n".encode()))
                 refused = recorder.call(recorder.SHB, "scan", input=trace.encode())
                 self.assertEqual(refused.stderr, f"line {line}: {reason}\n".encode())
                 self.assertNotIn("windows.tsv", self.files())

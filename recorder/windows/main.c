@@ -58,7 +58,7 @@ static void cut_up(FILE *trace) {
             if ((line[length++] = byte) == '\n') break;
         if (!length) return;
         if (window_line(line, length)) continue;
-        fprintf(stderr, "line %lu: no trace has this there; `shb scan` says why\n", number);
+        fprintf(stderr, "line %lu: a trace can't go on with this line; `shb scan` prints the reason\n", number);
         exit(REFUSED);
     }
 }
