@@ -8,7 +8,7 @@ SHB = bin/shb
 
 # What the program is made of.
 SOURCES = crates.txt HANDLES $(shell find crates -path '*/out' -prune -o -path '*/must-fail' -prune \
-	-o -path "crates/shb_*tests" -prune -o -path crates/shb_orders -prune -o -path crates/shb_clocks -prune -o -path crates/shb_report -prune \
+	-o -path crates/shb_orders -prune -o -path crates/shb_clocks -prune -o -path crates/shb_report -prune \
 	-o -type f -print)
 
 define HELP

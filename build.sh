@@ -21,9 +21,9 @@ fi
 
 room=$(mktemp -d)
 trap 'rm -rf "$room"' EXIT
-grep -vE '^shb_(run_tests|tests|orders|clocks|report)[ :]' crates.txt > "$room/crates.txt"
+grep -vE '^shb_(orders|clocks|report)[ :]' crates.txt > "$room/crates.txt"
 cp HANDLES "$room"
-tar -c --exclude=out --exclude=must-fail --exclude='shb_*tests' --exclude=shb_orders --exclude=shb_clocks --exclude=shb_report crates | tar -x -C "$room"
+tar -c --exclude=out --exclude=must-fail --exclude=shb_orders --exclude=shb_clocks --exclude=shb_report crates | tar -x -C "$room"
 (cd "$room" && rt ci)
 mkdir -p bin
 cp "$room/crates/shb/out/shb" bin/shb

@@ -20,10 +20,9 @@ RESULT = re.compile(r"(?m)^test (\S+) \.\.\. (\w+)")
 
 def make_copy(room):
     """Copies the crates that the calls need into a folder, and adds theirs. Its folder."""
-    kept = shutil.ignore_patterns("out", "must-fail", "shb_*tests")
+    kept = shutil.ignore_patterns("out", "must-fail")
     shutil.copytree(ROOT / "crates", room / "crates", ignore=kept)
-    lines = [it for it in (ROOT / "crates.txt").read_text().splitlines() if not re.match(r"\w*_tests\b", it)]
-    (room / "crates.txt").write_text("\n".join([*lines, (CALLS / "crates.line").read_text()]))
+    (room / "crates.txt").write_text((ROOT / "crates.txt").read_text() + (CALLS / "crates.line").read_text())
     shutil.copy(ROOT / "HANDLES", room)
     shutil.copytree(CALLS / "src", room / "crates" / "shb_calls" / "src")
     return room / "crates" / "shb_calls"

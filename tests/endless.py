@@ -90,7 +90,7 @@ def wrong_in(name, text):
 
 
 def main():
-    files = [file for file in sorted(CRATES.glob("*/src/**/*.rt")) if not file.relative_to(CRATES).parts[0].endswith("_tests")]
+    files = sorted(CRATES.glob("*/src/**/*.rt"))
     wrong = 0
     for file in files:
         found = wrong_in(file.relative_to(CRATES).as_posix(), file.read_text())

@@ -211,7 +211,7 @@ def wrong_in(name, text):
 def main():
     files = {file.relative_to(CRATES).as_posix(): file.read_text() for file in sorted(CRATES.glob("*/src/**/*.rt"))}
     wrong = [what for name, text in files.items() for what in wrong_in(name, text)]
-    wrong += Sizes({name: text for name, text in files.items() if not name.split("/")[0].endswith("_tests")}).all_wrong()
+    wrong += Sizes(files).all_wrong()
     for what in wrong:
         print(f"a refusal of memory could be made up, or keys be chosen: {what}")
     failed = len({what.split(":")[0] for what in wrong})

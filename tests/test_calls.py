@@ -34,7 +34,7 @@ class Calls(unittest.TestCase):
             lines = {it.split(":")[0].split()[0] for it in (folder.parent.parent / "crates.txt").read_text().splitlines() if it}
             self.assertEqual(crates, lines)
             self.assertIn("shb_calls", crates)
-            self.assertFalse({it for it in crates if it.endswith("_tests")} | {*folder.parent.glob("*/out")})
+            self.assertFalse([*folder.parent.glob("*/out")])
 
 
 if __name__ == "__main__":

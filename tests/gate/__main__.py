@@ -7,7 +7,7 @@
         --room    works in this empty folder and leaves it, with the built program in crates/shb/out/shb
         --steps   writes what each check costs (steps.py)
 
-`rt ci` proves the crates and their tests in a copy of the repository that has no must-fail edits; it takes over what an
+`rt ci` proves the crates in a copy of the repository that has no must-fail edits; it takes over what an
 earlier run on this machine has proved of the same files over the same libraries. As soon as a crate is proved its edits
 are tried over the libraries that are built by then (joint.py), those that the record (record.py) doesn't answer for and of
 the others a tenth; as soon as the program is linked the tests of tests/, recorder/, farm/, install/ and common/ run on it, and

@@ -6,7 +6,7 @@
 - the form of the must-fail edits, the layout, the names in documents;
 - `rt check` in each crate that changed and, without --quick, in those above it: over the work that earlier checks kept;
 - without --quick: the must-fail edits of the crates that the record (tests/gate/refused.sums) doesn't answer for, the crates'
-  calls, the tests of the test crates that changed, and the Python tests of the folders that changed.
+  calls, and the Python tests of the folders that changed.
 
 --quick is what takes less than five minutes after a small change, once the crates below have been checked before.
 """
@@ -25,7 +25,6 @@ import record
 ROOT = pathlib.Path(__file__).resolve().parent.parent.parent
 SUMS = ROOT / "tests" / "gate" / "refused.sums"
 FORMS = ("edits.py", "layout.py", "documents.py", "surface.py", "refusals.py", "endless.py")
-TEST_CRATES = ("shb_run_tests", "shb_tests")
 # Which folders' changes are tested by which tests, all on the built program.
 SUITES = {
     "tests": ("tests/", "view/", "common/", "farm/", "fix/", "plain/", "examples/", "crates/"),
@@ -102,18 +101,13 @@ def check_change(base, is_quick):
     for name in FORMS:
         steps.run(f"tests/{name}", [sys.executable, f"tests/{name}"])
     for name in to_check:
-        if name not in TEST_CRATES:
-            steps.run(f"rt check {name}", ["rt", "check"], ROOT / "crates" / name)
+        steps.run(f"rt check {name}", ["rt", "check"], ROOT / "crates" / name)
     if is_quick:
         left_out += ["the crates above those that changed", "all must-fail edits", "the tests of the crates and of the folders"]
     else:
         left_out.append("a tenth of the edits that the record answers for")
         steps.run("tests/calls.py", [sys.executable, "tests/calls.py"])
         try_edits(steps, layers, layers.above({*layers.uses}))
-        for name in TEST_CRATES:
-            if name in changed:
-                steps.run(f"rt test {name}", ["rt", "test"], ROOT / "crates" / name)
-        left_out += [f"the tests of {it}, which didn't change" for it in TEST_CRATES if it not in changed]
         left_out += run_suites(steps, files)
     print("left out: " + "; ".join(left_out))
     print(f"{steps.passed} passed, {len(steps.failed)} failed")

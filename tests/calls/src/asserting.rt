@@ -15,6 +15,11 @@ pub fn same<T: PartialEq + Debug>(rt: &impl Abort, found: &T, wanted: &T, what: 
     assert_eq!(rt; found, wanted, "{what}");
 }
 
+/// Asserts that what was found is what this row of a table wants.
+pub fn same_in_row<T: PartialEq + Debug>(rt: &impl Abort, found: &T, wanted: &T, row: usize) {
+    assert_eq!(rt; found, wanted, "row {row}");
+}
+
 /// Asserts that these bytes were read or written.
 pub fn same_bytes(rt: &impl Abort, found: &[u8], wanted: &[u8], what: &str) {
     assert_eq!(rt; found, wanted, "{what}");

@@ -57,6 +57,14 @@ fn bad_line(line: u64) -> Verdict {
     Verdict::BadLine { line }
 }
 
+/// Schedules of more than one fault, or of numbers that no event has: the first index that breaks a rule, and which.
+const BAD_SCHEDULES: [(&str, usize, Why); 4] = [
+    ("schedule 2: 1 0", 1, Why::NoSuchEvent),
+    ("schedule 1: 18446744073709551615", 0, Why::NoSuchEvent),
+    ("schedule 5: 1 2 3 4 1", 4, Why::Repeated),
+    ("schedule 9: 1 2 3 4 9 1 1 1 1", 4, Why::NoSuchEvent),
+];
+
 #[test]
 fn changed_blocks(rt: HostRuntime) -> Result<(), Fail> {
     let row = (through_a_read(), OLDER);
@@ -85,6 +93,14 @@ fn changed_blocks(rt: HostRuntime) -> Result<(), Fail> {
         ("schedule 1: 1", "schedule 1: 9"),
         (broken(1, 0, Why::NoSuchEvent), says),
     )?;
+    for (schedule, at, why) in BAD_SCHEDULES {
+        expect(
+            &rt,
+            row,
+            ("schedule 1: 1", schedule),
+            (broken(1, at, why), says),
+        )?;
+    }
     expect(
         &rt,
         row,

@@ -1,7 +1,7 @@
-//! Sources and sinks: those in memory, and over readers and writers that are interrupted.
-use crate::asserting::{holds, same, same_bytes};
+//! Sources and sinks: those in memory, and over readers and writers that fail or are interrupted.
+use crate::asserting::{holds, same, same_bytes, same_in_row};
 use shb_io::{Endless, Failed, FromRead, Keys, Page, Sink, Source, Text, ToWrite, write_all};
-use std::io::{self, ErrorKind, Read, Write};
+use std::io::{self, BufWriter, ErrorKind, Read, Write};
 use std::test::Fail;
 
 #[test]
@@ -61,50 +61,110 @@ fn a_source_without_an_end(rt: HostRuntime) {
     same(&rt, &endless.failures(), &0, "failures");
 }
 
-/// A reader and writer that is interrupted so often, and then moves one byte.
+/// A reader and writer whose first calls, flushes too, fail in this way. It then gives one byte at each
+/// read, and takes everything.
 #[derive(Drop)]
-struct Interrupted {
+struct Failing {
     times: u32,
+    kind: ErrorKind,
 }
 
-impl Interrupted {
-    fn call(&mut self) -> io::Result<usize> {
-        if self.times == 0 {
-            return Ok(1);
+impl Failing {
+    /// Whether this call goes well.
+    fn call(&mut self) -> io::Result<()> {
+        if self.times > 0 {
+            self.times -= 1;
+            return Err(io::Error::from(self.kind));
         }
-        self.times -= 1;
-        Err(io::Error::from(ErrorKind::Interrupted))
+        Ok(())
     }
 }
 
-impl Read for Interrupted {
-    fn read(&mut self, _buf: &mut [u8]) -> io::Result<usize> {
-        self.call()
+impl Read for Failing {
+    fn read(&mut self, buf: &mut [u8]) -> io::Result<usize> {
+        self.call()?;
+        match buf.first_mut() {
+            Some(byte) => {
+                *byte = b'x';
+                Ok(1)
+            }
+            None => Ok(0),
+        }
     }
 }
 
-impl Write for Interrupted {
-    fn write(&mut self, _buf: &[u8]) -> io::Result<usize> {
-        self.call()
+impl Write for Failing {
+    fn write(&mut self, buf: &[u8]) -> io::Result<usize> {
+        self.call()?;
+        Ok(buf.len())
     }
 
     fn flush(&mut self) -> io::Result<()> {
-        self.call().map(|_| ())
+        self.call()
+    }
+}
+
+/// A writer that takes no bytes at its first write, and then everything.
+#[derive(Drop)]
+struct Hesitant {
+    is_asked: bool,
+}
+
+impl Write for Hesitant {
+    fn write(&mut self, buf: &[u8]) -> io::Result<usize> {
+        if self.is_asked {
+            return Ok(buf.len());
+        }
+        self.is_asked = true;
+        Ok(0)
+    }
+
+    fn flush(&mut self) -> io::Result<()> {
+        Ok(())
+    }
+}
+
+/// How many calls fail in which way, what a read or a write of a byte answers, and the failures then.
+const CALLS: [(u32, ErrorKind, Result<usize, Failed>, u64); 3] = [
+    (1_000, ErrorKind::Interrupted, Ok(1), 0),
+    (1_001, ErrorKind::Interrupted, Err(Failed), 1),
+    (1, ErrorKind::BrokenPipe, Err(Failed), 1),
+];
+
+#[test]
+fn interruptions_alone_are_tried_again(rt: HostRuntime) {
+    for (row, (times, kind, want, failures)) in CALLS.iter().enumerate() {
+        let (times, kind) = (*times, *kind);
+        let mut buf = [0; 10];
+        let mut source = FromRead::new(Failing { times, kind });
+        same_in_row(&rt, &source.read(&mut buf), want, row);
+        same_in_row(&rt, &source.failures(), failures, row);
+        let mut sink = ToWrite::new(Failing { times, kind });
+        same_in_row(&rt, &sink.write(b"a"), want, row);
+        same_in_row(&rt, &sink.failures(), failures, row);
+        let finished = ToWrite::new(Failing { times, kind }).finish();
+        same_in_row(&rt, &finished.is_ok(), &want.is_ok(), row);
+        let handed_back = ToWrite::new(Failing { times, kind }).into_writer();
+        same_in_row(&rt, &handed_back.is_ok(), &want.is_ok(), row);
     }
 }
 
 #[test]
-fn interruptions(rt: HostRuntime) {
-    for (times, answer, failures) in [(1_000, Ok(1), 0), (1_001, Err(Failed), 1)] {
-        let mut source = FromRead::new(Interrupted { times });
-        same(&rt, &source.read(&mut [0; 4]), &answer, "a read");
-        same(&rt, &source.failures(), &failures, "reads that failed");
-        let mut sink = ToWrite::new(Interrupted { times });
-        same(&rt, &sink.write(b"a"), &answer, "a write");
-        same(&rt, &sink.failures(), &failures, "writes that failed");
-        let finished = ToWrite::new(Interrupted { times }).finish();
-        same(&rt, &finished.is_ok(), &answer.is_ok(), "a flush");
-    }
+fn a_write_of_no_bytes_is_a_failure_at_once(rt: HostRuntime) {
+    let mut sink = ToWrite::new(Hesitant { is_asked: false });
+    same(&rt, &sink.write(b"a"), &Err(Failed), "a write");
+    same(&rt, &sink.failures(), &1, "failures");
+}
+
+#[test]
+fn all_bytes_arrive_through_a_buffer(rt: HostRuntime) -> Result<(), Fail> {
+    let mut memory = Vec::new(rt.alloc());
+    let mut sink = ToWrite::new(BufWriter::with_capacity(rt.alloc(), 4, &mut memory)?);
+    write_all(&mut sink, b"abc")?;
+    write_all(&mut sink, b"defghij")?;
+    sink.finish()?;
+    same_bytes(&rt, memory.as_slice(), b"abcdefghij", "the memory");
+    Ok(())
 }
 
 /// Two keys of one run differ, but for a chance of 1 in 2^128.

@@ -13,9 +13,13 @@ mod devices;
 #[cfg(test)]
 mod fan;
 #[cfg(test)]
+mod held;
+#[cfg(test)]
 mod machine;
 #[cfg(test)]
 mod nearest;
+#[cfg(test)]
+mod numbers;
 #[cfg(test)]
 mod orders;
 #[cfg(test)]
@@ -31,6 +35,16 @@ mod runs;
 #[cfg(test)]
 mod scans;
 #[cfg(test)]
+mod source_events;
+#[cfg(test)]
+mod source_lines;
+#[cfg(test)]
+mod stream_clocks;
+#[cfg(test)]
+mod threads;
+#[cfg(test)]
 mod traces;
 #[cfg(test)]
 mod words;
+#[cfg(test)]
+mod workers;

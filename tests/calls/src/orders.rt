@@ -3,8 +3,10 @@ use crate::asserting::{Host, same};
 use crate::traces::{Asks, WORKED, ask_of, joined_unborn, passed_on, through_a_read};
 use shb_clocks::{ClockVersions, FullClocks, Order, PlainOrder, full, plain, versions};
 use shb_discipline::Disciplined;
+use shb_io::NoMemory;
 use shb_lines::{Op, Trace};
 use shb_links::Links;
+use std::alloc::Global;
 use std::test::Fail;
 
 /// The fork of a thread.
@@ -144,6 +146,47 @@ fn forms_agree_on_all_traces(rt: HostRuntime) -> Result<(), Fail> {
     Ok(())
 }
 
+/// Five lines each: a locked section of a thread in which another one writes, and a read after it.
+const SECTIONS: [&str; 16] = [
+    "T0|acq(l0)\nT5|w(x0)\nT0|r(x1)\nT0|rel(l0)\nT5|r(x1)\n",
+    "T1|acq(l1)\nT6|w(x1)\nT1|r(x0)\nT1|rel(l1)\nT6|r(x0)\n",
+    "T2|acq(l2)\nT7|w(x2)\nT2|r(x3)\nT2|rel(l2)\nT7|r(x3)\n",
+    "T3|acq(l0)\nT4|w(x3)\nT3|r(x2)\nT3|rel(l0)\nT4|r(x2)\n",
+    "T4|acq(l1)\nT0|w(x4)\nT4|r(x4)\nT4|rel(l1)\nT0|r(x4)\n",
+    "T5|acq(l2)\nT1|w(x0)\nT5|r(x2)\nT5|rel(l2)\nT1|r(x2)\n",
+    "T6|acq(l0)\nT2|w(x1)\nT6|r(x3)\nT6|rel(l0)\nT2|r(x3)\n",
+    "T7|acq(l1)\nT3|w(x2)\nT7|r(x1)\nT7|rel(l1)\nT3|r(x1)\n",
+    "T0|acq(l2)\nT4|w(x3)\nT0|r(x0)\nT0|rel(l2)\nT4|r(x0)\n",
+    "T1|acq(l0)\nT7|w(x4)\nT1|r(x1)\nT1|rel(l0)\nT7|r(x1)\n",
+    "T2|acq(l1)\nT5|w(x0)\nT2|r(x4)\nT2|rel(l1)\nT5|r(x4)\n",
+    "T3|acq(l2)\nT6|w(x1)\nT3|r(x2)\nT3|rel(l2)\nT6|r(x2)\n",
+    "T5|acq(l0)\nT2|w(x2)\nT5|r(x0)\nT5|rel(l0)\nT2|r(x0)\n",
+    "T6|acq(l1)\nT0|w(x3)\nT6|r(x4)\nT6|rel(l1)\nT0|r(x4)\n",
+    "T7|acq(l2)\nT1|w(x4)\nT7|r(x3)\nT7|rel(l2)\nT1|r(x3)\n",
+    "T4|acq(l0)\nT3|w(x0)\nT4|r(x0)\nT4|rel(l0)\nT3|r(x0)\n",
+];
+
+/// A text of 500 lines of eight threads, three locks and five variables, made from fixed numbers. The
+/// first thread forks three others and joins all in the end.
+fn long_text(alloc: Global) -> Result<String, NoMemory> {
+    let mut text = String::new(alloc);
+    text.push_str("T0|fork(T1)\nT0|fork(T2)\nT0|fork(T3)\n")?;
+    let mut number = 1u32;
+    for _section in 0..98 {
+        number = number.wrapping_mul(1_103_515_245).wrapping_add(12_345);
+        text.push_str(SECTIONS[(number >> 16) as usize % 16])?;
+    }
+    text.push_str("T0|join(T1)\nT0|join(T2)\nT0|join(T3)\nT0|join(T4)\n")?;
+    text.push_str("T0|join(T5)\nT0|join(T6)\nT0|join(T7)\n")?;
+    Ok(text)
+}
+
+#[test]
+fn forms_agree_on_a_long_trace(rt: HostRuntime) -> Result<(), Fail> {
+    let text = long_text(rt.alloc())?;
+    ask_of(&rt, text.as_str(), &FormsAgree)
+}
+
 /// Events, and how many of threads 0, 1 and so on are below the predecessor of each.
 #[derive(Clone, Copy)]
 struct Below<'a> {
@@ -169,6 +212,22 @@ impl Asks for Below<'_> {
     }
 }
 
+/// Events of a trace, and how many of threads 0, 1 and so on are below the predecessor of each.
+const COUNTS: [(&str, &[(u32, &[u32])]); 3] = [
+    (
+        "T1|w(x)\nT2|w(z)\nT2|r(x)\nT2|w(y)\n",
+        &[(2, &[0, 1]), (3, &[1, 2])],
+    ),
+    (
+        "T1|acq(l)\nT1|rel(l)\nT2|acq(l)\nT2|w(x)\nT2|rel(l)\nT3|acq(l)\nT3|rel(l)\nT3|w(x)\n",
+        &[(3, &[2, 1, 0]), (7, &[2, 3, 2])],
+    ),
+    (
+        "T1|acq(l)\nT1|acq(l)\nT1|w(x)\nT1|rel(l)\nT1|w(y)\nT1|rel(l)\nT2|acq(l)\nT2|w(y)\nT2|rel(l)\nT2|w(x)\n",
+        &[(7, &[6, 1]), (9, &[6, 3])],
+    ),
+];
+
 #[test]
 fn counts_that_were_worked_out(rt: HostRuntime) -> Result<(), Fail> {
     let rows: [(u32, &[u32]); 7] = [
@@ -188,8 +247,10 @@ fn counts_that_were_worked_out(rt: HostRuntime) -> Result<(), Fail> {
             rows: &[(3, &[0, 0, 1])],
         },
     )?;
-    let read = "T1|w(x)\nT2|w(z)\nT2|r(x)\nT2|w(y)\n";
-    ask_of(&rt, read, &Below { rows: &[(3, &[1])] })
+    for (text, rows) in COUNTS {
+        ask_of(&rt, text, &Below { rows })?;
+    }
+    Ok(())
 }
 
 /// The places in each thread at which it may learn of others.

@@ -7,11 +7,11 @@ use shb_clocks::{full, versions};
 use shb_discipline::Disciplined;
 use shb_fan::{FreeGate, Job, Workers, gather};
 use shb_lines::{Op, Pair, conflicts};
-use shb_links::Links;
+use shb_links::{Linked, Links};
 use shb_pairs::laws::{no_schedule_without_race, printed_schedule_is_schedule};
-use shb_pairs::{PairJob, Piece, accesses_of, is_race, pieces};
+use shb_pairs::{PairJob, Piece, accesses_of, is_race, open_variables, pieces};
 use shb_replay::replay;
-use shb_witness::{WitnessJob, schedule};
+use shb_witness::{WitnessJob, checkpoints_of, front_of, schedule};
 use std::test::Fail;
 
 fn three_workers() -> Result<Workers, Fail> {
@@ -229,6 +229,106 @@ impl Asks for RacesOf65 {
 fn races_of_65_threads(rt: HostRuntime) -> Result<(), Fail> {
     let text = line_of_each(rt.alloc(), 65, "w(x)")?;
     ask_of(&rt, text.as_str(), &RacesOf65)
+}
+
+/// Which variables of a trace are open, which no clause says.
+#[derive(Clone, Copy)]
+struct OpenAre<'a> {
+    wanted: &'a [bool],
+}
+
+impl Asks for OpenAre<'_> {
+    fn ask<H: Host>(&self, rt: &H, trace: &Disciplined<'_>, links: &Links<'_>) -> Result<(), Fail> {
+        let open = open_variables(rt.alloc(), trace, links)?;
+        same(rt, &open.as_slice(), &self.wanted, "the open variables");
+        Ok(())
+    }
+}
+
+/// Texts and which of their variables are open.
+const OPEN: [(&str, &[bool]); 11] = [
+    ("T1|w(y)\nT2|r(y)\n", &[true]),
+    ("T1|w(x)\nT1|w(y)\nT2|w(y)\nT1|r(x)\n", &[false, true]),
+    (
+        "T1|acq(l)\nT1|w(x)\nT1|rel(l)\nT2|acq(l)\nT2|r(x)\nT2|w(x)\nT2|rel(l)\n",
+        &[false],
+    ),
+    ("T1|r(x)\nT2|r(x)\nT3|r(x)\n", &[false]),
+    ("T1|r(x)\nT2|r(x)\nT2|w(x)\n", &[true]),
+    ("T1|w(x)\nT1|fork(T2)\nT2|r(x)\nT1|r(x)\n", &[false]),
+    (
+        "T1|w(x)\nT1|fork(T2)\nT2|r(x)\nT1|join(T2)\nT1|w(x)\n",
+        &[false],
+    ),
+    // The two reads aren't ordered: nothing races, and the variable is open all the same.
+    (
+        "T1|w(x)\nT1|fork(T2)\nT2|r(x)\nT1|r(x)\nT1|join(T2)\nT1|w(x)\n",
+        &[true],
+    ),
+    // The write is after the newest read alone.
+    ("T1|w(x)\nT1|fork(T2)\nT2|r(x)\nT1|r(x)\nT1|w(x)\n", &[true]),
+    (
+        "T1|w(x)\nT1|fork(T2)\nT2|r(x)\nT2|r(x)\nT1|join(T2)\nT1|w(x)\n",
+        &[false],
+    ),
+    (
+        "T1|acq(l)\n\
+          T1|w(x)\n\
+          T1|r(x)\n\
+          T1|rel(l)\n\
+          T2|acq(l)\n\
+          T2|r(x)\n\
+          T2|rel(l)\n\
+          T1|acq(l)\n\
+          T1|w(x)\n\
+          T1|rel(l)\n",
+        &[false],
+    ),
+];
+
+#[test]
+fn open_variables_of_small_traces(rt: HostRuntime) -> Result<(), Fail> {
+    for (text, wanted) in OPEN {
+        ask_of(&rt, text, &OpenAre { wanted })?;
+    }
+    Ok(())
+}
+
+/// The fronts that a cut is made from. Checkpoints only save time, so no clause says that they are there or that the last
+/// one is found: before each stand 64 events more than before the one before it.
+#[derive(Clone, Copy)]
+struct FrontsAre;
+
+impl Asks for FrontsAre {
+    fn ask<H: Host>(&self, rt: &H, trace: &Disciplined<'_>, links: &Links<'_>) -> Result<(), Fail> {
+        let points = checkpoints_of(rt.alloc(), &Linked::new(trace, links))?;
+        for (cut, front) in [
+            (63, 0),
+            (64, 64),
+            (127, 64),
+            (128, 128),
+            (191, 128),
+            (192, 192),
+            (200, 192),
+        ] {
+            same(
+                rt,
+                &front_of(Some(points.as_slice()), &[cut]),
+                &front,
+                "the front",
+            );
+        }
+        Ok(())
+    }
+}
+
+#[test]
+fn last_checkpoint_within_the_cut(rt: HostRuntime) -> Result<(), Fail> {
+    let mut text = String::new(rt.alloc());
+    for _ in 0..200 {
+        text.push_str("a|w(x)\n")?;
+    }
+    ask_of(&rt, text.as_str(), &FrontsAre)
 }
 
 /// The schedule of each race of the row, by the call and by the job, which the judge finds good.

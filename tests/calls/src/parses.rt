@@ -1,9 +1,14 @@
 //! `parse` under small limits, and what a `Trace` tells.
-use crate::asserting::{Host, same, same_bytes};
+use crate::asserting::{Host, same, same_bytes, same_in_row};
 use crate::traces::{line_of_each, parsed};
 use shb_discipline::{CheckError, check};
 use shb_io::{Endless, Source, Text};
-use shb_lines::{Event, Fault, Limits, LineFault, Op, Parsed, ReadError, conflicts, parse};
+use shb_lines::Fault::{
+    LineTooLong, MissingField, TextTooLong, TooManyEvents, TooManyThreads, UnknownOperation,
+};
+use shb_lines::{
+    Event, Fault, Limits, LineFault, MOST_BYTES, Op, Parsed, ReadError, conflicts, parse,
+};
 use std::test::Fail;
 
 fn stopped(line: u32, fault: Fault) -> Option<LineFault> {
@@ -29,67 +34,135 @@ fn expect_stop(
     Ok(found)
 }
 
-#[test]
-fn small_limits(rt: HostRuntime) -> Result<(), Fail> {
-    let standard = Limits::standard();
-    let threads = Limits {
-        threads: 2,
-        ..standard
-    };
-    expect_stop(
-        &rt,
-        &threads,
+/// The limits of a text's bytes, a line's bytes, events and threads.
+type Numbers = (u64, u32, u32, u32);
+
+const STANDARD: Numbers = (MOST_BYTES, 4096, 4_194_304, 1024);
+
+/// The line of a fault, and the fault.
+type Stop = Option<(u32, Fault)>;
+
+/// The standard limits but for one of them.
+const TWO_THREADS: Numbers = (MOST_BYTES, 4096, 4_194_304, 2);
+
+const ONE_EVENT: Numbers = (MOST_BYTES, 4096, 1, 1024);
+
+const EIGHT_BYTES: Numbers = (8, 4096, 4_194_304, 1024);
+
+const LINES_OF_EIGHT_BYTES: Numbers = (MOST_BYTES, 8, 4_194_304, 1024);
+
+const EMPTY_LINES: Numbers = (MOST_BYTES, 0, 4_194_304, 1024);
+
+fn limits_of(numbers: Numbers) -> Limits {
+    let (text, line, events, threads) = numbers;
+    let most = Limits::standard();
+    Limits {
+        text: text.min(most.text),
+        line: line.min(most.line),
+        events: events.min(most.events),
+        threads: threads.min(most.threads),
+    }
+}
+
+/// What is read of a text that is handed out in steps.
+fn parsed_within(
+    rt: &impl Host,
+    text: &[u8],
+    numbers: Numbers,
+    step: usize,
+) -> Result<Parsed, ReadError> {
+    let mut source = Text::new(text, step.max(1), None);
+    parse(rt, rt.alloc(), &mut source, &limits_of(numbers))
+}
+
+/// The first fault of a text that is handed out in steps, and how many events and threads there are.
+fn stop_of(
+    rt: &impl Host,
+    text: &[u8],
+    numbers: Numbers,
+    step: usize,
+) -> Result<(Stop, u32, u32), ReadError> {
+    let found = parsed_within(rt, text, numbers, step)?;
+    Ok((
+        found.stop.map(|stop| (stop.line, stop.fault)),
+        found.trace.len(),
+        found.trace.threads(),
+    ))
+}
+
+/// Steps in which a text is handed out.
+const STEPS: [usize; 2] = [1, 1 << 20];
+
+/// Limits, a text, its first fault, and how many events and threads stand before it. Those of the
+/// program's own limits are in `tests/test_traces.py`.
+const FIRST_FAULTS: [(Numbers, &[u8], Stop, u32, u32); 15] = [
+    (
+        STANDARD,
+        b"T1|w(x)\nT2|w(y)\nT2|rel(l)\nT1|w(x)\noops\n",
+        Some((5, MissingField)),
+        4,
+        2,
+    ),
+    (
+        TWO_THREADS,
         b"T1|fork(T2)\nT3|r(x)\n",
-        stopped(2, Fault::TooManyThreads),
-    )?;
-    let found = expect_stop(
-        &rt,
-        &threads,
+        Some((2, TooManyThreads)),
+        1,
+        2,
+    ),
+    (
+        TWO_THREADS,
         b"T1|r(x)\nT2|join(T3)\n",
-        stopped(2, Fault::TooManyThreads),
-    )?;
-    same(&rt, &found.trace.threads(), &1, "threads before the stop");
-    let events = Limits {
-        events: 1,
-        ..standard
-    };
-    expect_stop(
-        &rt,
-        &events,
+        Some((2, TooManyThreads)),
+        1,
+        1,
+    ),
+    (
+        ONE_EVENT,
         b"T1|r(x)\n\nT1|r(x)\n",
-        stopped(3, Fault::TooManyEvents),
-    )?;
-    expect_stop(
-        &rt,
-        &events,
+        Some((3, TooManyEvents)),
+        1,
+        1,
+    ),
+    (
+        ONE_EVENT,
         b"T1|r(x)\nT1|oops\n",
-        stopped(2, Fault::UnknownOperation),
-    )?;
-    let text = Limits {
-        text: 8,
-        ..standard
-    };
-    expect_stop(&rt, &text, b"T1|r(x)\nT", stopped(2, Fault::TextTooLong))?;
-    expect_stop(&rt, &text, b"T1|r(xx)\n", stopped(1, Fault::TextTooLong))?;
-    let line = Limits {
-        line: 8,
-        ..standard
-    };
-    expect_stop(&rt, &line, b"T1|r(xx)\n", None)?;
-    expect_stop(&rt, &line, b"T1|r(xx)\r\n", stopped(1, Fault::LineTooLong))?;
-    expect_stop(&rt, &standard, b"\r\r\n", stopped(1, Fault::MissingField))?;
-    let found = expect_stop(
-        &rt,
-        &standard,
-        &[0, 255, b'|', b'r', b'(', b'x', b')', b'\n'],
-        None,
-    )?;
-    same_bytes(
-        &rt,
-        found.trace.thread_name(0),
-        &[0, 255],
-        "a name of any bytes",
-    );
+        Some((2, UnknownOperation)),
+        1,
+        1,
+    ),
+    (EIGHT_BYTES, b"T1|r(x)\nT", Some((2, TextTooLong)), 1, 1),
+    (EIGHT_BYTES, b"T1|r(x)\n", None, 1, 1),
+    (EIGHT_BYTES, b"T1|r(xx)\n", Some((1, TextTooLong)), 0, 0),
+    (EIGHT_BYTES, b"T1|r(x)\n\n", Some((2, TextTooLong)), 1, 1),
+    (
+        EIGHT_BYTES,
+        b"oops\nT1|r(x)\n",
+        Some((1, MissingField)),
+        0,
+        0,
+    ),
+    (LINES_OF_EIGHT_BYTES, b"T1|r(xx)\n", None, 1, 1),
+    (
+        LINES_OF_EIGHT_BYTES,
+        b"T1|r(xx)\r\n",
+        Some((1, LineTooLong)),
+        0,
+        0,
+    ),
+    (EMPTY_LINES, b"\r\n", Some((1, LineTooLong)), 0, 0),
+    (STANDARD, b"\r\r\n", Some((1, MissingField)), 0, 0),
+    (STANDARD, b"\x00\xff|r(x)\n", None, 1, 1),
+];
+
+#[test]
+fn first_faults(rt: HostRuntime) -> Result<(), Fail> {
+    for (row, (numbers, text, stop, events, threads)) in FIRST_FAULTS.iter().enumerate() {
+        for step in STEPS {
+            let found = stop_of(&rt, text, *numbers, step)?;
+            same_in_row(&rt, &found, &(*stop, *events, *threads), row);
+        }
+    }
     Ok(())
 }
 

@@ -235,7 +235,14 @@ fn reports_are_read(rt: HostRuntime) -> Result<(), Fail> {
 fn no_more_is_read_than_a_limit(rt: HostRuntime) -> Result<(), Fail> {
     let text = report_of(rt.alloc(), &located(), OLDER)?;
     same(&rt, &text.len(), &121, "bytes");
-    for (limit, wanted) in [(12, Some(1)), (13, Some(2)), (20, Some(2)), (121, None)] {
+    for (limit, wanted) in [
+        (12, Some(1)),
+        (13, Some(2)),
+        (20, Some(2)),
+        (120, Some(8)),
+        (121, None),
+        (122, None),
+    ] {
         let mut source = Text::new(text.as_bytes(), 5, None);
         let bad = match read_report_within(rt.alloc(), &mut source, limit) {
             Ok(_) => None,

@@ -234,6 +234,13 @@ fn faults_have_their_words(rt: HostRuntime) -> Result<(), Fail> {
         let wanted = format!(in rt.alloc(); "line 17: {words}")?;
         let found = fault_line(rt.alloc(), &error)?;
         same(&rt, &found.as_str(), &wanted.as_str(), "the words");
+        let shown = format!(in rt.alloc(); "{error}")?;
+        same(
+            &rt,
+            &shown.as_str(),
+            &wanted.as_str(),
+            "the error's own words",
+        );
         same(&rt, &exit_status(&error), &2, "the status");
     }
     for (error, words) in [

@@ -1,10 +1,10 @@
 //! Whole runs by several workers: that they work at once, and that blocks are written early.
 use crate::asserting::{holds, same, same_bytes};
 use crate::held::{Held, TURNS, expect_come, expect_entered, make_held};
-use crate::run::settings;
-use shb_io::{Failed, NoMemory, Page, Sink, Text};
+use crate::runs::settings;
+use crate::traces::line_of_each;
+use shb_io::{Failed, Page, Sink, Text};
 use shb_run::{FreeGate, Gate, run_gated};
-use std::alloc::Global;
 use std::process::Abort;
 use std::random::RandomSource;
 use std::sync::Wait;
@@ -37,10 +37,10 @@ fn ran_two_pieces<R: Threads + Wait + Sync + RandomSource + AllocGlobal + Abort>
     rt: &R,
     pair_gate: &Held,
     witness_gate: &Held,
-) -> Result<(bool, Page), NoMemory> {
+) -> Result<(bool, Page), Fail> {
     let mut source = Text::new(TWO_PIECES.as_bytes(), 4096, None);
     let mut sink = Page::new(rt.alloc(), 1000, 4096, None)?;
-    let settings = settings(rt, 2, true);
+    let settings = settings(2, true)?;
     let answer = run_gated(
         rt,
         rt.alloc(),
@@ -117,27 +117,18 @@ impl Gate for LastHeld<'_> {
     }
 }
 
-/// Lines that write one variable, each by a thread of its own.
-fn writers(alloc: Global, count: u32) -> Result<String, NoMemory> {
-    let mut text = String::new(alloc);
-    for thread in 1..=count {
-        text.push_str(format!(in alloc; "T{thread}|w(x)\n")?.as_str())?;
-    }
-    Ok(text)
-}
-
 /// Runs by two workers with a page that is watched: whether it goes well, and what is written.
 fn ran_watched<R: Threads + Wait + Sync + RandomSource + AllocGlobal + Abort>(
     rt: &R,
     trace: &str,
     gate: &LastHeld<'_>,
-) -> Result<(bool, Page), NoMemory> {
+) -> Result<(bool, Page), Fail> {
     let mut source = Text::new(trace.as_bytes(), 4096, None);
     let mut sink = Watched {
         page: Page::new(rt.alloc(), 300_000, 4096, None)?,
         taken: gate.taken,
     };
-    let settings = settings(rt, 2, true);
+    let settings = settings(2, true)?;
     let answer = run_gated(
         rt,
         rt.alloc(),
@@ -169,7 +160,7 @@ fn expect_ends(rt: &impl Abort, report: &[u8]) {
 
 #[test]
 fn written_early(rt: HostRuntime) -> Result<(), Fail> {
-    let trace = writers(rt.alloc(), 65)?;
+    let trace = line_of_each(rt.alloc(), 65, "w(x)")?;
     let taken = AtomicU64::new(0);
     let gate = LastHeld {
         entered: AtomicU64::new(0),

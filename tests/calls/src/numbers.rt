@@ -1,7 +1,5 @@
-//! A job whose values are numbers.
-ghost use Rattle.std.specs.Prelude.{◌≡◌, ◌≤◌, ◌^◌};
+//! A job whose values are numbers, and counters that threads count up.
 
-use crate::refusal::ask_too_much;
 use shb_fan::{Job, Workers};
 use shb_io::NoMemory;
 use std::alloc::Global;
@@ -38,16 +36,14 @@ impl Job for Numbers<'_> {
             runs.fetch_add(1, Ordering::SeqCst);
         }
         if self.refused == Some(k) {
-            ask_too_much(alloc)?;
+            let _room: Vec<u64> = Vec::with_capacity(alloc, usize::MAX)?;
         }
         Ok(k)
     }
 }
 
 /// So many pieces, of which these have counters.
-pub fn make_numbers<'a>(pieces: u32, runs: &'a [AtomicU64], refused: Option<u64>) -> Numbers<'a>
-    ensures { result.pieces ≡ pieces }
-{
+pub fn make_numbers<'a>(pieces: u32, runs: &'a [AtomicU64], refused: Option<u64>) -> Numbers<'a> {
     Numbers {
         pieces: u64::from(pieces),
         runs,
@@ -55,16 +51,25 @@ pub fn make_numbers<'a>(pieces: u32, runs: &'a [AtomicU64], refused: Option<u64>
     }
 }
 
-/// Whether a list is 0, 1, 2 and so on, of this length.
-pub fn is_count(values: &[u64], len: u64) -> bool {
-    for (k, value) in values.iter().enumerate() {
-        if *value != k as u64 {
+pub fn so_many<R: Abort>(rt: &R, workers: u32) -> Workers {
+    Workers::new(workers).expect(rt, "1 to 64 workers")
+}
+
+/// So many counters at zero.
+pub fn zeros(alloc: Global, count: u32) -> Result<Vec<AtomicU64>, NoMemory> {
+    let mut all = Vec::new(alloc);
+    for _ in 0..count {
+        all.push(AtomicU64::new(0))?;
+    }
+    Ok(all)
+}
+
+/// Whether each counter is at one.
+pub fn all_one(counters: &[AtomicU64]) -> bool {
+    for times in counters {
+        if times.load(Ordering::SeqCst) != 1 {
             return false;
         }
     }
-    values.len() as u64 == len
-}
-
-pub fn so_many<R: Abort>(rt: &R, workers: u32) -> Workers {
-    Workers::new(workers).expect(rt, "1 to 64 workers")
+    true
 }

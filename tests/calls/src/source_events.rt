@@ -1,5 +1,4 @@
 //! The events and first line faults of texts over sources that hand out little and much.
-ghost use Rattle.shb_lines.specs.text.Numbering.{AreWide};
 
 use crate::asserting::{same_bytes, same_in_row};
 use crate::source_lines::STEPS;
@@ -55,9 +54,7 @@ const WIDE: Limits = Limits {
 };
 
 /// What is taken, as in the table, or `?` where the source failed.
-fn read_events(rt: &HostRuntime, source: &mut Text<'_>, limits: &Limits) -> Result<Vec<u8>, Fail>
-    requires { AreWide limits.now }
-{
+fn read_events(rt: &HostRuntime, source: &mut Text<'_>, limits: &Limits) -> Result<Vec<u8>, Fail> {
     let alloc = rt.alloc();
     let mut reader = EventReader::new(rt, alloc)?;
     let mut found = Vec::new(alloc);
