@@ -1,14 +1,15 @@
 #!/usr/bin/env python3
-"""Counts what the built program costs on some traces, in instructions, and compares this with bounds. No clause of a
+"""Counts what the built program costs on some traces, in instructions or memory, and compares this with bounds. No clause of a
 contract speaks of cost, so only this step notices a table that isn't found again, or a search that looks twice.
 
     costs.py [--only WORD] [--write] [PROGRAM]
 
 Each shape of traces (shapes.py) is analysed with a number of events and with twice as many, by valgrind's callgrind, with
 one worker. The first count has its own bound, in costs.tsv; the second may be at most 2.3 times the first. Of recorded
-traces there is the first count alone. Where a change makes a trace dearer, its bound is changed in the same commit, with
-the reason in the commit's message; --write writes bounds a tenth above what this program costs. Ends with the line
-'N passed, N failed'; a machine without valgrind fails.
+traces there is the first count alone. Of some shapes the most memory that the program has at a time is bounded in the same
+way. Where a change makes a trace dearer, its bound is changed in the same commit, with the reason in the commit's message;
+--write writes bounds a tenth above what this program costs. Ends with the line 'N passed, N failed'; a machine without
+valgrind fails.
 """
 
 import argparse
@@ -40,6 +41,25 @@ AT_ONCE = 2
 SECONDS = 600
 ENDED = (0, 2)  # a report was written, or the trace was refused
 COLLECTED = re.compile(rb"Collected : (\d+)")
+PEAK = """
+import os, sys
+_, status, usage = os.wait4(os.spawnv(os.P_NOWAIT, sys.argv[1], sys.argv[1:]), 0)
+print("Collected :", usage.ru_maxrss, file=sys.stderr)
+sys.exit(status >> 8)
+"""
+
+
+class Unit(typing.NamedTuple):
+    """What is counted: the words before those of the program, after which standard error has the count; and how much is one
+    of the unit."""
+
+    name: str
+    words: tuple
+    size: int
+
+
+INSTRUCTIONS = Unit("thousand instructions", ("valgrind", "--tool=callgrind", "--callgrind-out-file=/dev/null"), 1000)
+MEMORY = Unit("KiB", (sys.executable, "-I", "-S", "-c", PEAK), 1)  # by a small process, since what starts another counts too
 
 
 class Cost(typing.NamedTuple):
@@ -51,6 +71,7 @@ class Cost(typing.NamedTuple):
     events: int
     grows: bool = True
     reads: typing.Optional[int] = None
+    unit: Unit = INSTRUCTIONS
 
 
 ONE_WORKER = "--workers", "1"
@@ -105,19 +126,21 @@ def costs():
     yield Cost("locks and statistics of 200 threads", RACES, hot("mixed", 200, 5), 20_000)
     yield Cost("schedules of 20 late races", SCHEDULES, shapes.late_races, 10_000)
     yield Cost("an array", RACES, hot("array", 8, 2), 20_000)
+    yield Cost("numbers that are far apart", PLACES, shapes.far_numbers, 20_000)
+    yield Cost("numbers that are far apart", PLACES, shapes.far_numbers, 50_000, unit=MEMORY)
     for path in sorted(RECORDED.glob("*.std.xz")):
         yield Cost(path.name, PLACES, recorded(path), 0, grows=False)
         yield Cost(path.name, RACES, recorded(path), 0, grows=False)
         yield Cost(path.name, SCAN, recorded(path), 0, grows=False)
 
 
-def instructions(program, cost, times):
-    """The instructions of one analysis, of a trace with so many times the events."""
+def counted(program, cost, times):
+    """What one analysis takes, of a trace with so many times the events."""
     with tempfile.TemporaryDirectory() as room:
         trace = pathlib.Path(room) / "trace.std"
         with open(trace, "w", encoding="latin-1") as out:
             out.writelines(cost.parts(times * cost.events))
-        words = ["valgrind", "--tool=callgrind", "--callgrind-out-file=/dev/null", program, *cost.words, trace]
+        words = [*cost.unit.words, program, *cost.words, trace]
         with subprocess.Popen(words, stdout=subprocess.PIPE, stderr=open(pathlib.Path(room) / "said", "wb"), cwd=room) as ran:
             limit = threading.Timer(SECONDS, ran.kill)
             limit.start()
@@ -126,14 +149,15 @@ def instructions(program, cost, times):
             ran.wait()
             limit.cancel()
         said = (pathlib.Path(room) / "said").read_bytes()
-        counted = COLLECTED.search(said)
-        if not counted or (ran.returncode not in ENDED and not cost.reads):
+        found = COLLECTED.search(said)
+        if not found or (ran.returncode not in ENDED and not cost.reads):
             raise RuntimeError(f"{cost.name}: status {ran.returncode}: {said[-400:].decode(errors='replace')}")
-        return int(counted[1])
+        return int(found[1])
 
 
 def key(cost):
-    return f"{cost.words[0]}: {cost.name}"
+    memory = ", memory" if cost.unit is MEMORY else ""
+    return f"{cost.words[0]}: {cost.name}{memory}"
 
 
 def bounds():
@@ -144,14 +168,14 @@ def complaints(cost, once, twice, bound):
     """What is wrong with the counts of a trace, and of twice as many events where there is such a one."""
     if bound is None:
         yield "has no bound in costs.tsv"
-    elif once > bound * 1000:
-        yield f"takes {once // 1000} thousand instructions, and may take {bound}"
+    elif once > bound * cost.unit.size:
+        yield f"takes {once // cost.unit.size} {cost.unit.name}, and may take {bound}"
     if twice is not None and twice > GROWTH * once:
         yield f"takes {twice / once:.2f} times as much for twice the events, and may take {GROWTH}"
 
 
 def measured(program, cost):
-    return instructions(program, cost, 1), instructions(program, cost, 2) if cost.grows else None
+    return counted(program, cost, 1), counted(program, cost, 2) if cost.grows else None
 
 
 def main():
@@ -168,11 +192,11 @@ def main():
     with concurrent.futures.ThreadPoolExecutor(AT_ONCE) as pool:
         for cost, (once, twice) in zip(chosen, pool.map(lambda cost: measured(options.program.resolve(), cost), chosen)):
             if options.write:
-                known[key(cost)] = round(once * ROOM / 1000)
+                known[key(cost)] = round(once * ROOM / cost.unit.size)
             wrong = [*complaints(cost, once, twice, known.get(key(cost)))]
             failed += bool(wrong)
             growing = f", {twice / once:.2f} times for twice the events" if twice else ""
-            print(f"{'FAIL' if wrong else 'ok  '} {key(cost)}: {once // 1000} thousand{growing}", *wrong, sep="\n     ", flush=True)
+            print(f"{'FAIL' if wrong else 'ok  '} {key(cost)}: {once // cost.unit.size} {cost.unit.name}{growing}", *wrong, sep="\n     ", flush=True)
     if options.write:
         BOUNDS.write_text("".join(f"{name}\t{bound}\n" for name, bound in known.items()))
     print(f"{len(chosen) - failed} passed, {failed} failed")

@@ -58,7 +58,7 @@ OTHERS = {
     ("shb_lines/src/read.rt", "limits.text"): "the most bytes of a text, at most 2^30 by the condition of `parse`",
     ("shb_fan/src/streaming.rt", "workers.get()"): "at most 64 by its type",
     ("shb_numbers/src/lists.rt", "room.size"): "twice the length of a list, and at most 2^32 - 1 by its type",
-    ("shb_numbers/src/number_set.rt", "at"): "the word of a number of 32 bits, so below 2^26",
+    ("shb_numbers/src/dense.rt", "at"): "the word of a number of 32 bits, so below 2^26",
     ("shb_stamps/src/kept_rows.rt", "before"): "the number of a row, of which there are so many",
 }
 MOST_NUMBER, MOST_NAMED = 65_536, 2**32 - 1

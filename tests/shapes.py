@@ -125,3 +125,11 @@ def late_races(n):
     for k in range(n // 3):
         yield "T{0}|acq(l)\nT{0}|w(x)\nT{0}|rel(l)\n".format(k % 200)
     yield from (f"T1|w(v{k})\nT2|w(v{k})\n" for k in range(20))
+
+
+def far_numbers(n):
+    """A thread writes a variable at many locations, another one writes it once, and the first one goes on at others: the many
+    locations are paired with one number, which is a large one for half of them."""
+    yield from (f"A|w(x)|a{k}\n" for k in range(n // 2))
+    yield "B|w(x)|b\n"
+    yield from (f"A|w(x)|c{k}\n" for k in range(n // 2))

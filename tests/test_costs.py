@@ -1,4 +1,4 @@
-"""The step that counts instructions (costs.py) complains where a trace is dearer than its bound, where twice the events take
+"""The step that counts instructions and memory (costs.py) complains where a trace is dearer than its bound, where twice the events take
 too much more, and where it has no bound."""
 
 import unittest
@@ -15,6 +15,11 @@ class Complaints(unittest.TestCase):
 
     def test_dearer_than_its_bound(self):
         self.assertEqual(len([*costs.complaints(COST, 50_001, 100_000, 50)]), 1)
+
+    def test_takes_more_memory_than_its_bound(self):
+        memory = COST._replace(unit=costs.MEMORY)
+        self.assertEqual([*costs.complaints(memory, 50, 110, 50)], [])
+        self.assertEqual(len([*costs.complaints(memory, 51, 110, 50)]), 1)
 
     def test_grows_too_fast(self):
         self.assertEqual(len([*costs.complaints(COST, 50_000, 120_000, 50)]), 1)

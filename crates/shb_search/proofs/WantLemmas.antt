@@ -7,10 +7,6 @@ use Rattle.shb_search.specs.Sides.{OneWrites}
 use Rattle.shb_search.specs.State.{IsWantingNone}
 use Rattle.shb_search.specs.declared.kept.Kinds.{Kinds}
 use Rattle.shb_search.proofs.Lists.{get_cases}
-use Rattle.shb_search.proofs.MemberLemmas.{in_second}
-
-pub none_more : (here there : Numbers) → fin.difference here there ≡ fin.empty → (k : ℕ) → fin.contains here k ≡ true → fin.contains there k ≡ true
-none_more here there is k has_it = in_second here there k (ap (λ (s : Numbers). fin.contains s k) is ∙ fin.contains-empty nat_cmp k) has_it
 
 pub wanting_none : (kinds : Kinds) (paired : Numbers) (writes : Bool) → ((k : ℕ) → fin.contains kinds.written k ≡ true → fin.contains paired k ≡ true) → (writes ≡ true → (k : ℕ) → fin.contains kinds.others k ≡ true → fin.contains paired k ≡ true) → IsWantingNone kinds paired writes
 wanting_none kinds paired writes of_written of_others = by

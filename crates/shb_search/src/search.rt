@@ -45,29 +45,18 @@ pub struct Search {
     pub found: Found,
 }
 
-/// Whether a set has a number that isn't in another.
-fn has_more(here: &NumberSet, there: &NumberSet) -> bool
-    ensures { result ≡ false → (k : ℕ) → set.contains here.now k ≡ true → set.contains there.now k ≡ true }
-{
-    let mut left = here.without(there);
-    match left.next() {
-        Some(_) => true,
-        None => false,
-    }
-}
-
 /// Whether a site of a variable isn't among these pairs at which an access can conflict with one: with those that write, and
 /// with all where it writes itself.
 fn is_wanting(kinds: &Kinds, paired: &NumberSet, writes: bool) -> bool
     ensures { result ≡ false → IsWantingNone kinds.now paired.now writes }
 {
-    if has_more(&kinds.written, paired) {
+    if kinds.written.has_more(paired) {
         return true;
     }
     if !writes {
         return false;
     }
-    has_more(&kinds.others, paired)
+    kinds.others.has_more(paired)
 }
 
 /// Makes an empty set of each site up to one, where there is none.
