@@ -3,6 +3,7 @@ pub mod KeptRows
 pub mod Listed
 pub mod Moved
 pub mod Open
+pub mod RowBytes
 pub mod Rows
 pub mod Stamps
 pub mod StreamClocks

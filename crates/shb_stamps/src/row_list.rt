@@ -1,7 +1,8 @@
 //! Rows of any length, which never change.
 
-ghost use Rattle.std.specs.Prelude.{◌≡◌, ◌<◌, ◌++◌, ◌^◌, [], ◌∷◌, IfOk, OnOk, length, slice_index_or};
+ghost use Rattle.std.specs.Prelude.{◌≡◌, ◌-◌, ◌<◌, ◌++◌, ◌^◌, [], ◌∷◌, IfOk, OnOk, length, min, slice_index_or};
 ghost use Rattle.shb_stamps.specs.Moved.{AreKept};
+ghost use Rattle.shb_stamps.specs.RowBytes.{row_bytes, rows_bytes};
 
 use shb_io::NoMemory;
 use std::alloc::Global;
@@ -16,16 +17,21 @@ pub struct RowList {
 }
 
 /// About how many bytes a row takes that has so many entries: four for each, and 40 for the row itself.
-fn row_size(entries: usize) -> usize {
+fn row_size(entries: usize) -> usize
+    ensures { result ≡ min (row_bytes entries) (2 ^ 64 - 1) }
+{
     entries.saturating_mul(4).saturating_add(40)
 }
 
 impl Model for RowList {
-    ghost use Rattle.std.specs.Prelude.{List, ℕ, map};
+    ghost use Rattle.std.specs.Prelude.{◌≡◌, ◌-◌, ◌^◌, List, ℕ, map, min};
+    ghost use Rattle.shb_stamps.specs.RowBytes.{rows_bytes};
 
     ghost Value = { List (List ℕ) };
 
     ghost view = { λ r. map (λ row. row.items) r.rows.items };
+
+    ghost invariant = { λ r. r.size ≡ min (rows_bytes (map (λ row. row.items) r.rows.items)) (2 ^ 64 - 1) };
 }
 
 impl RowList {
@@ -49,7 +55,9 @@ impl RowList {
     }
 
     /// About how many bytes the rows take.
-    pub fn size(&self) -> usize {
+    pub fn size(&self) -> usize
+        ensures { result ≡ min (rows_bytes self.now) (2 ^ 64 - 1) }
+    {
         self.size
     }
 
@@ -69,8 +77,9 @@ impl RowList {
         ensures number { length self.old < 2 ^ 32 → IfOk result (λ number. number ≡ length self.old) }
     {
         let number = self.count();
-        self.size = self.size.saturating_add(row_size(row.len()));
+        let size = row_size(row.len());
         self.rows.push(row)?;
+        self.size = self.size.saturating_add(size);
         Ok(number)
     }
 
