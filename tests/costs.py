@@ -126,6 +126,8 @@ def costs():
     yield Cost("locks and statistics of 200 threads", RACES, hot("mixed", 200, 5), 20_000)
     yield Cost("schedules of 20 late races", SCHEDULES, shapes.late_races, 10_000)
     yield Cost("an array", RACES, hot("array", 8, 2), 20_000)
+    yield Cost("one hot location beside many of a thread alone", RACES, shapes.hot_beside_alone, 20_000, reads=FIRST)
+    yield Cost("200 threads at 200 locations", RACES, shapes.crowd_at_locations, 10_000, reads=FIRST)
     yield Cost("numbers that are far apart", PLACES, shapes.far_numbers, 20_000)
     yield Cost("numbers that are far apart", PLACES, shapes.far_numbers, 50_000, unit=MEMORY)
     for path in sorted(RECORDED.glob("*.std.xz")):

@@ -127,6 +127,18 @@ def late_races(n):
     yield from (f"T1|w(v{k})\nT2|w(v{k})\n" for k in range(20))
 
 
+def hot_beside_alone(n):
+    """A thread alone uses a location for each access, and then 16 threads write a variable at one location without order: only
+    locations of what races may count."""
+    yield from (f"C|w(c)|u{k}\n" for k in range(n // 2))
+    yield from (f"T{k % 16}|w(x)|x\n" for k in range(n // 2))
+
+
+def crowd_at_locations(n):
+    """200 threads write a variable at 200 locations without order."""
+    yield from (f"T{k % 200}|w(x)|l{(k * 7919 + k // 200) % 200}\n" for k in range(n))
+
+
 def far_numbers(n):
     """A thread writes a variable at many locations, another one writes it once, and the first one goes on at others: the many
     locations are paired with one number, which is a large one for half of them."""

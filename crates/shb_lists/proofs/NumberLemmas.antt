@@ -1,40 +1,71 @@
 -- Numbers of locations, one event more.
 use Rattle.std.proofs.lemmas.Grind.{common_steps}
-use Rattle.std.proofs.Common.{◌≡◌, ℕ, ◌+◌, ◌<◌, ◌≤◌, inl, inr, List, [], ◌∷◌, ◌++◌, Some, length, get_or, slice_get, arith, ap, sym, ◌∙◌}
+use Rattle.std.proofs.Common.{◌≡◌, ℕ, ◌+◌, ◌<◌, ◌≤◌, inl, inr, Bool, true, false, List, [], ◌∷◌, ◌++◌, Some, length, get_or, slice_get, arith, ap, subst, ◌∙◌}
+use Rattle.std.specs.Prelude.{max}
 use Rattle.std.specs.Str.{bytes_eq}
-use Rattle.std.proofs.lemmas.Bool.{cases_lt}
+use Rattle.std.proofs.lemmas.Bool.{cases_Bool, cases_lt}
 use Rattle.std.proofs.lemmas.List.{get_or_append_left, get_or_push, length_push}
 use Rattle.std.proofs.lemmas.Option.{slice_get_within}
 use Rattle.indexmap.specs.IndexSet.{insert_key}
 use Rattle.shb_lines.specs.text.TraceData.{TraceData}
 use Rattle.shb_format.specs.Places.{location_at}
 use Rattle.shb_format.proofs.KeyedLemmas.{number_stays}
-use Rattle.shb_lists.specs.Counted.{AreNumbered}
+use Rattle.shb_stamps.specs.Open.{accesses_open}
+use Rattle.shb_lists.specs.Counted.{AreNumbered, IsNumbered}
 
 -- the number of an event is that of a location
-pub number_below : (trace : TraceData) (e count : ℕ) (numbers : List ℕ) (locations : List (List ℕ)) → AreNumbered trace count numbers locations → e < count → get_or numbers e 0 < length locations
-number_below trace e count numbers locations h lt = slice_get_within locations (get_or numbers e 0) (location_at trace e) (h.located e lt)
+pub number_below : (trace : TraceData) (flags : List Bool) (e count : ℕ) (numbers : List ℕ) (locations : List (List ℕ)) → AreNumbered trace flags count numbers locations → e < count → get_or numbers e 0 < max (length locations) 1
+number_below trace flags e count numbers locations h lt = elim (cases_Bool (accesses_open flags trace.events e)) [
+  | inl is ↦ (let low = slice_get_within locations (get_or numbers e 0) (location_at trace e) (h.located e lt is) in omega (arith, low))
+  | inr isnt ↦ (let low = h.others e lt isnt in omega (arith, low))
+]
 
 pub one_more_location : (locations : List (List ℕ)) (text : List ℕ) → length (insert_key bytes_eq locations text) ≤ length locations + 1
 one_more_location locations text = grind (arith, common_steps, length_push)
 
+-- one location more at most
+pub few_more : (trace : TraceData) (flags : List Bool) (e number : ℕ) (locations wider : List (List ℕ)) → IsNumbered trace flags e locations wider number → length wider ≤ length locations + 1
+few_more trace flags e number locations wider h = elim (cases_Bool (accesses_open flags trace.events e)) [
+  | inl is ↦ (let more = one_more_location locations (location_at trace e) in let long = ap length (h.known is) in omega (arith, more, long))
+  | inr isnt ↦ (let long = ap length (h.same isnt) in omega (arith, long))
+]
+
 -- the next event has the number of its location
-pub next_numbered : (trace : TraceData) (e number : ℕ) (text : List ℕ) (numbers new_numbers : List ℕ) (locations new_locations : List (List ℕ)) → AreNumbered trace e numbers locations → text ≡ location_at trace e
-    → new_locations ≡ insert_key bytes_eq locations text → slice_get new_locations number ≡ Some text → new_numbers ≡ numbers ++ number ∷ [] → AreNumbered trace (e + 1) new_numbers new_locations
-next_numbered trace e number text numbers new_numbers locations new_locations h is known at pushed = record {
-  as_many = ap length pushed ∙ (length_push numbers number ∙ ap (λ (n : ℕ). n + 1) h.as_many);
-  few = (let more = one_more_location locations text in let long = ap length known in let few = h.few in omega (arith, more, long, few));
-  located = there;
-}
-  where
-    there : (k : ℕ) → k < e + 1 → slice_get new_locations (get_or new_numbers k 0) ≡ Some (location_at trace k)
-    there k below = elim (cases_lt k e) [
-      | inl before ↦ (
-          let same : get_or new_numbers k 0 ≡ get_or numbers k 0 = ap (λ (ns : List ℕ). get_or ns k 0) pushed ∙ get_or_append_left numbers (number ∷ []) 0 k (let long = h.as_many in omega (arith, long, before)) in
-          ap (slice_get new_locations) same ∙ ap (λ (ls : List (List ℕ)). slice_get ls (get_or numbers k 0)) known ∙ number_stays locations text (location_at trace k) (get_or numbers k 0) (h.located k before))
-      | inr past ↦ (
-          let here : k ≡ e = omega (arith, below, past) in
-          let last : k ≡ length numbers = (let long = h.as_many in omega (arith, here, long)) in
-          let same : get_or new_numbers k 0 ≡ number = ap (λ (ns : List ℕ). get_or ns k 0) pushed ∙ get_or_push numbers number 0 k (sym last) in
-          ap (slice_get new_locations) same ∙ at ∙ ap Some (is ∙ ap (location_at trace) (sym here)))
-    ]
+module _ (trace : TraceData) (flags : List Bool) (e number : ℕ) (numbers new_numbers : List ℕ) (locations wider : List (List ℕ)) (h : AreNumbered trace flags e numbers locations) (next : IsNumbered trace flags e locations wider number)
+    (pushed : new_numbers ≡ numbers ++ number ∷ []) where
+  before : (k : ℕ) → k < e → get_or new_numbers k 0 ≡ get_or numbers k 0
+  before k low = ap (λ (ns : List ℕ). get_or ns k 0) pushed ∙ get_or_append_left numbers (number ∷ []) 0 k (let long = h.as_many in omega (arith, long, low))
+
+  last : get_or new_numbers e 0 ≡ number
+  last = ap (λ (ns : List ℕ). get_or ns e 0) pushed ∙ get_or_push numbers number 0 e h.as_many
+
+  stays : (k n : ℕ) → slice_get locations n ≡ Some (location_at trace k) → slice_get wider n ≡ Some (location_at trace k)
+  stays k n at = elim (cases_Bool (accesses_open flags trace.events e)) [
+    | inl is ↦ ap (λ (ls : List (List ℕ)). slice_get ls n) (next.known is) ∙ number_stays locations (location_at trace e) (location_at trace k) n at
+    | inr isnt ↦ ap (λ (ls : List (List ℕ)). slice_get ls n) (next.same isnt) ∙ at
+  ]
+
+  there : (k : ℕ) → k < e + 1 → accesses_open flags trace.events k ≡ true → slice_get wider (get_or new_numbers k 0) ≡ Some (location_at trace k)
+  there k below is = elim (cases_lt k e) [
+    | inl low ↦ ap (slice_get wider) (before k low) ∙ stays k (get_or numbers k 0) (h.located k low is)
+    | inr past ↦ (
+        let here : e ≡ k = omega (arith, below, past) in
+        subst (λ j. slice_get wider (get_or new_numbers j 0) ≡ Some (location_at trace j)) here
+        (ap (slice_get wider) last ∙ next.located (ap (accesses_open flags trace.events) here ∙ is)))
+  ]
+
+  none_else : (k : ℕ) → k < e + 1 → accesses_open flags trace.events k ≡ false → get_or new_numbers k 0 ≡ 0
+  none_else k below isnt = elim (cases_lt k e) [
+    | inl low ↦ before k low ∙ h.others k low isnt
+    | inr past ↦ (
+        let here : e ≡ k = omega (arith, below, past) in
+        subst (λ j. get_or new_numbers j 0 ≡ 0) here (last ∙ next.none (ap (accesses_open flags trace.events) here ∙ isnt)))
+  ]
+
+  pub next_numbered : AreNumbered trace flags (e + 1) new_numbers wider
+  next_numbered = record {
+    as_many = ap length pushed ∙ (length_push numbers number ∙ ap (λ (n : ℕ). n + 1) h.as_many);
+    few = (let more = few_more trace flags e number locations wider next in let few = h.few in omega (arith, more, few));
+    located = there;
+    others = none_else;
+  }

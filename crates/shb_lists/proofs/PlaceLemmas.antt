@@ -1,6 +1,8 @@
 -- What is counted of the race list is what the report says of its places.
-use Rattle.std.proofs.Common.{◌≡◌, ℕ, ◌<◌, List, length, map, get_or, All, subst, sym, ap, ◌∙◌, arith}
+use Rattle.std.proofs.Common.{◌≡◌, ℕ, ◌<◌, inl, inr, Bool, true, List, length, map, get_or, All, subst, sym, ap, ◌∙◌, arith}
+use Rattle.std.specs.Prelude.{max}
 use Rattle.std.specs.List.{IsDistinct}
+use Rattle.std.proofs.lemmas.Bool.{cases_Bool}
 use Rattle.std.specs.Str.{bytes_eq}
 use Rattle.std.proofs.lemmas.List.Elements.{All-map, Contains-get_or}
 use Rattle.shb_lines.specs.declared.event.Event.{Event}
@@ -14,10 +16,13 @@ use Rattle.shb_format.specs.Places.{IsPairOf, counts_in, places_of_pairs}
 use Rattle.shb_format.specs.Report.{LeadingRaces, pair_of}
 use Rattle.shb_format.specs.declared.places.PlaceCount.{PlaceCount}
 use Rattle.shb_format.proofs.LeadingLemmas.{leading_listed, pairs_back}
-use Rattle.shb_lists.specs.Counted.{AreNumbered, HasCounted}
+use Rattle.shb_stamps.specs.Open.{is_open}
+use Rattle.shb_pairs.specs.Open.{AreOpen}
+use Rattle.shb_lists.specs.Counted.{AreNumbered, HasCounted, IsLocated}
 use Rattle.shb_lists.specs.Unknown.{AreBelow}
 use Rattle.shb_lists.specs.declared.counter.RaceCounter.{RaceCounter}
 use Rattle.shb_lists.proofs.BatchLemmas.{accessed_within}
+use Rattle.shb_lists.proofs.ListedLemmas.{open_access}
 use Rattle.shb_lists.proofs.NumberLemmas.{number_below}
 use Rattle.shb_lists.proofs.StartLemmas.{leading_counts}
 
@@ -44,21 +49,39 @@ leading_within trace n leading many lists k d lt =
       omega (arith, second, many),
     )
 
-pub numbers_below : (trace : TraceData) (events : List Event) (numbers seen : List ℕ) (locations : List (List ℕ)) (classes : ℕ) → events ≡ trace.events → AreNumbered trace (length trace.events) numbers locations → seen ≡ numbers → classes ≡ length locations
+pub numbers_below : (trace : TraceData) (flags : List Bool) (events : List Event) (numbers seen : List ℕ) (locations : List (List ℕ)) (classes : ℕ) → events ≡ trace.events → AreNumbered trace flags (length trace.events) numbers locations → seen ≡ numbers → classes ≡ max (length locations) 1
     → AreBelow events seen classes
-numbers_below trace events numbers seen locations classes same are is many =
+numbers_below trace flags events numbers seen locations classes same are is many =
     let long = ap length same in
     record {
       as_many = ap length is ∙ (are.as_many ∙ sym long);
       below = λ e lt.
-          let low = number_below trace e (length trace.events) numbers locations are (omega (arith, long, lt)) in
+          let low = number_below trace flags e (length trace.events) numbers locations are (omega (arith, long, lt)) in
           let here = ap (λ (l : List ℕ). get_or l e 0) is in
           omega (arith, low, here, many);
     }
 
-pub counted_places : (trace : TraceData) (numbers : List ℕ) (locations : List (List ℕ)) (leading : List Pair) (listed : List (ℕ × ℕ)) (counter : RaceCounter) (places : List PlaceCount) → IsDistinct bytes_eq locations
-    → AreNumbered trace (length trace.events) numbers locations → IsRaceList trace.events listed → LeadingRaces trace (map ends leading) → HasCounted numbers leading listed counter → places ≡ map (λ (place : Keyed). place.1) counter.places
+-- the races of open variables are located
+listed_located : (trace : TraceData) (flags : List Bool) (numbers : List ℕ) (locations : List (List ℕ)) (races : List (ℕ × ℕ)) → AreNumbered trace flags (length trace.events) numbers locations → AreOpen trace.events flags → IsRaceList trace.events races
+    → All (IsLocated trace numbers locations) (map pair_of races)
+listed_located trace flags numbers locations races are settled listed = All-map (IsLocated trace numbers locations) pair_of races (λ k d lt.
+    let p = get_or races k d in
+    let race = (listed.all p.0 p.1).0 (Contains-get_or races k d lt) in
+    let x = race.conflict.variable in
+    let within = accessed_within trace.events x p.1 race.conflict.second_accesses in
+    let low = race.earlier in
+    let is : is_open flags x ≡ true = elim (cases_Bool (is_open flags x)) [
+      | inl yes_ ↦ yes_
+      | inr no_ ↦ absurd (settled x no_ p.0 p.1 race.conflict.second_accesses race)
+    ] in
+    record {
+      first = are.located p.0 (omega (arith, low, within)) (open_access trace.events flags p.0 x race.conflict.first_accesses is);
+      second = are.located p.1 within (open_access trace.events flags p.1 x race.conflict.second_accesses is);
+    })
+
+pub counted_places : (trace : TraceData) (flags : List Bool) (numbers : List ℕ) (locations : List (List ℕ)) (leading : List Pair) (listed : List (ℕ × ℕ)) (counter : RaceCounter) (places : List PlaceCount) → IsDistinct bytes_eq locations
+    → AreNumbered trace flags (length trace.events) numbers locations → AreOpen trace.events flags → IsRaceList trace.events listed → LeadingRaces trace (map ends leading) → HasCounted numbers leading listed counter → places ≡ map (λ (place : Keyed). place.1) counter.places
     → places ≡ counts_in (places_of_pairs trace (map pair_of listed))
-counted_places trace numbers locations leading listed counter places differ are lists leads has is =
+counted_places trace flags numbers locations leading listed counter places differ are settled lists leads has is =
     let of_listed = subst (λ (l : List (ℕ × ℕ)). AreLeading trace (map pair_of l) leading) (race_list_unique trace.events leads.races listed leads.races_are lists) (leads_of trace leading leads) in
-    is ∙ (ap (map (λ (place : Keyed). place.1)) has.places ∙ leading_counts trace numbers locations differ are (map pair_of listed) (listed_within trace listed lists) leading of_listed)
+    is ∙ (ap (map (λ (place : Keyed). place.1)) has.places ∙ leading_counts trace numbers locations differ (map pair_of listed) (listed_located trace flags numbers locations listed are settled lists) leading of_listed)

@@ -11,7 +11,7 @@ use Rattle.shb_format.specs.Places.{IsPairOf, PlaceOf, counts_in, location_at, p
 use Rattle.shb_format.specs.declared.places.PlaceCount.{PlaceCount}
 use Rattle.shb_format.proofs.KeyedLemmas.{keyed_counts, keyed_pair}
 use Rattle.shb_format.proofs.LeadingLemmas.{firsts, firsts_lead, leading_unique}
-use Rattle.shb_lists.specs.Counted.{AreNumbered, Differ, grown, key_in, keyed_after, times, with_places}
+use Rattle.shb_lists.specs.Counted.{Differ, IsLocated, grown, key_in, keyed_after, times, with_places}
 use Rattle.shb_lists.proofs.GrownLemmas.{counted_at_once, differ_last, entry, grown_same, not_some, one_key, same_self}
 
 -- a pair as the first one of its place
@@ -92,15 +92,15 @@ count_pairs : (places : List PlaceOf) → map (λ (c : PlaceCount). c.pair) (cou
 count_pairs [] = refl
 count_pairs (place ∷ places) = ap (λ (l : List Pair). place.counted.pair ∷ l) (count_pairs places)
 
-module _ (trace : TraceData) (numbers : List ℕ) (locations : List (List ℕ)) (differ : IsDistinct bytes_eq locations) (are : AreNumbered trace (length trace.events) numbers locations) where
-  after_keyed : (pairs : List Pair) (keyed : List Keyed) (places : List PlaceOf) → All (IsPairOf trace) pairs → AreKeyed locations keyed places → AreKeyed locations (keyed_after numbers keyed pairs) (places_after trace places pairs)
+module _ (trace : TraceData) (numbers : List ℕ) (locations : List (List ℕ)) (differ : IsDistinct bytes_eq locations) where
+  after_keyed : (pairs : List Pair) (keyed : List Keyed) (places : List PlaceOf) → All (IsLocated trace numbers locations) pairs → AreKeyed locations keyed places → AreKeyed locations (keyed_after numbers keyed pairs) (places_after trace places pairs)
   after_keyed [] keyed places within same = same
   after_keyed (pair ∷ pairs) keyed places within same =
       let here = within 0 pair (omega arith) in
       after_keyed pairs (with_keyed keyed (key_in numbers pair) pair) (with_pair places (location_at trace pair.first) (location_at trace pair.second) pair) (λ k d lt. within (suc k) d (omega arith))
-      (keyed_pair locations differ (key_in numbers pair) (location_at trace pair.first) (location_at trace pair.second) (are.located pair.first here.first) (are.located pair.second here.second) pair keyed places same)
+      (keyed_pair locations differ (key_in numbers pair) (location_at trace pair.first) (location_at trace pair.second) here.first here.second pair keyed places same)
 
-  module _ (races : List Pair) (within : All (IsPairOf trace) races) where
+  module _ (races : List Pair) (within : All (IsLocated trace numbers locations) races) where
     -- what is counted of the places by number
     counts_are : map (λ (e : Keyed). e.1) (keyed_after numbers [] races) ≡ counts_in (places_of_pairs trace races)
     counts_are = keyed_counts locations (keyed_after numbers [] races) (places_of_pairs trace races) (after_keyed races [] [] within tt)

@@ -1,6 +1,8 @@
 -- What is counted of races by the numbers of their locations.
-use Rattle.std.specs.Prelude.{◌≡◌, ◌+◌, ◌<◌, ◌≤◌, ℕ, Bool, true, zero, suc, List, [], ◌∷◌, Some, None, IfSome, cond, fold, length, map, slice_get, slice_index_or}
+use Rattle.std.specs.Prelude.{◌≡◌, ◌+◌, ◌<◌, ◌≤◌, ℕ, Bool, true, false, zero, suc, List, [], ◌∷◌, Some, None, IfSome, cond, fold, length, map, slice_get, slice_index_or}
 use Rattle.std.specs.List.{AllByRecursion}
+use Rattle.std.specs.Str.{bytes_eq}
+use Rattle.indexmap.specs.IndexSet.{insert_key}
 use Rattle.shb_lines.specs.declared.event.Event.{Event}
 use Rattle.shb_lines.specs.declared.event.Pair.{Pair}
 use Rattle.shb_lines.specs.declared.event.Sizes.{Sizes}
@@ -17,11 +19,24 @@ use Rattle.shb_lists.specs.declared.alone.Racing.{Racing}
 use Rattle.shb_lists.specs.declared.counter.RaceCounter.{RaceCounter}
 use Rattle.shb_lists.specs.declared.unknown.Unknown.{Unknown}
 
--- each of the first `count` events has the number of its location
-pub record AreNumbered (trace : TraceData) (count : ℕ) (numbers : List ℕ) (locations : List (List ℕ)) : Type 0 where
+-- each of the first `count` events that accesses an open variable has the number of its location, and each other 0
+pub record AreNumbered (trace : TraceData) (flags : List Bool) (count : ℕ) (numbers : List ℕ) (locations : List (List ℕ)) : Type 0 where
   pub as_many : length numbers ≡ count
   pub few : length locations ≤ count
-  pub located : (e : ℕ) → e < count → slice_get locations (slice_index_or numbers e 0) ≡ Some (location_at trace e)
+  pub located : (e : ℕ) → e < count → accesses_open flags trace.events e ≡ true → slice_get locations (slice_index_or numbers e 0) ≡ Some (location_at trace e)
+  pub others : (e : ℕ) → e < count → accesses_open flags trace.events e ≡ false → slice_index_or numbers e 0 ≡ 0
+
+-- an event has this number, and these are the locations with its own
+pub record IsNumbered (trace : TraceData) (flags : List Bool) (e : ℕ) (locations wider : List (List ℕ)) (number : ℕ) : Type 0 where
+  pub known : accesses_open flags trace.events e ≡ true → wider ≡ insert_key bytes_eq locations (location_at trace e)
+  pub located : accesses_open flags trace.events e ≡ true → slice_get wider number ≡ Some (location_at trace e)
+  pub same : accesses_open flags trace.events e ≡ false → wider ≡ locations
+  pub none : accesses_open flags trace.events e ≡ false → number ≡ 0
+
+-- both locations of a pair are known by their numbers
+pub record IsLocated (trace : TraceData) (numbers : List ℕ) (locations : List (List ℕ)) (pair : Pair) : Type 0 where
+  pub first : slice_get locations (number_in numbers pair.first) ≡ Some (location_at trace pair.first)
+  pub second : slice_get locations (number_in numbers pair.second) ≡ Some (location_at trace pair.second)
 
 -- the numbers of a pair's two locations
 abbrev pub key_in : List ℕ → Pair → Key

@@ -13,18 +13,21 @@ ghost use Rattle.shb_lists.specs.Unknown.{AreBelow, IsUnknown, accessed_by, numb
 
 use crate::batches::narrowed;
 use crate::counter::RaceCounter;
+use crate::numbering::is_access;
 use crate::past::{Past, access_at};
 use crate::search::Access;
 use crate::settled::Settled;
 use crate::unknown::Unknown;
 use shb_io::NoMemory;
-use shb_lines::Events;
 use shb_links::Linked;
-use shb_stamps::{Order, Ordered, Sweep, is_open};
+use shb_stamps::{Order, Ordered, Sweep};
 use std::alloc::Global;
 
 /// So many bytes an event the tables of [`Racing`] may take.
 const MOST_BYTES: u64 = 64;
+
+/// So many bytes they may always take.
+const SMALL: u64 = 64 * 1024 * 1024;
 
 /// So many times the steps of a sweep without them they may take.
 const MOST_STEPS: u64 = 8;
@@ -179,16 +182,6 @@ struct Steps {
     rivals: u64,
 }
 
-/// Whether an event accesses an open variable.
-fn is_access(events: &Events, flags: &[bool], e: u32) -> bool
-    requires { e < length events.now }
-{
-    match events.op(e).variable() {
-        Some(x) => is_open(flags, x),
-        None => false,
-    }
-}
-
 /// The accesses of the one variable that is open by these flags.
 fn steps_of(alloc: Global, settled: &Settled<'_>, flags: &[bool]) -> Result<Steps, NoMemory> {
     let events = settled.disciplined.events;
@@ -221,12 +214,12 @@ fn has_few_threads(steps: &Steps, threads: u32, events: usize) -> bool {
     all <= least.saturating_mul(MOST_STEPS)
 }
 
-/// Whether the tables of so many threads and locations take at most [`MOST_BYTES`] an event. Only what takes less time
+/// Whether the tables of so many threads and locations take at most [`MOST_BYTES`] an event, or [`SMALL`]. Only what takes less time
 /// and memory depends on it.
 fn has_room(threads: u32, classes: usize, events: usize) -> bool {
     let each = (classes as u64).saturating_add(u64::from(threads));
     let bytes = u64::from(threads).saturating_mul(each).saturating_mul(8);
-    bytes <= MOST_BYTES.saturating_mul(events as u64)
+    bytes <= MOST_BYTES.saturating_mul(events as u64).max(SMALL)
 }
 
 /// The tables of so many threads and locations, if they are worth their time and memory.
@@ -375,7 +368,7 @@ fn count_opened(
 /// `classes`.
 ///
 /// The races of an access that has more of them than there are locations cost a step for each thread, and one for each
-/// location; those of another a step each. So do all where the tables for this would take more than 64 bytes an event, or
+/// location; those of another a step each. So do all where the tables for this would take more than 64 MB and 64 bytes an event, or
 /// the threads much more time than those that access the variable.
 ///
 /// # Errors

@@ -63,7 +63,7 @@ fn count_batches(
 /// can be kept costs a sweep of its own, in which an access with as many races as there are locations costs a step
 /// for each location and for each thread, and another a step for each race. Memory: 4 bytes an event, 12 a race that is
 /// kept, some 64 a location and place, and what a sweep takes; for a variable alone 8 bytes an event and at most 8 an
-/// access more, and tables of at most 64 an event.
+/// access more, and tables of at most 64 an event, or 64 MB.
 ///
 /// # Errors
 ///
@@ -80,11 +80,11 @@ pub fn counted_races<R: RandomSource>(
     ensures places { (listed : List (ℕ × ℕ)) → IsRaceList settled.now.disciplined.now.events.now listed
         → IfOk result (λ c. c.places ≡ counts_in (places_of_pairs settled.now.disciplined.now.trace.now (map pair_of listed))) }
 {
-    let located = location_numbers(rt, alloc, settled.disciplined.trace)?;
+    let located = location_numbers(rt, alloc, settled.disciplined, settled.flags)?;
     let numbers = located.numbers.as_slice();
     let mut counter = RaceCounter::new(rt, alloc, numbers, leading)?;
     located.locations.are_different();
-    let classes = located.locations.len();
+    let classes = located.locations.len().max(1);
     count_batches(alloc, settled, &mut counter, numbers, classes, plan)?;
     let places = counter.places.to_places(alloc)?;
     Ok(RaceCount {

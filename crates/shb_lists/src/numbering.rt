@@ -1,11 +1,14 @@
-//! Numbers of the locations of a trace.
+//! Numbers of the locations of accesses.
 
-ghost use Rattle.std.specs.Prelude.{IfOk, length};
-ghost use Rattle.shb_lists.specs.Counted.{AreNumbered};
+ghost use Rattle.std.specs.Prelude.{◌≡◌, ◌<◌, ◌≤◌, IfOk, length};
+ghost use Rattle.shb_stamps.specs.Open.{accesses_open};
+ghost use Rattle.shb_lists.specs.Counted.{AreNumbered, IsNumbered};
 
+use shb_discipline::Disciplined;
 use shb_format::Locations;
 use shb_io::NoMemory;
-use shb_lines::Trace;
+use shb_lines::Events;
+use shb_stamps::is_open;
 use std::alloc::Global;
 use std::random::RandomSource;
 
@@ -27,7 +30,37 @@ impl Drop for LocationNumbers<'_> {
     }
 }
 
-/// Numbers the locations of a trace, in the order of the first event that has each.
+/// Whether an event accesses an open variable.
+pub(crate) fn is_access(events: &Events, flags: &[bool], e: u32) -> bool
+    requires { e < length events.now }
+    ensures { result ≡ accesses_open flags.now events.now e }
+{
+    match events.op(e).variable() {
+        Some(x) => is_open(flags, x),
+        None => false,
+    }
+}
+
+/// The number of an event's location, if it accesses an open variable, or 0.
+fn number_of<'t>(
+    disciplined: &Disciplined<'t>,
+    flags: &[bool],
+    locations: &mut Locations<'t>,
+    e: u32,
+) -> Result<u32, NoMemory>
+    requires in_range { e < length disciplined.now.events.now }
+    requires few { length locations.old ≤ e }
+    ensures { IfOk result (IsNumbered disciplined.now.trace.now flags.now e locations.old locations.new) }
+{
+    if !is_access(disciplined.events, flags, e) {
+        return Ok(0);
+    }
+    let number = locations.number_of(disciplined.trace.location(e))?;
+    Ok(number as u32)
+}
+
+/// Numbers the locations of the accesses of open variables, in the order of the first event that has each. Other events
+/// have number 0.
 ///
 /// # Errors
 ///
@@ -35,15 +68,16 @@ impl Drop for LocationNumbers<'_> {
 pub(crate) fn location_numbers<'t, R: RandomSource>(
     rt: &R,
     alloc: Global,
-    trace: &'t Trace,
+    disciplined: &Disciplined<'t>,
+    flags: &[bool],
 ) -> Result<LocationNumbers<'t>, NoMemory>
-    ensures { IfOk result (λ n. AreNumbered trace.now (length trace.now.events) n.numbers.items n.locations) }
+    ensures { IfOk result (λ n. AreNumbered disciplined.now.trace.now flags.now (length disciplined.now.events.now) n.numbers.items n.locations) }
 {
     let mut locations = Locations::new(rt, alloc)?;
     let mut numbers = Vec::new(alloc);
-    for e in 0..trace.len() {
-        let number = locations.number_of(trace.location(e))?;
-        numbers.push(number as u32)?;
+    for e in 0..disciplined.events.len() as u32 {
+        let number = number_of(disciplined, flags, &mut locations, e)?;
+        numbers.push(number)?;
     }
     Ok(LocationNumbers { numbers, locations })
 }

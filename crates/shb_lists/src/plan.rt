@@ -50,8 +50,8 @@ fn count_found<O: Order>(
     if !plan.can_keep(access.variable) {
         return Ok(());
     }
-    past.find(ordered, access, found)?;
-    plan.add(access.variable, found.len() as u64);
+    let more = past.count(ordered, access, found)?;
+    plan.add(access.variable, more);
     Ok(())
 }
 

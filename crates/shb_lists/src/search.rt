@@ -1,6 +1,6 @@
 //! The races of an access: of each rival the accesses from its newest one back to the first that is below.
 
-ghost use Rattle.std.specs.Prelude.{◌≡◌, ◌+◌, ◌<◌, ◌≤◌, ℕ, true, OnOk, length};
+ghost use Rattle.std.specs.Prelude.{◌≡◌, ◌+◌, ◌<◌, ◌≤◌, ℕ, true, OnOk, length, sum_by};
 ghost use Rattle.shb_lines.specs.events.Reach.{is_race, numbers_where};
 ghost use Rattle.shb_lists.specs.Occurs.{occurs};
 ghost use Rattle.shb_lists.specs.Past.{AreChained, IsAccess, racing_by};
@@ -65,10 +65,28 @@ pub fn find_races<O: Order>(
     requires rivals { HasRivals ordered.now.disciplined.now.events.now access.variable access.event rivals.now }
     ensures { OnOk result (found.new.items ≡ numbers_where (λ i. is_race ordered.now.disciplined.now.events.now i access.event) access.event) }
 {
+    find_unsorted(ordered, earlier, rivals, access, found)?;
+    found.sort()?;
+    Ok(())
+}
+
+/// The same, those of one thread after those of another.
+pub fn find_unsorted<O: Order>(
+    ordered: &Ordered<'_, O>,
+    earlier: &[Newest],
+    rivals: &[Rival],
+    access: Access,
+    found: &mut Vec<u32>,
+) -> Result<(), NoMemory>
+    requires access { IsAccess ordered.now.disciplined.now.events.now access }
+    requires asked { O.asks ordered.now.order.now access.event ≡ true }
+    requires chained { (t : ℕ) → AreChained ordered.now.disciplined.now.events.now access.variable t access.event earlier.now }
+    requires rivals { HasRivals ordered.now.disciplined.now.events.now access.variable access.event rivals.now }
+    ensures { OnOk result ((v : ℕ) → occurs v found.new.items ≡ sum_by (λ r. occurs v (racing_by ordered.now.disciplined.now.events.now access r.thread)) rivals.now) }
+{
     found.clear();
     for rival in rivals {
         add_racing(ordered, earlier, *rival, access, found)?;
     }
-    found.sort()?;
     Ok(())
 }

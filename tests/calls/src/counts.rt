@@ -88,7 +88,7 @@ fn reads_race_with_writes_alone(rt: HostRuntime) -> Result<(), Fail> {
     Ok(())
 }
 
-/// Five threads write x, each at its own location: tables of threads and locations would take 80 bytes an event.
+/// Five threads write x, each at its own location: no access races with as many others as there are locations.
 const OWN_LOCATIONS: &str = "A|w(x)|a\nB|w(x)|b\nC|w(x)|c\nD|w(x)|d\nE|w(x)|e\n";
 
 #[test]

@@ -1,7 +1,10 @@
 -- The race list is counted, and its places are those of the leading races.
 use Rattle.std.proofs.Common.{◌∙◌, ℕ, List, ap, length, subst, sym}
 use Rattle.shb_lines.proofs.events.RaceLists.{race_list_unique}
+use Rattle.std.specs.Prelude.{max}
+use Rattle.shb_lines.specs.declared.event.Event.{Event}
 use Rattle.shb_lines.specs.events.Race.{IsRaceList}
+use Rattle.shb_pairs.specs.Open.{AreOpen}
 use Rattle.shb_lists.specs.Batches.{races_below}
 use Rattle.shb_lists.specs.Counted.{AreNumbered, HasCounted}
 use Rattle.shb_lists.proofs.PlaceLemmas.{counted_places, leading_within, numbers_below}
@@ -10,12 +13,13 @@ use Rattle.shb_lists.proofs.counted.counted_races.Goals as goal
 
 pub new-requires : goal.new-requires
 new-requires g c =
-    leading_within c.args.settled.now.disciplined.now.trace.now (length c.as_slice-numbers.result.now) c.args.leading.now (ap length c.as_slice-numbers.ensures.value ∙ c.in_ok-located.ensures.as_many) c.requires.leading
+    leading_within c.args.settled.now.disciplined.now.trace.now (length c.as_slice-numbers.result.now) c.args.leading.now (ap length c.as_slice-numbers.ensures.value ∙ c.in_ok-located.ensures.as_many ∙ ap length c.args.settled.now.disciplined.now.of_trace) c.requires.leading
 
 pub count_batches-requires-clause-numbers : goal.count_batches-requires-clause-numbers
 count_batches-requires-clause-numbers g c =
     let trace = c.args.settled.now.disciplined.now in
-    numbers_below trace.trace.now trace.events.now c.in_ok-located.located.numbers.items c.as_slice-numbers.result.now c.in_ok-located.located.locations c.len-classes.result trace.of_trace c.in_ok-located.ensures c.as_slice-numbers.ensures.value c.len-classes.ensures
+    numbers_below trace.trace.now c.args.settled.now.flags.now trace.events.now c.in_ok-located.located.numbers.items c.as_slice-numbers.result.now c.in_ok-located.located.locations c.max-classes.result trace.of_trace
+    (subst (λ (es : List Event). AreNumbered trace.trace.now c.args.settled.now.flags.now (length es) c.in_ok-located.located.numbers.items c.in_ok-located.located.locations) trace.of_trace c.in_ok-located.ensures) c.as_slice-numbers.ensures.value (c.max-classes.ensures ∙ ap (λ n. max n 1) c.len.ensures)
 
 pub returns-clause-races : goal.returns-clause-races
 returns-clause-races g c listed lists =
@@ -30,6 +34,8 @@ returns-clause-places g c listed lists =
     let leading = c.args.leading.now in
     let same = race_list_unique trace.events.now (races_below trace.events.now trace.sizes.variables) listed (all_below trace.events.now trace.sizes trace.numbered trace.within) lists in
     let has = subst (λ (l : List (ℕ × ℕ)). HasCounted numbers leading l c.count_batches.new.counter) same (c.in_ok-count_batches.ensures leading c.in_ok-counter.ensures) in
-    counted_places trace.trace.now numbers c.in_ok-located.located.locations leading listed c.count_batches.new.counter c.in_ok-places.places c.are_different.ensures
-    (subst (λ (l : List ℕ). AreNumbered trace.trace.now (length trace.trace.now.events) l c.in_ok-located.located.locations) (sym c.as_slice-numbers.ensures.value) c.in_ok-located.ensures)
+    counted_places trace.trace.now c.args.settled.now.flags.now numbers c.in_ok-located.located.locations leading listed c.count_batches.new.counter c.in_ok-places.places c.are_different.ensures
+    (subst (λ (l : List ℕ). AreNumbered trace.trace.now c.args.settled.now.flags.now (length trace.trace.now.events) l c.in_ok-located.located.locations) (sym c.as_slice-numbers.ensures.value)
+    (subst (λ (es : List Event). AreNumbered trace.trace.now c.args.settled.now.flags.now (length es) c.in_ok-located.located.numbers.items c.in_ok-located.located.locations) trace.of_trace c.in_ok-located.ensures))
+    (subst (λ (es : List Event). AreOpen es c.args.settled.now.flags.now) trace.of_trace c.args.settled.now.settled)
     (subst (λ e. IsRaceList e listed) trace.of_trace lists) c.requires.leading has c.in_ok-places.ensures

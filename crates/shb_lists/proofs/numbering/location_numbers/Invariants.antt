@@ -2,4 +2,4 @@ use Rattle.shb_lists.specs.Counted.{AreNumbered}
 use Rattle.shb_lists.proofs.numbering.location_numbers.Given as goal
 
 abbrev pub invariant-loop-e : goal.invariant-loop-e
-invariant-loop-e g l = AreNumbered l.trace l.e l.numbers.items l.locations
+invariant-loop-e g l = AreNumbered l.disciplined.trace.now l.flags l.e l.numbers.items l.locations
