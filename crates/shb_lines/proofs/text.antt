@@ -1,6 +1,7 @@
 -- Lemmas on texts.
 pub mod Bars
 pub mod Bytes
+pub mod Wide
 pub mod Meanings
 pub mod NameLemmas
 pub mod TraceLemmas

@@ -177,7 +177,7 @@ impl Numbering {
             → line.now ≡ strip_carriage_return raw → length raw ≤ limits.now.line
             → IfOk result (IsFound limits.now before raw self.new) }
     {
-        let found = match read_line(line, self.last_thread()) {
+        let found = match read_line(line, line, self.last_thread()) {
             Ok(None) => return Ok(Ok(None)),
             Ok(Some(found)) => found,
             Err(fault) => return Ok(Err(fault)),

@@ -9,7 +9,7 @@ ghost use Rattle.shb_lines.specs.text.Spans.{StandsAt, spans_in};
 ghost use Rattle.shb_lines.specs.text.Parsed.{HasRead, lines_read, part};
 ghost use Rattle.shb_lines.specs.text.Numbers.{IsOperation, events_of, op_for};
 ghost use Rattle.shb_lines.specs.text.Reader.{AddsEvent, AllStand, HasLast, HasNames, HasRoom, tables_of, with_names, with_operand};
-ghost use Rattle.shb_lines.specs.text.Reading.{HasNoBar, HasNumberIn, named};
+ghost use Rattle.shb_lines.specs.text.Reading.{Begins, HasNoBar, HasNumberIn, named};
 ghost use Rattle.shb_lines.specs.text.Text.{threads_among};
 ghost use Rattle.shb_lines.specs.text.TraceData.{IsReading};
 ghost use Rattle.shb_lines.specs.Lowest.{IsLowest};
@@ -45,6 +45,26 @@ fn line_end(text: &[u8], start: usize) -> usize
     match memchr(b'\n', rest) {
         Some(len) => start + len,
         None => text.len(),
+    }
+}
+
+/// How many bytes behind a line a search in the line may get.
+const MORE: usize = 32;
+
+/// The line from `start` to `end`, and up to 32 bytes behind it. It isn't all the rest of the text: one without bars would be
+/// searched to its end for each line.
+fn with_more(text: &[u8], start: usize, end: usize) -> &[u8]
+    requires order { start ≤ end }
+    requires within { end ≤ length text.now }
+    requires short { length text.now < 2 ^ 31 }
+    ensures { Begins (part text.now start end) result.now }
+{
+    let len = text.len();
+    if len - end < MORE {
+        let (_, rest) = text.split_at(start);
+        rest
+    } else {
+        &text[start..end + MORE]
     }
 }
 
@@ -225,7 +245,8 @@ impl<'t> Reader<'t> {
             return Ok(Some(Fault::LineTooLong));
         }
         let bytes = without_carriage_return(raw);
-        let found = match read_line(bytes, self.last) {
+        let wide = with_more(text, start, end);
+        let found = match read_line(bytes, wide, self.last) {
             Ok(None) => return Ok(None),
             Ok(Some(found)) => found,
             Err(fault) => return Ok(Some(fault)),

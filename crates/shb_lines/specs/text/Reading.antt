@@ -32,3 +32,7 @@ IsNumberedIn names known = slice_get names known.number ≡ Some known.name.now
 -- the thread of an event has its number among these names, where it is given
 abbrev pub HasNumberIn : List (List ℕ) → LineEvent → Type 0
 HasNumberIn names e = IfSome e.number (λ number. slice_get names number ≡ Some e.thread.now)
+
+-- some bytes are the front of others
+abbrev pub Begins : List ℕ → List ℕ → Type 0
+Begins bytes wide = bytes ≡ take (length bytes) wide
