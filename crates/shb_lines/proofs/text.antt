@@ -1,5 +1,6 @@
 -- Lemmas on texts.
 pub mod Bars
+pub mod Alike
 pub mod Bytes
 pub mod Wide
 pub mod Meanings

@@ -7,7 +7,7 @@
 //! number. So each table of each run has keys of its own, which are shown nowhere. Nothing proves that
 //! they are random, since a contract takes whatever a random source gives. Texts that meet cost time
 //! alone: the table compares them whole.
-ghost use Rattle.std.specs.Prelude.{◌≡◌, ◌+◌, ◌<◌, ◌≤◌, [], ◌∷◌, length};
+ghost use Rattle.std.specs.Prelude.{◌≡◌, ◌+◌, ◌<◌, ◌≤◌, [], ◌∷◌, true, length};
 ghost use Rattle.std.specs.Cmp.{on_equiv, on_per, partial_equiv_from_equiv};
 ghost use Rattle.std.specs.Cmp.Lexicographic.{nat_list_eq_equiv};
 ghost use Rattle.std.specs.Hash.{same_Alike};
@@ -65,6 +65,91 @@ fn word_at(bytes: &[u8], at: usize) -> u64
     ensures { result ≡ spec.word_at bytes.now at }
 {
     eight(&bytes[at..at + 8])
+}
+
+/// Whether eight bytes from an offset on are the same in two texts.
+#[inline(always)]
+fn same_eight(a: &[u8], b: &[u8], at: usize) -> bool
+    requires a { at + 8 ≤ length a.now }
+    requires b { at + 8 ≤ length b.now }
+    ensures { result ≡ true → spec.AreAlike a.now b.now at (at + 8) }
+{
+    eight(&a[at..at + 8]) == eight(&b[at..at + 8])
+}
+
+/// Whether four bytes from an offset on are the same in two texts.
+#[inline(always)]
+fn same_four(a: &[u8], b: &[u8], at: usize) -> bool
+    requires a { at + 4 ≤ length a.now }
+    requires b { at + 4 ≤ length b.now }
+    ensures { result ≡ true → spec.AreAlike a.now b.now at (at + 4) }
+{
+    four(&a[at..at + 4]) == four(&b[at..at + 4])
+}
+
+/// Whether sixteen bytes from an offset on are the same in two texts.
+#[inline(always)]
+fn same_sixteen(a: &[u8], b: &[u8], at: usize) -> bool
+    requires a { at + 16 ≤ length a.now }
+    requires b { at + 16 ≤ length b.now }
+    ensures { result ≡ true → spec.AreAlike a.now b.now at (at + 16) }
+{
+    if same_eight(a, b, at) {
+        same_eight(a, b, at + 8)
+    } else {
+        false
+    }
+}
+
+/// Whether two texts of at most 3 bytes are the same: they have no byte but the first, the middle and the last.
+#[inline(always)]
+fn same_few(a: &[u8], b: &[u8]) -> bool
+    requires len { length a.now ≡ length b.now }
+    requires few { length a.now < 4 }
+    ensures { result ≡ true → a.now ≡ b.now }
+{
+    let n = a.len();
+    if n == 0 {
+        return true;
+    }
+    if a[0] != b[0] {
+        return false;
+    }
+    if a[n / 2] != b[n / 2] {
+        return false;
+    }
+    a[n - 1] == b[n - 1]
+}
+
+/// Whether two texts of one length are the same. Those of at most 32 bytes are compared by words, which may overlap.
+#[inline(always)]
+pub fn alike(a: &[u8], b: &[u8]) -> bool
+    requires { length a.now ≡ length b.now }
+    ensures { result ≡ true → a.now ≡ b.now }
+{
+    let n = a.len();
+    if n > 32 {
+        return a == b;
+    }
+    if n >= 16 {
+        if same_sixteen(a, b, 0) {
+            return same_sixteen(a, b, n - 16);
+        }
+        return false;
+    }
+    if n >= 8 {
+        if same_eight(a, b, 0) {
+            return same_eight(a, b, n - 8);
+        }
+        return false;
+    }
+    if n >= 4 {
+        if same_four(a, b, 0) {
+            return same_four(a, b, n - 4);
+        }
+        return false;
+    }
+    same_few(a, b)
 }
 
 /// The state after the two words at an offset.

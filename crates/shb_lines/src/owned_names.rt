@@ -11,7 +11,7 @@ ghost use Rattle.shb_lines.specs.text.Names.{with_name};
 ghost use Rattle.shb_lines.specs.text.OwnedNames.{names_of};
 
 use crate::following::Following;
-use crate::hashing::{HashKeys, MOST_AT_ONCE, TextKey};
+use crate::hashing::{HashKeys, MOST_AT_ONCE, TextKey, alike};
 use indexmap::{Equivalent, IndexSet};
 use shb_io::NoMemory;
 use smallvec::SmallVec;
@@ -114,7 +114,14 @@ impl OwnedNames {
         ensures { result ≡ true → slice_get (names_of self.now) number ≡ Some name.now }
     {
         match self.table.get_index(number as usize) {
-            Some(known) => known.bytes.as_slice() == name,
+            Some(known) => {
+                let bytes = known.bytes.as_slice();
+                if bytes.len() == name.len() {
+                    alike(bytes, name)
+                } else {
+                    false
+                }
+            }
             None => false,
         }
     }

@@ -1,12 +1,10 @@
 -- Names without a bar, and where the first bar of a line stands.
-use Rattle.std.proofs.Common.{◌≡◌, ◌<◌, ◌≤◌, ℕ, List, true, length, take, get_or, sym, ap, ◌∙◌, le_refl, arith, length-take}
+use Rattle.std.proofs.Common.{◌≡◌, ◌<◌, ◌≤◌, ℕ, List, length, take, get_or, sym, ap, ◌∙◌, le_refl, arith, length-take}
 use Rattle.std.specs.List.{before_first, position_or_len}
 use Rattle.std.proofs.lemmas.List.{get_or-take, take_all}
 use Rattle.std.proofs.lemmas.List.Sums.{fails_before_first, position_or_len_is}
-use Rattle.std.specs.Str.{bytes_eq}
 use Rattle.shb_lines.specs.text.Meaning.{is_bar}
 use Rattle.shb_lines.specs.text.Reading.{HasNoBar}
-use Rattle.std.proofs.lemmas.Slice.Eq.{bytes_eq-Decides}
 
 -- what stands before the first bar has none
 pub no_bar_before : (line front : List ℕ) → front ≡ before_first is_bar line → HasNoBar front
@@ -18,10 +16,7 @@ no_bar_before line front is =
     ap (λ n. take n front) none ∙ take_all _ front (le_refl _)
 
 -- where a line begins with a name without a bar, and a bar is next, this bar is its first
-module _ (line name : List ℕ) (no_bar : HasNoBar name) (within : length name < length line) (bar : get_or line (length name) 0 ≡ 124) (begins : bytes_eq (take (length name) line) name ≡ true) where
-  same : take (length name) line ≡ name
-  same = (bytes_eq-Decides (take (length name) line) name).0 begins
-
+module _ (line name : List ℕ) (no_bar : HasNoBar name) (within : length name < length line) (bar : get_or line (length name) 0 ≡ 124) (same : take (length name) line ≡ name) where
   pub first_bar : length name ≡ position_or_len is_bar line
   first_bar =
       let long : length name ≤ position_or_len is_bar name = omega (arith, ap length no_bar, length-take (position_or_len is_bar name) name) in

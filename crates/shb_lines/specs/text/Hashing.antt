@@ -1,5 +1,5 @@
 -- What a hasher of texts computes, by words under two keys.
-use Rattle.std.specs.Prelude.{ℕ, zero, suc, ◌+◌, ◌-◌, ◌*◌, ◌/◌, ◌^◌, List, length, take, slice_range, get_or, if◌then◌else◌, nat_le, nat_lt, bit_and, bit_xor}
+use Rattle.std.specs.Prelude.{◌≡◌, ◌<◌, ◌≤◌, ℕ, zero, suc, ◌+◌, ◌-◌, ◌*◌, ◌/◌, ◌^◌, List, length, take, slice_range, get_or, if◌then◌else◌, nat_le, nat_lt, bit_and, bit_xor}
 use Rattle.std.specs.Int.{w16, w32, w64, from_le_bytes}
 use Rattle.shb_lines.specs.declared.hashing.KeyedHasher.{KeyedHasher}
 use Rattle.shb_lines.specs.declared.hashing.HashKeys.{HashKeys}
@@ -59,3 +59,7 @@ written h bytes = record h { state = hash h.state h.key bytes }
 -- the hasher that the keys make
 abbrev pub keyed : HashKeys → KeyedHasher
 keyed keys = record { state = keys.keys.first; key = keys.keys.second }
+
+-- two texts have the same bytes from an offset on up to another
+abbrev pub AreAlike : List ℕ → List ℕ → ℕ → ℕ → Type 0
+AreAlike a b from to = (k : ℕ) → from ≤ k → k < to → get_or a k 0 ≡ get_or b k 0
