@@ -1,6 +1,7 @@
-//! Which name was looked up after which, the last time.
+//! Guesses of names' numbers: which name was looked up after which the last time, and which had which key.
 ghost use Rattle.std.specs.Prelude.{◌≡◌, get_or, OnOk};
 
+use crate::hashing::MOST_AT_ONCE;
 use shb_io::NoMemory;
 use std::alloc::Global;
 
@@ -52,5 +53,123 @@ impl Following {
         }
         self.last = number;
         Ok(())
+    }
+}
+
+/// A number, and a part of the key of its name.
+#[derive(Clone, Copy)]
+pub struct Guess {
+    pub number: u32,
+    pub tag: u32,
+}
+
+/// How many guesses are kept at most: more would be slower to look up than the names themselves.
+const MOST: usize = 1 << 14;
+
+/// Numbers by keys of their names. Each is a guess, and the caller compares the name. Of two names with one place the later
+/// one stays.
+#[derive(Drop)]
+pub struct Guesses {
+    all: Vec<Guess>,
+}
+
+/// The place of a key's guess among so many, which are 0 or a power of two, and the key's tag.
+#[inline(always)]
+fn place_of(key: u64, len: usize) -> (usize, u32) {
+    (key as usize & len.saturating_sub(1), (key >> 32) as u32)
+}
+
+impl Guesses {
+    /// Nothing was looked up yet.
+    pub fn new(alloc: Global) -> Guesses {
+        Guesses {
+            all: Vec::new(alloc),
+        }
+    }
+
+    /// The number that a name of this key may have.
+    #[inline(always)]
+    pub fn guess(&self, key: u64) -> Option<u32> {
+        let (at, tag) = place_of(key, self.all.len());
+        match self.all.get(at) {
+            Some(guess) => {
+                if guess.tag == tag {
+                    Some(guess.number)
+                } else {
+                    None
+                }
+            }
+            None => None,
+        }
+    }
+
+    /// A name of this key has this number.
+    pub fn learn(&mut self, key: u64, number: u32) -> Result<(), NoMemory> {
+        let len = self.all.len();
+        if len <= number as usize && len < MOST {
+            let more = if len == 0 { 1024 } else { len * 2 };
+            self.all
+                .resize(more.min(MOST), Guess { number: 0, tag: 0 })?;
+        }
+        let (at, tag) = place_of(key, self.all.len());
+        if let Some(guess) = self.all.get_mut(at) {
+            *guess = Guess { number, tag };
+        }
+        Ok(())
+    }
+}
+
+/// Which long name followed which, and which name has which key.
+#[derive(Drop)]
+pub struct Guessing {
+    following: Following,
+    guesses: Guesses,
+}
+
+impl Guessing {
+    /// Nothing was looked up yet.
+    pub fn new(alloc: Global) -> Guessing {
+        Guessing {
+            following: Following::new(alloc),
+            guesses: Guesses::new(alloc),
+        }
+    }
+
+    /// The number of the name that may come next, if this is a long name.
+    #[inline(always)]
+    pub fn next(&self, name: &[u8]) -> Option<u32> {
+        if name.len() > MOST_AT_ONCE {
+            Some(self.following.guess())
+        } else {
+            None
+        }
+    }
+
+    /// The number that a name of this key may have.
+    #[inline(always)]
+    pub fn by_key(&self, key: u64) -> Option<u32> {
+        self.guesses.guess(key)
+    }
+
+    /// A name came that was found by its key.
+    #[inline(always)]
+    pub fn follow(&mut self, name: &[u8], number: u32) -> Result<(), NoMemory> {
+        if name.len() > MOST_AT_ONCE {
+            self.following.learn(number)
+        } else {
+            Ok(())
+        }
+    }
+
+    /// A name came that no guess was right for.
+    pub fn learn(&mut self, name: &[u8], key: u64, number: u32) -> Result<(), NoMemory> {
+        self.guesses.learn(key, number)?;
+        self.follow(name, number)
+    }
+
+    /// The name that was to come next came.
+    #[inline(always)]
+    pub fn pass(&mut self, number: u32) {
+        self.following.pass(number);
     }
 }

@@ -180,6 +180,22 @@ fn ends_of(bytes: &[u8]) -> (u64, u64)
     }
 }
 
+/// A key of a text, made of its ends and its length. It has no secret, so texts can be chosen that have one key: it serves
+/// for guesses alone.
+#[inline(always)]
+pub fn key_of(bytes: &[u8]) -> u64 {
+    let n = bytes.len();
+    let (first, last) = if n > 8 {
+        (eight(&bytes[..8]), eight(&bytes[n - 8..]))
+    } else {
+        ends_of(bytes)
+    };
+    folded_product(
+        first ^ 0x9E37_79B9_7F4A_7C15,
+        last ^ n as u64 ^ 0xD6E8_FEB8_6659_FD93,
+    )
+}
+
 /// The state after at most 16 bytes: their ends have them all.
 #[tactic(auto, unfolding(crate::specs::text::Hashing::short_hash))]
 fn short_hash(state: u64, key: u64, bytes: &[u8]) -> u64

@@ -10,8 +10,8 @@ ghost use Rattle.indexmap.specs.IndexSet.{index_set_len};
 ghost use Rattle.shb_lines.specs.text.Names.{with_name};
 ghost use Rattle.shb_lines.specs.text.OwnedNames.{names_of};
 
-use crate::following::Following;
-use crate::hashing::{HashKeys, MOST_AT_ONCE, TextKey, alike};
+use crate::following::Guessing;
+use crate::hashing::{HashKeys, TextKey, alike, key_of};
 use indexmap::{Equivalent, IndexSet};
 use shb_io::NoMemory;
 use smallvec::SmallVec;
@@ -79,7 +79,7 @@ impl OwnedText {
 #[derive(Drop)]
 pub struct OwnedNames {
     table: IndexSet<OwnedText, HashKeys>,
-    following: Following,
+    guessing: Guessing,
 }
 
 impl OwnedNames {
@@ -89,7 +89,7 @@ impl OwnedNames {
     {
         Ok(OwnedNames {
             table: IndexSet::with_hasher(alloc, HashKeys::new(rt)?),
-            following: Following::new(alloc),
+            guessing: Guessing::new(alloc),
         })
     }
 
@@ -126,23 +126,50 @@ impl OwnedNames {
         }
     }
 
-    /// The number of a name. A name that is new is put last, and copied. A long name may be guessed.
+    /// The number of a name. A name that is new is put last, and copied. The number may be guessed.
     pub fn number_of(&mut self, alloc: Global, name: &[u8]) -> Result<u32, NoMemory>
         requires room { length (names_of self.old) < 2 ^ 32 }
         ensures names { OnOk result (names_of self.new ≡ with_name (names_of self.old) name.now) }
         ensures number { IfOk result (λ number. slice_get (names_of self.new) number ≡ Some name.now) }
     {
-        if name.len() <= MOST_AT_ONCE {
-            return self.looked_up(alloc, name);
+        if let Some(next) = self.next(name) {
+            self.guessing.pass(next);
+            return Ok(next);
         }
-        let guess = self.following.guess();
-        if self.is_named(guess, name) {
-            self.following.pass(guess);
-            return Ok(guess);
+        let key = key_of(name);
+        if let Some(number) = self.by_key(key, name) {
+            self.guessing.follow(name, number)?;
+            return Ok(number);
         }
         let number = self.looked_up(alloc, name)?;
-        self.following.learn(number)?;
+        self.guessing.learn(name, key, number)?;
         Ok(number)
+    }
+
+    /// The number of a long name, if it came after the name before the last time too.
+    #[inline(always)]
+    fn next(&self, name: &[u8]) -> Option<u32>
+        ensures { IfSome result (λ number. slice_get (names_of self.now) number ≡ Some name.now) }
+    {
+        let next = self.guessing.next(name)?;
+        if self.is_named(next, name) {
+            Some(next)
+        } else {
+            None
+        }
+    }
+
+    /// The number of a name, if the guess by its key is right.
+    #[inline(always)]
+    fn by_key(&self, key: u64, name: &[u8]) -> Option<u32>
+        ensures { IfSome result (λ number. slice_get (names_of self.now) number ≡ Some name.now) }
+    {
+        let guess = self.guessing.by_key(key)?;
+        if self.is_named(guess, name) {
+            Some(guess)
+        } else {
+            None
+        }
     }
 
     /// The number of a name, which may be known.
