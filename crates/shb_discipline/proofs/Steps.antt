@@ -12,11 +12,11 @@ use Rattle.std.proofs.lemmas.List.Sums.{count_by-le-length, sum_by_push}
 use Rattle.shb_lines.specs.Growing.{IsPut}
 use Rattle.shb_lines.specs.declared.event.Event.{Event}
 use Rattle.shb_lines.specs.declared.event.Op.{Op}
-use Rattle.shb_lines.specs.declared.event.Op.TheVariants.{Read, Acquire, Release, Fork, Join}
+use Rattle.shb_lines.specs.declared.event.Op.TheVariants.{Read, Write, Acquire, Release, Fork, Join}
 use Rattle.shb_lines.specs.events.Discipline.{acquires, anyone, is_acquire, is_fork, is_join, is_of, is_release, op_is_acquire, op_is_fork, op_is_join, op_is_release, other_than, only, releases, MayCome, MayDo}
 use Rattle.shb_discipline.specs.declared.state.LockState.{LockState}
 use Rattle.shb_discipline.specs.declared.state.State.{State}
-use Rattle.shb_discipline.specs.State.{AreFlags, AreLocks, IsLockAfter, IsStateAfter, Tells, free_lock}
+use Rattle.shb_discipline.specs.State.{AreFlags, AreLocks, IsGoingOn, IsLockAfter, IsStateAfter, Tells, free_lock}
 
 -- what stands at an index after a write
 pub set_cases : {X : Type 0} (xs : List X) (i j : ℕ) (y z : X) → i < length xs → slice_get (set xs i y) j ≡ Some z → ((j ≡ i) × (z ≡ y)) ⊎ ((j ≢ i) × (slice_get xs j ≡ Some z))
@@ -161,15 +161,39 @@ put_same l default item wanted old new d i h = subst (λ (x : LockState). IsPut 
 pub flag_put : (t u : ℕ) (old new : List Bool) → t ≡ u → IsPut false u true old new → IsPut false t true old new
 flag_put t u old new same h = subst (λ (v : ℕ). IsPut false v true old new) (sym same) h
 
+-- no thread joins itself
+no_own_join : (past : List Event) (t : ℕ) (op : Op) → MayDo past t op → op_is_join t op ≡ false
+no_own_join past t (Join u) other = ne_eqb t u (λ same. other (sym same))
+no_own_join past t _ may = refl
+
+-- the thread of an event goes on
+goes_on : (past : List Event) (e : Event) → MayCome past e → IsGoingOn (past ++ e ∷ []) (Some e.thread)
+goes_on past e may =
+    let begun = count_more past e (is_of e.thread) in
+    let one : ◌≡◌ {A = ℕ} (cond (is_of e.thread e) 1 0) 1 = ap (λ (b : Bool). cond {A = ℕ} b 1 0) (is_of_test e.thread e true (eq-eqb e.thread e.thread refl)) in
+    let joined = count_more past e (is_join e.thread) in
+    let none : ◌≡◌ {A = ℕ} (cond (is_join e.thread e) 1 0) 0 = ap (λ (b : Bool). cond {A = ℕ} b 1 0) (is_join_test e.thread e false (no_own_join past e.thread e.op may.may_do)) in
+    let before = may.not_joined in
+    (omega (arith, begun, one), omega (arith, joined, none, before))
+
+-- a flag that is set already
+flag_set : (flag : Bool) (n : ℕ) → Tells flag n → 0 < n → flag ≡ true
+flag_set true n tells some = refl
+flag_set false n tells some = absurd (omega (arith, tells, some))
+
 -- all that is known, after the event
 module _ (past : List Event) (e : Event) (may : MayCome past e) (state : State) (known : IsStateAfter past state) where
   module _ (started : List Bool) (start : IsPut false e.thread true state.started.items started) where
     started_now : AreFlags is_of (past ++ e ∷ []) started
     started_now = started_more past e state.started.items started start known.started
 
+    last_now : (new : State) → new.last ≡ Some e.thread → IsGoingOn (past ++ e ∷ []) new.last
+    last_now new last = subst (IsGoingOn (past ++ e ∷ [])) (sym last) (goes_on past e may)
+
     pub acquired : (new : State) (l : ℕ) (lock : LockState) → e.op ≡ Acquire l → lock ≡ get_or state.locks.items l free_lock → (depth : ℕ) → depth ≡ lock.depth + 1
-        → IsPut free_lock l record { holder = e.thread; depth = depth } state.locks.items new.locks.items → new.started.items ≡ started → new.forked.items ≡ state.forked.items → new.joined.items ≡ state.joined.items → IsStateAfter (past ++ e ∷ []) new
-    acquired new l lock is read depth one_more written s f j = record {
+        → IsPut free_lock l record { holder = e.thread; depth = depth } state.locks.items new.locks.items → new.started.items ≡ started → new.forked.items ≡ state.forked.items → new.joined.items ≡ state.joined.items → new.last ≡ Some e.thread → IsStateAfter (past ++ e ∷ []) new
+    acquired new l lock is read depth one_more written s f j last = record {
+      last = last_now new last;
       locks = locks_put past e state.locks.items new.locks.items l record { holder = e.thread; depth = depth } written
           (subst (λ (d : ℕ). IsLockAfter (past ++ e ∷ []) l record { holder = e.thread; depth = d }) (sym one_more) (acquired_lock past e l lock is (subst (MayDo past e.thread) is may.may_do) (subst (IsLockAfter past l) (sym read) (known.locks l))))
           (λ m ne. ap (op_is_acquire m) is ∙ ne_eqb m l ne) (λ m ne. ap (op_is_release m) is) known.locks;
@@ -179,8 +203,9 @@ module _ (past : List Event) (e : Event) (may : MayCome past e) (state : State) 
     }
 
     pub released : (new : State) (l : ℕ) (lock : LockState) → e.op ≡ Release l → lock ≡ get_or state.locks.items l free_lock → (depth : ℕ) → depth ≡ lock.depth - 1
-        → IsPut free_lock l record { holder = lock.holder; depth = depth } state.locks.items new.locks.items → new.started.items ≡ started → new.forked.items ≡ state.forked.items → new.joined.items ≡ state.joined.items → IsStateAfter (past ++ e ∷ []) new
-    released new l lock is read depth one_less written s f j = record {
+        → IsPut free_lock l record { holder = lock.holder; depth = depth } state.locks.items new.locks.items → new.started.items ≡ started → new.forked.items ≡ state.forked.items → new.joined.items ≡ state.joined.items → new.last ≡ Some e.thread → IsStateAfter (past ++ e ∷ []) new
+    released new l lock is read depth one_less written s f j last = record {
+      last = last_now new last;
       locks = locks_put past e state.locks.items new.locks.items l record { holder = lock.holder; depth = depth } written
           (subst (λ (d : ℕ). IsLockAfter (past ++ e ∷ []) l record { holder = lock.holder; depth = d }) (sym one_less) (released_lock past e l lock is (subst (MayDo past e.thread) is may.may_do) (subst (IsLockAfter past l) (sym read) (known.locks l))))
           (λ m ne. ap (op_is_acquire m) is) (λ m ne. ap (op_is_release m) is ∙ ne_eqb m l ne) known.locks;
@@ -189,16 +214,18 @@ module _ (past : List Event) (e : Event) (may : MayCome past e) (state : State) 
       joined = subst (AreFlags is_join (past ++ e ∷ [])) (sym j) (joined_same past e state.joined.items (λ u. ap (op_is_join u) is) known.joined);
     }
 
-    pub forks : (new : State) (u : ℕ) → e.op ≡ Fork u → IsPut false u true state.forked.items new.forked.items → new.locks.items ≡ state.locks.items → new.started.items ≡ started → new.joined.items ≡ state.joined.items → IsStateAfter (past ++ e ∷ []) new
-    forks new u is written l s j = record {
+    pub forks : (new : State) (u : ℕ) → e.op ≡ Fork u → IsPut false u true state.forked.items new.forked.items → new.locks.items ≡ state.locks.items → new.started.items ≡ started → new.joined.items ≡ state.joined.items → new.last ≡ Some e.thread → IsStateAfter (past ++ e ∷ []) new
+    forks new u is written l s j last = record {
+      last = last_now new last;
       locks = subst (AreLocks (past ++ e ∷ [])) (sym l) (locks_same past e state.locks.items (λ l. ap (op_is_acquire l) is) (λ l. ap (op_is_release l) is) known.locks);
       started = subst (AreFlags is_of (past ++ e ∷ [])) (sym s) started_now;
       forked = forked_more past e state.forked.items new.forked.items u is written known.forked;
       joined = subst (AreFlags is_join (past ++ e ∷ [])) (sym j) (joined_same past e state.joined.items (λ u. ap (op_is_join u) is) known.joined);
     }
 
-    pub joins : (new : State) (u : ℕ) → e.op ≡ Join u → IsPut false u true state.joined.items new.joined.items → new.locks.items ≡ state.locks.items → new.started.items ≡ started → new.forked.items ≡ state.forked.items → IsStateAfter (past ++ e ∷ []) new
-    joins new u is written l s f = record {
+    pub joins : (new : State) (u : ℕ) → e.op ≡ Join u → IsPut false u true state.joined.items new.joined.items → new.locks.items ≡ state.locks.items → new.started.items ≡ started → new.forked.items ≡ state.forked.items → new.last ≡ Some e.thread → IsStateAfter (past ++ e ∷ []) new
+    joins new u is written l s f last = record {
+      last = last_now new last;
       locks = subst (AreLocks (past ++ e ∷ [])) (sym l) (locks_same past e state.locks.items (λ l. ap (op_is_acquire l) is) (λ l. ap (op_is_release l) is) known.locks);
       started = subst (AreFlags is_of (past ++ e ∷ [])) (sym s) started_now;
       forked = subst (AreFlags is_fork (past ++ e ∷ [])) (sym f) (forked_same past e state.forked.items (λ u. ap (op_is_fork u) is) known.forked);
@@ -206,13 +233,31 @@ module _ (past : List Event) (e : Event) (may : MayCome past e) (state : State) 
     }
 
     pub others : (new : State) → ((m : ℕ) → e.op ≡ Acquire m → ⊥) → ((m : ℕ) → e.op ≡ Release m → ⊥) → ((m : ℕ) → e.op ≡ Fork m → ⊥) → ((m : ℕ) → e.op ≡ Join m → ⊥)
-        → new.locks.items ≡ state.locks.items → new.started.items ≡ started → new.forked.items ≡ state.forked.items → new.joined.items ≡ state.joined.items → IsStateAfter (past ++ e ∷ []) new
-    others new not_acquire not_release not_fork not_join l s f j = record {
+        → new.locks.items ≡ state.locks.items → new.started.items ≡ started → new.forked.items ≡ state.forked.items → new.joined.items ≡ state.joined.items → new.last ≡ Some e.thread → IsStateAfter (past ++ e ∷ []) new
+    others new not_acquire not_release not_fork not_join l s f j last = record {
+      last = last_now new last;
       locks = subst (AreLocks (past ++ e ∷ [])) (sym l) (locks_same past e state.locks.items (no_acquire e.op not_acquire) (no_release e.op not_release) known.locks);
       started = subst (AreFlags is_of (past ++ e ∷ [])) (sym s) started_now;
       forked = subst (AreFlags is_fork (past ++ e ∷ [])) (sym f) (forked_same past e state.forked.items (no_fork e.op not_fork) known.forked);
       joined = subst (AreFlags is_join (past ++ e ∷ [])) (sym j) (joined_same past e state.joined.items (no_join e.op not_join) known.joined);
     }
+
+  -- an access by the thread of the last event changes nothing
+  plain : state.last ≡ Some e.thread → ((m : ℕ) → e.op ≡ Acquire m → ⊥) → ((m : ℕ) → e.op ≡ Release m → ⊥) → ((m : ℕ) → e.op ≡ Fork m → ⊥) → ((m : ℕ) → e.op ≡ Join m → ⊥) → IsStateAfter (past ++ e ∷ []) state
+  plain last not_acquire not_release not_fork not_join =
+      let begun : 0 < count_by (is_of e.thread) past = (subst (IsGoingOn past) last known.last).0 in
+      let written : IsPut false e.thread true state.started.items state.started.items = record { there = flag_set _ _ (known.started e.thread) begun; others = λ k ne. refl } in
+      others state.started.items written state not_acquire not_release not_fork not_join refl refl refl refl last
+
+  pub plain_read : (x : ℕ) → e.op ≡ Read x → state.last ≡ Some e.thread → IsStateAfter (past ++ e ∷ []) state
+  plain_read x reads last =
+      plain last (λ m is. (let h : Read x ≡ Acquire m = sym reads ∙ is in let f : ⊥ = cc in f)) (λ m is. (let h : Read x ≡ Release m = sym reads ∙ is in let f : ⊥ = cc in f))
+      (λ m is. (let h : Read x ≡ Fork m = sym reads ∙ is in let f : ⊥ = cc in f)) (λ m is. (let h : Read x ≡ Join m = sym reads ∙ is in let f : ⊥ = cc in f))
+
+  pub plain_write : (x : ℕ) → e.op ≡ Write x → state.last ≡ Some e.thread → IsStateAfter (past ++ e ∷ []) state
+  plain_write x writes last =
+      plain last (λ m is. (let h : Write x ≡ Acquire m = sym writes ∙ is in let f : ⊥ = cc in f)) (λ m is. (let h : Write x ≡ Release m = sym writes ∙ is in let f : ⊥ = cc in f))
+      (λ m is. (let h : Write x ≡ Fork m = sym writes ∙ is in let f : ⊥ = cc in f)) (λ m is. (let h : Write x ≡ Join m = sym writes ∙ is in let f : ⊥ = cc in f))
 
 -- what stands past the end of a list of events
 abbrev pub no_event : Event

@@ -1,5 +1,5 @@
 -- What is known of the locks and threads after some events.
-use Rattle.std.specs.Prelude.{◌≡◌, ℕ, ◌+◌, ◌<◌, Bool, true, false, cond, List, slice_index_or, count_by}
+use Rattle.std.specs.Prelude.{◌≡◌, ℕ, ◌+◌, ◌<◌, Bool, true, false, cond, List, Option, Some, None, slice_index_or, count_by}
 use Rattle.shb_lines.specs.declared.event.Event.{Event}
 use Rattle.shb_lines.specs.events.Discipline.{acquires, is_fork, is_join, is_of, releases}
 use Rattle.shb_discipline.specs.declared.state.LockState.{LockState}
@@ -26,9 +26,15 @@ Tells false n = n ≡ 0
 abbrev pub AreFlags : (ℕ → Event → Bool) → List Event → List Bool → Type 0
 AreFlags test past flags = (t : ℕ) → Tells (slice_index_or flags t false) (count_by (test t) past)
 
+-- the thread of the last event, if there was one: it has begun, and isn't joined
+abbrev pub IsGoingOn : List Event → Option ℕ → Type 0
+IsGoingOn past None = Unit {0}
+IsGoingOn past (Some t) = (0 < count_by (is_of t) past) × (count_by (is_join t) past ≡ 0)
+
 -- what is known of each lock and each thread
 pub record IsStateAfter (past : List Event) (state : State) : Type 0 where
   pub locks : AreLocks past state.locks.items
   pub started : AreFlags is_of past state.started.items
   pub forked : AreFlags is_fork past state.forked.items
   pub joined : AreFlags is_join past state.joined.items
+  pub last : IsGoingOn past state.last

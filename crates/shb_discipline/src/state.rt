@@ -1,5 +1,5 @@
 //! What the events so far did to each lock and each thread.
-ghost use Rattle.std.specs.Prelude.{◌≡◌, ◌<◌, ◌↔◌, ◌^◌, ◌+◌, ◌++◌, ℕ, List, IsTrue, OnOk, length, count_by, slice_index_or, [], ◌∷◌};
+ghost use Rattle.std.specs.Prelude.{◌≡◌, ◌<◌, ◌↔◌, ◌^◌, ◌+◌, ◌++◌, ℕ, List, IsTrue, None, OnOk, true, length, count_by, slice_index_or, [], ◌∷◌};
 ghost use Rattle.shb_lines.specs.declared.event.Event.{Event};
 ghost use Rattle.shb_lines.specs.declared.event.Op.TheVariants.{Acquire, Release, Fork, Join};
 ghost use Rattle.shb_lines.specs.events.Discipline.{MayCome, acquires, is_fork, is_join, is_of, only, other_than, releases};
@@ -31,6 +31,8 @@ pub struct State {
     pub(crate) forked: Vec<bool>,
     /// Whether a thread was joined.
     pub(crate) joined: Vec<bool>,
+    /// The thread of the last event, if there was one.
+    pub(crate) last: Option<u32>,
 }
 
 /// A lock that no event names.
@@ -109,6 +111,7 @@ impl State {
             started: Vec::new(alloc),
             forked: Vec::new(alloc),
             joined: Vec::new(alloc),
+            last: None,
         }
     }
 
@@ -173,11 +176,36 @@ impl State {
         }
     }
 
+    /// Whether it is an access by the thread of the last event. It has no fault, and changes nothing that is known.
+    #[inline(always)]
+    fn is_plain(&self, thread: u32, op: Op) -> bool
+        ensures fault { (past : List Event) (e : Event) → e.thread ≡ thread → e.op ≡ op → IsStateAfter past self.now
+            → result ≡ true → IsLowest number_of (HasDisciplineFault past e) None }
+        ensures same { (past : List Event) (e : Event) → e.thread ≡ thread → e.op ≡ op → MayCome past e
+            → IsStateAfter past self.now → result ≡ true → IsStateAfter (past ++ e ∷ []) self.now }
+    {
+        let Some(last) = self.last else {
+            return false;
+        };
+        if last != thread {
+            return false;
+        }
+        match op {
+            Op::Read(_) => true,
+            Op::Write(_) => true,
+            _ => false,
+        }
+    }
+
     /// The fault of lowest number of an operation by this thread, if it has one.
+    #[inline(always)]
     pub fn fault(&self, thread: u32, op: Op) -> Option<Fault>
         ensures { (past : List Event) (e : Event) → e.thread ≡ thread → e.op ≡ op → IsStateAfter past self.now
             → IsLowest number_of (HasDisciplineFault past e) result }
     {
+        if self.is_plain(thread, op) {
+            return None;
+        }
         if self.is_joined(thread) {
             Some(Fault::AfterJoin)
         } else {
@@ -190,10 +218,23 @@ impl State {
     /// # Errors
     ///
     /// `NoMemory` where a growth is refused. Nothing can be asked then.
+    #[inline(always)]
     pub fn note(&mut self, thread: u32, op: Op) -> Result<(), NoMemory>
         ensures { (past : List Event) (e : Event) → e.thread ≡ thread → e.op ≡ op → length past + 1 < 2 ^ 32 → MayCome past e
             → IsStateAfter past self.old → OnOk result (IsStateAfter (past ++ e ∷ []) self.new) }
     {
+        if self.is_plain(thread, op) {
+            return Ok(());
+        }
+        self.note_other(thread, op)
+    }
+
+    /// Takes note of an event that isn't an access by the thread of the last one.
+    fn note_other(&mut self, thread: u32, op: Op) -> Result<(), NoMemory>
+        ensures { (past : List Event) (e : Event) → e.thread ≡ thread → e.op ≡ op → length past + 1 < 2 ^ 32 → MayCome past e
+            → IsStateAfter past self.old → OnOk result (IsStateAfter (past ++ e ∷ []) self.new) }
+    {
+        self.last = Some(thread);
         put(&mut self.started, thread, true, false)?;
         match op {
             Op::Acquire(lock) => {
