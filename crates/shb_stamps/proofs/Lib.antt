@@ -9,5 +9,6 @@ pub mod CopiesLemmas
 pub mod Counting
 pub mod StampItems
 pub mod Stamping
+pub mod Accesses
 pub mod Streams
 pub mod StreamSteps

@@ -316,12 +316,23 @@ module _ (trace : List Event) (disciplined : IsDisciplined trace) where
     own_row : IsRowFor trace rows stamp.thread (IsKnown trace stamp.thread (n + 1)) stamp.row
     own_row = row_same trace rows stamp.thread stamp.row (λ k. ShbBelow trace k n) (IsKnown trace stamp.thread (n + 1)) (λ s k of_k ne. (let h = known_latest (n + 1) n stamp.thread own_latest k in (h.1, h.0))) is.row_is
 
+    other_row : (t : ℕ) → t < threads → op_at trace n ≢ Some (Fork t) → t ≢ stamp.thread → IsRowFor trace rows t (IsKnown trace t (n + 1)) (get_or current t 0)
+    other_row t lt no_fork ne = row_same trace rows t (get_or current t 0) (IsKnown trace t n) (IsKnown trace t (n + 1)) (λ s k of_k apart. known_other n t (λ of_t. ne (thread_same trace n t stamp.thread of_t is.of_thread)) no_fork k) (old.each t lt)
+
     row_of_thread : (t : ℕ) → t < threads → op_at trace n ≢ Some (Fork t) → (t ≡ stamp.thread) ⊎ (t ≢ stamp.thread) → IsRowFor trace rows t (IsKnown trace t (n + 1)) (get_or (set current stamp.thread stamp.row) t 0)
     row_of_thread t lt no_fork (inl same) = rw same (rw (get_or-set_same current stamp.thread stamp.row 0 (let many = old.as_many in omega (arith, many, low))) own_row)
-    row_of_thread t lt no_fork (inr ne) = rw (get_or-set_other current stamp.thread t stamp.row 0 ne) (row_same trace rows t (get_or current t 0) (IsKnown trace t n) (IsKnown trace t (n + 1)) (λ s k of_k apart. known_other n t (λ of_t. ne (thread_same trace n t stamp.thread of_t is.of_thread)) no_fork k) (old.each t lt))
+    row_of_thread t lt no_fork (inr ne) = rw (get_or-set_other current stamp.thread t stamp.row 0 ne) (other_row t lt no_fork ne)
 
     pub current_set : ((t : ℕ) → op_at trace n ≢ Some (Fork t)) → AreCurrent trace rows (n + 1) threads (set current stamp.thread stamp.row)
     current_set no_fork = record { as_many = length-set current stamp.thread stamp.row ∙ old.as_many; each = λ t lt. row_of_thread t lt (no_fork t) (cases_eq t stamp.thread) }
+
+    -- where the thread's row is the stamp's already
+    pub current_kept : get_or current stamp.thread 0 ≡ stamp.row → ((t : ℕ) → op_at trace n ≢ Some (Fork t)) → AreCurrent trace rows (n + 1) threads current
+    current_kept own no_fork = record { as_many = old.as_many; each = λ t lt. row_kept t lt (cases_eq t stamp.thread) }
+      where
+        row_kept : (t : ℕ) → t < threads → (t ≡ stamp.thread) ⊎ (t ≢ stamp.thread) → IsRowFor trace rows t (IsKnown trace t (n + 1)) (get_or current t 0)
+        row_kept t lt (inl same) = rw same (rw own own_row)
+        row_kept t lt (inr ne) = other_row t lt (no_fork t) ne
 
     pub current_forked : (more : List (List ℕ)) (child row : ℕ) → op_at trace n ≡ Some (Fork child) → child < threads → AreMore rows more → row < length more → get_or more row [] ≡ set (get_or rows stamp.row []) stamp.thread stamp.time → stamp.thread < length (get_or rows stamp.row []) → AreCurrent trace more (n + 1) threads (set (set current stamp.thread stamp.row) child row)
     current_forked more child row forks below grown in_range row_is wide = record {

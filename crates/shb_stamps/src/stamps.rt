@@ -1,7 +1,7 @@
 //! What a sweep by stamps keeps: rows that never change, and stamps that name them.
 
-ghost use Rattle.std.specs.Prelude.{◌≡◌, ℕ, ◌+◌, ◌<◌, ◌≤◌, ◌^◌, List, [], ◌∷◌, Some, false, IfOk, OnOk, length, replicate, slice_index_or};
-ghost use Rattle.shb_lines.specs.declared.event.Op.TheVariants.{Join};
+ghost use Rattle.std.specs.Prelude.{◌≡◌, ℕ, ◌+◌, ◌<◌, ◌≤◌, ◌^◌, List, [], ◌∷◌, Some, false, true, IfOk, OnOk, length, replicate, slice_index_or};
+ghost use Rattle.shb_lines.specs.declared.event.Op.TheVariants.{Join, Read, Write};
 ghost use Rattle.shb_lines.specs.events.Events.{op_at, thread_at};
 ghost use Rattle.shb_lines.specs.events.Order.{BelowPred, IsBelowPredCount, ShbBelow};
 ghost use Rattle.shb_links.specs.Latest.{ReleasesLock};
@@ -244,6 +244,18 @@ impl Stamps {
         }
     }
 
+    /// The number of the row of what the thread of e, the next event, knows before it, as the threads' table has it.
+    #[inline(always)]
+    fn known_row(&self, linked: &Linked<'_>, e: u32) -> u32
+        requires in_range { e < length linked.now.events.now }
+        requires swept { IsSwept linked.now.events.now e linked.now.sizes self.now }
+        ensures row { (t : ℕ) → thread_at linked.now.events.now e ≡ Some t
+            → IsRowFor linked.now.events.now self.now.rows.rows t (λ k. BelowPred linked.now.events.now k e) result }
+        ensures item { (t : ℕ) → thread_at linked.now.events.now e ≡ Some t → slice_index_or self.now.current.items t 0 ≡ result }
+    {
+        self.current[linked.events.thread(e) as usize]
+    }
+
     /// The number of the row of what the thread of e, the next event, knows before it.
     pub fn row_before(&self, linked: &Linked<'_>, e: u32) -> u32
         requires in_range { e < length linked.now.events.now }
@@ -251,7 +263,7 @@ impl Stamps {
         ensures { (t : ℕ) → thread_at linked.now.events.now e ≡ Some t
             → IsRowFor linked.now.events.now self.now.rows.rows t (λ k. BelowPred linked.now.events.now k e) result }
     {
-        self.current[linked.events.thread(e) as usize]
+        self.known_row(linked, e)
     }
 
     /// The number of events of thread t that are SHB-below the predecessor of e, the next event.
@@ -263,8 +275,64 @@ impl Stamps {
         count_below(linked, &self.rows, self.row_before(linked, e), e, t)
     }
 
-    /// Takes the event e.
+    /// Keeps the stamp of e, which writes this variable. Its thread learns nothing of others.
+    #[inline(always)]
+    fn take_write(&mut self, linked: &Linked<'_>, e: u32, variable: u32)
+        requires in_range { e < length linked.now.events.now }
+        requires writes { op_at linked.now.events.now e ≡ Some (Write variable) }
+        requires swept { IsSwept linked.now.events.now e linked.now.sizes self.old }
+        ensures swept { IsSwept linked.now.events.now (e + 1) linked.now.sizes self.new }
+        ensures more { AreMore self.old.rows.rows self.new.rows.rows }
+    {
+        let row = self.known_row(linked, e);
+        let stamp = Stamp {
+            row,
+            thread: linked.events.thread(e),
+            time: linked.links.local(e),
+        };
+        note_write(linked, e, stamp, &mut self.variables);
+    }
+
+    /// Whether the thread of e, which reads this variable, knows its last write. Nothing changes then.
+    #[inline(always)]
+    fn knows_write(&self, linked: &Linked<'_>, e: u32, variable: u32) -> bool
+        requires in_range { e < length linked.now.events.now }
+        requires reads { op_at linked.now.events.now e ≡ Some (Read variable) }
+        requires swept { IsSwept linked.now.events.now e linked.now.sizes self.now }
+        ensures { result ≡ true → IsSwept linked.now.events.now (e + 1) linked.now.sizes self.now }
+    {
+        let row = self.known_row(linked, e);
+        let thread = linked.events.thread(e);
+        let source = self.variables[variable as usize];
+        source.is_known(thread, self.rows.row(row))
+    }
+
+    /// Takes the event e. An access mostly tells its thread nothing of others.
+    #[inline(always)]
     pub fn take(&mut self, linked: &Linked<'_>, e: u32) -> Result<(), NoMemory>
+        requires in_range { e < length linked.now.events.now }
+        requires swept { IsSwept linked.now.events.now e linked.now.sizes self.old }
+        ensures swept { OnOk result (IsSwept linked.now.events.now (e + 1) linked.now.sizes self.new) }
+        ensures more { OnOk result (AreMore self.old.rows.rows self.new.rows.rows) }
+    {
+        match linked.events.op(e) {
+            Op::Write(variable) => {
+                self.take_write(linked, e, variable);
+                Ok(())
+            }
+            Op::Read(variable) => {
+                if self.knows_write(linked, e, variable) {
+                    return Ok(());
+                }
+                self.take_other(linked, e)
+            }
+            _ => self.take_other(linked, e),
+        }
+    }
+
+    /// Takes the event e, of which its thread may learn something.
+    #[inline(never)]
+    fn take_other(&mut self, linked: &Linked<'_>, e: u32) -> Result<(), NoMemory>
         requires in_range { e < length linked.now.events.now }
         requires swept { IsSwept linked.now.events.now e linked.now.sizes self.old }
         ensures swept { OnOk result (IsSwept linked.now.events.now (e + 1) linked.now.sizes self.new) }
