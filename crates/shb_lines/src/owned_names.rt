@@ -110,6 +110,7 @@ impl OwnedNames {
     }
 
     /// Whether this number is the name's.
+    #[inline(always)]
     fn is_named(&self, number: u32, name: &[u8]) -> bool
         ensures { result ≡ true → slice_get (names_of self.now) number ≡ Some name.now }
     {
