@@ -76,6 +76,7 @@ class Refusals(Refusing):
     def test_memory_for_a_scan(self):
         for given in (LOCKED, racing(5), REFUSED):
             self.refuse_in_turn(["scan"], given)
+            self.refuse_in_turn(["scan", "--variables"], given)
 
     def test_memory_for_a_refused_trace(self):
         self.refuse_in_turn(["races"], REFUSED)

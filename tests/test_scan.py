@@ -12,6 +12,14 @@ import test_long_lists
 import test_traces
 
 
+def scanned_by_variable(counts, places):
+    """The text of a scan by variable with these places, each with its variable before its locations."""
+    lines = [b"shb-scan 1 variables", b"events %d threads %d locks %d variables %d" % counts, b"places %d" % len(places)]
+    for q, (pair, variable, at, other, first, second) in enumerate(places, 1):
+        lines += [b"place %d: %s" % (q, pair), b"on " + variable, b"at " + at, b"and " + other, b"first " + first, b"second " + second]
+    return b"".join(line + b"\n" for line in [*lines, b"end"])
+
+
 def scanned(counts, places):
     """The text of a scan with these places."""
     lines = [b"shb-scan 1", b"events %d threads %d locks %d variables %d" % counts, b"places %d" % len(places)]
@@ -110,6 +118,26 @@ ROWS = [
     NEAREST, CROSSED, ORDERED, EMPTY, RETURNS, NAMES, ORDERS, OTHERS,
 ]
 
+# Two variables race at one place, each with its nearest race; the other form lists the place once.
+TWO = (
+    b"T1|w(x)|a\nT1|w(f(y))|a\nT1|w(x)|a\nT2|w(x)|b\nT2|w(f(y))|b\nT2|w(x)|b\n",
+    scanned((6, 2, 0, 2), [(b"3 4", b"a", b"b", b"T1|w(x)|a", b"T2|w(x)|b")]),
+    scanned_by_variable(
+        (6, 2, 0, 2),
+        [(b"3 4", b"x", b"a", b"b", b"T1|w(x)|a", b"T2|w(x)|b"), (b"2 5", b"f(y)", b"a", b"b", b"T1|w(f(y))|a", b"T2|w(f(y))|b")],
+    ),
+)
+
+# The nearest race of a place and variable isn't nearest of its place: it has a later event of its own.
+LATER = (
+    b"T1|w(x)|a\nT2|w(x)|b\nT1|w(y)|a\nT1|w(y)|a\nT2|w(y)|b\n",
+    scanned((5, 2, 0, 2), [(b"1 2", b"a", b"b", b"T1|w(x)|a", b"T2|w(x)|b")]),
+    scanned_by_variable(
+        (5, 2, 0, 2),
+        [(b"1 2", b"x", b"a", b"b", b"T1|w(x)|a", b"T2|w(x)|b"), (b"4 5", b"y", b"a", b"b", b"T1|w(y)|a", b"T2|w(y)|b")],
+    ),
+)
+
 MADE = 150
 SEED = 67
 READ = 65_536  # bytes of a pipe
@@ -150,6 +178,20 @@ class Scan(program.Case):
             with self.subTest(text):
                 self.assertEqual(scan.scan(text), wanted)
                 self.expect_both(text, 0, wanted)
+
+    def test_worked_rows_by_variable(self):
+        for text, by_place, by_variable in (TWO, LATER):
+            with self.subTest(text):
+                self.assertEqual((scan.scan(text), scan.scan(text, True)), (by_place, by_variable))
+                self.expect_both(text, 0, by_place)
+                self.expect(program.run(["scan", "--variables"], text), 0, by_variable)
+                self.expect(program.run(["scan", "--variables", self.file(text)]), 0, by_variable)
+
+    def test_one_variable_has_the_same_races_in_both_forms(self):
+        for text in (b"", NEAREST[0], ORDERED[0], EMPTY[0], RETURNS[0]):
+            answers = [program.run(words, text).out for words in (["scan"], ["scan", "--variables"])]
+            races = [[line for line in answer.split(b"\n") if not line.startswith((b"shb-scan", b"on "))] for answer in answers]
+            self.assertEqual(*races)
 
     def test_a_pipe_of_single_bytes(self):
         for text, wanted in ROWS:
@@ -204,6 +246,7 @@ class Scan(program.Case):
                     self.expect_both(text, 2, b"", str(refused).encode() + b"\n")
                     continue
                 self.expect_both(text, 0, wanted)
+                self.expect(program.run(["scan", "--variables"], text), 0, scan.scan(text, True))
                 listed = program.run(["places", "--list"], text).out
                 self.assertEqual(sorted(places_in(wanted)), sorted(places_in(listed)))
                 places += len(places_in(wanted))

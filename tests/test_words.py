@@ -65,7 +65,7 @@ class Words(program.Case):
     def test_help_of_scan(self):
         self.expect(program.run(["scan", "--help"]), 0, program.run(["help", "scan"]).out)
         text = program.run(["help", "scan"]).out.decode()
-        for wanted in ("Usage: shb scan [TRACE]", "4294967294 events, 65535 threads", "4096 bytes", "Nothing is written before"):
+        for wanted in ("Usage: shb scan [OPTIONS] [TRACE]", "4294967294 events, 65535 threads", "4096 bytes", "Nothing is written before"):
             self.assertIn(wanted, text)
         self.assertLessEqual(max(map(len, text.splitlines())), 80)
         command, shown = text.split("Example:\n  $ ")[1].split("\n", 1)

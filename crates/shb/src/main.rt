@@ -44,7 +44,10 @@ fn follow<R: Print + Eprint + Input + AllocGlobal + Files + RandomSource + Threa
             let path = trace.as_ref().map(|path| path.as_str());
             follow_report(rt, path, listing, settings)
         }
-        Ok(Plan::Scan { trace }) => follow_scan(rt, trace.as_ref().map(|path| path.as_str())),
+        Ok(Plan::Scan { by_variable, trace }) => {
+            let path = trace.as_ref().map(|path| path.as_str());
+            follow_scan(rt, by_variable, path)
+        }
         Ok(Plan::Check { trace }) => follow_check(rt, trace.as_str()),
         Ok(Plan::Help { text }) => match rt.print(text.as_str()) {
             Ok(()) => 0,

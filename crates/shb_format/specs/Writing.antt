@@ -1,5 +1,5 @@
 -- The texts that a writer puts one after another, and the report that its bytes are the text of.
-use Rattle.std.specs.Prelude.{◌≡◌, ℕ, ◌+◌, ◌≤◌, List, [], ◌++◌, length, map, flat_map, codes, decimal, slice_index_or, Option, Some, unwrap_or, Result, MatchResult}
+use Rattle.std.specs.Prelude.{◌≡◌, ℕ, ◌+◌, ◌≤◌, List, [], ◌++◌, length, map, flat_map, codes, decimal, slice_index_or, Option, None, Some, unwrap_or, Result, MatchResult}
 use Rattle.std.specs.List.{AllByRecursion, range_with_len}
 use Rattle.shb_io.specs.Devices.{AppendsPrefix, HoldsBack}
 use Rattle.shb_lines.specs.text.Text.{IsLineText}
@@ -15,6 +15,11 @@ Puts old new r held held_now bs = MatchResult r (λ _. HoldsBack old new held_no
 -- a label, a text and a line feed
 abbrev pub labelled_line : List ℕ → List ℕ → List ℕ
 labelled_line label text = label ++ (text ++ codes "\n")
+
+-- the line of a variable, where it is told
+abbrev pub variable_text : Option (List ℕ) → List ℕ
+variable_text None = []
+variable_text (Some name) = labelled_line (codes "on ") name
 
 -- the lines of the two events
 abbrev pub event_lines : TraceData → ℕ × ℕ → List ℕ

@@ -5,7 +5,7 @@ use Rattle.std.proofs.lemmas.List.Elements.{All-weaker}
 use Rattle.shb_lines.specs.declared.event.Event.{Event}
 use Rattle.shb_lines.specs.events.Discipline.{IsDisciplined}
 use Rattle.shb_lines.specs.events.Events.{op_at, thread_at, variable_of}
-use Rattle.shb_lines.specs.events.Race.{Race}
+use Rattle.shb_lines.specs.events.Race.{Race, variable_at}
 use Rattle.shb_lines.proofs.events.Longer.{op_longer, race_longer, thread_longer, time_longer}
 use Rattle.shb_nearest.specs.declared.access.FoundAccess.{FoundAccess}
 use Rattle.shb_nearest.specs.declared.access.FoundRace.{FoundRace}
@@ -13,11 +13,12 @@ use Rattle.shb_nearest.specs.declared.access.Spot.{Spot}
 use Rattle.shb_nearest.specs.declared.classes.Class.{Class}
 use Rattle.shb_nearest.specs.declared.groups.Group.{Group}
 use Rattle.shb_nearest.specs.declared.groups.Kept.{Kept}
+use Rattle.shb_nearest.specs.declared.places.Place.{Place}
 use Rattle.shb_nearest.specs.declared.tables.Tables.{Tables}
 use Rattle.shb_nearest.specs.Classes.{IsOfClass}
 use Rattle.shb_nearest.specs.Found.{IsFoundAccess, location_in}
 use Rattle.shb_nearest.specs.Groups.{IsGroup, IsKept, access_of}
-use Rattle.shb_nearest.specs.Places.{IsNearestAt}
+use Rattle.shb_nearest.specs.Places.{IsAtPlace, IsNearestAt}
 use Rattle.shb_nearest.specs.Searched.{AreTables}
 
 spot_longer : (spots more : List Spot) (k : ℕ) → k < length spots → slice_get (spots ++ more) k ≡ slice_get spots k
@@ -64,8 +65,18 @@ module _ (past : List Event) (e : Event) (spots : List Spot) (s : Spot) (as_many
   race_back : (i j : ℕ) → j < length past → Race (past ++ e ∷ []) i j → Race past i j
   race_back i j lt race = (race_longer past (e ∷ []) whole i j lt).0 race
 
-  nearest_longer : (p : ℕ × ℕ) (r : FoundRace) → IsNearestAt past spots (length past) p r → IsNearestAt (past ++ e ∷ []) (spots ++ s ∷ []) (length past) p r
-  nearest_longer p r h = record {
+  same_variable_at : (k : ℕ) → k < length past → variable_at (past ++ e ∷ []) k ≡ variable_at past k
+  same_variable_at k lt = ap (option_and_then variable_of) (same_op_at k lt)
+
+  at_place_back : (by_variable : Bool) (p : Place) (i j : ℕ) → i < j → j < length past → IsAtPlace by_variable (past ++ e ∷ []) (spots ++ s ∷ []) p i j → IsAtPlace by_variable past spots p i j
+  at_place_back by_variable p i j before lt h = record {
+    first_is = sym (same_place i (omega (arith, before, lt))) ∙ h.first_is;
+    second_is = sym (same_place j lt) ∙ h.second_is;
+    variable_is = λ x is. h.variable_is x (same_variable_at j lt ∙ is);
+  }
+
+  nearest_longer : (by_variable : Bool) (p : Place) (r : FoundRace) → IsNearestAt by_variable past spots (length past) p r → IsNearestAt by_variable (past ++ e ∷ []) (spots ++ s ∷ []) (length past) p r
+  nearest_longer by_variable p r h = record {
     accesses = record {
       first_is = access_longer r.variable r.first (let before = h.is_race.earlier in let lt = h.past in omega (arith, before, lt)) h.accesses.first_is;
       second_is = access_longer r.variable r.second h.past h.accesses.second_is;
@@ -73,12 +84,11 @@ module _ (past : List Event) (e : Event) (spots : List Spot) (s : Spot) (as_many
     place_is = h.place_is;
     is_race = (race_longer past (e ∷ []) whole r.first.event r.second.event h.past).1 h.is_race;
     past = h.past;
-    nearest = λ k l lt race at_k at_l. (let own = race_back k l lt race in
-        h.nearest k l lt own (sym (same_place k (let before = own.earlier in omega (arith, before, lt))) ∙ at_k) (sym (same_place l lt) ∙ at_l));
+    nearest = λ k l lt race at. (let own = race_back k l lt race in h.nearest k l lt own (at_place_back by_variable p k l own.earlier lt at));
   }
 
-  pub tables_longer : (tables : Tables) → AreTables past spots (length past) tables → AreTables (past ++ e ∷ []) (spots ++ s ∷ []) (length past) tables
-  tables_longer tables are = record {
+  pub tables_longer : (by_variable : Bool) (tables : Tables) → AreTables by_variable past spots (length past) tables → AreTables by_variable (past ++ e ∷ []) (spots ++ s ∷ []) (length past) tables
+  tables_longer by_variable tables are = record {
     classes = record {
       own = λ c k at. (let h = are.classes.own c k at in (class_longer c k h.1 h.0, h.1));
     };
@@ -90,8 +100,7 @@ module _ (past : List Event) (e : Event) (spots : List Spot) (s : Spot) (as_many
       wide = λ i x lt is. are.groups.wide i x lt (ap (option_and_then variable_of) (sym (same_op_at i lt)) ∙ is);
     };
     places = record {
-      each = λ p r at. nearest_longer p r (are.places.each p r at);
-      known = λ i j l m lt race at_i at_j. (let own = race_back i j lt race in
-          are.places.known i j l m lt own (sym (same_place i (let before = own.earlier in omega (arith, before, lt))) ∙ at_i) (sym (same_place j lt) ∙ at_j));
+      each = λ p r at. nearest_longer by_variable p r (are.places.each p r at);
+      known = λ p i j lt race at. (let own = race_back i j lt race in are.places.known p i j lt own (at_place_back by_variable p i j own.earlier lt at));
     };
   }

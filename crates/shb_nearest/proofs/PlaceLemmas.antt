@@ -1,23 +1,25 @@
 -- The places of the races so far, after an access more.
-use Rattle.std.proofs.Common.{◌≡◌, ℕ, ◌+◌, ◌<◌, ◌≤◌, ◌⊎◌, inl, inr, List, None, Some, arith, refl, sym, ap, subst, ◌∙◌}
+use Rattle.std.proofs.Common.{◌≡◌, ℕ, ◌+◌, ◌<◌, ◌≤◌, ◌⊎◌, inl, inr, Bool, List, None, Some, arith, refl, sym, ap, subst, ◌∙◌}
 use Rattle.std.specs.Prelude.{option_and_then}
 use Rattle.std.proofs.lemmas.Bool.{cases_lt}
 use Rattle.shb_lines.specs.declared.event.Event.{Event}
 use Rattle.shb_lines.specs.events.Discipline.{IsDisciplined}
 use Rattle.shb_lines.specs.events.Events.{op_at, thread_at, variable_of}
 use Rattle.shb_lines.specs.events.Order.{BelowPred, ShbBelow, here, step}
-use Rattle.shb_lines.specs.events.Race.{Race}
+use Rattle.shb_lines.specs.events.Race.{Race, variable_at}
 use Rattle.shb_lines.proofs.events.Schedulable.{below_pred_closed, thread_below_pred}
 use Rattle.shb_stamps.proofs.Sources.{strictly_below_below}
 use Rattle.shb_nearest.specs.declared.access.FoundAccess.{FoundAccess}
 use Rattle.shb_nearest.specs.declared.access.FoundRace.{FoundRace}
 use Rattle.shb_nearest.specs.declared.access.Spot.{Spot}
+use Rattle.shb_nearest.specs.declared.places.Place.{Place}
 use Rattle.shb_nearest.specs.Found.{IsFoundAccess, location_in}
 use Rattle.shb_nearest.specs.Groups.{IsSince}
-use Rattle.shb_nearest.specs.Places.{ArePlaces, IsNearestAt, PlaceEntry, offered_all, place_of, race_at, race_with}
+use Rattle.shb_nearest.specs.Places.{ArePlaces, IsAtPlace, IsNearestAt, PlaceEntry, offered_all, place_of, race_at, race_with, variable_part}
 use Rattle.shb_nearest.specs.Rivals.{AreRivals}
 use Rattle.shb_nearest.proofs.ClassLemmas.{location_of_access}
-use Rattle.shb_nearest.proofs.PlaceTable.{AreOffered, IsCome, offered_are}
+use Rattle.shb_nearest.proofs.PlaceTable.{AreOffered, IsCome, offered_are, place_with}
+use Rattle.shb_nearest.proofs.RivalLemmas.{variable_is}
 
 below_pred_path : (trace : List Event) (a b e : ℕ) → ShbBelow trace a b → BelowPred trace b e → BelowPred trace a e
 below_pred_path trace a b e here below = below
@@ -39,39 +41,60 @@ raced_before trace disciplined i before j t race of_before of_j op low high =
       unordered = λ below. race.unordered (below_pred_path trace i before j (strictly_below_below trace disciplined i before (inl below)) (thread_below_pred trace t before j high of_before of_j));
     }
 
-module _ (trace : List Event) (disciplined : IsDisciplined trace) (spots : List Spot) (x n : ℕ) (access : FoundAccess) (at_n : access.event ≡ n) (own : IsFoundAccess trace spots x access) (since : ℕ) (is_since : IsSince trace spots x access since)
-    (rivals : List FoundAccess) (rivals_are : AreRivals trace spots x access since rivals) (old : List PlaceEntry) (are : ArePlaces trace spots n old) where
-  come : AreOffered old x access rivals (offered_all x access old rivals)
-  come = offered_are old x access (λ p r at. (let past = (are.each p r at).past in omega (arith, past, at_n))) rivals
+module _ (by_variable : Bool) (trace : List Event) (disciplined : IsDisciplined trace) (spots : List Spot) (x n : ℕ) (access : FoundAccess) (at_n : access.event ≡ n) (own : IsFoundAccess trace spots x access) (since : ℕ) (is_since : IsSince trace spots x access since)
+    (rivals : List FoundAccess) (rivals_are : AreRivals trace spots x access since rivals) (old : List PlaceEntry) (are : ArePlaces by_variable trace spots n old) where
+  come : AreOffered by_variable old x access rivals (offered_all by_variable x access old rivals)
+  come = offered_are by_variable old x access (λ p r at. (let past = (are.each p r at).past in omega (arith, past, at_n))) rivals
 
   own_place : location_in spots access.event ≡ Some access.spot.location
   own_place = location_of_access trace spots x access own
 
+  own_variable : (y : ℕ) → variable_at trace access.event ≡ Some y → x ≡ y
+  own_variable y is = (let s : Some x ≡ Some y = sym (variable_is trace spots x access own) ∙ is in cc)
+
+  -- the place of a race with the access, by the location of its earlier event
+  abbrev place_from : ℕ → Place
+  place_from l = place_with l access.spot.location (variable_part by_variable x)
+
+  at_place_from : (k i l : ℕ) → location_in spots i ≡ Some l → location_in spots k ≡ Some access.spot.location → variable_at trace k ≡ Some x → IsAtPlace by_variable trace spots (place_from l) i k
+  at_place_from k i l at_i at_k var = record {
+    first_is = at_i;
+    second_is = at_k;
+    variable_is = λ y is. (let same : y ≡ x = (let s : Some y ≡ Some x = sym is ∙ var in cc) in ap (variable_part by_variable) same);
+  }
+
+  -- a pair with the access is at the place of the location of its first event
+  from_location : (p : Place) (i : ℕ) → IsAtPlace by_variable trace spots p i access.event → place_from p.first ≡ p
+  from_location p i at =
+      let m : access.spot.location ≡ p.second = (let s : Some access.spot.location ≡ Some p.second = sym own_place ∙ at.second_is in cc) in
+      let v = at.variable_is x (variable_is trace spots x access own) in
+      λ j. place_with p.first (m j) (v j)
+
   -- a race with an access before `since` has a place that is known
-  early_known : (i l : ℕ) → Race trace i access.event → location_in spots i ≡ Some l → i < since → (race : FoundRace) × (race_at old (l, access.spot.location) ≡ Some race)
+  early_known : (i l : ℕ) → Race trace i access.event → location_in spots i ≡ Some l → i < since → (race : FoundRace) × (race_at old (place_from l) ≡ Some race)
   early_known i l race at low = elim is_since [
     | inl none ↦ absurd (omega (arith, none, low))
     | inr class ↦ (
         let lt = class.1 in
-        are.known i since l access.spot.location (omega (arith, lt, at_n))
-        (raced_before trace disciplined i since access.event access.thread race class.0.thread_is own.thread_is (class.0.op_is ∙ sym own.op_is) low lt)
-        at class.0.location_is)
+        let before = raced_before trace disciplined i since access.event access.thread race class.0.thread_is own.thread_is (class.0.op_is ∙ sym own.op_is) low lt in
+        are.known (place_from l) i since (omega (arith, lt, at_n)) before
+        (at_place_from since i l at class.0.location_is (ap (option_and_then variable_of) (class.0.op_is ∙ sym own.op_is) ∙ variable_is trace spots x access own)))
   ]
 
-  old_nearest : (p : ℕ × ℕ) (r : FoundRace) → IsNearestAt trace spots n p r → IsNearestAt trace spots (n + 1) p r
+  old_nearest : (p : Place) (r : FoundRace) → IsNearestAt by_variable trace spots n p r → IsNearestAt by_variable trace spots (n + 1) p r
   old_nearest p r h = record {
     accesses = h.accesses;
     place_is = h.place_is;
     is_race = h.is_race;
     past = (let lt = h.past in omega (arith, lt));
-    nearest = λ k l within race at_k at_l. elim (cases_lt l n) [
-      | inl low ↦ h.nearest k l low race at_k at_l
+    nearest = λ k l within race at. elim (cases_lt l n) [
+      | inl low ↦ h.nearest k l low race at
       | inr high ↦ inl (let lt = h.past in omega (arith, lt, high))
     ];
   }
 
-  new_nearest : (p : ℕ × ℕ) (r : FoundRace) → IsCome old x access rivals p r → IsNearestAt trace spots (n + 1) p r
-  new_nearest p r h = subst (λ (q : ℕ × ℕ). IsNearestAt trace spots (n + 1) q r) (sym h.place_is) (subst (λ (s : FoundRace). IsNearestAt trace spots (n + 1) (place_of (race_with x access h.first)) s) (sym h.race_is) (record {
+  new_nearest : (p : Place) (r : FoundRace) → IsCome by_variable old x access rivals p r → IsNearestAt by_variable trace spots (n + 1) p r
+  new_nearest p r h = subst (λ (q : Place). IsNearestAt by_variable trace spots (n + 1) q r) (sym h.place_is) (subst (λ (s : FoundRace). IsNearestAt by_variable trace spots (n + 1) (place_of by_variable (race_with x access h.first)) s) (sym h.race_is) (record {
     accesses = record { first_is = rival.0; second_is = own };
     place_is = refl;
     is_race = rival.1;
@@ -82,10 +105,10 @@ module _ (trace : List Event) (disciplined : IsDisciplined trace) (spots : List 
       rival : IsFoundAccess trace spots x h.first × Race trace h.first.event access.event
       rival = rivals_are.races h.first h.among
 
-      unknown : race_at old (h.first.spot.location, access.spot.location) ≡ None
-      unknown = subst (λ (q : ℕ × ℕ). race_at old q ≡ None) h.place_is h.unknown
+      unknown : race_at old (place_from h.first.spot.location) ≡ None
+      unknown = subst (λ (q : Place). race_at old q ≡ None) h.place_is h.unknown
 
-      never : (race : FoundRace) × (race_at old (h.first.spot.location, access.spot.location) ≡ Some race) → ⊥
+      never : (race : FoundRace) × (race_at old (place_from h.first.spot.location) ≡ Some race) → ⊥
       never known = let a = known.1 in (let f : ⊥ = cc in f)
 
       last : (k : ℕ) → Race trace k access.event → location_in spots k ≡ Some h.first.spot.location → k ≤ h.first.event
@@ -98,13 +121,13 @@ module _ (trace : List Event) (disciplined : IsDisciplined trace) (spots : List 
             omega (arith, le, more))
       ]
 
-      nearest : (k l : ℕ) → l < n + 1 → Race trace k l → location_in spots k ≡ Some h.first.spot.location → location_in spots l ≡ Some access.spot.location → (access.event < l) ⊎ ((access.event ≡ l) × (k ≤ h.first.event))
-      nearest k l within race at_k at_l = elim (cases_lt l n) [
-        | inl low ↦ absurd (never (are.known k l h.first.spot.location access.spot.location low race at_k at_l))
-        | inr high ↦ (let same : access.event ≡ l = omega (arith, at_n, high, within) in inr (same, last k (subst (λ (m : ℕ). Race trace k m) (sym same) race) at_k))
+      nearest : (k l : ℕ) → l < n + 1 → Race trace k l → IsAtPlace by_variable trace spots (place_from h.first.spot.location) k l → (access.event < l) ⊎ ((access.event ≡ l) × (k ≤ h.first.event))
+      nearest k l within race at = elim (cases_lt l n) [
+        | inl low ↦ absurd (never (are.known (place_from h.first.spot.location) k l low race at))
+        | inr high ↦ (let same : access.event ≡ l = omega (arith, at_n, high, within) in inr (same, last k (subst (λ (m : ℕ). Race trace k m) (sym same) race) at.first_is))
       ]
 
-  pub placed : ArePlaces trace spots (n + 1) (offered_all x access old rivals)
+  pub placed : ArePlaces by_variable trace spots (n + 1) (offered_all by_variable x access old rivals)
   placed = record {
     each = λ p r at. elim (come.from p r at) [
       | inl in_old ↦ old_nearest p r (are.each p r in_old)
@@ -113,23 +136,24 @@ module _ (trace : List Event) (disciplined : IsDisciplined trace) (spots : List 
     known = known;
   }
     where
-      stays : (l m : ℕ) → (race : FoundRace) × (race_at old (l, m) ≡ Some race) → (race : FoundRace) × (race_at (offered_all x access old rivals) (l, m) ≡ Some race)
-      stays l m h = (h.0, come.stay (l, m) h.0 h.1)
+      stays : (p : Place) → (race : FoundRace) × (race_at old p ≡ Some race) → (race : FoundRace) × (race_at (offered_all by_variable x access old rivals) p ≡ Some race)
+      stays p h = (h.0, come.stay p h.0 h.1)
 
-      here_known : (i l : ℕ) → Race trace i access.event → location_in spots i ≡ Some l → (race : FoundRace) × (race_at (offered_all x access old rivals) (l, access.spot.location) ≡ Some race)
+      here_known : (i l : ℕ) → Race trace i access.event → location_in spots i ≡ Some l → (race : FoundRace) × (race_at (offered_all by_variable x access old rivals) (place_from l) ≡ Some race)
       here_known i l race at = elim (cases_lt i since) [
-        | inl low ↦ stays l access.spot.location (early_known i l race at low)
+        | inl low ↦ stays (place_from l) (early_known i l race at low)
         | inr high ↦ (
             let a = rivals_are.each i l race at high in
             let k = come.known a.0 a.1 in
-            (k.0, subst (λ (m : ℕ). race_at (offered_all x access old rivals) (m, access.spot.location) ≡ Some k.0) a.2 k.1))
+            (k.0, subst (λ (m : ℕ). race_at (offered_all by_variable x access old rivals) (place_from m) ≡ Some k.0) a.2 k.1))
       ]
 
-      known : (i j l m : ℕ) → j < n + 1 → Race trace i j → location_in spots i ≡ Some l → location_in spots j ≡ Some m → (race : FoundRace) × (race_at (offered_all x access old rivals) (l, m) ≡ Some race)
-      known i j l m within race at_i at_j = elim (cases_lt j n) [
-        | inl low ↦ stays l m (are.known i j l m low race at_i at_j)
+      known : (p : Place) (i j : ℕ) → j < n + 1 → Race trace i j → IsAtPlace by_variable trace spots p i j → (race : FoundRace) × (race_at (offered_all by_variable x access old rivals) p ≡ Some race)
+      known p i j within race at = elim (cases_lt j n) [
+        | inl low ↦ stays p (are.known p i j low race at)
         | inr high ↦ (
             let same : access.event ≡ j = omega (arith, at_n, high, within) in
-            let own_m : access.spot.location ≡ m = (let s : Some access.spot.location ≡ Some m = sym own_place ∙ subst (λ (k : ℕ). location_in spots k ≡ Some m) (sym same) at_j in cc) in
-            subst (λ (k : ℕ). (r : FoundRace) × (race_at (offered_all x access old rivals) (l, k) ≡ Some r)) own_m (here_known i l (subst (λ (k : ℕ). Race trace i k) (sym same) race) at_i))
+            let here = subst (λ (k : ℕ). IsAtPlace by_variable trace spots p i k) (sym same) at in
+            subst (λ (q : Place). (r : FoundRace) × (race_at (offered_all by_variable x access old rivals) q ≡ Some r)) (from_location p i here)
+            (here_known i p.first (subst (λ (k : ℕ). Race trace i k) (sym same) race) here.first_is))
       ]

@@ -125,8 +125,8 @@ module _ (trace : List Event) (spots : List Spot) where
         only y is = (let s : Some y ≡ Some x = sym is ∙ subst (λ (m : ℕ). variable_at trace m ≡ Some x) at_n (variable_is trace spots x access found) in cc)
 
     -- an event that is no access
-    pub tables_skip : (tables : Tables) (op : Op) → op_at trace n ≡ Some op → variable_of op ≡ None → AreTables trace spots n tables → AreTables trace spots (n + 1) tables
-    tables_skip tables op is none are = record {
+    pub tables_skip : (by_variable : Bool) (tables : Tables) (op : Op) → op_at trace n ≡ Some op → variable_of op ≡ None → AreTables by_variable trace spots n tables → AreTables by_variable trace spots (n + 1) tables
+    tables_skip by_variable tables op is none are = record {
       classes = record {
         own = λ c k at. (let h = are.classes.own c k at in (h.0, (let lt = h.1 in omega (arith, lt))));
       };
@@ -143,13 +143,13 @@ module _ (trace : List Event) (spots : List Spot) where
           place_is = h.place_is;
           is_race = h.is_race;
           past = (let lt = h.past in omega (arith, lt));
-          nearest = λ k l lt race at_k at_l. elim (cases_lt l n) [
-            | inl low ↦ h.nearest k l low race at_k at_l
+          nearest = λ k l lt race at. elim (cases_lt l n) [
+            | inl low ↦ h.nearest k l low race at
             | inr high ↦ absurd (never k l lt high race)
           ];
         });
-        known = λ i j l m lt race at_i at_j. elim (cases_lt j n) [
-          | inl low ↦ are.places.known i j l m low race at_i at_j
+        known = λ p i j lt race at. elim (cases_lt j n) [
+          | inl low ↦ are.places.known p i j low race at
           | inr high ↦ absurd (never i j lt high race)
         ];
       };

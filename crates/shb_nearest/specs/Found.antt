@@ -1,9 +1,10 @@
 -- Accesses and races that are found in a stream.
-use Rattle.std.specs.Prelude.{◌≡◌, ℕ, Bool, true, false, List, Option, Some, option_and_then, slice_get}
+use Rattle.std.specs.Prelude.{◌≡◌, ℕ, Bool, true, false, List, Option, None, Some, option_and_then, slice_get, if◌then◌else◌}
 use Rattle.shb_lines.specs.declared.event.Event.{Event}
 use Rattle.shb_lines.specs.declared.event.Op.{Op}
 use Rattle.shb_lines.specs.declared.event.Op.TheVariants.{Read, Write}
 use Rattle.shb_lines.specs.events.Events.{thread_at, op_at}
+use Rattle.shb_lines.specs.events.Race.{variable_at}
 use Rattle.shb_nearest.specs.declared.access.Spot.{Spot}
 use Rattle.shb_nearest.specs.declared.access.FoundAccess.{FoundAccess}
 use Rattle.shb_nearest.specs.declared.access.FoundRace.{FoundRace}
@@ -11,6 +12,10 @@ use Rattle.shb_nearest.specs.declared.access.FoundRace.{FoundRace}
 -- the location of the event at a position, by its number
 abbrev pub location_in : List Spot → ℕ → Option ℕ
 location_in spots k = option_and_then (λ (s : Spot). Some s.location) (slice_get spots k)
+
+-- what tells places apart: the location of an event, by its number, and where it is asked for its variable
+abbrev pub site_in : Bool → List Event → List Spot → ℕ → Option ℕ × Option ℕ
+site_in by_variable trace spots k = (location_in spots k, if by_variable then variable_at trace k else None)
 
 -- an access of a variable, which writes or reads
 abbrev pub access_op : Bool → ℕ → Op

@@ -1,5 +1,5 @@
 -- What a search has taken of a stream.
-use Rattle.std.specs.Prelude.{◌≡◌, ◌++◌, ◌∷◌, [], ◌+◌, ◌<◌, ◌^◌, ℕ, List, Some, All, length, map, slice_get}
+use Rattle.std.specs.Prelude.{◌≡◌, ◌++◌, ◌∷◌, [], ◌+◌, ◌<◌, ◌^◌, ℕ, Bool, List, Some, All, length, map, slice_get}
 use Rattle.shb_lines.specs.declared.event.Event.{Event}
 use Rattle.shb_lines.specs.declared.numbering.Step.{Step}
 use Rattle.shb_lines.specs.events.Discipline.{IsDisciplined}
@@ -7,7 +7,7 @@ use Rattle.shb_lines.specs.events.Race.{variable_at}
 use Rattle.shb_stamps.specs.StreamClocks.{IsStreamed}
 use Rattle.shb_stamps.specs.declared.stream_clocks.StreamClocks.{StreamClocks}
 use Rattle.shb_nearest.specs.Classes.{AreClasses}
-use Rattle.shb_nearest.specs.Found.{IsFoundRace, ends_of, location_in}
+use Rattle.shb_nearest.specs.Found.{IsFoundRace, ends_of, site_in}
 use Rattle.shb_nearest.specs.Groups.{AreGroups}
 use Rattle.shb_nearest.specs.Nearest.{AreNearest}
 use Rattle.shb_nearest.specs.Places.{ArePlaces}
@@ -27,10 +27,10 @@ pub record AreAllGroups (trace : List Event) (spots : List Spot) (n : ℕ) (all 
   pub wide : (i x : ℕ) → i < n → variable_at trace i ≡ Some x → x < length all
 
 -- the tables are those of the accesses before n
-pub record AreTables (trace : List Event) (spots : List Spot) (n : ℕ) (tables : Tables) : Type 0 where
+pub record AreTables (by_variable : Bool) (trace : List Event) (spots : List Spot) (n : ℕ) (tables : Tables) : Type 0 where
   pub classes : AreClasses trace spots n tables.classes.newest.entries
   pub groups : AreAllGroups trace spots n tables.groups.items
-  pub places : ArePlaces trace spots n tables.places.races.entries
+  pub places : ArePlaces by_variable trace spots n tables.places.races.entries
 
 -- the event is the next one of a stream, with its step, its number and its spot
 pub record IsNextEvent (past : List Event) (e : Event) (spots : List Spot) (clocks : StreamClocks) (step : Step) (event : ℕ) (spot : Spot) : Type 0 where
@@ -42,14 +42,14 @@ pub record IsNextEvent (past : List Event) (e : Event) (spots : List Spot) (cloc
   pub same_op : e.op ≡ step.op
   pub spot_is : slice_get spots event ≡ Some spot
 
--- the search has taken these events, with their spots
+-- the search has taken these events, with their spots, and tells places apart as it was asked to
 pub record HasSearched (past : List Event) (spots : List Spot) (search : NearestRaces) : Type 0 where
   pub clocks : IsStreamed past search.clocks
   pub events_are : search.events ≡ length past
   pub as_many : length spots ≡ length past
-  pub tables : AreTables past spots (length past) search.tables
+  pub tables : AreTables search.by_variable past spots (length past) search.tables
 
 -- the nearest race of each place, in order, and what is known of its accesses
-pub record AreNearestRaces (past : List Event) (spots : List Spot) (races : List FoundRace) : Type 0 where
-  pub nearest : AreNearest past (location_in spots) (map ends_of races)
+pub record AreNearestRaces (by_variable : Bool) (past : List Event) (spots : List Spot) (races : List FoundRace) : Type 0 where
+  pub nearest : AreNearest past (site_in by_variable past spots) (map ends_of races)
   pub accesses : All (IsFoundRace past spots) races

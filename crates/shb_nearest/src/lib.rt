@@ -1,6 +1,6 @@
 //! The nearest race of each place of a stream, event by event, with no list of events.
 //!
-//! A place is an ordered pair of locations. Its nearest race is that whose later event is the least that has a race at
+//! A place is an ordered pair of locations, or, where that is asked for, such a pair and a variable. Its nearest race is that whose later event is the least that has a race at
 //! the place, and whose earlier event is the greatest with which that one races there (`specs/Nearest.antt`).
 //!
 //! A *class* is the accesses of a variable at one location by one thread, all writes or all reads. A *group* is the

@@ -3,7 +3,7 @@
 ghost use Rattle.std.specs.Prelude.{◌≡◌, [], IfOk, OnOk, map};
 ghost use Rattle.std.specs.List.{IsDistinct};
 ghost use Rattle.std.specs.Map.{keys_of, lookup};
-ghost use Rattle.shb_nearest.specs.Places.{is_nearer, offered, offered_all, same_place};
+ghost use Rattle.shb_nearest.specs.Places.{is_nearer, offered, offered_all, place_of, same_place};
 
 use crate::access::{FoundAccess, FoundRace};
 use indexmap::IndexMap;
@@ -12,10 +12,30 @@ use shb_lines::HashKeys;
 use std::alloc::Global;
 use std::random::RandomSource;
 
-/// Of each place that is known its race, by the numbers of the place's two locations. The table is hashed under two
-/// random keys.
+/// What the races of a place have in common.
+#[derive(Clone, Copy, PartialEq, Eq, Hash)]
+pub struct Place {
+    /// The location of the earlier access, and that of the later one.
+    pub first: u32,
+    pub second: u32,
+    /// The variable, or 0 where variables tell no places apart.
+    pub variable: u32,
+}
+
+/// Of each place that is known its race. The table is hashed under two random keys.
 pub struct Places {
-    pub races: IndexMap<(u32, u32), FoundRace, HashKeys>,
+    pub races: IndexMap<Place, FoundRace, HashKeys>,
+}
+
+/// The place of a race.
+fn place_of(by_variable: bool, race: FoundRace) -> Place
+    ensures { result ≡ place_of by_variable race }
+{
+    Place {
+        first: race.first.spot.location,
+        second: race.second.spot.location,
+        variable: if by_variable { race.variable } else { 0 },
+    }
 }
 
 // By hand: a derived one stands in each function that drops it, with a step for each part of the table.
@@ -41,7 +61,7 @@ impl Places {
 
     /// Whether a race is nearer than what is known of its place: the place isn't known, or by a race with the same later
     /// access and a lesser earlier one.
-    fn is_nearer(&self, place: (u32, u32), race: FoundRace) -> bool
+    fn is_nearer(&self, place: Place, race: FoundRace) -> bool
         ensures { result ≡ is_nearer (lookup (same_place place) self.now.races.entries) race }
     {
         match self.races.get(&place) {
@@ -57,10 +77,10 @@ impl Places {
     /// # Errors
     ///
     /// `NoMemory` where a growth was refused.
-    fn offer(&mut self, race: FoundRace) -> Result<(), NoMemory>
-        ensures { OnOk result (self.new.races.entries ≡ offered self.old.races.entries race) }
+    fn offer(&mut self, by_variable: bool, race: FoundRace) -> Result<(), NoMemory>
+        ensures { OnOk result (self.new.races.entries ≡ offered by_variable self.old.races.entries race) }
     {
-        let place = (race.first.spot.location, race.second.spot.location);
+        let place = place_of(by_variable, race);
         let nearer = self.is_nearer(place, race);
         if !nearer {
             return Ok(());
@@ -77,18 +97,22 @@ impl Places {
     /// `NoMemory` where a growth was refused.
     pub fn offer_all(
         &mut self,
+        by_variable: bool,
         variable: u32,
         second: FoundAccess,
         rivals: &[FoundAccess],
     ) -> Result<(), NoMemory>
-        ensures { OnOk result (self.new.races.entries ≡ offered_all variable second self.old.races.entries rivals.now) }
+        ensures { OnOk result (self.new.races.entries ≡ offered_all by_variable variable second self.old.races.entries rivals.now) }
     {
         for first in rivals {
-            self.offer(FoundRace {
-                variable,
-                first: *first,
-                second,
-            })?;
+            self.offer(
+                by_variable,
+                FoundRace {
+                    variable,
+                    first: *first,
+                    second,
+                },
+            )?;
         }
         Ok(())
     }

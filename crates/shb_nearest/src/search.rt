@@ -21,6 +21,8 @@ pub struct NearestRaces {
     clocks: StreamClocks,
     /// How many events were taken.
     events: u32,
+    /// Whether places are told apart by their variable too.
+    by_variable: bool,
     tables: Tables,
 }
 
@@ -29,12 +31,13 @@ fn take_event(
     tables: &mut Tables,
     alloc: Global,
     clocks: &StreamClocks,
+    by_variable: bool,
     step: Step,
     event: u32,
     spot: Spot,
 ) -> Result<(), NoMemory>
     ensures { (past : List Event) (e : Event) (spots : List SpotData) → IsNextEvent past e spots clocks.now step event spot
-        → AreTables (past ++ e ∷ []) spots event tables.old → OnOk result (AreTables (past ++ e ∷ []) spots (event + 1) tables.new) }
+        → AreTables by_variable (past ++ e ∷ []) spots event tables.old → OnOk result (AreTables by_variable (past ++ e ∷ []) spots (event + 1) tables.new) }
 {
     match step.op.variable() {
         Some(variable) => {
@@ -44,7 +47,7 @@ fn take_event(
                 writes: step.op.is_write(),
                 spot,
             };
-            tables.take(alloc, clocks, variable, access)?;
+            tables.take(alloc, clocks, by_variable, variable, access)?;
             Ok(())
         }
         None => Ok(()),
@@ -61,19 +64,25 @@ fn in_order(races: Vec<FoundRace>) -> Vec<FoundRace>
 }
 
 impl NearestRaces {
-    /// What is known before the first event.
+    /// What is known before the first event. A place is two locations; with `by_variable`, and a variable.
     ///
     /// # Errors
     ///
     /// `NoMemory` where memory was refused, or where there were no random numbers for the tables.
-    pub fn new<R: RandomSource>(rt: &R, alloc: Global) -> Result<NearestRaces, NoMemory>
-        ensures { IfOk result (HasSearched [] []) }
+    pub fn new<R: RandomSource>(
+        rt: &R,
+        alloc: Global,
+        by_variable: bool,
+    ) -> Result<NearestRaces, NoMemory>
+        ensures searched { IfOk result (HasSearched [] []) }
+        ensures form { IfOk result (λ search. search.by_variable ≡ by_variable) }
     {
         let clocks = StreamClocks::new(alloc)?;
         let tables = Tables::new(rt, alloc)?;
         Ok(NearestRaces {
             clocks,
             events: 0,
+            by_variable,
             tables,
         })
     }
@@ -84,7 +93,8 @@ impl NearestRaces {
     ///
     /// `NoMemory` where a growth was refused. Nothing can be asked then.
     pub fn take(&mut self, alloc: Global, step: Step, spot: Spot) -> Result<(), NoMemory>
-        ensures { (past : List Event) (spots : List SpotData) (e : Event) → e.thread ≡ step.thread → e.op ≡ step.op → HasRoom past
+        ensures form { self.new.by_variable ≡ self.old.by_variable }
+        ensures searched { (past : List Event) (spots : List SpotData) (e : Event) → e.thread ≡ step.thread → e.op ≡ step.op → HasRoom past
             → IsDisciplined (past ++ e ∷ []) → HasSearched past spots self.old
             → OnOk result (HasSearched (past ++ e ∷ []) (spots ++ spot ∷ []) self.new) }
     {
@@ -92,6 +102,7 @@ impl NearestRaces {
             &mut self.tables,
             alloc,
             &self.clocks,
+            self.by_variable,
             step,
             self.events,
             spot,
@@ -109,7 +120,7 @@ impl NearestRaces {
     /// `NoMemory` where memory was refused.
     pub fn races(&self, alloc: Global) -> Result<Vec<FoundRace>, NoMemory>
         ensures { (past : List Event) (spots : List SpotData) → HasSearched past spots self.now
-            → IfOk result (λ races. AreNearestRaces past spots races.items) }
+            → IfOk result (λ races. AreNearestRaces self.now.by_variable past spots races.items) }
     {
         self.tables.places.are_different();
         let races = self.tables.places.to_races(alloc)?;

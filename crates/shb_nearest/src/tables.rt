@@ -1,6 +1,6 @@
 //! What is known of the accesses of a stream: classes, groups and places.
 
-ghost use Rattle.std.specs.Prelude.{◌+◌, ◌++◌, ◌∷◌, [], List, IfOk, OnOk};
+ghost use Rattle.std.specs.Prelude.{◌+◌, ◌++◌, ◌∷◌, [], Bool, List, IfOk, OnOk};
 ghost use Rattle.shb_lines.specs.declared.event.Event.{Event};
 ghost use Rattle.shb_nearest.specs.Rivals.{IsNextAccess};
 ghost use Rattle.shb_nearest.specs.Searched.{AreTables, HasRoom};
@@ -44,7 +44,7 @@ impl Tables {
     ///
     /// `NoMemory` where memory was refused, or where there were no random numbers for the tables.
     pub fn new<R: RandomSource>(rt: &R, alloc: Global) -> Result<Tables, NoMemory>
-        ensures { (trace : List Event) (spots : List SpotData) → IfOk result (AreTables trace spots 0) }
+        ensures { (by_variable : Bool) (trace : List Event) (spots : List SpotData) → IfOk result (AreTables by_variable trace spots 0) }
     {
         let classes = Classes::new(rt, alloc)?;
         let places = Places::new(rt, alloc)?;
@@ -55,7 +55,7 @@ impl Tables {
         })
     }
 
-    /// Takes an access of a variable, the next event of the stream.
+    /// Takes an access of a variable, the next event of the stream. Places are told apart by their variable too, or aren't.
     ///
     /// # Errors
     ///
@@ -64,11 +64,12 @@ impl Tables {
         &mut self,
         alloc: Global,
         clocks: &StreamClocks,
+        by_variable: bool,
         variable: u32,
         access: FoundAccess,
     ) -> Result<(), NoMemory>
         ensures { (past : List Event) (e : Event) (spots : List SpotData) → HasRoom past → IsNextAccess past e spots variable clocks.now access
-            → AreTables (past ++ e ∷ []) spots access.event self.old → OnOk result (AreTables (past ++ e ∷ []) spots (access.event + 1) self.new) }
+            → AreTables by_variable (past ++ e ∷ []) spots access.event self.old → OnOk result (AreTables by_variable (past ++ e ∷ []) spots (access.event + 1) self.new) }
     {
         make_space(&mut self.groups, alloc, variable)?;
         let groups = &mut self.groups[variable as usize];
@@ -78,7 +79,8 @@ impl Tables {
             .below_next(access.thread, access.thread)
             .saturating_add(1);
         groups.note(alloc, &self.classes, variable, access, time)?;
-        self.places.offer_all(variable, access, &rivals)?;
+        self.places
+            .offer_all(by_variable, variable, access, &rivals)?;
         Ok(())
     }
 }

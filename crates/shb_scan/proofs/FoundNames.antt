@@ -16,13 +16,13 @@ use Rattle.shb_lines.proofs.text.AccessLines.{GivesEvent, gives_event}
 use Rattle.shb_lines.proofs.text.NamedLines.{location_from_after, made_of_its_names}
 use Rattle.shb_format.specs.Places.{location_at}
 use Rattle.shb_format.specs.Report.{line_of_event}
-use Rattle.shb_format.specs.ScanText.{ShownEvent, access_kind, shown_event}
+use Rattle.shb_format.specs.ScanText.{ShownEvent, access_kind, shown_event, told_variable}
 use Rattle.shb_nearest.specs.Found.{IsFoundAccess, IsFoundRace, access_op}
 use Rattle.shb_nearest.specs.declared.access.FoundAccess.{FoundAccess}
 use Rattle.shb_nearest.specs.declared.access.FoundRace.{FoundRace}
 use Rattle.shb_nearest.specs.declared.access.Spot.{Spot}
 use Rattle.shb_scan.specs.declared.writing.ScanNames.{ScanNames}
-use Rattle.shb_scan.specs.FoundNames.{AreSpots, HasNames, HasRaceNames, IsMadeOf, IsRaceMadeOf, location_if}
+use Rattle.shb_scan.specs.FoundNames.{AreSpots, HasNames, HasRaceNames, IsMadeOf, IsRaceMadeOf, text_if}
 
 -- numbers of names that a line is made of have names
 pub has_names : (names : ScanNames) (trace : TraceData) (x : ℕ) (access : FoundAccess) → IsMadeOf names trace x access → HasNames names x access
@@ -42,9 +42,9 @@ no_mark true = refl
 no_mark false = refl
 
 -- the location after a second bar, by whether there is one
-after_is : (any barred : Bool) (location : List ℕ) → barred ≡ is_some (cond any (Some location) None) → cond any (Some location) None ≡ location_if barred location
-after_is true barred location is = ap (λ b. location_if b location) (sym is)
-after_is false barred location is = ap (λ b. location_if b location) (sym is)
+after_is : (any barred : Bool) (location : List ℕ) → barred ≡ is_some (cond any (Some location) None) → cond any (Some location) None ≡ text_if barred location
+after_is true barred location is = ap (λ b. text_if b location) (sym is)
+after_is false barred location is = ap (λ b. text_if b location) (sym is)
 
 accesses : (writes : Bool) (x : ℕ) → variable_of (access_op writes x) ≡ Some x
 accesses true x = refl
@@ -69,6 +69,7 @@ module _ (lines : List (List ℕ)) (names : ScanNames) (trace : TraceData) (spot
         thread_is = ap (λ ns. slice_get ns access.thread) threads_are ∙ gives.thread;
         name_is = ap (λ ns. slice_get ns x) variables_are ∙ parts.1;
         location_is = spot.location;
+        variable_is = ap (option_and_then (slice_get trace.variables)) (variable_is x access h) ∙ parts.1;
         at = location_from_after line ∙ ap (λ o. unwrap_or o []) after;
         line =
             made_of_its_names line gives.named gives.line (ap is_mark parts.0 ∙ no_mark access.writes)
@@ -90,19 +91,25 @@ module _ (lines : List (List ℕ)) (names : ScanNames) (trace : TraceData) (spot
 unfoldable pub shown_of : ℕ → List ℕ → List ℕ → ShownEvent
 shown_of number location line = record { number = number; location = location; line = line }
 
+-- a variable that is told is that of the trace
+pub told_is : (by_variable : Bool) (names : ScanNames) (trace : TraceData) (x : ℕ) (access : FoundAccess) (name : List ℕ) (told : Option (List ℕ)) → IsMadeOf names trace x access
+    → slice_get (names_of names.variables.now) x ≡ Some name → told ≡ text_if by_variable name → told ≡ told_variable by_variable trace access.event
+told_is true names trace x access name told h name_is is = is ∙ (sym name_is ∙ h.name_is) ∙ sym h.variable_is
+told_is false names trace x access name told h name_is is = is
+
 -- an access that is shown by the texts behind its numbers is the event of the trace
 pub shown_is : (names : ScanNames) (trace : TraceData) (x : ℕ) (access : FoundAccess) (thread name location : List ℕ) (after : Option (List ℕ)) → IsMadeOf names trace x access
     → slice_get (names_of names.threads.now) access.thread ≡ Some thread → slice_get (names_of names.variables.now) x ≡ Some name
-    → slice_get (names_of names.locations.now) access.spot.location ≡ Some location → after ≡ location_if access.spot.barred location
+    → slice_get (names_of names.locations.now) access.spot.location ≡ Some location → after ≡ text_if access.spot.barred location
     → shown_of (access.event + 1) (unwrap_or after []) (call_line thread (access_kind access.writes) name after) ≡ shown_event trace access.event
 unfolding shown_of
 shown_is names trace x access thread name location after h thread_is name_is location_is after_location =
     let thread_same : thread ≡ h.thread = (let both = sym thread_is ∙ h.thread_is in cc) in
     let name_same : name ≡ h.name = (let both = sym name_is ∙ h.name_is in cc) in
     let location_same : location ≡ h.location = (let both = sym location_is ∙ h.location_is in cc) in
-    let after_same : after ≡ location_if access.spot.barred h.location = after_location ∙ ap (location_if access.spot.barred) location_same in
+    let after_same : after ≡ text_if access.spot.barred h.location = after_location ∙ ap (text_if access.spot.barred) location_same in
     ap (λ t. shown_of (access.event + 1) (unwrap_or after []) (call_line t (access_kind access.writes) name after)) thread_same
     ∙ ap (λ n. shown_of (access.event + 1) (unwrap_or after []) (call_line h.thread (access_kind access.writes) n after)) name_same
     ∙ ap (λ o. shown_of (access.event + 1) (unwrap_or o []) (call_line h.thread (access_kind access.writes) h.name o)) after_same
-    ∙ ap (λ l. shown_of (access.event + 1) l (call_line h.thread (access_kind access.writes) h.name (location_if access.spot.barred h.location))) (sym h.at)
+    ∙ ap (λ l. shown_of (access.event + 1) l (call_line h.thread (access_kind access.writes) h.name (text_if access.spot.barred h.location))) (sym h.at)
     ∙ ap (shown_of (access.event + 1) (location_at trace access.event)) (sym h.line)

@@ -1,5 +1,5 @@
 -- From what the parts of a scan answer to its outcome, exit by exit.
-use Rattle.std.proofs.Common.{◌≡◌, ◌+◌, ℕ, List, [], ◌++◌, map, None, Some, Option, Result, Ok, Err, IfSome, IsErrAnd, refl, sym, ap, subst, ◌∙◌, append-nil}
+use Rattle.std.proofs.Common.{◌≡◌, ◌+◌, ℕ, Bool, List, [], ◌++◌, map, None, Some, Option, Result, Ok, Err, IfSome, IsErrAnd, refl, sym, ap, subst, ◌∙◌, append-nil}
 use Rattle.std.specs.Io.KnownBytes.{Appends}
 use Rattle.shb_io.specs.Devices.{AppendsPrefix}
 use Rattle.shb_io.proofs.Growth.{Appends-nil}
@@ -34,15 +34,15 @@ module _ {A B : Type 0} (remaining : A → Option (List ℕ)) (given failed_read
   abbrev Reads : Result FoundScan ScanError → Type 0
   Reads answer = HasReadScan (remaining source) (remaining left) (given source) (given left) (failed_reads source) (failed_reads left) answer
 
-  abbrev Outcome : (T : Type 0) → B → Result T ScanError → Type 0
-  Outcome T written answer = IsScanOutcome remaining given failed_reads source left taken failed_writes sink written answer
+  abbrev Outcome : Bool → (T : Type 0) → B → Result T ScanError → Type 0
+  Outcome by_variable T written answer = IsScanOutcome remaining given failed_reads source left taken failed_writes sink written by_variable answer
 
   -- nothing was found, so nothing was written
-  pub of_error : (T : Type 0) (error : ScanError) (answer : Result T ScanError) → IsErrAnd answer (λ e. e ≡ error) → Reads (Err error) → Outcome T sink answer
-  of_error T error (Ok x) is read = absurd is
-  of_error T error (Err e) is read = subst (λ (e : ScanError). Outcome T sink (Err e)) (sym is) (by error read)
+  pub of_error : (by_variable : Bool) (T : Type 0) (error : ScanError) (answer : Result T ScanError) → IsErrAnd answer (λ e. e ≡ error) → Reads (Err error) → Outcome by_variable T sink answer
+  of_error by_variable T error (Ok x) is read = absurd is
+  of_error by_variable T error (Err e) is read = subst (λ (e : ScanError). Outcome by_variable T sink (Err e)) (sym is) (by error read)
     where
-      by : (error : ScanError) → Reads (Err error) → Outcome T sink (Err error)
+      by : (error : ScanError) → Reads (Err error) → Outcome by_variable T sink (Err error)
       by (Trace line fault) read = record {
         read = tt;
         refused = read.refused;
@@ -93,12 +93,12 @@ module _ {A B : Type 0} (remaining : A → Option (List ℕ)) (given failed_read
         sink_counted = refl;
       }
 
-  module _ (found : FoundScan) (read : Reads (Ok found)) (written : B) where
+  module _ (by_variable : Bool) (found : FoundScan) (form : found.by_variable ≡ by_variable) (read : Reads (Ok found)) (written : B) where
     abbrev races : List (ℕ × ℕ)
     races = map ends_of found.races.items
 
     -- the scan of the text that was read, by what was written of it
-    scanned : (P : List ℕ → Type 0) → ((text : List ℕ) (h : IsFoundIn text found) → P (scan_bytes h.trace races)) → ReadsAll (remaining source) (remaining left) (given source) (given left) (λ text. HasScan text P)
+    scanned : (P : List ℕ → Type 0) → ((text : List ℕ) (h : IsFoundIn text found) → P (scan_bytes found.by_variable h.trace races)) → ReadsAll (remaining source) (remaining left) (given source) (given left) (λ text. HasScan found.by_variable text P)
     scanned P holds =
         let all = read.found in
         let h = all.holds in
@@ -114,27 +114,27 @@ module _ {A B : Type 0} (remaining : A → Option (List ℕ)) (given failed_read
         (let all = read.found in record { text = all.text; moves = all.moves; ended = all.ended; holds = all.holds.faultless })
 
     -- all of the scan was written
-    pub of_scan : (T : Type 0) (x : T) → ((text : List ℕ) (h : IsFoundIn text found) → Appends (taken sink) (taken written) (scan_bytes h.trace races)) → failed_writes written ≡ failed_writes sink
-        → Outcome T written (Ok x)
-    of_scan T x appended no_failure = record {
+    pub of_scan : (T : Type 0) (x : T) → ((text : List ℕ) (h : IsFoundIn text found) → Appends (taken sink) (taken written) (scan_bytes found.by_variable h.trace races)) → failed_writes written ≡ failed_writes sink
+        → Outcome by_variable T written (Ok x)
+    of_scan T x appended no_failure = subst (λ b. Outcome b T written (Ok x)) form (record {
       read = scanned (Appends (taken sink) (taken written)) appended;
       refused = tt;
       many = tt;
       unwritten = tt;
       silent = none_found (remaining source) (written ≡ sink) faultless;
       cut = tt;
-      grown = (scan_bytes read.found.holds.trace races, appended read.found.text read.found.holds);
+      grown = (scan_bytes found.by_variable read.found.holds.trace races, appended read.found.text read.found.holds);
       lost = read.moved;
       source_counted = read.counted;
       sink_counted = no_failure;
-    }
+    })
 
     -- the sink failed
-    pub of_failed_sink : (T : Type 0) → ((text : List ℕ) (h : IsFoundIn text found) → AppendsPrefix (taken sink) (taken written) (scan_bytes h.trace races)) → failed_writes written ≡ failed_writes sink + 1
-        → Outcome T written (Err Sink)
+    pub of_failed_sink : (T : Type 0) → ((text : List ℕ) (h : IsFoundIn text found) → AppendsPrefix (taken sink) (taken written) (scan_bytes found.by_variable h.trace races)) → failed_writes written ≡ failed_writes sink + 1
+        → Outcome by_variable T written (Err Sink)
     of_failed_sink T cut failure =
         let part = cut read.found.text read.found.holds in
-        record {
+        subst (λ b. Outcome b T written (Err Sink)) form (record {
           read = tt;
           refused = tt;
           many = tt;
@@ -145,4 +145,4 @@ module _ {A B : Type 0} (remaining : A → Option (List ℕ)) (given failed_read
           lost = read.moved;
           source_counted = read.counted;
           sink_counted = failure;
-        }
+        })

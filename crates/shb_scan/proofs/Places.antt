@@ -1,5 +1,5 @@
--- Numbers of locations tell the same places as the locations do.
-use Rattle.std.proofs.Common.{◌≡◌, ◌<◌, ◌↔◌, ℕ, false, List, length, map, get_or, option_and_then, Option, Some, slice_get, sym, ap, subst, ◌∙◌, arith}
+-- Numbers of locations tell the same places as the locations do, with variables and without.
+use Rattle.std.proofs.Common.{◌≡◌, ◌<◌, ◌↔◌, ℕ, Bool, false, List, length, map, get_or, option_and_then, Option, Some, slice_get, sym, ap, subst, ◌∙◌, arith}
 use Rattle.std.specs.List.{IsDistinct}
 use Rattle.std.specs.Str.{bytes_eq}
 use Rattle.std.proofs.lemmas.Option.{slice_get-get_or, slice_get_within}
@@ -10,9 +10,8 @@ use Rattle.shb_lines.specs.text.OwnedNames.{names_of}
 use Rattle.shb_lines.specs.text.Text.{lines_of}
 use Rattle.shb_lines.specs.text.TraceData.{TraceData, location_of}
 use Rattle.shb_lines.proofs.text.Numbers.{one_number}
-use Rattle.shb_format.specs.Places.{location_at}
 use Rattle.shb_format.specs.Report.{line_of_event}
-use Rattle.shb_nearest.specs.Found.{ends_of, location_in}
+use Rattle.shb_nearest.specs.Found.{ends_of, location_in, site_in}
 use Rattle.shb_nearest.specs.Nearest.{AreNearest, IsNearest}
 use Rattle.shb_nearest.specs.Searched.{AreNearestRaces, HasSearched}
 use Rattle.shb_nearest.specs.declared.access.Spot.{Spot}
@@ -20,6 +19,7 @@ use Rattle.shb_scan.specs.declared.found.FoundScan.{FoundScan}
 use Rattle.shb_scan.specs.declared.reading.Scan.{Scan}
 use Rattle.shb_scan.specs.FoundNames.{AreSpots, IsSpotOf}
 use Rattle.shb_scan.specs.Scans.{HasEnded, IsFoundIn}
+use Rattle.shb_scan.specs.Sites.{site_at}
 use Rattle.shb_scan.proofs.Pushes.{accessing}
 use Rattle.shb_scan.proofs.Taking.{events_count}
 
@@ -50,7 +50,7 @@ module _ (trace : TraceData) (names : List (List ℕ)) (spots : List Spot) (dist
       let at : slice_get spots k ≡ Some s = slice_get-get_or spots k (record { location = 0; barred = false }) within in
       (s, ap (λ (o : Option Spot). option_and_then (λ (s : Spot). Some s.location) o) at, located k x s var at)
 
-  pub alike : (k i x y : ℕ) → variable_at trace.events k ≡ Some x → variable_at trace.events i ≡ Some y → (location_in spots k ≡ location_in spots i) ↔ (location_of (line_of_event trace k) ≡ location_of (line_of_event trace i))
+  alike : (k i x y : ℕ) → variable_at trace.events k ≡ Some x → variable_at trace.events i ≡ Some y → (location_in spots k ≡ location_in spots i) ↔ (location_of (line_of_event trace k) ≡ location_of (line_of_event trace i))
   alike k i x y first second =
       let a = spot_at k x first in
       let b = spot_at i y second in (
@@ -64,12 +64,19 @@ module _ (trace : TraceData) (names : List (List ℕ)) (spots : List Spot) (dist
             a.1 ∙ ap (λ (n : ℕ). Some n) number ∙ sym b.1),
       )
 
+  pub sites_alike : (by_variable : Bool) (k i x y : ℕ) → variable_at trace.events k ≡ Some x → variable_at trace.events i ≡ Some y → (site_in by_variable trace.events spots k ≡ site_in by_variable trace.events spots i) ↔ (site_at by_variable trace k ≡ site_at by_variable trace i)
+  sites_alike by_variable k i x y first second =
+      let both = alike k i x y first second in (
+        (λ same. let locations = both.0 (ap (λ (s : Option ℕ × Option ℕ). s.0) same) in λ m. (locations m, (same m).1)),
+        (λ same. let locations = both.1 (ap (λ (s : List ℕ × Option ℕ). s.0) same) in λ m. (locations m, (same m).1)),
+      )
+
 -- what was found in a text that has ended
-pub found_in : (text : List ℕ) (left : Option (List ℕ)) (scan : Scan) (found : FoundScan) → HasEnded text left scan → found.reader ≡ scan.reader → found.locations ≡ scan.locations
-    → ((past : List Event) (spots : List Spot) → HasSearched past spots scan.nearest → AreNearestRaces past spots found.races.items) → IsFoundIn text found
-found_in text left scan found h reader locations races =
+pub found_in : (text : List ℕ) (left : Option (List ℕ)) (scan : Scan) (found : FoundScan) → HasEnded text left scan → found.reader ≡ scan.reader → found.locations ≡ scan.locations → scan.nearest.by_variable ≡ found.by_variable
+    → ((past : List Event) (spots : List Spot) → HasSearched past spots scan.nearest → AreNearestRaces scan.nearest.by_variable past spots found.races.items) → IsFoundIn text found
+found_in text left scan found h reader locations form races =
     let s = h.scanned in
-    let are = races s.trace.events s.spots s.noted.searched in
+    let are = subst (λ (b : Bool). AreNearestRaces b s.trace.events s.spots found.races.items) form (races s.trace.events s.spots s.noted.searched) in
     record {
       faultless = h.faultless;
       trace = s.trace;
@@ -79,6 +86,6 @@ found_in text left scan found h reader locations races =
       count_is = ap (λ r. r.numbering.events) reader ∙ s.taken.numbered.count_is ∙ sym (events_count (lines_of text) s.trace s.trace_is);
       spots = s.spots;
       located = subst (λ l. AreSpots s.trace (names_of l) s.spots) (sym locations) s.noted.located;
-      nearest = nearest_by s.trace.events (location_in s.spots) (location_at s.trace) (alike s.trace (names_of scan.locations) s.spots s.noted.distinct s.noted.searched.as_many s.noted.located) (map ends_of found.races.items) are.nearest;
+      nearest = nearest_by s.trace.events (site_in found.by_variable s.trace.events s.spots) (site_at found.by_variable s.trace) (sites_alike s.trace (names_of scan.locations) s.spots s.noted.distinct s.noted.searched.as_many s.noted.located found.by_variable) (map ends_of found.races.items) are.nearest;
       accesses = are.accesses;
     }

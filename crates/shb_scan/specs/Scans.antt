@@ -22,7 +22,6 @@ use Rattle.shb_discipline.specs.FirstFault.{HasNoFault, IsFirstFault}
 use Rattle.shb_discipline.specs.State.{IsStateAfter}
 use Rattle.shb_discipline.specs.declared.state.State.{State}
 use Rattle.shb_format.specs.declared.counts.Counts.{Counts}
-use Rattle.shb_format.specs.Places.{location_at}
 use Rattle.shb_nearest.specs.Found.{IsFoundRace, ends_of}
 use Rattle.shb_nearest.specs.Nearest.{AreNearest}
 use Rattle.shb_nearest.specs.Searched.{HasSearched}
@@ -35,6 +34,7 @@ use Rattle.shb_scan.specs.declared.reading.Scan.{Scan}
 use Rattle.shb_scan.specs.FoundNames.{AreSpots, IsSpotOf}
 use Rattle.shb_scan.specs.Errors.{IsReading, OnTooManyLines, OnTrace, source_failed}
 use Rattle.shb_scan.specs.Reads.{ReadsAll, ReadsFront}
+use Rattle.shb_scan.specs.Sites.{site_at}
 use Rattle.shb_scan.specs.Limits.{scan_bounds, scan_limits}
 
 -- the spot of an event by its line, if it is an access; then its location is put among the names
@@ -96,7 +96,7 @@ pub record IsFoundIn (text : List ℕ) (found : FoundScan) : Type 0 where
   pub count_is : found.reader.numbering.events ≡ length trace.events
   pub spots : List Spot
   pub located : AreSpots trace (names_of found.locations) spots
-  pub nearest : AreNearest trace.events (location_at trace) (map ends_of found.races.items)
+  pub nearest : AreNearest trace.events (site_at found.by_variable trace) (map ends_of found.races.items)
   pub accesses : All (IsFoundRace trace.events spots) found.races.items
 
 -- what the reading of a source answers, and what it leaves: the races that are found in all of its text; the first fault of the text; or that it has more lines than are counted. The source lost what was read

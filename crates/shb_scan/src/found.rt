@@ -17,6 +17,8 @@ pub struct FoundScan {
     pub reader: EventReader,
     /// The different locations of its accesses.
     pub locations: OwnedNames,
+    /// Whether places are told apart by their variable too.
+    pub by_variable: bool,
     /// Its nearest races, in order.
     pub races: Vec<FoundRace>,
 }
@@ -26,6 +28,7 @@ impl Drop for FoundScan {
         let FoundScan {
             reader: _,
             locations: _,
+            by_variable: _,
             races: _,
         } = self;
     }
@@ -52,7 +55,7 @@ pub fn write_found<K: Sink>(sink: &mut K, found: &FoundScan) -> Result<(), Faile
     requires countable { K.failure_count sink.old < 2 ^ 64 - 1 }
     requires found { (text : List ℕ) × IsFoundIn text found.now }
     ensures written { (text : List ℕ) (in_text : IsFoundIn text found.now) → Writes (K.taken sink.old) (K.taken sink.new) result
-        (scan_bytes in_text.trace (map ends_of found.now.races.items)) }
+        (scan_bytes found.now.by_variable in_text.trace (map ends_of found.now.races.items)) }
     ensures counted { IsCounted (K.failure_count sink.old) (K.failure_count sink.new) result }
 {
     let numbering = found.reader.numbering();
@@ -62,5 +65,11 @@ pub fn write_found<K: Sink>(sink: &mut K, found: &FoundScan) -> Result<(), Faile
         variables: numbering.variables(),
         locations: &found.locations,
     };
-    write_scan(sink, &counts, &names, found.races.as_slice())
+    write_scan(
+        sink,
+        found.by_variable,
+        &counts,
+        &names,
+        found.races.as_slice(),
+    )
 }

@@ -2,7 +2,7 @@
 //!
 //! [`read_scan`] reads a source once: a line at a time is taken (`EventReader` of `shb_lines`), its event is judged
 //! (`State` of `shb_discipline`) and searched for races (`NearestRaces` of `shb_nearest`), and then forgotten. What is
-//! left is a [`FoundScan`]: the nearest races, and the names behind their numbers. [`write_found`] writes its text. [`run_scan`] does
+//! left is a [`FoundScan`]: the nearest races, of each place or of each place and variable, and the names behind their numbers. [`write_found`] writes its text. [`run_scan`] does
 //! both, and has the theorem as its contract.
 #![tactic(auto)]
 

@@ -72,15 +72,16 @@ fn spot_of(alloc: Global, locations: &mut OwnedNames, line: &[u8]) -> Result<Spo
 }
 
 impl Scan {
-    /// Nothing read yet.
-    fn new<R: RandomSource>(rt: &R, alloc: Global) -> Result<Scan, NoMemory>
-        ensures { (left : Option (List ℕ)) → IfOk result (HasScanned [] [] left) }
+    /// Nothing read yet. Places are told apart by their variable too, or aren't.
+    fn new<R: RandomSource>(rt: &R, alloc: Global, by_variable: bool) -> Result<Scan, NoMemory>
+        ensures scanned { (left : Option (List ℕ)) → IfOk result (HasScanned [] [] left) }
+        ensures form { IfOk result (λ scan. scan.nearest.by_variable ≡ by_variable) }
     {
         Ok(Scan {
             reader: EventReader::new(rt, alloc)?,
             locations: OwnedNames::new(rt, alloc)?,
             state: State::new(alloc),
-            nearest: NearestRaces::new(rt, alloc)?,
+            nearest: NearestRaces::new(rt, alloc, by_variable)?,
         })
     }
 
@@ -105,6 +106,7 @@ impl Scan {
     fn note(&mut self, alloc: Global, step: Step) -> Result<(), NoMemory>
         requires room { length (names_of self.old.locations) < 2 ^ 32 }
         ensures reader { self.new.reader ≡ self.old.reader }
+        ensures form { self.new.nearest.by_variable ≡ self.old.nearest.by_variable }
         ensures noted { (trace : TraceData) (spots : List SpotData) (tables : Tables) (line : ℕ) → HasNoted trace spots self.old.locations self.old.state self.old.nearest
             → MayCome trace.events (event_of step line) → length trace.events < most_scan_events
             → OnOk result ((spot : SpotData) × HasNoted (with_step trace tables step line (strip_carriage_return self.old.reader.lines.line))
@@ -133,6 +135,7 @@ impl Scan {
     fn take(&mut self, alloc: Global, taken: Taken) -> Result<bool, ScanError>
         requires room { length (names_of self.old.locations) < 2 ^ 32 }
         ensures reader { self.new.reader ≡ self.old.reader }
+        ensures form { self.new.nearest.by_variable ≡ self.old.nearest.by_variable }
         ensures reading { IsDeviceless result }
         ensures stepped { (read : List ℕ) (lines : List (List ℕ)) (left : Option (List ℕ)) (before : ℕ) → IsNext read lines left self.old taken
             → length (events_of lines) ≡ before → IsStepped read left before self.new result }
@@ -166,14 +169,17 @@ impl Scan {
             → (more : List ℕ) × Moves (S.remaining source.old) (S.remaining source.new) (S.given_count source.old) (S.given_count source.new) more
             × IsStepped (read ++ more) (S.remaining source.new) self.old.reader.numbering.events self.new result }
         ensures counted { CountsFailure source_failed (S.failure_count source.old) (S.failure_count source.new) result }
+        ensures form { self.new.nearest.by_variable ≡ self.old.nearest.by_variable }
     {
         let taken = self.reader.next_event(alloc, source, limits)?;
         self.take(alloc, taken)
     }
 
-    /// The races that were found, and the names behind their numbers.
-    fn into_found(self, alloc: Global) -> Result<FoundScan, NoMemory>
-        ensures { (text : List ℕ) (left : Option (List ℕ)) → HasEnded text left self → IfOk result (IsFoundIn text) }
+    /// The races that were found, and the names behind their numbers. The search was asked to tell places apart so.
+    fn into_found(self, alloc: Global, by_variable: bool) -> Result<FoundScan, NoMemory>
+        requires { self.nearest.by_variable ≡ by_variable }
+        ensures found { (text : List ℕ) (left : Option (List ℕ)) → HasEnded text left self → IfOk result (IsFoundIn text) }
+        ensures form { IfOk result (λ found. found.by_variable ≡ by_variable) }
     {
         let Scan {
             reader,
@@ -185,13 +191,14 @@ impl Scan {
         Ok(FoundScan {
             reader,
             locations,
+            by_variable,
             races,
         })
     }
 }
 
 /// Reads a source to its end, and finds the nearest races of its trace. Neither the text nor the events are kept: memory
-/// grows with names, and with what the search keeps.
+/// grows with names, and with what the search keeps. A place is two locations; with `by_variable`, and a variable.
 ///
 /// # Errors
 ///
@@ -202,14 +209,16 @@ impl Scan {
 pub fn read_scan<S: Source, R: RandomSource>(
     rt: &R,
     alloc: Global,
+    by_variable: bool,
     source: &mut S,
 ) -> Result<FoundScan, ScanError>
     requires { S.failure_count source.old < 2 ^ 64 - 1 }
-    ensures { HasReadScan (S.remaining source.old) (S.remaining source.new) (S.given_count source.old) (S.given_count source.new)
+    ensures reading { HasReadScan (S.remaining source.old) (S.remaining source.new) (S.given_count source.old) (S.given_count source.new)
         (S.failure_count source.old) (S.failure_count source.new) result }
+    ensures form { IfOk result (λ found. found.by_variable ≡ by_variable) }
 {
     let limits = scan_bounds();
-    let mut scan = Scan::new(rt, alloc)?;
+    let mut scan = Scan::new(rt, alloc, by_variable)?;
     while scan.advance(alloc, source, &limits)? {}
-    Ok(scan.into_found(alloc)?)
+    Ok(scan.into_found(alloc, by_variable)?)
 }

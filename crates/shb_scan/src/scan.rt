@@ -9,7 +9,8 @@ use shb_io::{Sink, Source};
 use std::alloc::Global;
 use std::random::RandomSource;
 
-/// Reads a trace once, from front to end, and writes its scan: of each place that has a race the nearest one.
+/// Reads a trace once, from front to end, and writes its scan: of each place that has a race the nearest one. A place is
+/// two locations; with `by_variable`, and a variable, which each place of the scan tells then.
 ///
 /// The trace may have any number of bytes, 4,294,967,294 events, 65,535 threads and lines of 4,096 bytes. Neither its
 /// text nor its events are kept: memory grows with its names, with what threads know of each other and with its places.
@@ -27,15 +28,16 @@ use std::random::RandomSource;
 pub fn run_scan<S: Source, K: Sink, R: RandomSource>(
     rt: &R,
     alloc: Global,
+    by_variable: bool,
     source: &mut S,
     sink: &mut K,
 ) -> Result<(), ScanError>
     requires source_countable { S.failure_count source.old < 2 ^ 64 - 1 }
     requires sink_countable { K.failure_count sink.old < 2 ^ 64 - 1 }
     ensures { IsScanOutcome S.remaining S.given_count S.failure_count source.old source.new
-        K.taken K.failure_count sink.old sink.new result }
+        K.taken K.failure_count sink.old sink.new by_variable result }
 {
-    let found = read_scan(rt, alloc, source)?;
+    let found = read_scan(rt, alloc, by_variable, source)?;
     match write_found(sink, &found) {
         Ok(()) => Ok(()),
         Err(_) => Err(ScanError::Sink),

@@ -21,6 +21,14 @@ fn list_argument<'a>(alloc: Global) -> Arg<'a> {
         .action(ArgAction::SetTrue)
 }
 
+/// `--variables`
+fn variables_argument<'a>(alloc: Global) -> Arg<'a> {
+    Arg::new(alloc, "variables")
+        .long("variables")
+        .help("One race of each place and variable, and which variable it is")
+        .action(ArgAction::SetTrue)
+}
+
 /// `TRACE`, where it may be left out.
 fn trace_argument<'a>(alloc: Global) -> Arg<'a> {
     Arg::new(alloc, "trace").value_name("TRACE").help(
@@ -44,11 +52,12 @@ fn report_command<'a>(
     Ok(command)
 }
 
-/// `scan [TRACE]`
+/// `scan [--variables] [TRACE]`
 fn scan_command<'a>(alloc: Global) -> Result<Command<'a>, NoMemory> {
     let command = Command::new(alloc, "scan")
         .about("Writes one race of each place of a trace of any length")
         .after_help(ABOUT_SCANS)
+        .arg(variables_argument(alloc))?
         .arg(trace_argument(alloc))?;
     Ok(command)
 }

@@ -118,19 +118,24 @@ Of each place, the locations of two accesses in their order, that has a race
 anywhere in the trace one is listed: the one whose second event comes first,
 and of those that this event has there the one whose first event comes last.
 They are the places of 'shb places --list', mostly with other races of them.
+With --variables one is listed of each place and variable, in the same way: a
+place is two locations and a variable then.
 
 The scan:
   How many events, threads, locks and variables the trace has, and how many
   places. Then for each place the numbers of its two events, counted from 1,
   their locations and their lines, by the second event, then by the first. The
-  last line is 'end'. It has no schedules, and 'shb check' doesn't judge it.
+  last line is 'end'. With --variables the first line ends with 'variables', and
+  each place has a line 'on VARIABLE' before its locations. A scan has no
+  schedules, and 'shb check' doesn't judge it.
   Nothing is written before the trace was read to its end and judged.
 
 Costs:
   Memory grows with the names of the trace, with what its threads know of each
-  other and with its places, not with its length. The time is that of one pass;
-  where hundreds of threads access one variable each access looks at all of
-  them.
+  other and with its places, not with its length. A place where each element of
+  an array races is as many places with --variables. The time is that of one
+  pass; where hundreds of threads access one variable each access looks at all
+  of them.
 
 Exit status:
   0  the scan was written, or the help that was asked for

@@ -37,8 +37,10 @@ pub enum Plan {
     Help {
         text: String,
     },
-    /// Write the scan of a trace, of standard input where `trace` is `None`.
+    /// Write the scan of a trace, of standard input where `trace` is `None`; with `by_variable`, of
+    /// each place and variable.
     Scan {
+        by_variable: bool,
         trace: Option<String>,
     },
 }
@@ -108,6 +110,7 @@ fn report_plan(
 /// The plan of the words after `scan`.
 fn scan_plan(alloc: Global, matches: &ArgMatches<'_>) -> Result<Plan, WordsFault> {
     Ok(Plan::Scan {
+        by_variable: matches.get_flag("variables"),
         trace: trace_in(alloc, matches)?,
     })
 }
@@ -164,7 +167,7 @@ fn line_of(alloc: Global, words: &[String]) -> Result<Vec<&str>, NoMemory> {
 }
 
 /// The plan that the words of a command line ask for, the program's own name left out:
-/// `races` or `places`, each with `[--workers N] [--list] [TRACE]` and N from 1 to 64, `scan [TRACE]`,
+/// `races` or `places`, each with `[--workers N] [--list] [TRACE]` and N from 1 to 64, `scan [--variables] [TRACE]`,
 /// `check TRACE`, or help. No words at all are `races --list`, with 4 workers.
 ///
 /// # Errors

@@ -78,9 +78,10 @@ fn digits(alloc: Global, races: &[FoundRace]) -> Result<Vec<u8>, Fail> {
     Ok(found)
 }
 
-fn found_in(rt: &HostRuntime, trace: &[u8]) -> Result<Vec<u8>, Fail> {
+/// The nearest races of a trace, of each place or of each place and variable.
+fn found_in(rt: &HostRuntime, by_variable: bool, trace: &[u8]) -> Result<Vec<u8>, Fail> {
     let alloc = rt.alloc();
-    let mut races = NearestRaces::new(rt, alloc)?;
+    let mut races = NearestRaces::new(rt, alloc, by_variable)?;
     for event in trace.chunks(4) {
         take(&mut races, alloc, event)?;
     }
@@ -92,7 +93,29 @@ fn found_in(rt: &HostRuntime, trace: &[u8]) -> Result<Vec<u8>, Fail> {
 fn each_place_has_its_nearest_race(rt: HostRuntime) -> Result<(), Fail> {
     for row in 0..TRACES.len() {
         let (trace, wanted) = TRACES[row];
-        let found = found_in(&rt, trace)?;
+        let found = found_in(&rt, false, trace)?;
+        same_in_row(&rt, &found.as_slice(), &wanted, row);
+    }
+    Ok(())
+}
+
+/// The same, where a place is two locations and a variable.
+const BY_VARIABLE: [(&[u8], &[u8]); 5] = [
+    (b"", b""),
+    // one variable: as without
+    (b"0w0a0w0a1w0b1w0b", b"12"),
+    // two variables at one place, each with its nearest race
+    (b"0w0a0w1a1w1b1w0b", b"1203"),
+    (b"0w0a0w1a0w0a1w0b1w1b1w0b", b"2314"),
+    // an order of its own for each variable
+    (b"0w0a0w1a1w0b1w1b0w0a1w0b", b"021324"),
+];
+
+#[test]
+fn each_place_and_variable_has_its_nearest_race(rt: HostRuntime) -> Result<(), Fail> {
+    for row in 0..BY_VARIABLE.len() {
+        let (trace, wanted) = BY_VARIABLE[row];
+        let found = found_in(&rt, true, trace)?;
         same_in_row(&rt, &found.as_slice(), &wanted, row);
     }
     Ok(())
@@ -102,7 +125,7 @@ fn each_place_has_its_nearest_race(rt: HostRuntime) -> Result<(), Fail> {
 /// write at each location, though most were forgotten.
 fn after_many(rt: &HostRuntime) -> Result<Vec<FoundRace>, Fail> {
     let alloc = rt.alloc();
-    let mut races = NearestRaces::new(rt, alloc)?;
+    let mut races = NearestRaces::new(rt, alloc, false)?;
     for k in 0..100 {
         let step = Step {
             thread: 0,
@@ -153,7 +176,7 @@ fn write_at(event: u32, thread: u32, location: u32) -> FoundAccess {
 fn a_place_has_its_first_later_access_and_the_last_one_before_it(
     rt: HostRuntime,
 ) -> Result<(), Fail> {
-    let mut search = NearestRaces::new(&rt, rt.alloc())?;
+    let mut search = NearestRaces::new(&rt, rt.alloc(), false)?;
     for access in [
         write_at(0, 0, 1),
         write_at(1, 0, 1),

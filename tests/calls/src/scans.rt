@@ -23,7 +23,7 @@ fn scanned(
 ) -> Result<(Result<(), ScanError>, Page), NoMemory> {
     let mut source = Text::new(text.as_bytes(), step, read_fails);
     let mut sink = Page::new(rt.alloc(), 4096, step, write_fails)?;
-    let answer = run_scan(rt, rt.alloc(), &mut source, &mut sink);
+    let answer = run_scan(rt, rt.alloc(), false, &mut source, &mut sink);
     Ok((answer, sink))
 }
 
@@ -41,7 +41,7 @@ fn lists_the_nearest_race(rt: HostRuntime) -> Result<(), Fail> {
 fn reads_and_then_writes(rt: HostRuntime) -> Result<(), Fail> {
     let mut source = Text::new(READERS.as_bytes(), 5, None);
     let mut sink = Page::new(rt.alloc(), 4096, 5, None)?;
-    let Ok(found) = read_scan(&rt, rt.alloc(), &mut source) else {
+    let Ok(found) = read_scan(&rt, rt.alloc(), false, &mut source) else {
         return Err("a trace without a fault was refused".into());
     };
     holds(&rt, write_found(&mut sink, &found).is_ok(), "it is written");

@@ -6,8 +6,8 @@ ghost use Rattle.shb_io.specs.Devices.{IsCounted, Writes};
 ghost use Rattle.shb_lines.specs.text.Grammar.{word_of};
 ghost use Rattle.shb_lines.specs.text.TraceData.{barred};
 ghost use Rattle.shb_format.specs.declared.writing.buffer.TheConstants.{ROOM};
-ghost use Rattle.shb_format.specs.ScanText.{access_kind, access_line, place_block, place_numbers_line, scan_head_bytes, shown_access};
-ghost use Rattle.shb_format.specs.Writing.{Puts, labelled_line};
+ghost use Rattle.shb_format.specs.ScanText.{access_kind, access_line, place_block, place_numbers_line, scan_head_bytes, scan_version, shown_access};
+ghost use Rattle.shb_format.specs.Writing.{Puts, labelled_line, variable_text};
 
 use super::buffer::TextBuffer;
 use super::held::{put_bytes, put_line};
@@ -29,12 +29,26 @@ pub struct AccessText<'t> {
     pub location: Option<&'t [u8]>,
 }
 
-/// The first lines of a scan.
-fn scan_head_text(counts: &Counts, places: u64) -> TextBuffer
-    ensures { result ≡ scan_head_bytes counts.now places }
+/// The line of the version, after no text.
+fn version_text(by_variable: bool) -> TextBuffer
+    ensures value { result ≡ scan_version by_variable ++ codes "\n" }
+    ensures short { length result ≤ 21 }
 {
     let mut text = TextBuffer::new();
-    text.push_labelled(b"shb-scan 1\nevents ", counts.events);
+    if by_variable {
+        text.push_bytes(b"shb-scan 1 variables\n");
+    } else {
+        text.push_bytes(b"shb-scan 1\n");
+    }
+    text
+}
+
+/// The first lines of a scan.
+fn scan_head_text(by_variable: bool, counts: &Counts, places: u64) -> TextBuffer
+    ensures { result ≡ scan_head_bytes by_variable counts.now places }
+{
+    let mut text = version_text(by_variable);
+    text.push_labelled(b"events ", counts.events);
     text.push_labelled(b" threads ", counts.threads);
     text.push_labelled(b" locks ", counts.locks);
     text.push_labelled(b" variables ", counts.variables);
@@ -43,16 +57,22 @@ fn scan_head_text(counts: &Counts, places: u64) -> TextBuffer
     text
 }
 
-/// Writes the first lines of a scan: version 1, the counts of the trace and how many places there are.
+/// Writes the first lines of a scan: version 1, and whether variables are told; the counts of the trace; and how many
+/// places there are.
 ///
 /// On `Ok` the sink took exactly these lines. On `Failed` it took a prefix of them that lacks at least one byte, and
 /// its count of failures rose by one. The sink's count of failures must be below the greatest `u64`.
-pub fn scan_head<S: Sink>(sink: &mut S, counts: &Counts, places: u64) -> Result<(), Failed>
+pub fn scan_head<S: Sink>(
+    sink: &mut S,
+    by_variable: bool,
+    counts: &Counts,
+    places: u64,
+) -> Result<(), Failed>
     requires countable { S.failure_count sink.old < 2 ^ 64 - 1 }
-    ensures written { Writes (S.taken sink.old) (S.taken sink.new) result (scan_head_bytes counts.now places) }
+    ensures written { Writes (S.taken sink.old) (S.taken sink.new) result (scan_head_bytes by_variable counts.now places) }
     ensures counted { IsCounted (S.failure_count sink.old) (S.failure_count sink.new) result }
 {
-    let text = scan_head_text(counts, places);
+    let text = scan_head_text(by_variable, counts, places);
     write_all(sink, text.as_slice())
 }
 
@@ -151,6 +171,22 @@ fn location_of<'t>(access: &AccessText<'t>) -> &'t [u8]
     }
 }
 
+/// Puts the line of a variable after what is held back, if it is told.
+fn put_variable<S: Sink>(
+    sink: &mut S,
+    held: &mut TextBuffer,
+    variable: Option<&[u8]>,
+) -> Result<(), Failed>
+    requires countable { S.failure_count sink.old < 2 ^ 64 - 1 }
+    ensures put { Puts (S.taken sink.old) (S.taken sink.new) result held.old held.new (variable_text (option_copied variable.entry)) }
+    ensures counted { IsCounted (S.failure_count sink.old) (S.failure_count sink.new) result }
+{
+    match variable {
+        Some(name) => put_line(sink, held, b"on ", name),
+        None => Ok(()),
+    }
+}
+
 /// Puts the locations of two accesses after what is held back.
 fn put_locations<S: Sink>(
     sink: &mut S,
@@ -165,6 +201,23 @@ fn put_locations<S: Sink>(
 {
     put_line(sink, held, b"at ", location_of(first))?;
     put_line(sink, held, b"and ", location_of(second))
+}
+
+/// Puts what tells a place apart after what is held back: its variable, if it is told, and its locations.
+fn put_place<S: Sink>(
+    sink: &mut S,
+    held: &mut TextBuffer,
+    variable: Option<&[u8]>,
+    first: &AccessText<'_>,
+    second: &AccessText<'_>,
+) -> Result<(), Failed>
+    requires countable { S.failure_count sink.old < 2 ^ 64 - 1 }
+    ensures put { Puts (S.taken sink.old) (S.taken sink.new) result held.old held.new
+        (variable_text (option_copied variable.entry) ++ (labelled_line (codes "at ") (shown_access first.now).location ++ labelled_line (codes "and ") (shown_access second.now).location)) }
+    ensures counted { IsCounted (S.failure_count sink.old) (S.failure_count sink.new) result }
+{
+    put_variable(sink, held, variable)?;
+    put_locations(sink, held, first, second)
 }
 
 /// Puts the lines of two accesses after what is held back.
@@ -183,25 +236,26 @@ fn put_accesses<S: Sink>(
     put_access_line(sink, held, b"second ", second)
 }
 
-/// Writes the block of a place of a scan: its number, counted from 1, the numbers of its two events, their locations
-/// and their lines.
+/// Writes the block of a place of a scan: its number, counted from 1, the numbers of its two events, the name of their
+/// variable, if it is told, their locations and their lines.
 ///
 /// On `Ok` the sink took exactly the block. On `Failed` it took a prefix of it that lacks at least one byte, and its
 /// count of failures rose by one. The sink's count of failures must be below the greatest `u64`.
 pub fn scan_block<S: Sink>(
     sink: &mut S,
     number: u64,
+    variable: Option<&[u8]>,
     first: &AccessText<'_>,
     second: &AccessText<'_>,
 ) -> Result<(), Failed>
     requires countable { S.failure_count sink.old < 2 ^ 64 - 1 }
     ensures written { Writes (S.taken sink.old) (S.taken sink.new) result
-        (place_block number (shown_access first.now) (shown_access second.now)) }
+        (place_block number (option_copied variable.entry) (shown_access first.now) (shown_access second.now)) }
     ensures counted { IsCounted (S.failure_count sink.old) (S.failure_count sink.new) result }
 {
     let mut held = TextBuffer::new();
     push_place_line(&mut held, number, first.event, second.event);
-    put_locations(sink, &mut held, first, second)?;
+    put_place(sink, &mut held, variable, first, second)?;
     put_accesses(sink, &mut held, first, second)?;
     write_all(sink, held.as_slice())
 }

@@ -9,4 +9,4 @@ returns-in_ok-take-in-Some c past e spots next are =
 
 pub returns-in-None : goal.returns-in-None
 returns-in-None c past e spots next are =
-    tables_skip (past ++ e ∷ []) spots c.args.event c.args.tables.now c.args.step.op (next_op past e spots c.args.clocks.now c.args.step c.args.event c.args.spot next) (sym c.in-None.ensures) are
+    tables_skip (past ++ e ∷ []) spots c.args.event c.args.by_variable c.args.tables.now c.args.step.op (next_op past e spots c.args.clocks.now c.args.step c.args.event c.args.spot next) (sym c.in-None.ensures) are

@@ -16,7 +16,7 @@ write_scan-requires-clause-named g c =
 
 pub returns-clause-written : goal.returns-clause-written
 returns-clause-written g c = λ text h.
-    subst (λ (items : List FoundRace). Writes (g.K.Sink.taken c.args.sink.now) (g.K.Sink.taken c.write_scan.new.sink) c.write_scan.result (scan_bytes h.trace (map ends_of items))) c.as_slice.ensures.value
+    subst (λ (items : List FoundRace). Writes (g.K.Sink.taken c.args.sink.now) (g.K.Sink.taken c.write_scan.new.sink) c.write_scan.result (scan_bytes c.args.found.now.by_variable h.trace (map ends_of items))) c.as_slice.ensures.value
     (c.write_scan.ensures.written h.trace (c.counts_of-counts.ensures ∙ ap counts_in c.numbering-numbering.ensures ∙ counts_are text c.args.found.now h)
     (made_of text c.args.found.now h _ (c.threads.ensures ∙ ap (λ (n : Numbering). n.threads) c.numbering-numbering.ensures) (c.variables.ensures ∙ ap (λ (n : Numbering). n.variables) c.numbering-numbering.ensures) refl
     c.as_slice.result.now c.as_slice.ensures.value))

@@ -8,6 +8,7 @@ use Rattle.shb_scan.proofs.reading.read_scan.Given as goal
 abbrev pub invariant-loop-scan : goal.invariant-loop-scan
 invariant-loop-scan g l = record {
   limits : l.limits ≡ scan_bounds;
+  form : l.scan.nearest.by_variable ≡ l.by_variable;
   counted : g.S.Source.failure_count l.source ≡ g.S.Source.failure_count l.fn.source;
   scanned : (read : List ℕ) × (lines : List (List ℕ)) × Moves (g.S.Source.remaining l.fn.source) (g.S.Source.remaining l.source) (g.S.Source.given_count l.fn.source) (g.S.Source.given_count l.source) read
       × HasScanned read lines (g.S.Source.remaining l.source) l.scan;

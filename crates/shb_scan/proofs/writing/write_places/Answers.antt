@@ -21,20 +21,22 @@ unfolding past
 returns-in_err-write_place-clause-written g c trace h =
     let races : List FoundRace = c.args.races.now in
     let k = c.loop-k.k in
-    let block = block_of trace (k + 1) (ends_of (get_or races k past)) in
-    let rest = place_blocks trace (k + 1 + 1) (map ends_of (drop (k + 1) races)) in
+    let by_variable = c.args.by_variable in
+    let block = block_of by_variable trace (k + 1) (ends_of (get_or races k past)) in
+    let rest = place_blocks by_variable trace (k + 1 + 1) (map ends_of (drop (k + 1) races)) in
     Writes-err _ _ _ _ _ c.from_residual.ensures.1
-    (subst (AppendsPrefix (g.S.Sink.taken c.args.sink.now) (g.S.Sink.taken c.write_place.new.sink)) (blocks-split trace races k past c.loop-k-test.true)
-    (AppendsPrefix-after _ _ _ (blocks_of trace (take k races)) _ (c.loop-k.invariant.written trace h)
+    (subst (AppendsPrefix (g.S.Sink.taken c.args.sink.now) (g.S.Sink.taken c.write_place.new.sink)) (blocks-split by_variable trace races k past c.loop-k-test.true)
+    (AppendsPrefix-after _ _ _ (blocks_of by_variable trace (take k races)) _ (c.loop-k.invariant.written trace h)
     (AppendsPrefix-front _ _ block rest (c.in_err-write_place.ensures.written trace (h k past c.loop-k-test.true)))))
 
 pub loop-k-preserved : goal.loop-k-preserved
 unfolding past
 loop-k-preserved g c =
     let races : List FoundRace = c.args.races.now in
-    let k = c.loop-k.k in record {
+    let k = c.loop-k.k in
+    let by_variable = c.args.by_variable in record {
       written = λ trace h.
-          subst (Appends (g.S.Sink.taken c.args.sink.now) (g.S.Sink.taken c.write_place.new.sink)) (blocks-next trace races k past c.loop-k-test.true)
-          (Appends-trans _ _ _ (blocks_of trace (take k races)) _ (c.loop-k.invariant.written trace h) (c.in_ok-write_place.ensures.written trace (h k past c.loop-k-test.true)));
+          subst (Appends (g.S.Sink.taken c.args.sink.now) (g.S.Sink.taken c.write_place.new.sink)) (blocks-next by_variable trace races k past c.loop-k-test.true)
+          (Appends-trans _ _ _ (blocks_of by_variable trace (take k races)) _ (c.loop-k.invariant.written trace h) (c.in_ok-write_place.ensures.written trace (h k past c.loop-k-test.true)));
       counted = search rules;
     }

@@ -8,6 +8,6 @@ use Rattle.shb_scan.proofs.writing.write_places.Given as goal
 
 abbrev pub invariant-loop-k : goal.invariant-loop-k
 invariant-loop-k g l = record {
-  written : (trace : TraceData) → All (IsRaceMadeOf l.names trace) l.races → Appends (g.S.Sink.taken l.initial.sink) (g.S.Sink.taken l.sink) (blocks_of trace (take l.k l.races));
+  written : (trace : TraceData) → All (IsRaceMadeOf l.names trace) l.races → Appends (g.S.Sink.taken l.initial.sink) (g.S.Sink.taken l.sink) (blocks_of l.by_variable trace (take l.k l.races));
   counted : g.S.Sink.failure_count l.sink ≡ g.S.Sink.failure_count l.initial.sink;
 }

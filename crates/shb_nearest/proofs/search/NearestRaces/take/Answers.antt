@@ -5,8 +5,8 @@ use Rattle.shb_nearest.proofs.Carry.{tables_longer}
 use Rattle.shb_nearest.proofs.StepLemmas.{last_at}
 use Rattle.shb_nearest.proofs.search.NearestRaces.take.Goals as goal
 
-pub returns : goal.returns
-returns c past spots e thread op room disciplined h =
+pub returns-clause-searched : goal.returns-clause-searched
+returns-clause-searched c past spots e thread op room disciplined h =
     let n = c.args.self.now.events in
     let at_end = h.events_are in
     let long = length_push past e in
@@ -22,12 +22,13 @@ returns c past spots e thread op room disciplined h =
       same_op = op;
       spot_is = last_at spots c.args.spot c.args.self.now.events (h.as_many ∙ sym h.events_are);
     } in
-    let old = subst (λ (m : ℕ). AreTables (past ++ e ∷ []) (spots ++ c.args.spot ∷ []) m c.args.self.now.tables) (sym h.events_are) (tables_longer past e spots c.args.spot h.as_many disciplined c.args.self.now.tables h.tables) in
+    let by_variable = c.args.self.now.by_variable in
+    let old = subst (λ (m : ℕ). AreTables c.args.self.now.by_variable (past ++ e ∷ []) (spots ++ c.args.spot ∷ []) m c.args.self.now.tables) (sym h.events_are) (tables_longer past e spots c.args.spot h.as_many disciplined by_variable c.args.self.now.tables h.tables) in
     let taken = c.in_ok-take_event.ensures past e (spots ++ c.args.spot ∷ []) next old in
     let whole : n + 1 ≡ length (past ++ e ∷ []) = omega (arith, at_end, long) in
     record {
       clocks = c.in_ok-take.ensures past e thread op room disciplined h.clocks;
       events_are = omega (arith, room, at_end, long, one);
       as_many = omega (arith, long, more, many);
-      tables = subst (λ (m : ℕ). AreTables (past ++ e ∷ []) (spots ++ c.args.spot ∷ []) m c.take_event.new.tables) whole taken;
+      tables = subst (λ (m : ℕ). AreTables c.args.self.now.by_variable (past ++ e ∷ []) (spots ++ c.args.spot ∷ []) m c.take_event.new.tables) whole taken;
     }

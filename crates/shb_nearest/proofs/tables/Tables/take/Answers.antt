@@ -29,7 +29,7 @@ returns c past e spots room next are =
     record {
       classes = c.in_ok-since.ensures.classes trace spots next.own are.classes;
       groups = groups_put trace spots n x access refl next.own mid c.note.new.self space.wide all noted;
-      places = subst (λ (l : List PlaceEntry). ArePlaces (past ++ e ∷ []) spots (c.args.access.event + 1) l)
-          (sym (c.in_ok-offer_all.ensures ∙ ap (λ (l : List FoundAccess). offered_all c.args.variable c.args.access c.args.self.now.places.races.entries l) c.deref.ensures.value))
-          (placed trace next.disciplined spots x n access refl next.own c.in_ok-since.since since c.in_ok-rivals.rivals.items rivals c.args.self.now.places.races.entries are.places);
+      places = subst (λ (l : List PlaceEntry). ArePlaces c.args.by_variable (past ++ e ∷ []) spots (c.args.access.event + 1) l)
+          (sym (c.in_ok-offer_all.ensures ∙ ap (λ (l : List FoundAccess). offered_all c.args.by_variable c.args.variable c.args.access c.args.self.now.places.races.entries l) c.deref.ensures.value))
+          (placed c.args.by_variable trace next.disciplined spots x n access refl next.own c.in_ok-since.since since c.in_ok-rivals.rivals.items rivals c.args.self.now.places.races.entries are.places);
     }

@@ -18,4 +18,4 @@ returns-clause-noted c = λ trace spots tables line h may few.
       noted_more trace tables c.args.step line (strip_carriage_return c.args.self.now.reader.lines.line) spots c.in_ok-spot.spot (names_of c.args.self.now.locations) (names_of c.spot.new.self.locations)
           c.args.self.now.locations c.spot.new.self.locations c.args.self.now.state c.spot.new.self.state c.args.self.now.nearest c.take.new.self h may refl refl state searched c.in_ok-spot.ensures.spot,
     ))
-    (c.take.ensures trace.events spots event refl refl (omega (arith, few)) (disciplined_push trace.events event h.disciplined may) (subst (HasSearched trace.events spots) (sym c.in_ok-spot.ensures.nearest) h.searched))
+    (c.take.ensures.searched trace.events spots event refl refl (omega (arith, few)) (disciplined_push trace.events event h.disciplined may) (subst (HasSearched trace.events spots) (sym c.in_ok-spot.ensures.nearest) h.searched))
