@@ -97,6 +97,9 @@ module _ (past : List Event) (e : Event) (spots : List Spot) (s : Spot) (as_many
         each = All-weaker (IsGroup past spots x (length past)) (IsGroup (past ++ e ∷ []) (spots ++ s ∷ []) x (length past)) (group_longer x) groups.each.items h.each;
         covers = λ c k of_x is. h.covers c k of_x (record { own = class_back c k is.past is.own; past = is.past; last = λ i lt own. is.last i lt (class_longer c i lt own) });
       });
+      runs = λ x groups at. (let h = are.groups.runs x groups at in record {
+        alone = λ i from lt is. same_thread_at i lt ∙ h.alone i from lt (ap (option_and_then variable_of) (sym (same_op_at i lt)) ∙ is);
+      });
       wide = λ i x lt is. are.groups.wide i x lt (ap (option_and_then variable_of) (sym (same_op_at i lt)) ∙ is);
     };
     places = record {

@@ -12,14 +12,16 @@ use Rattle.std.proofs.lemmas.List.{get_or-take, get_or_push, length-take, length
 use Rattle.std.proofs.lemmas.Option.{get_or_from_slice_get, slice_get_read, slice_get_within}
 use Rattle.shb_lines.specs.declared.event.Event.{Event}
 use Rattle.shb_lines.specs.events.Discipline.{local_time}
+use Rattle.shb_lines.specs.events.Events.{thread_at}
 use Rattle.shb_nearest.specs.declared.access.FoundAccess.{FoundAccess}
 use Rattle.shb_nearest.specs.declared.access.Spot.{Spot}
 use Rattle.shb_nearest.specs.declared.classes.Class.{Class}
 use Rattle.shb_nearest.specs.declared.groups.Group.{Group}
 use Rattle.shb_nearest.specs.declared.groups.Kept.{Kept}
+use Rattle.shb_nearest.specs.declared.groups.Run.{Run}
 use Rattle.shb_nearest.specs.Classes.{HasPut, IsNewestOf, IsOfClass, is_newest_in, newest_in, same_class}
 use Rattle.shb_nearest.specs.Found.{IsFoundAccess}
-use Rattle.shb_nearest.specs.Groups.{AreGroups, HasGroupAt, HasKept, HasLast, IsEarlier, IsGroup, IsKept, IsOfGroup, KeepsAccess, access_of, class_of, is_newest_kept}
+use Rattle.shb_nearest.specs.Groups.{AreGroups, HasGroupAt, HasKept, HasLast, IsEarlier, IsGroup, IsKept, IsOfGroup, IsRun, KeepsAccess, access_of, class_of, is_newest_kept}
 use Rattle.shb_nearest.proofs.ClassLemmas.{class_own, newest_before, one_class_at}
 use Rattle.shb_nearest.proofs.Members.{member_at, member_filter, member_set, stays_or_is}
 
@@ -273,3 +275,18 @@ kept_some x access old new of_t of_w pushed seen newest more same last forgot = 
     items = forgot ∙ ap (filter (is_newest_kept newest x old.thread old.writes)) more;
   });
 }
+
+-- the run of a variable, an access more
+module _ (trace : List Event) (spots : List Spot) (x : ℕ) (access : FoundAccess) (own : IsFoundAccess trace spots x access) where
+  pub run_goes_on : (run : Run) → run.thread ≡ access.thread → IsRun trace x access.event run → IsRun trace x (access.event + 1) run
+  run_goes_on run same is = record {
+    alone = λ i from lt at. elim (cases_eq i access.event) [
+      | inl here ↦ ap (thread_at trace) here ∙ (own.thread_is ∙ ap (λ (t : ℕ). Some t) (sym same))
+      | inr other ↦ is.alone i from (omega (arith, lt, other)) at
+    ];
+  }
+
+  pub run_begun : IsRun trace x (access.event + 1) (record { thread = access.thread; start = access.event })
+  run_begun = record {
+    alone = λ i from lt at. (let here : i ≡ access.event = omega (arith, from, lt) in ap (thread_at trace) here ∙ own.thread_is);
+  }

@@ -21,8 +21,9 @@ use Rattle.shb_nearest.specs.declared.access.Spot.{Spot}
 use Rattle.shb_nearest.specs.declared.classes.Class.{Class}
 use Rattle.shb_nearest.specs.declared.groups.Group.{Group}
 use Rattle.shb_nearest.specs.declared.groups.Kept.{Kept}
+use Rattle.shb_nearest.specs.declared.groups.Run.{Run}
 use Rattle.shb_nearest.specs.Found.{IsFoundAccess, access_op, location_in}
-use Rattle.shb_nearest.specs.Groups.{AreGroups, IsGroup, IsKept, access_of}
+use Rattle.shb_nearest.specs.Groups.{AreGroups, IsGroup, IsKept, IsRun, access_of}
 use Rattle.shb_nearest.specs.Rivals.{AreMet, AreRivals, CanRace, HasMet, HasMetGroup, IsOver}
 use Rattle.shb_nearest.proofs.ClassLemmas.{kind_at, newest_exists, op_variable}
 use Rattle.shb_nearest.proofs.Members.{index_of, member_drop, member_map, member_of_drop, member_of_map}
@@ -155,6 +156,17 @@ module _ (trace : List Event) (spots : List Spot) (x : ℕ) where
                       let at_m = slice_get-get_or group.kept.items m a (omega (arith, within, low)) in
                       absurd (over_none since k.0 m a last k.1 at_m (omega (arith, low)) (h.from_is.stop m last (omega (arith, low)) at_m) from race))
                 ]
+
+    -- none where no other thread accessed the variable
+    pub no_rivals : (run : Run) (since : ℕ) → access.thread ≡ run.thread → run.start ≤ since → IsRun trace x access.event run → AreRivals trace spots x access since []
+    no_rivals run since same from is = record {
+      races = λ a there. absurd (contains_none a there);
+      each = λ i l race at later. absurd (
+          let c = race.conflict in
+          let one : c.variable ≡ x = (let s : Some c.variable ≡ Some x = sym c.second_accesses ∙ variable_is access own in cc) in
+          let of_i = is.alone i (omega (arith, from, later)) race.earlier (c.first_accesses ∙ ap (λ (y : ℕ). Some y) one) in
+          c.other_thread (of_i ∙ (ap (λ (t : ℕ). Some t) (sym same) ∙ sym own.thread_is)));
+    }
 
     -- no group so far
     pub met_start : (since : ℕ) → AreMet trace spots x access since [] []

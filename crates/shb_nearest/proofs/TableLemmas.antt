@@ -21,10 +21,11 @@ use Rattle.shb_nearest.specs.declared.access.Spot.{Spot}
 use Rattle.shb_nearest.specs.declared.classes.Class.{Class}
 use Rattle.shb_nearest.specs.declared.groups.Group.{Group}
 use Rattle.shb_nearest.specs.declared.groups.Groups.{Groups}
+use Rattle.shb_nearest.specs.declared.groups.Run.{Run}
 use Rattle.shb_nearest.specs.declared.tables.Tables.{Tables}
 use Rattle.shb_nearest.specs.Classes.{AreClasses, HasPut, IsOfClass, newest_in, same_class}
 use Rattle.shb_nearest.specs.Found.{IsFoundAccess, access_op}
-use Rattle.shb_nearest.specs.Groups.{AreGroups, IsAt, IsGroup, IsKept, IsOfGroup, IsSince, access_of, class_of}
+use Rattle.shb_nearest.specs.Groups.{AreGroups, IsAt, IsGroup, IsKept, IsOfGroup, IsRun, IsSince, access_of, class_of}
 use Rattle.shb_nearest.specs.Searched.{AreAllGroups, AreTables}
 use Rattle.shb_nearest.specs.Wide.{AreMoreGroups}
 use Rattle.shb_nearest.proofs.GroupLemmas.{class_self, groups_later, one_class}
@@ -95,6 +96,15 @@ module _ (trace : List Event) (spots : List Spot) where
         go None none h = inl h
         go (Some k) some h = (let own = are.own (class_of x access) k some in inr (subst (λ (m : ℕ). IsOfClass trace spots (class_of x access) m) (sym h) own.0, (let lt = own.1 in omega (arith, lt, h, at_n))))
 
+    -- a run without an access more
+    pub run_later : (x : ℕ) (run : Run) → (variable_at trace n ≡ Some x → ⊥) → IsRun trace x n run → IsRun trace x (n + 1) run
+    run_later x run never is = record {
+      alone = λ i from lt at. elim (cases_lt i n) [
+        | inl low ↦ is.alone i from low at
+        | inr high ↦ absurd (let same : i ≡ n = omega (arith, lt, high) in never (subst (λ (m : ℕ). variable_at trace m ≡ Some x) same at))
+      ];
+    }
+
     -- empty groups more
     pub groups_space : (old mid : List Groups) → AreMoreGroups old mid → AreAllGroups trace spots n old → AreAllGroups trace spots n mid
     groups_space old mid more are = record {
@@ -105,15 +115,25 @@ module _ (trace : List Event) (spots : List Spot) where
           covers = λ c k of_x is. absurd (let low = are.wide k c.variable is.past (class_variable c k is.own) in let high = empty.0 in let e : c.variable ≡ x = of_x in omega (arith, low, high, e));
         }
       ];
+      runs = λ x groups at. elim (more.from x groups at) [
+        | inl was ↦ are.runs x groups was
+        | inr empty ↦ record {
+          alone = λ i from lt is. absurd (let low = are.wide i x lt is in let high = empty.0 in omega (arith, low, high));
+        }
+      ];
       wide = λ i x lt is. (let low = are.wide i x lt is in let long = more.longer in omega (arith, low, long));
     }
 
     -- the groups of all variables, an access of one more
-    pub groups_put : (x : ℕ) (access : FoundAccess) → access.event ≡ n → IsFoundAccess trace spots x access → (mid : List Groups) (new : Groups) → x < length mid → AreAllGroups trace spots n mid → AreGroups trace spots x (n + 1) new.each.items → AreAllGroups trace spots (n + 1) (set mid x new)
-    groups_put x access at_n found mid new low are own = record {
+    pub groups_put : (x : ℕ) (access : FoundAccess) → access.event ≡ n → IsFoundAccess trace spots x access → (mid : List Groups) (new : Groups) → x < length mid → AreAllGroups trace spots n mid → AreGroups trace spots x (n + 1) new.each.items → IsRun trace x (n + 1) new.run → AreAllGroups trace spots (n + 1) (set mid x new)
+    groups_put x access at_n found mid new low are own run = record {
       each = λ y groups at. elim (set_cases mid x y new groups low at) [
         | inl same ↦ subst (λ (z : ℕ). AreGroups trace spots z (n + 1) groups.each.items) (sym same.0) (subst (λ (g : Groups). AreGroups trace spots x (n + 1) g.each.items) (sym same.1) own)
         | inr other ↦ groups_later trace spots y n groups.each.items (λ c of_y is. other.0 (sym of_y ∙ only c.variable (class_variable c n is))) (are.each y groups other.1)
+      ];
+      runs = λ y groups at. elim (set_cases mid x y new groups low at) [
+        | inl same ↦ subst (λ (z : ℕ). IsRun trace z (n + 1) groups.run) (sym same.0) (subst (λ (g : Groups). IsRun trace x (n + 1) g.run) (sym same.1) run)
+        | inr other ↦ run_later y groups.run (λ is. other.0 (only y is)) (are.runs y groups other.1)
       ];
       wide = λ i y lt is. (let long = length-set mid x new in elim (cases_lt i n) [
         | inl past ↦ (let within = are.wide i y past is in omega (arith, within, long))
@@ -132,6 +152,7 @@ module _ (trace : List Event) (spots : List Spot) where
       };
       groups = record {
         each = λ x groups at. groups_later trace spots x n groups.each.items (λ c of_x h. no_class c n op is none h) (are.groups.each x groups at);
+        runs = λ x groups at. run_later x groups.run (no_access x) (are.groups.runs x groups at);
         wide = λ i x lt at. elim (cases_lt i n) [
           | inl low ↦ are.groups.wide i x low at
           | inr high ↦ absurd (let same : i ≡ n = omega (arith, lt, high) in no_access x (subst (λ (m : ℕ). variable_at trace m ≡ Some x) same at))

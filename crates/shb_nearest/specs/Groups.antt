@@ -2,6 +2,8 @@
 use Rattle.std.specs.Prelude.{◌≡◌, ◌⊎◌, ◌<◌, ◌≤◌, ◌++◌, ◌∷◌, ℕ, Bool, List, [], Some, All, AllPairs, Contains, filter, slice_get}
 use Rattle.shb_lines.specs.declared.event.Event.{Event}
 use Rattle.shb_lines.specs.events.Discipline.{local_time}
+use Rattle.shb_lines.specs.events.Events.{thread_at}
+use Rattle.shb_lines.specs.events.Race.{variable_at}
 use Rattle.shb_nearest.specs.Classes.{IsNewestOf, IsOfClass, is_newest_in, newest_in}
 use Rattle.shb_nearest.specs.Found.{IsFoundAccess}
 use Rattle.shb_nearest.specs.declared.access.FoundAccess.{FoundAccess}
@@ -9,6 +11,7 @@ use Rattle.shb_nearest.specs.declared.access.Spot.{Spot}
 use Rattle.shb_nearest.specs.declared.classes.Class.{Class}
 use Rattle.shb_nearest.specs.declared.groups.Group.{Group}
 use Rattle.shb_nearest.specs.declared.groups.Kept.{Kept}
+use Rattle.shb_nearest.specs.declared.groups.Run.{Run}
 
 -- a kept access with what its group tells
 abbrev pub access_of : ℕ → Bool → Kept → FoundAccess
@@ -88,3 +91,7 @@ IsAt kept location event = (event ≡ 0) ⊎ ((a : Kept) × Contains kept a × (
 -- an earlier access of the class of the access, or 0
 abbrev pub IsSince : List Event → List Spot → ℕ → FoundAccess → ℕ → Type 0
 IsSince trace spots x access since = (since ≡ 0) ⊎ (IsOfClass trace spots (class_of x access) since × (since < access.event))
+
+-- of the events before n, from the start of the run on, its thread alone accessed the variable
+pub record IsRun (trace : List Event) (x n : ℕ) (run : Run) : Type 0 where
+  pub alone : (i : ℕ) → run.start ≤ i → i < n → variable_at trace i ≡ Some x → thread_at trace i ≡ Some run.thread

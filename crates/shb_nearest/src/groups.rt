@@ -1,11 +1,11 @@
 //! The accesses that are kept of a variable, by thread and kind.
 
-ghost use Rattle.std.specs.Prelude.{AllPairs, ◌≡◌, ◌+◌, ◌++◌, ◌∷◌, [], ℕ, true, List, IfOk, IfSome, OnOk, Some, filter, slice_get};
+ghost use Rattle.std.specs.Prelude.{AllPairs, ◌≡◌, ◌≤◌, ◌+◌, ◌++◌, ◌∷◌, [], ℕ, true, List, IfOk, IfSome, OnOk, Some, filter, slice_get};
 ghost use Rattle.shb_lines.specs.declared.event.Event.{Event};
 ghost use Rattle.shb_lines.specs.events.Discipline.{local_time};
 ghost use Rattle.shb_nearest.specs.Classes.{AreClasses};
 ghost use Rattle.shb_nearest.specs.Found.{IsFoundAccess};
-ghost use Rattle.shb_nearest.specs.Groups.{AreGroups, HasGroupAt, HasKept, HasLast, IsAt, IsEarlier, IsOfGroup, IsSince, is_newest_kept};
+ghost use Rattle.shb_nearest.specs.Groups.{AreGroups, HasGroupAt, HasKept, HasLast, IsAt, IsEarlier, IsOfGroup, IsRun, IsSince, is_newest_kept};
 ghost use Rattle.shb_nearest.specs.declared.access.Spot.{Spot as SpotData};
 
 use crate::access::{FoundAccess, Spot};
@@ -34,10 +34,19 @@ pub struct Group {
     pub most: usize,
 }
 
-/// The groups of a variable.
+/// The last accesses of a variable that one thread did, and no other between them.
+#[derive(Clone, Copy)]
+pub struct Run {
+    pub thread: u32,
+    /// The first of them, or 0 before the first access.
+    pub start: u32,
+}
+
+/// The groups of a variable, and its run.
 #[derive(Drop)]
 pub struct Groups {
     pub each: Vec<Group>,
+    pub run: Run,
 }
 
 /// How many accesses a group keeps before it forgets any.
@@ -95,6 +104,29 @@ fn forget(kept: &mut Vec<Kept>, classes: &Classes, variable: u32, thread: u32, w
         };
         classes.is_newest(class, access.event)
     });
+}
+
+impl Run {
+    /// Whether only a thread accessed the variable from an event on.
+    pub fn is_alone(self, thread: u32, since: u32) -> bool
+        ensures { result ≡ true → (thread ≡ self.thread) × (self.start ≤ since) }
+    {
+        thread == self.thread && self.start <= since
+    }
+
+    /// The run after one access more.
+    pub fn after(self, access: FoundAccess) -> Run
+        ensures { (trace : List Event) (spots : List SpotData) (x : ℕ) → IsFoundAccess trace spots x access → IsRun trace x access.event self
+            → IsRun trace x (access.event + 1) result }
+    {
+        if self.thread == access.thread {
+            return self;
+        }
+        Run {
+            thread: access.thread,
+            start: access.event,
+        }
+    }
 }
 
 impl Group {

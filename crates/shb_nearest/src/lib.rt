@@ -8,8 +8,9 @@
 //! class among them. An access looks at the groups of its variable by other threads, and at the accesses that a group
 //! keeps from the newest one back. It stops at the first that is below its predecessor, since those behind it are too,
 //! and at the first that is before an earlier access of its own class, since what is behind that and races with this
-//! access raced with that one, and its place is known. All that it went over race with it, and are offered to the table
-//! of places. The earlier access of its class is the last one, where the own group keeps a few; else `classes` has one.
+//! access raced with that one, and its place is known. It looks at nothing where its own thread alone accessed the
+//! variable since that access of its class (`Run`). All that it went over race with it, and are offered to the table of
+//! places. The earlier access of its class is the last one, where the own group keeps a few; else `classes` has one.
 //!
 //! So an access costs a step for each group of its variable, and one for each kept access that races with it and came
 //! after the earlier access of its own class that is found. That is the last one, but where its group now keeps few

@@ -2,12 +2,12 @@
 
 ghost use Rattle.std.specs.Prelude.{◌≡◌, ◌<◌, ◌≤◌, ◌++◌, ◌∷◌, [], ℕ, false, true, List, IfOk, OnOk, map};
 ghost use Rattle.shb_lines.specs.declared.event.Event.{Event};
-ghost use Rattle.shb_nearest.specs.Groups.{AreGroups, IsGroup, access_of};
+ghost use Rattle.shb_nearest.specs.Groups.{AreGroups, IsGroup, IsRun, access_of};
 ghost use Rattle.shb_nearest.specs.Rivals.{AreRivals, CanRace, HasMet, HasMetGroup, IsFrom, IsNextAccess, IsOver};
 ghost use Rattle.shb_nearest.specs.declared.access.Spot.{Spot as SpotData};
 
 use crate::access::FoundAccess;
-use crate::groups::{Group, Kept};
+use crate::groups::{Group, Groups, Kept};
 use shb_io::NoMemory;
 use shb_stamps::StreamClocks;
 use std::alloc::Global;
@@ -100,12 +100,8 @@ fn meet_group(
     Ok(())
 }
 
-/// Accesses that race with the next one: those that the groups of its variable keep from the event `since` on.
-///
-/// # Errors
-///
-/// `NoMemory` where a growth was refused.
-pub fn rivals_of(
+/// Those that groups keep from the event `since` on.
+fn rivals_among(
     alloc: Global,
     clocks: &StreamClocks,
     groups: &[Group],
@@ -120,5 +116,30 @@ pub fn rivals_of(
     for group in groups {
         meet_group(&mut rivals, clocks, group, access, since)?;
     }
+    Ok(rivals)
+}
+
+/// Accesses that race with the next one: those that the groups of its variable keep from the event `since` on. There are
+/// none where its thread alone accessed the variable since then.
+///
+/// # Errors
+///
+/// `NoMemory` where a growth was refused.
+pub fn rivals_of(
+    alloc: Global,
+    clocks: &StreamClocks,
+    groups: &Groups,
+    access: FoundAccess,
+    since: u32,
+) -> Result<Vec<FoundAccess>, NoMemory>
+    ensures { (past : List Event) (e : Event) (spots : List SpotData) (x : ℕ) → IsNextAccess past e spots x clocks.now access
+        → AreGroups (past ++ e ∷ []) spots x access.event groups.now.each.items → IsRun (past ++ e ∷ []) x access.event groups.now.run
+        → IfOk result (λ rivals. AreRivals (past ++ e ∷ []) spots x access since rivals.items) }
+{
+    let alone = groups.run.is_alone(access.thread, since);
+    if alone {
+        return Ok(Vec::new(alloc));
+    }
+    let rivals = rivals_among(alloc, clocks, groups.each.as_slice(), access, since)?;
     Ok(rivals)
 }

@@ -9,7 +9,7 @@ ghost use Rattle.shb_nearest.specs.declared.access.Spot.{Spot as SpotData};
 
 use crate::access::FoundAccess;
 use crate::classes::Classes;
-use crate::groups::Groups;
+use crate::groups::{Groups, Run};
 use crate::places::Places;
 use crate::rivals::rivals_of;
 use shb_io::NoMemory;
@@ -32,6 +32,10 @@ fn make_space(groups: &mut Vec<Groups>, alloc: Global, variable: u32) -> Result<
     while groups.len() <= variable as usize {
         groups.push(Groups {
             each: Vec::new(alloc),
+            run: Run {
+                thread: 0,
+                start: 0,
+            },
         })?;
     }
     Ok(())
@@ -74,11 +78,13 @@ impl Tables {
         make_space(&mut self.groups, alloc, variable)?;
         let groups = &mut self.groups[variable as usize];
         let since = groups.since(&mut self.classes, variable, access)?;
-        let rivals = rivals_of(alloc, clocks, groups.each.as_slice(), access, since)?;
+        let rivals = rivals_of(alloc, clocks, &*groups, access, since)?;
+        let run = groups.run.after(access);
         let time = clocks
             .below_next(access.thread, access.thread)
             .saturating_add(1);
         groups.note(alloc, &self.classes, variable, access, time)?;
+        groups.run = run;
         self.places
             .offer_all(by_variable, variable, access, &rivals)?;
         Ok(())

@@ -4,7 +4,7 @@ use Rattle.shb_lines.specs.declared.event.Event.{Event}
 use Rattle.shb_nearest.specs.Groups.{AreGroups}
 use Rattle.shb_nearest.specs.Rivals.{AreMet, IsNextAccess}
 use Rattle.shb_nearest.specs.declared.access.Spot.{Spot}
-use Rattle.shb_nearest.proofs.rivals.rivals_of.Given as goal
+use Rattle.shb_nearest.proofs.rivals.rivals_among.Given as goal
 
 abbrev pub invariant-loop-group : goal.invariant-loop-group
 invariant-loop-group l = (past : List Event) (e : Event) (spots : List Spot) (x : ℕ) → IsNextAccess past e spots x l.clocks l.access → AreGroups (past ++ e ∷ []) spots x l.access.event l.groups
