@@ -1,5 +1,5 @@
 -- Classes: of each access one, and of each the newest access before an event.
-use Rattle.std.proofs.Common.{◌≡◌, ◌≢◌, ℕ, ◌+◌, ◌<◌, ◌≤◌, ◌⊎◌, inl, inr, Bool, true, false, List, None, Option, Some, arith, refl, sym, ap, ◌∙◌}
+use Rattle.std.proofs.Common.{◌≡◌, ◌≢◌, ℕ, ◌+◌, ◌<◌, ◌≤◌, ◌⊎◌, inl, inr, Bool, true, false, List, None, Option, Some, arith, refl, sym, ap, subst, ◌∙◌}
 use Rattle.std.specs.Prelude.{option_and_then}
 use Rattle.std.proofs.lemmas.Bool.{cases_eq}
 use Rattle.shb_lines.specs.declared.event.Event.{Event}
@@ -103,4 +103,15 @@ module _ (trace : List Event) (spots : List Spot) where
     own = is.own;
     past = (let lt = is.past in omega (arith, lt, other));
     last = λ i lt h. is.last i (omega (arith, lt)) h;
+  }
+
+  -- and the other way round, where n isn't of the class
+  pub newest_after : (n : ℕ) (c : Class) (k : ℕ) → (IsOfClass trace spots c n → ⊥) → IsNewestOf trace spots n c k → IsNewestOf trace spots (n + 1) c k
+  newest_after n c k never is = record {
+    own = is.own;
+    past = (let lt = is.past in omega (arith, lt));
+    last = λ i lt h. elim (cases_eq i n) [
+      | inl here ↦ absurd (never (subst (λ (m : ℕ). IsOfClass trace spots c m) here h))
+      | inr other ↦ is.last i (omega (arith, lt, other)) h
+    ];
   }

@@ -2,12 +2,13 @@
 use Rattle.std.proofs.Common.{◌≡◌, ℕ, suc, ◌+◌, ◌<◌, ◌≤◌, inl, inr, Bool, true, false, cond, ◌&&◌, List, [], ◌∷◌, ◌++◌, None, Option, Some, length, take, filter, get_or, arith, refl, sym, ap, subst, ◌∙◌}
 use Rattle.std.specs.Bool.{beq}
 use Rattle.std.specs.Prelude.{All, AllPairs, Contains, nat_eq, slice_get}
+use Rattle.std.specs.List.{remove}
 use Rattle.std.proofs.Math.ListN.{set}
 use Rattle.std.proofs.Math.Seq.{take-suc}
 use Rattle.std.proofs.lemmas.Bool.{cases_Bool, cases_eq, eq-eqb, eqb-true}
 use Rattle.std.proofs.lemmas.List.Elements.{All-contains, All-filter, All-nil, All-push, All-set, All-weaker, Contains-append_left, Contains-get_or, Contains-push, Contains-push_cases}
 use Rattle.std.proofs.lemmas.List.Kept.{AllPairs-filter}
-use Rattle.std.proofs.lemmas.List.Quantifiers.{all_pairs_push}
+use Rattle.std.proofs.lemmas.List.Quantifiers.{all_pairs_push, all_pairs_remove}
 use Rattle.std.proofs.lemmas.List.{get_or-take, get_or_push, length-take, length_push}
 use Rattle.std.proofs.lemmas.Option.{get_or_from_slice_get, slice_get_read, slice_get_within}
 use Rattle.shb_lines.specs.declared.event.Event.{Event}
@@ -21,9 +22,9 @@ use Rattle.shb_nearest.specs.declared.groups.Kept.{Kept}
 use Rattle.shb_nearest.specs.declared.groups.Run.{Run}
 use Rattle.shb_nearest.specs.Classes.{HasPut, IsNewestOf, IsOfClass, is_newest_in, newest_in, same_class}
 use Rattle.shb_nearest.specs.Found.{IsFoundAccess}
-use Rattle.shb_nearest.specs.Groups.{AreGroups, HasGroupAt, HasKept, HasLast, IsEarlier, IsGroup, IsKept, IsOfGroup, IsRun, KeepsAccess, access_of, class_of, is_newest_kept}
+use Rattle.shb_nearest.specs.Groups.{AreGroups, HasGroupAt, HasKept, HasLast, HasReplaced, IsEarlier, IsGroup, IsKept, IsOfGroup, IsRun, KeepsAccess, access_of, class_of, is_newest_kept}
 use Rattle.shb_nearest.proofs.ClassLemmas.{class_own, newest_before, one_class_at}
-use Rattle.shb_nearest.proofs.Members.{member_at, member_filter, member_set, stays_or_is}
+use Rattle.shb_nearest.proofs.Members.{all_remove, index_of, member_at, member_filter, member_remove, member_set, stays_or_is}
 
 -- equal classes are the same
 same_kind_is : (a b : Bool) → beq a b ≡ true → a ≡ b
@@ -75,7 +76,7 @@ module _ (trace : List Event) (spots : List Spot) (x n : ℕ) where
   pub group_later : (g : Group) → IsGroup trace spots x n g → IsGroup trace spots x (n + 1) g
   group_later g h = record { each = All-weaker (IsKept trace spots x n g.thread g.writes) (IsKept trace spots x (n + 1) g.thread g.writes) (kept_later g.thread g.writes) g.kept.items h.each; rising = h.rising }
 
-  group_empty : (m : ℕ) (g : Group) → g.kept.items ≡ [] → IsGroup trace spots x m g
+  pub group_empty : (m : ℕ) (g : Group) → g.kept.items ≡ [] → IsGroup trace spots x m g
   group_empty m g none = record {
     each = subst (λ (l : List Kept). All (IsKept trace spots x m g.thread g.writes) l) (sym none) (All-nil (IsKept trace spots x m g.thread g.writes));
     rising = subst (λ (l : List Kept). AllPairs IsEarlier l) (sym none) (λ i j d lt within. absurd (omega (arith, lt, within)));
@@ -114,13 +115,51 @@ module _ (trace : List Event) (spots : List Spot) (x n : ℕ) where
       pushed_rising : AllPairs IsEarlier pushed
       pushed_rising = all_pairs_push IsEarlier old.kept.items kept was.rising (λ k d lt. let past = (was.each k d lt).past in omega (arith, past, at_event, here))
 
+      -- an access at its location went
+      module _ (r : HasReplaced kept old.kept.items new.kept.items) where
+        gone_within : r.at < length old.kept.items
+        gone_within = slice_get_within old.kept.items r.at r.gone r.there
+
+        abbrev left : List Kept
+        left = remove old.kept.items r.at
+
+        left_before : All (IsKept trace spots x n old.thread old.writes) left
+        left_before = all_remove (IsKept trace spots x n old.thread old.writes) old.kept.items r.at gone_within was.each
+
+        left_each : All (IsKept trace spots x (n + 1) new.thread new.writes) left
+        left_each = subst (λ (t : ℕ). All (IsKept trace spots x (n + 1) t new.writes) left) (sym h.own.thread_is) (subst (λ (w : Bool). All (IsKept trace spots x (n + 1) old.thread w) left) (sym h.own.writes_is)
+            (All-weaker (IsKept trace spots x n old.thread old.writes) (IsKept trace spots x (n + 1) old.thread old.writes) (kept_later old.thread old.writes) left left_before))
+
+        group_replaced : IsGroup trace spots x (n + 1) new
+        group_replaced = record {
+          each = subst (λ (l : List Kept). All (IsKept trace spots x (n + 1) new.thread new.writes) l) (sym r.items) (All-push (IsKept trace spots x (n + 1) new.thread new.writes) left kept left_each
+              (subst (λ (t : ℕ). IsKept trace spots x (n + 1) t new.writes kept) (sym (h.own.thread_is ∙ is_of.thread_is)) (subst (λ (w : Bool). IsKept trace spots x (n + 1) access.thread w kept) (sym (h.own.writes_is ∙ is_of.writes_is)) own_kept)));
+          rising = subst (λ (l : List Kept). AllPairs IsEarlier l) (sym r.items) (all_pairs_push IsEarlier left kept (all_pairs_remove IsEarlier old.kept.items r.at gone_within was.rising)
+              (λ k d lt. let past = (left_before k d lt).past in omega (arith, past, at_event, here)));
+        }
+
+        replaced_kept : (a : Kept) → Contains pushed a → ((b : Kept) → Contains pushed b → b.spot.location ≡ a.spot.location → b.event ≤ a.event) → Contains new.kept.items a
+        replaced_kept a there last = subst (λ (l : List Kept). Contains l a) (sym r.items) (elim (Contains-push_cases old.kept.items kept a there) [
+          | inr same ↦ subst (λ (b : Kept). Contains (left ++ kept ∷ []) b) same (Contains-push left kept)
+          | inl before ↦ (
+              let k = index_of old.kept.items a before in
+              Contains-append_left left (kept ∷ []) a (member_remove old.kept.items r.at k.0 a gone_within k.1
+              (λ same. let s : Some a ≡ Some r.gone = sym k.1 ∙ (ap (slice_get old.kept.items) same ∙ r.there) in
+              let e : a ≡ r.gone = cc in
+              let at_a : kept.spot.location ≡ a.spot.location = sym r.location_is ∙ ap (λ (b : Kept). b.spot.location) (sym e) in
+              let le = last kept (Contains-push old.kept.items kept) at_a in
+              let past = (All-contains (IsKept trace spots x n old.thread old.writes) old.kept.items a was.each before).past in
+              absurd (omega (arith, le, past, at_event, here)))))
+        ])
+
       pub group_kept : IsGroup trace spots x (n + 1) new
       group_kept = elim h.items [
         | inl all ↦ record {
           each = subst (λ (l : List Kept). All (IsKept trace spots x (n + 1) new.thread new.writes) l) (sym all) pushed_each;
           rising = subst (λ (l : List Kept). AllPairs IsEarlier l) (sym all) pushed_rising;
         }
-        | inr some ↦ record {
+        | inr (inl one) ↦ group_replaced one
+        | inr (inr some) ↦ record {
           each = subst (λ (l : List Kept). All (IsKept trace spots x (n + 1) new.thread new.writes) l) (sym some.items) (All-filter (is_newest_kept some.newest x old.thread old.writes) (IsKept trace spots x (n + 1) new.thread new.writes) pushed pushed_each);
           rising = subst (λ (l : List Kept). AllPairs IsEarlier l) (sym some.items) (AllPairs-filter IsEarlier (is_newest_kept some.newest x old.thread old.writes) pushed pushed_rising);
         }
@@ -130,7 +169,8 @@ module _ (trace : List Event) (spots : List Spot) (x n : ℕ) where
       pub newest_kept : (a : Kept) → Contains pushed a → ((b : Kept) → Contains pushed b → b.spot.location ≡ a.spot.location → b.event ≤ a.event) → Contains new.kept.items a
       newest_kept a there last = elim h.items [
         | inl all ↦ subst (λ (l : List Kept). Contains l a) (sym all) there
-        | inr some ↦ subst (λ (l : List Kept). Contains l a) (sym some.items) (member_filter (is_newest_kept some.newest x old.thread old.writes) pushed a there (newest_passes some.newest (class_in old a) a.event a.event (some.last pushed_rising a there last) refl))
+        | inr (inl one) ↦ replaced_kept one a there last
+        | inr (inr some) ↦ subst (λ (l : List Kept). Contains l a) (sym some.items) (member_filter (is_newest_kept some.newest x old.thread old.writes) pushed a there (newest_passes some.newest (class_in old a) a.event a.event (some.last pushed_rising a there last) refl))
       ]
 
       -- each access of the group is of the class of its location
@@ -269,11 +309,11 @@ pub kept_some : (x : ℕ) (access : Kept) (old new : Group) → new.thread ≡ o
     → (AllPairs IsEarlier seen → HasLast newest x old.thread old.writes seen) → new.kept.items ≡ filter (is_newest_kept newest x old.thread old.writes) pushed → HasKept x access old new
 kept_some x access old new of_t of_w pushed seen newest more same last forgot = record {
   own = record { thread_is = of_t; writes_is = of_w };
-  items = inr (record {
+  items = inr (inr (record {
     newest = newest;
     last = subst (λ (l : List Kept). AllPairs IsEarlier l → HasLast newest x old.thread old.writes l) (same ∙ more) last;
     items = forgot ∙ ap (filter (is_newest_kept newest x old.thread old.writes)) more;
-  });
+  }));
 }
 
 -- the run of a variable, an access more

@@ -1,9 +1,11 @@
 -- Members of lists.
 use Rattle.std.proofs.Common.{◌≡◌, ℕ, ◌+◌, ◌-◌, ◌<◌, ◌≤◌, ◌⊎◌, inl, inr, Bool, true, false, cond, List, [], ◌∷◌, Some, length, map, filter, drop, get_or, arith, refl, sym, ap, subst, ◌∙◌, get_or-set_same, get_or-set_other}
-use Rattle.std.specs.Prelude.{Contains, slice_get}
+use Rattle.std.specs.Prelude.{All, Contains, slice_get}
+use Rattle.std.specs.List.{remove}
 use Rattle.std.proofs.Math.ListN.{set, length-set}
-use Rattle.std.proofs.lemmas.Bool.{cases_eq}
+use Rattle.std.proofs.lemmas.Bool.{cases_eq, cases_lt}
 use Rattle.std.proofs.lemmas.List.{get_or-drop, length-drop}
+use Rattle.std.proofs.lemmas.List.Edits.{get_or-remove_above, get_or-remove_below, length-remove}
 use Rattle.std.proofs.lemmas.Option.{get_or_from_slice_get, slice_get-get_or, slice_get_within}
 use Rattle.shb_lines.proofs.events.Increasing.{contains_cases, contains_head, contains_none, contains_tail}
 
@@ -49,6 +51,29 @@ module _ {X : Type 0} where
     | inl same ↦ inl (sym there.2 ∙ (ap (λ (m : ℕ). get_or xs m z) same ∙ get_or_from_slice_get xs i x z at))
     | inr other ↦ inr (there.0, (let long = length-set xs i y in let low = there.1 in omega (arith, long, low)), get_or-set_other xs i there.0 y z other ∙ there.2)
   ]
+
+  -- without the element at an index
+  pub all_remove : (P : X → Type 0) (xs : List X) (i : ℕ) → i < length xs → All P xs → All P (remove xs i)
+  all_remove P xs i within all k d lt =
+      let long = length-remove xs i within in
+      elim (cases_lt k i) [
+        | inl low ↦ subst P (sym (get_or-remove_below xs i d k low within)) (all k d (omega (arith, low, within)))
+        | inr high ↦ subst P (sym (get_or-remove_above xs i d k high within)) (all (k + 1) d (omega (arith, long, lt)))
+      ]
+
+  pub member_remove : (xs : List X) (i j : ℕ) (x : X) → i < length xs → slice_get xs j ≡ Some x → (j ≡ i → ⊥) → Contains (remove xs i) x
+  member_remove xs i j x within at other =
+      let long = length-remove xs i within in
+      let low = slice_get_within xs j x at in
+      elim (cases_lt j i) [
+        | inl lt ↦ (j, omega (arith, long, lt, within), get_or-remove_below xs i x j lt within ∙ get_or_from_slice_get xs j x x at)
+        | inr ge ↦ (
+            let some : (j - 1) + 1 ≡ j = omega (arith, ge, other) in (
+              j - 1,
+              omega (arith, long, low, some),
+              get_or-remove_above xs i x (j - 1) (omega (arith, ge, other)) within ∙ (ap (λ (m : ℕ). get_or xs m x) some ∙ get_or_from_slice_get xs j x x at),
+            ))
+      ]
 
 module _ {X Y : Type 0} (f : X → Y) where
   pub member_map : (xs : List X) (x : X) → Contains xs x → Contains (map f xs) (f x)

@@ -3,7 +3,7 @@ use Rattle.std.proofs.Common.{◌≡◌, ◌≢◌, ℕ, suc, ◌+◌, ◌-◌, 
 use Rattle.std.specs.Prelude.{Contains, option_and_then, slice_get}
 use Rattle.std.proofs.Math.Seq.{take-suc}
 use Rattle.std.proofs.lemmas.Bool.{cases_eq, cases_lt}
-use Rattle.std.proofs.lemmas.List.Elements.{All-contains, Contains-append_cases, Contains-append_left, Contains-append_right, Contains-push_cases}
+use Rattle.std.proofs.lemmas.List.Elements.{All-contains, All-weaker, Contains-append_cases, Contains-append_left, Contains-append_right, Contains-push_cases}
 use Rattle.std.proofs.lemmas.Option.{get_or_from_slice_get, slice_get-get_or, slice_get_within}
 use Rattle.shb_lines.specs.declared.event.Event.{Event}
 use Rattle.shb_lines.specs.declared.event.Op.TheVariants.{Write}
@@ -25,7 +25,7 @@ use Rattle.shb_nearest.specs.declared.groups.Run.{Run}
 use Rattle.shb_nearest.specs.Found.{IsFoundAccess, access_op, location_in}
 use Rattle.shb_nearest.specs.Groups.{AreGroups, IsGroup, IsKept, IsRun, access_of}
 use Rattle.shb_nearest.specs.Rivals.{AreMet, AreRivals, CanRace, HasMet, HasMetGroup, IsOver}
-use Rattle.shb_nearest.proofs.ClassLemmas.{kind_at, newest_exists, op_variable}
+use Rattle.shb_nearest.proofs.ClassLemmas.{kind_at, newest_after, newest_exists, op_variable}
 use Rattle.shb_nearest.proofs.Members.{index_of, member_drop, member_map, member_of_drop, member_of_map}
 
 write_is : (writes : Bool) (x y : ℕ) → access_op writes x ≡ Write y → writes ≡ true
@@ -70,17 +70,34 @@ module _ (trace : List Event) (spots : List Spot) (x : ℕ) where
       ];
     }
 
+    -- a group that has the access already: nothing is met where nothing can race
+    pub met_none : (group : Group) → IsGroup trace spots x (access.event + 1) group → (since : ℕ) (old : List FoundAccess) → (CanRace group access → ⊥) → HasMetGroup trace spots x access since group old old
+    met_none group kept since old cannot = record {
+      stay = λ a there. there;
+      from = λ a there. inl there;
+      met = λ a there from race. absurd (cannot (can_where group (access_of group.thread group.writes a) (All-contains (IsKept trace spots x (access.event + 1) group.thread group.writes) group.kept.items a kept.each there).own refl refl race));
+    }
+
+    -- and it doesn't, where it is another thread's
+    pub group_before : (group : Group) → group.thread ≢ access.thread → IsGroup trace spots x (access.event + 1) group → IsGroup trace spots x access.event group
+    group_before group other is = record {
+      each = All-weaker (IsKept trace spots x (access.event + 1) group.thread group.writes) (IsKept trace spots x access.event group.thread group.writes) before group.kept.items is.each;
+      rising = is.rising;
+    }
+      where
+        before : (a : Kept) → IsKept trace spots x (access.event + 1) group.thread group.writes a → IsKept trace spots x access.event group.thread group.writes a
+        before a h = record {
+          own = h.own;
+          time_is = h.time_is;
+          past = elim (cases_eq a.event access.event) [
+            | inl here ↦ absurd (other (let s : Some group.thread ≡ Some access.thread = sym h.own.thread_is ∙ (ap (thread_at trace) here ∙ own.thread_is) in cc))
+            | inr there ↦ (let lt = h.past in omega (arith, lt, there))
+          ];
+        }
+
     module _ (group : Group) (kept : IsGroup trace spots x access.event group) where
       is_kept : (a : Kept) → Contains group.kept.items a → IsKept trace spots x access.event group.thread group.writes a
       is_kept a there = All-contains (IsKept trace spots x access.event group.thread group.writes) group.kept.items a kept.each there
-
-      -- nothing is met where nothing can race
-      pub met_none : (since : ℕ) (old : List FoundAccess) → (CanRace group access → ⊥) → HasMetGroup trace spots x access since group old old
-      met_none since old cannot = record {
-        stay = λ a there. there;
-        from = λ a there. inl there;
-        met = λ a there from race. absurd (cannot (can_where group (access_of group.thread group.writes a) (is_kept a there).own refl refl race));
-      }
 
       module _ (below : ℕ) (count : IsBelowPredCount trace group.thread access.event below) where
         looked_races : CanRace group access → (a : Kept) → Contains group.kept.items a → below < a.time → Race trace a.event access.event
@@ -189,7 +206,7 @@ module _ (trace : List Event) (spots : List Spot) (x : ℕ) where
         more = (let e : n + 1 ≡ suc n = omega arith in ap (λ (m : ℕ). take m groups) e) ∙ (take-suc groups n group (slice_get_within groups n group at) ∙ ap (λ (b : Group). take n groups ++ b ∷ []) (get_or_from_slice_get groups n group group at))
 
     -- all groups: each access that races has a rival at its location that isn't before it
-    pub rivals_are : (since : ℕ) (groups : List Group) (rivals : List FoundAccess) → AreGroups trace spots x access.event groups → AreMet trace spots x access since groups rivals → AreRivals trace spots x access since rivals
+    pub rivals_are : (since : ℕ) (groups : List Group) (rivals : List FoundAccess) → AreGroups trace spots x (access.event + 1) groups → AreMet trace spots x access since groups rivals → AreRivals trace spots x access since rivals
     rivals_are since groups rivals are met = record { races = met.races; each = each }
       where
         each : (i l : ℕ) → Race trace i access.event → location_in spots i ≡ Some l → since ≤ i → (a : FoundAccess) × Contains rivals a × (a.spot.location ≡ l) × (i ≤ a.event)
@@ -203,7 +220,7 @@ module _ (trace : List Event) (spots : List Spot) (x : ℕ) where
             let new = newest_exists trace spots access.event class i race.earlier (record { thread_is = of_i; op_is = kind.1; location_is = at }) in
             let k = new.0 in
             let is = new.1.own in
-            let keeps = are.covers class k refl new.1 in
+            let keeps = are.covers class k refl (newest_after trace spots access.event class k (λ h. c.other_thread (of_i ∙ sym h.thread_is)) new.1) in
             let le = new.1.last i race.earlier (record { thread_is = of_i; op_is = kind.1; location_is = at }) in
             let newer : Race trace k access.event = elim (cases_eq k i) [
               | inl same ↦ subst (λ (m : ℕ). Race trace m access.event) (sym same) race

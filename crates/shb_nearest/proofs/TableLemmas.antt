@@ -25,10 +25,10 @@ use Rattle.shb_nearest.specs.declared.groups.Run.{Run}
 use Rattle.shb_nearest.specs.declared.tables.Tables.{Tables}
 use Rattle.shb_nearest.specs.Classes.{AreClasses, HasPut, IsOfClass, newest_in, same_class}
 use Rattle.shb_nearest.specs.Found.{IsFoundAccess, access_op}
-use Rattle.shb_nearest.specs.Groups.{AreGroups, IsAt, IsGroup, IsKept, IsOfGroup, IsRun, IsSince, access_of, class_of}
+use Rattle.shb_nearest.specs.Groups.{AreGroups, HasGroupAt, IsAt, IsGroup, IsKept, IsOfGroup, IsRun, IsSince, access_of, class_of}
 use Rattle.shb_nearest.specs.Searched.{AreAllGroups, AreTables}
 use Rattle.shb_nearest.specs.Wide.{AreMoreGroups}
-use Rattle.shb_nearest.proofs.GroupLemmas.{class_self, groups_later, one_class}
+use Rattle.shb_nearest.proofs.GroupLemmas.{class_self, group_empty, group_same, groups_later, one_class}
 use Rattle.shb_nearest.proofs.ClassLemmas.{class_own, class_with, op_variable}
 use Rattle.shb_nearest.proofs.Members.{member_at}
 use Rattle.shb_nearest.proofs.RivalLemmas.{variable_is}
@@ -76,11 +76,16 @@ module _ (trace : List Event) (spots : List Spot) where
     classes_later entries are = record { own = λ c k at. (let h = are.own c k at in (h.0, (let lt = h.1 in omega (arith, lt)))) }
 
     -- an access that a group of the class keeps
-    pub since_kept : (x : ℕ) (access : FoundAccess) (since : ℕ) (groups : List Group) (at : ℕ) (group : Group) → access.event ≡ n → AreGroups trace spots x n groups → slice_get groups at ≡ Some group → IsOfGroup group access.thread access.writes → IsAt group.kept.items access.spot.location since → IsSince trace spots x access since
-    since_kept x access since groups at group at_n are there is_of is = elim is [
+    pub since_kept : (x : ℕ) (access : FoundAccess) (since : ℕ) (groups mid : List Group) (at : ℕ) (group : Group) → access.event ≡ n → AreGroups trace spots x n groups → HasGroupAt groups mid access.thread access.writes at → slice_get mid at ≡ Some group → IsAt group.kept.items access.spot.location since → IsSince trace spots x access since
+    since_kept x access since groups mid at group at_n are made there is = elim is [
       | inl none ↦ inl none
       | inr found ↦ (
-          let g = All-contains (IsGroup trace spots x n) groups group are.each (member_at groups at group there) in
+          let same = group_same made.group group (sym made.there ∙ there) in
+          let is_of : IsOfGroup group access.thread access.writes = subst (λ (g : Group). IsOfGroup g access.thread access.writes) same made.own in
+          let g : IsGroup trace spots x n group = elim (made.from group (member_at mid at group there)) [
+            | inl before ↦ All-contains (IsGroup trace spots x n) groups group are.each before
+            | inr empty ↦ group_empty trace spots x n n group empty
+          ] in
           let k = All-contains (IsKept trace spots x n group.thread group.writes) group.kept.items found.0 g.each found.1 in
           let own = class_own trace spots x (access_of group.thread group.writes found.0) k.own in
           let e = found.3 in

@@ -1,4 +1,5 @@
 -- The accesses that are kept of a variable, by thread and kind.
+use Rattle.std.specs.List.{remove}
 use Rattle.std.specs.Prelude.{◌≡◌, ◌⊎◌, ◌<◌, ◌≤◌, ◌++◌, ◌∷◌, ℕ, Bool, List, [], Some, All, AllPairs, Contains, filter, slice_get}
 use Rattle.shb_lines.specs.declared.event.Event.{Event}
 use Rattle.shb_lines.specs.events.Discipline.{local_time}
@@ -79,10 +80,18 @@ pub record HasForgotten (x thread : ℕ) (writes : Bool) (old new : List Kept) :
   pub last : AllPairs IsEarlier old → HasLast newest x thread writes old
   pub items : new ≡ filter (is_newest_kept newest x thread writes) old
 
--- the group keeps one access more, and perhaps forgets those that aren't the last at their location
+-- the access came last, and one at its location went
+pub record HasReplaced (access : Kept) (old new : List Kept) : Type 0 where
+  pub at : ℕ
+  pub gone : Kept
+  pub there : slice_get old at ≡ Some gone
+  pub location_is : gone.spot.location ≡ access.spot.location
+  pub items : new ≡ remove old at ++ access ∷ []
+
+-- the group keeps one access more, and perhaps not an earlier one at its location, or forgets those that aren't the last at theirs
 pub record HasKept (x : ℕ) (access : Kept) (old new : Group) : Type 0 where
   pub own : IsOfGroup new old.thread old.writes
-  pub items : (new.kept.items ≡ old.kept.items ++ access ∷ []) ⊎ HasForgotten x old.thread old.writes (old.kept.items ++ access ∷ []) new.kept.items
+  pub items : (new.kept.items ≡ old.kept.items ++ access ∷ []) ⊎ (HasReplaced access old.kept.items new.kept.items ⊎ HasForgotten x old.thread old.writes (old.kept.items ++ access ∷ []) new.kept.items)
 
 -- an access of the kept ones at a location, or 0
 abbrev pub IsAt : List Kept → ℕ → ℕ → Type 0

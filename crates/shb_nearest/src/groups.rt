@@ -7,6 +7,7 @@ ghost use Rattle.shb_nearest.specs.Classes.{AreClasses};
 ghost use Rattle.shb_nearest.specs.Found.{IsFoundAccess};
 ghost use Rattle.shb_nearest.specs.Groups.{AreGroups, HasGroupAt, HasKept, HasLast, IsAt, IsEarlier, IsOfGroup, IsRun, IsSince, is_newest_kept};
 ghost use Rattle.shb_nearest.specs.declared.access.Spot.{Spot as SpotData};
+ghost use Rattle.shb_nearest.specs.declared.groups.Kept.{Kept as KeptData};
 
 use crate::access::{FoundAccess, Spot};
 use crate::classes::{Class, Classes};
@@ -49,8 +50,8 @@ pub struct Groups {
     pub run: Run,
 }
 
-/// How many accesses a group keeps before it forgets any.
-const FEW: usize = 16;
+/// A group that keeps so many accesses, or fewer, keeps one for each location: the next one there replaces it.
+const FEW: usize = 64;
 
 /// Of some accesses by a thread, of a kind, the last one at each location.
 fn newest_of(
@@ -76,19 +77,19 @@ fn newest_of(
     Ok(newest)
 }
 
-/// The last kept access at a location, or 0 where there is none.
-fn last_at(kept: &[Kept], location: u32) -> u32
-    ensures { IsAt kept.now location result }
+/// The index of the last kept access at a location, if there is one.
+fn index_at(kept: &[Kept], location: u32) -> Option<usize>
+    ensures { IfSome result (λ at. (a : KeptData) × (slice_get kept.now at ≡ Some a) × (a.spot.location ≡ location)) }
 {
     let mut from = kept.len();
     while from > 0 {
         from -= 1;
-        let access = kept[from];
-        if access.spot.location == location {
-            return access.event;
+        let found = kept[from].spot.location == location;
+        if found {
+            return Some(from);
         }
     }
-    0
+    None
 }
 
 /// Forgets those that a table doesn't have.
@@ -135,6 +136,24 @@ impl Group {
         ensures { result ≡ true → IsOfGroup self.now thread writes }
     {
         self.thread == thread && self.writes == writes
+    }
+
+    /// Keeps an access in place of the last one at its location, where there is one, and answers that one, or 0.
+    ///
+    /// # Errors
+    ///
+    /// `NoMemory` where a growth was refused.
+    fn replace(&mut self, access: Kept) -> Result<u32, NoMemory>
+        ensures kept { (x : ℕ) → OnOk result (HasKept x access self.old self.new) }
+        ensures before { IfOk result (IsAt self.old.kept.items access.spot.location) }
+    {
+        let Some(at) = index_at(self.kept.as_slice(), access.spot.location) else {
+            push(&mut self.kept, access)?;
+            return Ok(0);
+        };
+        let before = self.kept.remove(at);
+        push(&mut self.kept, access)?;
+        Ok(before.event)
     }
 
     /// Keeps an access, and forgets others where there are too many.
@@ -205,55 +224,25 @@ impl Groups {
         Ok(at)
     }
 
-    /// An earlier access of the class of an access, or 0: the last one, where its group keeps few; else the one that the
-    /// table of classes had, which takes this access.
+    /// Takes an access in, with how many events its thread had, and answers an earlier access of its class, or 0: the
+    /// last one, where its group keeps few; else the one that the table of classes had, which takes this access.
     ///
     /// # Errors
     ///
     /// `NoMemory` where a growth was refused.
-    pub fn since(
-        &self,
+    pub fn take(
+        &mut self,
+        alloc: Global,
         classes: &mut Classes,
         variable: u32,
         access: FoundAccess,
+        time: u32,
     ) -> Result<u32, NoMemory>
-        ensures since { (trace : List Event) (spots : List SpotData) → AreGroups trace spots variable access.event self.now.each.items
+        ensures since { (trace : List Event) (spots : List SpotData) → AreGroups trace spots variable access.event self.old.each.items
             → AreClasses trace spots access.event classes.old.newest.entries → IfOk result (IsSince trace spots variable access) }
         ensures classes { (trace : List Event) (spots : List SpotData) → IsFoundAccess trace spots variable access
             → AreClasses trace spots access.event classes.old.newest.entries → OnOk result (AreClasses trace spots (access.event + 1) classes.new.newest.entries) }
-    {
-        let Some(at) = self.index_of(access.thread, access.writes) else {
-            return Ok(0);
-        };
-        let kept = self.each[at].kept.as_slice();
-        if kept.len() <= FEW {
-            let last = last_at(kept, access.spot.location);
-            return Ok(last);
-        }
-        let class = Class {
-            variable,
-            location: access.spot.location,
-            thread: access.thread,
-            writes: access.writes,
-        };
-        let before = classes.put(class, access.event)?;
-        Ok(before)
-    }
-
-    /// Takes an access in, with how many events its thread had. The classes lend their keys.
-    ///
-    /// # Errors
-    ///
-    /// `NoMemory` where a growth was refused.
-    pub fn note(
-        &mut self,
-        alloc: Global,
-        classes: &Classes,
-        variable: u32,
-        access: FoundAccess,
-        time: u32,
-    ) -> Result<(), NoMemory>
-        ensures { (trace : List Event) (spots : List SpotData) → AreGroups trace spots variable access.event self.old.each.items → IsFoundAccess trace spots variable access
+        ensures groups { (trace : List Event) (spots : List SpotData) → AreGroups trace spots variable access.event self.old.each.items → IsFoundAccess trace spots variable access
             → time ≡ local_time trace access.thread access.event → OnOk result (AreGroups trace spots variable (access.event + 1) self.new.each.items) }
     {
         let at = self.group_at(alloc, access.thread, access.writes)?;
@@ -262,7 +251,19 @@ impl Groups {
             time,
             spot: access.spot,
         };
-        self.each[at].keep(alloc, classes, variable, kept)?;
-        Ok(())
+        let group = &mut self.each[at];
+        if group.kept.len() <= FEW {
+            let before = group.replace(kept)?;
+            return Ok(before);
+        }
+        let class = Class {
+            variable,
+            location: access.spot.location,
+            thread: access.thread,
+            writes: access.writes,
+        };
+        let before = classes.put(class, access.event)?;
+        group.keep(alloc, &*classes, variable, kept)?;
+        Ok(before)
     }
 }

@@ -1,13 +1,13 @@
 //! The accesses that race with the next access.
 
-ghost use Rattle.std.specs.Prelude.{◌≡◌, ◌<◌, ◌≤◌, ◌++◌, ◌∷◌, [], ℕ, false, true, List, IfOk, OnOk, map};
+ghost use Rattle.std.specs.Prelude.{◌≡◌, ◌+◌, ◌<◌, ◌≤◌, ◌++◌, ◌∷◌, [], ℕ, false, true, List, IfOk, OnOk, map};
 ghost use Rattle.shb_lines.specs.declared.event.Event.{Event};
 ghost use Rattle.shb_nearest.specs.Groups.{AreGroups, IsGroup, IsRun, access_of};
 ghost use Rattle.shb_nearest.specs.Rivals.{AreRivals, CanRace, HasMet, HasMetGroup, IsFrom, IsNextAccess, IsOver};
 ghost use Rattle.shb_nearest.specs.declared.access.Spot.{Spot as SpotData};
 
 use crate::access::FoundAccess;
-use crate::groups::{Group, Groups, Kept};
+use crate::groups::{Group, Kept, Run};
 use shb_io::NoMemory;
 use shb_stamps::StreamClocks;
 use std::alloc::Global;
@@ -88,7 +88,7 @@ fn meet_group(
     since: u32,
 ) -> Result<(), NoMemory>
     ensures { (past : List Event) (e : Event) (spots : List SpotData) (x : ℕ) → IsNextAccess past e spots x clocks.now access
-        → IsGroup (past ++ e ∷ []) spots x access.event group.now
+        → IsGroup (past ++ e ∷ []) spots x (access.event + 1) group.now
         → OnOk result (HasMetGroup (past ++ e ∷ []) spots x access since group.now rivals.old.items rivals.new.items) }
 {
     let met = can_race(group, access);
@@ -109,7 +109,7 @@ fn rivals_among(
     since: u32,
 ) -> Result<Vec<FoundAccess>, NoMemory>
     ensures { (past : List Event) (e : Event) (spots : List SpotData) (x : ℕ) → IsNextAccess past e spots x clocks.now access
-        → AreGroups (past ++ e ∷ []) spots x access.event groups.now
+        → AreGroups (past ++ e ∷ []) spots x (access.event + 1) groups.now
         → IfOk result (λ rivals. AreRivals (past ++ e ∷ []) spots x access since rivals.items) }
 {
     let mut rivals = Vec::new(alloc);
@@ -119,8 +119,8 @@ fn rivals_among(
     Ok(rivals)
 }
 
-/// Accesses that race with the next one: those that the groups of its variable keep from the event `since` on. There are
-/// none where its thread alone accessed the variable since then.
+/// Accesses that race with the next one: those that the groups of its variable, which have it already, keep from the event
+/// `since` on. There are none where by the run before it its thread alone accessed the variable since then.
 ///
 /// # Errors
 ///
@@ -128,18 +128,19 @@ fn rivals_among(
 pub fn rivals_of(
     alloc: Global,
     clocks: &StreamClocks,
-    groups: &Groups,
+    run: Run,
+    groups: &[Group],
     access: FoundAccess,
     since: u32,
 ) -> Result<Vec<FoundAccess>, NoMemory>
     ensures { (past : List Event) (e : Event) (spots : List SpotData) (x : ℕ) → IsNextAccess past e spots x clocks.now access
-        → AreGroups (past ++ e ∷ []) spots x access.event groups.now.each.items → IsRun (past ++ e ∷ []) x access.event groups.now.run
+        → AreGroups (past ++ e ∷ []) spots x (access.event + 1) groups.now → IsRun (past ++ e ∷ []) x access.event run
         → IfOk result (λ rivals. AreRivals (past ++ e ∷ []) spots x access since rivals.items) }
 {
-    let alone = groups.run.is_alone(access.thread, since);
+    let alone = run.is_alone(access.thread, since);
     if alone {
         return Ok(Vec::new(alloc));
     }
-    let rivals = rivals_among(alloc, clocks, groups.each.as_slice(), access, since)?;
+    let rivals = rivals_among(alloc, clocks, groups, access, since)?;
     Ok(rivals)
 }

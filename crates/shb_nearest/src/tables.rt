@@ -77,14 +77,13 @@ impl Tables {
     {
         make_space(&mut self.groups, alloc, variable)?;
         let groups = &mut self.groups[variable as usize];
-        let since = groups.since(&mut self.classes, variable, access)?;
-        let rivals = rivals_of(alloc, clocks, &*groups, access, since)?;
-        let run = groups.run.after(access);
+        let run = groups.run;
         let time = clocks
             .below_next(access.thread, access.thread)
             .saturating_add(1);
-        groups.note(alloc, &self.classes, variable, access, time)?;
-        groups.run = run;
+        let since = groups.take(alloc, &mut self.classes, variable, access, time)?;
+        let rivals = rivals_of(alloc, clocks, run, groups.each.as_slice(), access, since)?;
+        groups.run = run.after(access);
         self.places
             .offer_all(by_variable, variable, access, &rivals)?;
         Ok(())

@@ -1,4 +1,4 @@
-use Rattle.std.proofs.Common.{List, [], ◌∷◌, ◌++◌, arith, length, refl, subst}
+use Rattle.std.proofs.Common.{◌+◌, List, [], ◌∷◌, ◌++◌, arith, length, refl, subst}
 use Rattle.std.proofs.lemmas.List.{take_all}
 use Rattle.std.proofs.lemmas.Option.{slice_get_read}
 use Rattle.std.proofs.lemmas.List.Elements.{All-contains}
@@ -15,7 +15,7 @@ loop-group-preserved c past e spots x next are =
     let at = slice_get_read c.args.groups.now (length c.args.groups.now) c.loop-group.group-index c.group-item.result refl (omega (arith, more)) c.group-item.is in
     met_more (past ++ e ∷ []) spots x c.args.access next.own c.args.since c.loop-group.group-index c.args.groups.now c.group-item.result c.loop-group.rivals.items c.meet_group.new.rivals.items at
     (c.loop-group.invariant past e spots x next are)
-    (c.in_ok-meet_group.ensures past e spots x next (All-contains (IsGroup (past ++ e ∷ []) spots x c.args.access.event) c.args.groups.now c.group-item.result are.each (member_at c.args.groups.now c.loop-group.group-index c.group-item.result at)))
+    (c.in_ok-meet_group.ensures past e spots x next (All-contains (IsGroup (past ++ e ∷ []) spots x (c.args.access.event + 1)) c.args.groups.now c.group-item.result are.each (member_at c.args.groups.now c.loop-group.group-index c.group-item.result at)))
 
 pub returns : goal.returns
 returns c past e spots x next are =

@@ -1,5 +1,5 @@
 use Rattle.std.proofs.Common.{◌≤◌, length}
-use Rattle.shb_nearest.proofs.groups.last_at.Given as goal
+use Rattle.shb_nearest.proofs.groups.index_at.Given as goal
 
 abbrev pub invariant-loop-from : goal.invariant-loop-from
 invariant-loop-from l = l.from ≤ length l.kept
