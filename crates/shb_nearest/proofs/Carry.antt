@@ -1,12 +1,12 @@
 -- What is known of the accesses of a stream stays so when an event comes.
-use Rattle.std.proofs.Common.{◌≡◌, ℕ, zero, suc, ◌<◌, Bool, List, [], ◌∷◌, ◌++◌, Some, length, arith, refl, sym, ap, ◌∙◌}
+use Rattle.std.proofs.Common.{◌≡◌, ℕ, zero, suc, ◌<◌, inl, inr, Bool, List, [], ◌∷◌, ◌++◌, Some, length, arith, refl, sym, ap, ◌∙◌}
 use Rattle.std.specs.Prelude.{option_and_then, slice_get}
 use Rattle.std.proofs.lemmas.List.Elements.{All-weaker}
 use Rattle.shb_lines.specs.declared.event.Event.{Event}
 use Rattle.shb_lines.specs.events.Discipline.{IsDisciplined}
 use Rattle.shb_lines.specs.events.Events.{op_at, thread_at, variable_of}
 use Rattle.shb_lines.specs.events.Race.{Race, variable_at}
-use Rattle.shb_lines.proofs.events.Longer.{op_longer, race_longer, thread_longer, time_longer}
+use Rattle.shb_lines.proofs.events.Longer.{below_pred_longer, op_longer, race_longer, thread_longer, time_longer}
 use Rattle.shb_nearest.specs.declared.access.FoundAccess.{FoundAccess}
 use Rattle.shb_nearest.specs.declared.access.FoundRace.{FoundRace}
 use Rattle.shb_nearest.specs.declared.access.Spot.{Spot}
@@ -14,11 +14,14 @@ use Rattle.shb_nearest.specs.declared.classes.Class.{Class}
 use Rattle.shb_nearest.specs.declared.groups.Group.{Group}
 use Rattle.shb_nearest.specs.declared.groups.Kept.{Kept}
 use Rattle.shb_nearest.specs.declared.places.Place.{Place}
+use Rattle.shb_nearest.specs.declared.screen.Latest.{Latest}
+use Rattle.shb_nearest.specs.declared.screen.Mark.{Mark}
 use Rattle.shb_nearest.specs.declared.tables.Tables.{Tables}
 use Rattle.shb_nearest.specs.Classes.{IsOfClass}
 use Rattle.shb_nearest.specs.Found.{IsFoundAccess, location_in}
 use Rattle.shb_nearest.specs.Groups.{IsGroup, IsKept, access_of}
 use Rattle.shb_nearest.specs.Places.{IsAtPlace, IsNearestAt}
+use Rattle.shb_nearest.specs.Screen.{IsMarked, IsScreened}
 use Rattle.shb_nearest.specs.Searched.{AreTables}
 
 spot_longer : (spots more : List Spot) (k : ℕ) → k < length spots → slice_get (spots ++ more) k ≡ slice_get spots k
@@ -87,6 +90,24 @@ module _ (past : List Event) (e : Event) (spots : List Spot) (s : Spot) (as_many
     nearest = λ k l lt race at. (let own = race_back k l lt race in h.nearest k l lt own (at_place_back by_variable p k l own.earlier lt at));
   }
 
+  marked_longer : (mark : Mark) (k : ℕ) → IsMarked past (length past) mark k → IsMarked (past ++ e ∷ []) (length past) mark k
+  marked_longer mark k h = record {
+    event = h.event;
+    past = h.past;
+    thread_is = same_thread_at h.event h.past ∙ h.thread_is;
+    time_is = h.time_is ∙ sym (time_longer past (e ∷ []) mark.thread h.event h.past);
+    ordered = elim h.ordered [ inl same ↦ inl same | inr below ↦ inr ((below_pred_longer past (e ∷ []) whole k h.event h.past).1 below) ];
+  }
+
+  screened_longer : (x : ℕ) (latest : Latest) → IsScreened past x (length past) latest → IsScreened (past ++ e ∷ []) x (length past) latest
+  screened_longer x latest h = record {
+    writes = λ known k lt is. marked_longer latest.write k (h.writes known k lt (sym (same_op_at k lt) ∙ is));
+    accesses = λ known also k lt is. elim (h.accesses known also k lt (sym (same_variable_at k lt) ∙ is)) [
+      | inl w ↦ inl (marked_longer latest.write k w)
+      | inr r ↦ inr (marked_longer latest.read k r)
+    ];
+  }
+
   pub tables_longer : (by_variable : Bool) (tables : Tables) → AreTables by_variable past spots (length past) tables → AreTables by_variable (past ++ e ∷ []) (spots ++ s ∷ []) (length past) tables
   tables_longer by_variable tables are = record {
     classes = record {
@@ -100,6 +121,7 @@ module _ (past : List Event) (e : Event) (spots : List Spot) (s : Spot) (as_many
       runs = λ x groups at. (let h = are.groups.runs x groups at in record {
         alone = λ i from lt is. same_thread_at i lt ∙ h.alone i from lt (ap (option_and_then variable_of) (sym (same_op_at i lt)) ∙ is);
       });
+      screened = λ x groups at. screened_longer x groups.latest (are.groups.screened x groups at);
       wide = λ i x lt is. are.groups.wide i x lt (ap (option_and_then variable_of) (sym (same_op_at i lt)) ∙ is);
     };
     places = record {

@@ -7,5 +7,6 @@ pub mod NearestLaws
 pub mod PlaceLemmas
 pub mod PlaceTable
 pub mod RivalLemmas
+pub mod ScreenLemmas
 pub mod StepLemmas
 pub mod TableLemmas

@@ -26,12 +26,14 @@ use Rattle.shb_nearest.specs.declared.tables.Tables.{Tables}
 use Rattle.shb_nearest.specs.Classes.{AreClasses, HasPut, IsOfClass, newest_in, same_class}
 use Rattle.shb_nearest.specs.Found.{IsFoundAccess, access_op}
 use Rattle.shb_nearest.specs.Groups.{AreGroups, HasGroupAt, IsAt, IsGroup, IsKept, IsOfGroup, IsRun, IsSince, access_of, class_of}
+use Rattle.shb_nearest.specs.Screen.{IsScreened}
 use Rattle.shb_nearest.specs.Searched.{AreAllGroups, AreTables}
 use Rattle.shb_nearest.specs.Wide.{AreMoreGroups}
 use Rattle.shb_nearest.proofs.GroupLemmas.{class_self, group_empty, group_same, groups_later, one_class}
 use Rattle.shb_nearest.proofs.ClassLemmas.{class_own, class_with, op_variable}
 use Rattle.shb_nearest.proofs.Members.{member_at}
 use Rattle.shb_nearest.proofs.RivalLemmas.{variable_is}
+use Rattle.shb_nearest.proofs.ScreenLemmas.{screened_later, screened_never}
 
 module _ (trace : List Event) (spots : List Spot) where
   -- no access of an event that does something else
@@ -126,12 +128,16 @@ module _ (trace : List Event) (spots : List Spot) where
           alone = λ i from lt is. absurd (let low = are.wide i x lt is in let high = empty.0 in omega (arith, low, high));
         }
       ];
+      screened = λ x groups at. elim (more.from x groups at) [
+        | inl was ↦ are.screened x groups was
+        | inr empty ↦ screened_never trace x n groups.latest (λ i lt is. let low = are.wide i x lt is in let high = empty.0 in omega (arith, low, high))
+      ];
       wide = λ i x lt is. (let low = are.wide i x lt is in let long = more.longer in omega (arith, low, long));
     }
 
     -- the groups of all variables, an access of one more
-    pub groups_put : (x : ℕ) (access : FoundAccess) → access.event ≡ n → IsFoundAccess trace spots x access → (mid : List Groups) (new : Groups) → x < length mid → AreAllGroups trace spots n mid → AreGroups trace spots x (n + 1) new.each.items → IsRun trace x (n + 1) new.run → AreAllGroups trace spots (n + 1) (set mid x new)
-    groups_put x access at_n found mid new low are own run = record {
+    pub groups_put : (x : ℕ) (access : FoundAccess) → access.event ≡ n → IsFoundAccess trace spots x access → (mid : List Groups) (new : Groups) → x < length mid → AreAllGroups trace spots n mid → AreGroups trace spots x (n + 1) new.each.items → IsRun trace x (n + 1) new.run → IsScreened trace x (n + 1) new.latest → AreAllGroups trace spots (n + 1) (set mid x new)
+    groups_put x access at_n found mid new low are own run screened = record {
       each = λ y groups at. elim (set_cases mid x y new groups low at) [
         | inl same ↦ subst (λ (z : ℕ). AreGroups trace spots z (n + 1) groups.each.items) (sym same.0) (subst (λ (g : Groups). AreGroups trace spots x (n + 1) g.each.items) (sym same.1) own)
         | inr other ↦ groups_later trace spots y n groups.each.items (λ c of_y is. other.0 (sym of_y ∙ only c.variable (class_variable c n is))) (are.each y groups other.1)
@@ -139,6 +145,10 @@ module _ (trace : List Event) (spots : List Spot) where
       runs = λ y groups at. elim (set_cases mid x y new groups low at) [
         | inl same ↦ subst (λ (z : ℕ). IsRun trace z (n + 1) groups.run) (sym same.0) (subst (λ (g : Groups). IsRun trace x (n + 1) g.run) (sym same.1) run)
         | inr other ↦ run_later y groups.run (λ is. other.0 (only y is)) (are.runs y groups other.1)
+      ];
+      screened = λ y groups at. elim (set_cases mid x y new groups low at) [
+        | inl same ↦ subst (λ (z : ℕ). IsScreened trace z (n + 1) groups.latest) (sym same.0) (subst (λ (g : Groups). IsScreened trace x (n + 1) g.latest) (sym same.1) screened)
+        | inr other ↦ screened_later trace y n groups.latest (λ is. other.0 (only y is)) (are.screened y groups other.1)
       ];
       wide = λ i y lt is. (let long = length-set mid x new in elim (cases_lt i n) [
         | inl past ↦ (let within = are.wide i y past is in omega (arith, within, long))
@@ -158,6 +168,7 @@ module _ (trace : List Event) (spots : List Spot) where
       groups = record {
         each = λ x groups at. groups_later trace spots x n groups.each.items (λ c of_x h. no_class c n op is none h) (are.groups.each x groups at);
         runs = λ x groups at. run_later x groups.run (no_access x) (are.groups.runs x groups at);
+        screened = λ x groups at. screened_later trace x n groups.latest (no_access x) (are.groups.screened x groups at);
         wide = λ i x lt at. elim (cases_lt i n) [
           | inl low ↦ are.groups.wide i x low at
           | inr high ↦ absurd (let same : i ≡ n = omega (arith, lt, high) in no_access x (subst (λ (m : ℕ). variable_at trace m ≡ Some x) same at))

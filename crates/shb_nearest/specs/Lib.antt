@@ -3,6 +3,7 @@ pub mod Found
 pub mod Classes
 pub mod Groups
 pub mod Rivals
+pub mod Screen
 pub mod Places
 pub mod Searched
 pub mod Wide

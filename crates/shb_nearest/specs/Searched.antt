@@ -11,6 +11,7 @@ use Rattle.shb_nearest.specs.Found.{IsFoundRace, ends_of, site_in}
 use Rattle.shb_nearest.specs.Groups.{AreGroups, IsRun}
 use Rattle.shb_nearest.specs.Nearest.{AreNearest}
 use Rattle.shb_nearest.specs.Places.{ArePlaces}
+use Rattle.shb_nearest.specs.Screen.{IsScreened}
 use Rattle.shb_nearest.specs.declared.access.FoundRace.{FoundRace}
 use Rattle.shb_nearest.specs.declared.access.Spot.{Spot}
 use Rattle.shb_nearest.specs.declared.groups.Groups.{Groups}
@@ -25,6 +26,7 @@ HasRoom past = length past + 1 < 2 ^ 32
 pub record AreAllGroups (trace : List Event) (spots : List Spot) (n : ℕ) (all : List Groups) : Type 0 where
   pub each : (x : ℕ) (groups : Groups) → slice_get all x ≡ Some groups → AreGroups trace spots x n groups.each.items
   pub runs : (x : ℕ) (groups : Groups) → slice_get all x ≡ Some groups → IsRun trace x n groups.run
+  pub screened : (x : ℕ) (groups : Groups) → slice_get all x ≡ Some groups → IsScreened trace x n groups.latest
   pub wide : (i x : ℕ) → i < n → variable_at trace i ≡ Some x → x < length all
 
 -- the tables are those of the accesses before n

@@ -11,6 +11,7 @@ ghost use Rattle.shb_nearest.specs.declared.groups.Kept.{Kept as KeptData};
 
 use crate::access::{FoundAccess, Spot};
 use crate::classes::{Class, Classes};
+use crate::screen::Latest;
 use crate::tight::push;
 use shb_io::NoMemory;
 use std::alloc::Global;
@@ -43,11 +44,12 @@ pub struct Run {
     pub start: u32,
 }
 
-/// The groups of a variable, and its run.
+/// The groups of a variable, its run, and what is kept to know that most of its accesses race with none.
 #[derive(Drop)]
 pub struct Groups {
     pub each: Vec<Group>,
     pub run: Run,
+    pub latest: Latest,
 }
 
 /// A group that keeps so many accesses, or fewer, keeps one for each location: the next one there replaces it.

@@ -9,7 +9,8 @@
 //! keeps from the newest one back. It stops at the first that is below its predecessor, since those behind it are too,
 //! and at the first that is before an earlier access of its own class, since what is behind that and races with this
 //! access raced with that one, and its place is known. It looks at nothing where its own thread alone accessed the
-//! variable since that access of its class (`Run`). All that it went over race with it, and are offered to the table of
+//! variable since that access of its class (`Run`), nor where the last write of the variable is below its predecessor
+//! and, for a write, the newest read since is too (`screen`). All that it went over race with it, and are offered to the table of
 //! places. The earlier access of its class is the last one, where the own group keeps a few, and it replaces that one; else
 //! `classes` has one.
 //!
@@ -26,6 +27,7 @@ mod groups;
 pub mod laws;
 mod places;
 mod rivals;
+mod screen;
 mod search;
 mod tables;
 mod tight;

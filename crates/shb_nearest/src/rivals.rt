@@ -4,6 +4,7 @@ ghost use Rattle.std.specs.Prelude.{◌≡◌, ◌+◌, ◌<◌, ◌≤◌, ◌+
 ghost use Rattle.shb_lines.specs.declared.event.Event.{Event};
 ghost use Rattle.shb_nearest.specs.Groups.{AreGroups, IsGroup, IsRun, access_of};
 ghost use Rattle.shb_nearest.specs.Rivals.{AreRivals, CanRace, HasMet, HasMetGroup, IsFrom, IsNextAccess, IsOver};
+ghost use Rattle.shb_nearest.specs.Screen.{HasNone};
 ghost use Rattle.shb_nearest.specs.declared.access.Spot.{Spot as SpotData};
 
 use crate::access::FoundAccess;
@@ -120,7 +121,8 @@ fn rivals_among(
 }
 
 /// Accesses that race with the next one: those that the groups of its variable, which have it already, keep from the event
-/// `since` on. There are none where by the run before it its thread alone accessed the variable since then.
+/// `since` on. There are none where it is known to be free of races, or where by
+/// the run before it its thread alone accessed the variable since then.
 ///
 /// # Errors
 ///
@@ -128,6 +130,7 @@ fn rivals_among(
 pub fn rivals_of(
     alloc: Global,
     clocks: &StreamClocks,
+    free: bool,
     run: Run,
     groups: &[Group],
     access: FoundAccess,
@@ -135,8 +138,12 @@ pub fn rivals_of(
 ) -> Result<Vec<FoundAccess>, NoMemory>
     ensures { (past : List Event) (e : Event) (spots : List SpotData) (x : ℕ) → IsNextAccess past e spots x clocks.now access
         → AreGroups (past ++ e ∷ []) spots x (access.event + 1) groups.now → IsRun (past ++ e ∷ []) x access.event run
+        → (free ≡ true → HasNone (past ++ e ∷ []) access.event)
         → IfOk result (λ rivals. AreRivals (past ++ e ∷ []) spots x access since rivals.items) }
 {
+    if free {
+        return Ok(Vec::new(alloc));
+    }
     let alone = run.is_alone(access.thread, since);
     if alone {
         return Ok(Vec::new(alloc));

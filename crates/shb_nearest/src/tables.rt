@@ -12,6 +12,7 @@ use crate::classes::Classes;
 use crate::groups::{Groups, Run};
 use crate::places::Places;
 use crate::rivals::rivals_of;
+use crate::screen::{screen, unscreened};
 use shb_io::NoMemory;
 use shb_stamps::StreamClocks;
 use std::alloc::Global;
@@ -36,6 +37,7 @@ fn make_space(groups: &mut Vec<Groups>, alloc: Global, variable: u32) -> Result<
                 thread: 0,
                 start: 0,
             },
+            latest: unscreened(),
         })?;
     }
     Ok(())
@@ -81,9 +83,19 @@ impl Tables {
         let time = clocks
             .below_next(access.thread, access.thread)
             .saturating_add(1);
+        let screened = screen(clocks, groups.latest, access, time);
         let since = groups.take(alloc, &mut self.classes, variable, access, time)?;
-        let rivals = rivals_of(alloc, clocks, run, groups.each.as_slice(), access, since)?;
+        let rivals = rivals_of(
+            alloc,
+            clocks,
+            screened.free,
+            run,
+            groups.each.as_slice(),
+            access,
+            since,
+        )?;
         groups.run = run.after(access);
+        groups.latest = screened.latest;
         self.places
             .offer_all(by_variable, variable, access, &rivals)?;
         Ok(())
