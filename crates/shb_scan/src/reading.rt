@@ -23,9 +23,7 @@ use crate::found::FoundScan;
 use crate::limits::scan_bounds;
 use shb_discipline::State;
 use shb_io::{NoMemory, Source};
-use shb_lines::{
-    EventReader, Fault, Limits, Op, OwnedNames, Step, Taken, location_after, location_in,
-};
+use shb_lines::{EventReader, Fault, Limits, Op, OwnedNames, Step, Taken, location_after};
 use shb_nearest::{NearestRaces, Spot};
 use std::alloc::Global;
 use std::random::RandomSource;
@@ -66,9 +64,22 @@ fn spot_of(alloc: Global, locations: &mut OwnedNames, line: &[u8]) -> Result<Spo
     ensures spot { IfOk result (IsSpotOf (names_of locations.new) line.now) }
     ensures names { OnOk result (names_of locations.new ≡ with_name (names_of locations.old) (location_of line.now)) }
 {
-    let barred = location_after(line).is_some();
-    let location = locations.number_of(alloc, location_in(line))?;
-    Ok(Spot { location, barred })
+    match location_after(line) {
+        Some(text) => {
+            let location = locations.number_of(alloc, text)?;
+            Ok(Spot {
+                location,
+                barred: true,
+            })
+        }
+        None => {
+            let location = locations.number_of(alloc, b"")?;
+            Ok(Spot {
+                location,
+                barred: false,
+            })
+        }
+    }
 }
 
 impl Scan {
