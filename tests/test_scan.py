@@ -12,20 +12,20 @@ import test_long_lists
 import test_traces
 
 
-def scanned_by_variable(counts, places):
-    """The text of a scan by variable with these places, each with its variable before its locations."""
-    lines = [b"shb-scan 1 variables", b"events %d threads %d locks %d variables %d" % counts, b"places %d" % len(places)]
-    for q, (pair, variable, at, other, first, second) in enumerate(places, 1):
-        lines += [b"place %d: %s" % (q, pair), b"on " + variable, b"at " + at, b"and " + other, b"first " + first, b"second " + second]
+def listing(counts, places, races):
+    """The list report with these places, each with its count and its locations, and these races, each with its lines."""
+    lines = [b"shb-report 2", b"events %d threads %d locks %d variables %d" % counts, b"races %d" % len(races), b"places %d" % len(places)]
+    for q, (count, at, other) in enumerate(places, 1):
+        lines += [b"place %d: %d" % (q, count), b"at " + at, b"and " + other]
+    for k, (pair, first, second) in enumerate(races, 1):
+        lines += [b"race %d: %s" % (k, pair), b"first " + first, b"second " + second]
     return b"".join(line + b"\n" for line in [*lines, b"end"])
 
 
-def scanned(counts, places):
-    """The text of a scan with these places."""
-    lines = [b"shb-scan 1", b"events %d threads %d locks %d variables %d" % counts, b"places %d" % len(places)]
-    for q, (pair, at, other, first, second) in enumerate(places, 1):
-        lines += [b"place %d: %s" % (q, pair), b"at " + at, b"and " + other, b"first " + first, b"second " + second]
-    return b"".join(line + b"\n" for line in [*lines, b"end"])
+def scanned(counts, races):
+    """The list report of races that have a place each: their events, locations and lines."""
+    places = [(1, at, other) for _, at, other, _, _ in races]
+    return listing(counts, places, [(pair, first, second) for pair, _, _, first, second in races])
 
 
 NOTHING = scanned((0, 0, 0, 0), [])
@@ -122,9 +122,10 @@ ROWS = [
 TWO = (
     b"T1|w(x)|a\nT1|w(f(y))|a\nT1|w(x)|a\nT2|w(x)|b\nT2|w(f(y))|b\nT2|w(x)|b\n",
     scanned((6, 2, 0, 2), [(b"3 4", b"a", b"b", b"T1|w(x)|a", b"T2|w(x)|b")]),
-    scanned_by_variable(
+    listing(
         (6, 2, 0, 2),
-        [(b"3 4", b"x", b"a", b"b", b"T1|w(x)|a", b"T2|w(x)|b"), (b"2 5", b"f(y)", b"a", b"b", b"T1|w(f(y))|a", b"T2|w(f(y))|b")],
+        [(2, b"a", b"b")],
+        [(b"3 4", b"T1|w(x)|a", b"T2|w(x)|b"), (b"2 5", b"T1|w(f(y))|a", b"T2|w(f(y))|b")],
     ),
 )
 
@@ -132,9 +133,24 @@ TWO = (
 LATER = (
     b"T1|w(x)|a\nT2|w(x)|b\nT1|w(y)|a\nT1|w(y)|a\nT2|w(y)|b\n",
     scanned((5, 2, 0, 2), [(b"1 2", b"a", b"b", b"T1|w(x)|a", b"T2|w(x)|b")]),
-    scanned_by_variable(
+    listing(
         (5, 2, 0, 2),
-        [(b"1 2", b"x", b"a", b"b", b"T1|w(x)|a", b"T2|w(x)|b"), (b"4 5", b"y", b"a", b"b", b"T1|w(y)|a", b"T2|w(y)|b")],
+        [(2, b"a", b"b")],
+        [(b"1 2", b"T1|w(x)|a", b"T2|w(x)|b"), (b"4 5", b"T1|w(y)|a", b"T2|w(y)|b")],
+    ),
+)
+
+# A place stands where its first race is listed, and counts the variables that race there also after those of other places.
+COUNTED = (
+    b"T1|w(x)|a\nT1|w(y)|c\nT1|w(z)|a\nT2|w(x)|b\nT2|w(y)|d\nT2|w(z)|b\n",
+    scanned(
+        (6, 2, 0, 3),
+        [(b"1 4", b"a", b"b", b"T1|w(x)|a", b"T2|w(x)|b"), (b"2 5", b"c", b"d", b"T1|w(y)|c", b"T2|w(y)|d")],
+    ),
+    listing(
+        (6, 2, 0, 3),
+        [(2, b"a", b"b"), (1, b"c", b"d")],
+        [(b"1 4", b"T1|w(x)|a", b"T2|w(x)|b"), (b"2 5", b"T1|w(y)|c", b"T2|w(y)|d"), (b"3 6", b"T1|w(z)|a", b"T2|w(z)|b")],
     ),
 )
 
@@ -180,18 +196,22 @@ class Scan(program.Case):
                 self.expect_both(text, 0, wanted)
 
     def test_worked_rows_by_variable(self):
-        for text, by_place, by_variable in (TWO, LATER):
+        for text, by_place, by_variable in (TWO, LATER, COUNTED):
             with self.subTest(text):
                 self.assertEqual((scan.scan(text), scan.scan(text, True)), (by_place, by_variable))
                 self.expect_both(text, 0, by_place)
                 self.expect(program.run(["scan", "--variables"], text), 0, by_variable)
                 self.expect(program.run(["scan", "--variables", self.file(text)]), 0, by_variable)
 
-    def test_one_variable_has_the_same_races_in_both_forms(self):
+    def test_one_variable_has_the_same_text_in_both_forms(self):
         for text in (b"", NEAREST[0], ORDERED[0], EMPTY[0], RETURNS[0]):
-            answers = [program.run(words, text).out for words in (["scan"], ["scan", "--variables"])]
-            races = [[line for line in answer.split(b"\n") if not line.startswith((b"shb-scan", b"on "))] for answer in answers]
-            self.assertEqual(*races)
+            self.assertEqual(*(program.run(words, text).out for words in (["scan"], ["scan", "--variables"])))
+
+    def test_check_misses_the_first_schedule(self):
+        """Four lines of the head, three for each of two places and three of the first race are those of a report."""
+        for words in (["scan"], ["scan", "--variables"]):
+            report = program.run(words, COUNTED[0]).out
+            self.expect(program.run(["check", self.file(COUNTED[0])], report), 5, b"bad line 14\n")
 
     def test_a_pipe_of_single_bytes(self):
         for text, wanted in ROWS:

@@ -11,8 +11,8 @@ use std::io::{BufWriter, writer};
 use std::random::RandomSource;
 use std::rt::Files;
 
-/// Writes the scan of a source to standard output, by variable or not, and gives the program's status. A flush that fails is a sink that
-/// failed.
+/// Writes the scan of a source to standard output, by variable or not, and gives the program's status. A flush that
+/// fails is a sink that failed.
 fn scan<R: Print + Eprint + AllocGlobal + RandomSource, S: Source>(
     rt: &R,
     by_variable: bool,

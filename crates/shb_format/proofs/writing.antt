@@ -2,5 +2,6 @@ mod HeldLemmas
 mod RunTexts
 mod DigitLemmas
 mod PlaceText
+mod NamedPlaces
 mod BlockText
-mod ScanPieces
+mod AccessPieces

@@ -1,12 +1,12 @@
 -- The texts that a writer puts one after another, and the report that its bytes are the text of.
-use Rattle.std.specs.Prelude.{◌≡◌, ℕ, ◌+◌, ◌≤◌, List, [], ◌++◌, length, map, flat_map, codes, decimal, slice_index_or, Option, None, Some, unwrap_or, Result, MatchResult}
+use Rattle.std.specs.Prelude.{◌≡◌, ℕ, ◌+◌, ◌≤◌, List, [], ◌∷◌, ◌++◌, length, map, flat_map, codes, decimal, slice_index_or, Option, Some, unwrap_or, Result, MatchResult}
 use Rattle.std.specs.List.{AllByRecursion, range_with_len}
 use Rattle.shb_io.specs.Devices.{AppendsPrefix, HoldsBack}
 use Rattle.shb_lines.specs.text.Text.{IsLineText}
 use Rattle.shb_lines.specs.text.TraceData.{TraceData}
 use Rattle.shb_format.specs.Places.{counts_in, places_of_pairs, shown_places}
 use Rattle.shb_format.specs.Report.{ShownRace, counts_of, line_of_event, pair_of}
-use Rattle.shb_format.specs.Value.{AreShown, Block, ReportValue}
+use Rattle.shb_format.specs.Value.{AreShown, Block, ReportValue, lines_text, place_lines}
 
 -- Of what was held back and bs, all is sent or held back still where the call succeeded. Where it failed, only the first bytes were sent.
 abbrev pub Puts : {T E : Type 0} → Option (List ℕ) → Option (List ℕ) → Result T E → List ℕ → List ℕ → List ℕ → Type 0
@@ -16,10 +16,9 @@ Puts old new r held held_now bs = MatchResult r (λ _. HoldsBack old new held_no
 abbrev pub labelled_line : List ℕ → List ℕ → List ℕ
 labelled_line label text = label ++ (text ++ codes "\n")
 
--- the line of a variable, where it is told
-abbrev pub variable_text : Option (List ℕ) → List ℕ
-variable_text None = []
-variable_text (Some name) = labelled_line (codes "on ") name
+-- the lines of the place of this number, of its count and its two locations
+abbrev pub place_text : ℕ → ℕ → List ℕ → List ℕ → List ℕ
+place_text number count first second = lines_text (place_lines number (record { count = count; first = first; second = second } ∷ []))
 
 -- the lines of the two events
 abbrev pub event_lines : TraceData → ℕ × ℕ → List ℕ

@@ -6,8 +6,8 @@
 //! sends that when it is full and at the end; it takes no memory. [`scheduled_block`] copies the
 //! runs of a schedule out of one text of all numbers, [`NumberTexts`], which is made once.
 //!
-//! The text of a scan is written of texts that its caller keeps, [`AccessText`]: [`scan_head`], a
-//! [`scan_block`] for each place, and the same tail.
+//! Where no trace is kept, the same text is written of names: the places by [`named_place_lines`], and the block of a race
+//! by [`access_block`], of what its two lines are made of.
 #![tactic(auto)]
 
 mod counts;
@@ -20,6 +20,6 @@ pub use counts::Counts;
 pub use locations::Locations;
 pub use places::{PlaceCount, PlaceTable, Places, places_of};
 pub use writing::{
-    AccessText, NumberTexts, block, head, numbered_line, place_lines, scan_block, scan_head,
-    scheduled_block, tail,
+    AccessText, NumberTexts, access_block, block, head, named_place_lines, numbered_line,
+    place_lines, scheduled_block, tail,
 };

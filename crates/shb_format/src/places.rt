@@ -146,6 +146,24 @@ impl PlaceTable {
         Ok(())
     }
 
+    /// How many places there are.
+    pub fn len(&self) -> usize
+        ensures { result ≡ length self.now }
+    {
+        self.table.len()
+    }
+
+    /// The numbers of the two locations of place `q`, counted from 0, and what is counted of it.
+    pub fn place(&self, q: usize) -> ((usize, usize), PlaceCount)
+        requires { q < length self.now }
+        ensures { slice_get self.now q ≡ Some result }
+    {
+        let Some((key, counted)) = self.table.get_index(q) else {
+            unreachable!()
+        };
+        (*key, *counted)
+    }
+
     /// What is counted of the places so far. `NoMemory` where memory was refused.
     pub fn to_places(&self, alloc: Global) -> Result<Places, NoMemory>
         ensures { IfOk result (λ places. places ≡ map (λ place. place.1) self.now) }

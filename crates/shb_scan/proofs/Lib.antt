@@ -1,5 +1,6 @@
 pub mod FoundNames
-pub mod PlaceBlocks
+pub mod RaceBlocks
+pub mod CountedPlaces
 pub mod Pushes
 pub mod Noted
 pub mod Taking

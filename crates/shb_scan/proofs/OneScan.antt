@@ -9,7 +9,8 @@ use Rattle.shb_lines.specs.text.Text.{lines_of}
 use Rattle.shb_lines.specs.text.TraceData.{IsTraceOf, TraceData, tables_in}
 use Rattle.shb_discipline.proofs.Numbering.{one_trace}
 use Rattle.shb_format.specs.Places.{location_at}
-use Rattle.shb_format.specs.ScanText.{scan_bytes}
+use Rattle.shb_format.specs.Report.{IsReportOn}
+use Rattle.shb_format.proofs.Blocks.{IsReportOn-unique}
 use Rattle.shb_nearest.proofs.NearestLaws.{listed_once, listed_races, place_listed, unique}
 use Rattle.shb_scan.specs.Outcomes.{HasScan, IsScan}
 use Rattle.shb_scan.specs.Sites.{AreAtOnePlace, site_at}
@@ -25,8 +26,9 @@ one_whole_trace lines a b of_a of_b =
 pub one_scan : (by_variable : Bool) (text bytes others : List ℕ) → HasScan by_variable text (λ scan. bytes ≡ scan) → HasScan by_variable text (λ scan. others ≡ scan) → bytes ≡ others
 one_scan by_variable text bytes others a b =
     let same : a.trace ≡ b.trace = one_whole_trace (lines_of text) a.trace b.trace a.trace_is b.trace_is in
-    let races : a.races ≡ b.races = unique b.trace.events (site_at by_variable b.trace) a.races b.races (subst (λ t. IsScan by_variable t a.races) same a.scan) b.scan in
-    a.holds ∙ ap (λ t. scan_bytes by_variable t a.races) same ∙ ap (scan_bytes by_variable b.trace) races ∙ sym b.holds
+    let one_list = λ (races more : List (ℕ × ℕ)). unique b.trace.events (site_at by_variable b.trace) races more in
+    let bytes_same : a.bytes ≡ b.bytes = IsReportOn-unique (IsScan by_variable) false b.trace a.bytes b.bytes one_list (subst (λ t. IsReportOn (IsScan by_variable) false t a.bytes) same a.scan) b.scan in
+    a.holds ∙ bytes_same ∙ sym b.holds
 
 -- two locations can be told apart
 apart : (a b : List ℕ) → (a ≡ b) ⊎ (a ≢ b)

@@ -4,16 +4,17 @@ use Rattle.std.specs.Io.KnownBytes.{Appends}
 use Rattle.shb_io.specs.Devices.{AppendsPrefix}
 use Rattle.shb_io.proofs.Growth.{Appends-nil}
 use Rattle.shb_lines.specs.declared.fault.Fault.{Fault}
-use Rattle.shb_format.specs.ScanText.{scan_bytes}
 use Rattle.shb_discipline.specs.FirstFault.{HasNoFault, IsFirstFault}
 use Rattle.shb_nearest.specs.Found.{ends_of}
 use Rattle.shb_scan.specs.declared.errors.ScanError.{ScanError}
 use Rattle.shb_scan.specs.declared.errors.ScanError.TheVariants.{Trace, TooManyLines, Source, Sink, Memory}
 use Rattle.shb_scan.specs.declared.found.FoundScan.{FoundScan}
 use Rattle.shb_scan.specs.Limits.{scan_limits}
-use Rattle.shb_scan.specs.Outcomes.{HasScan, IsScanOutcome}
+use Rattle.shb_scan.specs.Listing.{listing_bytes}
+use Rattle.shb_scan.specs.Outcomes.{HasScan, IsScan, IsScanOutcome}
 use Rattle.shb_scan.specs.Reads.{ReadsAll}
 use Rattle.shb_scan.specs.Scans.{HasReadScan, IsFoundIn}
+use Rattle.shb_scan.proofs.RaceBlocks.{reported}
 
 -- a source that tells its bytes and was read to its end gave all of them
 told : (l0 l1 : Option (List ℕ)) (g0 g1 : ℕ) (P : List ℕ → Type 0) → ReadsAll l0 l1 g0 g1 P → IfSome l0 P
@@ -98,7 +99,7 @@ module _ {A B : Type 0} (remaining : A → Option (List ℕ)) (given failed_read
     races = map ends_of found.races.items
 
     -- the scan of the text that was read, by what was written of it
-    scanned : (P : List ℕ → Type 0) → ((text : List ℕ) (h : IsFoundIn text found) → P (scan_bytes found.by_variable h.trace races)) → ReadsAll (remaining source) (remaining left) (given source) (given left) (λ text. HasScan found.by_variable text P)
+    scanned : (P : List ℕ → Type 0) → ((text : List ℕ) (h : IsFoundIn text found) → P (listing_bytes h.trace races)) → ReadsAll (remaining source) (remaining left) (given source) (given left) (λ text. HasScan found.by_variable text P)
     scanned P holds =
         let all = read.found in
         let h = all.holds in
@@ -106,7 +107,7 @@ module _ {A B : Type 0} (remaining : A → Option (List ℕ)) (given failed_read
           text = all.text;
           moves = all.moves;
           ended = all.ended;
-          holds = record { faultless = h.faultless; trace = h.trace; trace_is = h.trace_is; disciplined = h.disciplined; races = races; scan = h.nearest; holds = holds all.text h };
+          holds = record { faultless = h.faultless; trace = h.trace; trace_is = h.trace_is; disciplined = h.disciplined; bytes = listing_bytes h.trace races; scan = reported (IsScan found.by_variable) h.trace races h.nearest; holds = holds all.text h };
         }
 
     faultless : IfSome (remaining source) (λ text. HasNoFault (scan_limits text) text)
@@ -114,7 +115,7 @@ module _ {A B : Type 0} (remaining : A → Option (List ℕ)) (given failed_read
         (let all = read.found in record { text = all.text; moves = all.moves; ended = all.ended; holds = all.holds.faultless })
 
     -- all of the scan was written
-    pub of_scan : (T : Type 0) (x : T) → ((text : List ℕ) (h : IsFoundIn text found) → Appends (taken sink) (taken written) (scan_bytes found.by_variable h.trace races)) → failed_writes written ≡ failed_writes sink
+    pub of_scan : (T : Type 0) (x : T) → ((text : List ℕ) (h : IsFoundIn text found) → Appends (taken sink) (taken written) (listing_bytes h.trace races)) → failed_writes written ≡ failed_writes sink
         → Outcome by_variable T written (Ok x)
     of_scan T x appended no_failure = subst (λ b. Outcome b T written (Ok x)) form (record {
       read = scanned (Appends (taken sink) (taken written)) appended;
@@ -123,14 +124,14 @@ module _ {A B : Type 0} (remaining : A → Option (List ℕ)) (given failed_read
       unwritten = tt;
       silent = none_found (remaining source) (written ≡ sink) faultless;
       cut = tt;
-      grown = (scan_bytes found.by_variable read.found.holds.trace races, appended read.found.text read.found.holds);
+      grown = (listing_bytes read.found.holds.trace races, appended read.found.text read.found.holds);
       lost = read.moved;
       source_counted = read.counted;
       sink_counted = no_failure;
     })
 
     -- the sink failed
-    pub of_failed_sink : (T : Type 0) → ((text : List ℕ) (h : IsFoundIn text found) → AppendsPrefix (taken sink) (taken written) (scan_bytes found.by_variable h.trace races)) → failed_writes written ≡ failed_writes sink + 1
+    pub of_failed_sink : (T : Type 0) → ((text : List ℕ) (h : IsFoundIn text found) → AppendsPrefix (taken sink) (taken written) (listing_bytes h.trace races)) → failed_writes written ≡ failed_writes sink + 1
         → Outcome by_variable T written (Err Sink)
     of_failed_sink T cut failure =
         let part = cut read.found.text read.found.holds in

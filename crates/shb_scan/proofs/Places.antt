@@ -1,15 +1,18 @@
 -- Numbers of locations tell the same places as the locations do, with variables and without.
+use Rattle.std.specs.Prelude.{All}
 use Rattle.std.proofs.Common.{◌≡◌, ◌<◌, ◌↔◌, ℕ, Bool, false, List, length, map, get_or, option_and_then, Option, Some, slice_get, sym, ap, subst, ◌∙◌, arith}
 use Rattle.std.specs.List.{IsDistinct}
 use Rattle.std.specs.Str.{bytes_eq}
 use Rattle.std.proofs.lemmas.Option.{slice_get-get_or, slice_get_within}
 use Rattle.shb_lines.specs.declared.event.Event.{Event}
 use Rattle.shb_lines.specs.events.Race.{Race, variable_at}
+use Rattle.shb_lines.specs.declared.owned_names.OwnedNames.{OwnedNames}
 use Rattle.shb_lines.specs.text.Numbering.{tables_of}
 use Rattle.shb_lines.specs.text.OwnedNames.{names_of}
 use Rattle.shb_lines.specs.text.Text.{lines_of}
 use Rattle.shb_lines.specs.text.TraceData.{TraceData, location_of}
 use Rattle.shb_lines.proofs.text.Numbers.{one_number}
+use Rattle.shb_format.specs.Keyed.{AreKeyed}
 use Rattle.shb_format.specs.Report.{line_of_event}
 use Rattle.shb_nearest.specs.Found.{ends_of, location_in, site_in}
 use Rattle.shb_nearest.specs.Nearest.{AreNearest, IsNearest}
@@ -17,9 +20,10 @@ use Rattle.shb_nearest.specs.Searched.{AreNearestRaces, HasSearched}
 use Rattle.shb_nearest.specs.declared.access.Spot.{Spot}
 use Rattle.shb_scan.specs.declared.found.FoundScan.{FoundScan}
 use Rattle.shb_scan.specs.declared.reading.Scan.{Scan}
-use Rattle.shb_scan.specs.FoundNames.{AreSpots, IsSpotOf}
-use Rattle.shb_scan.specs.Scans.{HasEnded, IsFoundIn}
+use Rattle.shb_scan.specs.FoundNames.{AreSpots, IsRaceLocated, IsSpotOf}
+use Rattle.shb_scan.specs.Scans.{HasEnded, IsFoundIn, places_in}
 use Rattle.shb_scan.specs.Sites.{site_at}
+use Rattle.shb_scan.proofs.FoundNames.{races_located}
 use Rattle.shb_scan.proofs.Pushes.{accessing}
 use Rattle.shb_scan.proofs.Taking.{events_count}
 
@@ -73,9 +77,13 @@ module _ (trace : TraceData) (names : List (List ℕ)) (spots : List Spot) (dist
 
 -- what was found in a text that has ended
 pub found_in : (text : List ℕ) (left : Option (List ℕ)) (scan : Scan) (found : FoundScan) → HasEnded text left scan → found.reader ≡ scan.reader → found.locations ≡ scan.locations → scan.nearest.by_variable ≡ found.by_variable
-    → ((past : List Event) (spots : List Spot) → HasSearched past spots scan.nearest → AreNearestRaces scan.nearest.by_variable past spots found.races.items) → IsFoundIn text found
-found_in text left scan found h reader locations form races =
+    → ((past : List Event) (spots : List Spot) → HasSearched past spots scan.nearest → AreNearestRaces scan.nearest.by_variable past spots found.races.items)
+    → ((trace : TraceData) (locations : List (List ℕ)) → IsDistinct bytes_eq locations → All (IsRaceLocated locations trace) found.races.items → AreKeyed locations found.places (places_in trace found.races.items))
+    → IsFoundIn text found
+found_in text left scan found h reader locations form races places =
     let s = h.scanned in
+    let located : AreSpots s.trace (names_of found.locations) s.spots = subst (λ l. AreSpots s.trace (names_of l) s.spots) (sym locations) s.noted.located in
+    let count : scan.reader.numbering.events ≡ length s.trace.events = s.taken.numbered.count_is ∙ sym (events_count (lines_of text) s.trace s.trace_is) in
     let are = subst (λ (b : Bool). AreNearestRaces b s.trace.events s.spots found.races.items) form (races s.trace.events s.spots s.noted.searched) in
     record {
       faultless = h.faultless;
@@ -85,7 +93,9 @@ found_in text left scan found h reader locations form races =
       names_are = ap (λ r. tables_of r.numbering) reader ∙ s.taken.numbered.tables_are ∙ sym s.trace_is.tables_are;
       count_is = ap (λ r. r.numbering.events) reader ∙ s.taken.numbered.count_is ∙ sym (events_count (lines_of text) s.trace s.trace_is);
       spots = s.spots;
-      located = subst (λ l. AreSpots s.trace (names_of l) s.spots) (sym locations) s.noted.located;
+      located = located;
       nearest = nearest_by s.trace.events (site_in found.by_variable s.trace.events s.spots) (site_at found.by_variable s.trace) (sites_alike s.trace (names_of scan.locations) s.spots s.noted.distinct s.noted.searched.as_many s.noted.located found.by_variable) (map ends_of found.races.items) are.nearest;
       accesses = are.accesses;
+      few = omega (arith, ap (λ (l : OwnedNames). length (names_of l)) locations, s.noted.few, count, s.within.few);
+      places = places s.trace (names_of found.locations) (subst (λ (l : OwnedNames). IsDistinct bytes_eq (names_of l)) (sym locations) s.noted.distinct) (races_located s.trace (names_of found.locations) s.spots located found.races.items are.accesses);
     }

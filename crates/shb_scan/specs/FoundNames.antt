@@ -1,19 +1,19 @@
 -- The names behind the numbers of races that were found, and what makes them those of a trace.
-use Rattle.std.specs.Prelude.{◌≡◌, ◌<◌, ℕ, Bool, true, List, [], length, slice_get, unwrap_or, is_some, Option, None, Some, if◌then◌else◌}
+use Rattle.std.specs.Prelude.{◌≡◌, ◌<◌, ℕ, Bool, List, length, slice_get, is_some, Option, None, Some, if◌then◌else◌}
 use Rattle.shb_lines.specs.events.Race.{variable_at}
 use Rattle.shb_lines.specs.text.OwnedNames.{names_of}
 use Rattle.shb_lines.specs.text.TraceData.{TraceData, call_line, location_after, location_of}
 use Rattle.shb_format.specs.Places.{location_at}
 use Rattle.shb_format.specs.Report.{line_of_event}
-use Rattle.shb_format.specs.ScanText.{access_kind, told_variable}
+use Rattle.shb_format.specs.AccessText.{access_kind}
 use Rattle.shb_nearest.specs.declared.access.FoundAccess.{FoundAccess}
 use Rattle.shb_nearest.specs.declared.access.FoundRace.{FoundRace}
 use Rattle.shb_nearest.specs.declared.access.Spot.{Spot}
 use Rattle.shb_scan.specs.declared.writing.ScanNames.{ScanNames}
 
--- a text, if it is told: of the location of an access, if its line has a second bar, what stands after that bar
-abbrev pub text_if : Bool → List ℕ → Option (List ℕ)
-text_if is_told text = if is_told then Some text else None
+-- what stands after the second bar of an access's line: its location, if there is a second bar
+abbrev pub location_if : Bool → List ℕ → Option (List ℕ)
+location_if barred location = if barred then Some location else None
 
 -- the numbers of an access, and of its variable, have names
 pub record HasNames (names : ScanNames) (x : ℕ) (access : FoundAccess) : Type 0 where
@@ -29,9 +29,7 @@ pub record IsMadeOf (names : ScanNames) (trace : TraceData) (x : ℕ) (access : 
   pub thread_is : slice_get (names_of names.threads.now) access.thread ≡ Some thread
   pub name_is : slice_get (names_of names.variables.now) x ≡ Some name
   pub location_is : slice_get (names_of names.locations.now) access.spot.location ≡ Some location
-  pub variable_is : told_variable true trace access.event ≡ Some name
-  pub at : location_at trace access.event ≡ unwrap_or (text_if access.spot.barred location) []
-  pub line : line_of_event trace access.event ≡ call_line thread (access_kind access.writes) name (text_if access.spot.barred location)
+  pub line : line_of_event trace access.event ≡ call_line thread (access_kind access.writes) name (location_if access.spot.barred location)
 
 -- the spot of an access with this line: the number of its location, and whether the line has a second bar
 pub record IsSpotOf (locations : List (List ℕ)) (line : List ℕ) (spot : Spot) : Type 0 where
@@ -50,3 +48,11 @@ pub record HasRaceNames (names : ScanNames) (race : FoundRace) : Type 0 where
 pub record IsRaceMadeOf (names : ScanNames) (trace : TraceData) (race : FoundRace) : Type 0 where
   pub first : IsMadeOf names trace race.variable race.first
   pub second : IsMadeOf names trace race.variable race.second
+
+-- the location of an access has this number
+abbrev pub IsLocated : List (List ℕ) → TraceData → FoundAccess → Type 0
+IsLocated locations trace access = slice_get locations access.spot.location ≡ Some (location_at trace access.event)
+
+pub record IsRaceLocated (locations : List (List ℕ)) (trace : TraceData) (race : FoundRace) : Type 0 where
+  pub first : IsLocated locations trace race.first
+  pub second : IsLocated locations trace race.second

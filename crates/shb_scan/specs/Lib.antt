@@ -2,6 +2,7 @@ pub mod Limits
 pub mod Errors
 pub mod FoundNames
 pub mod Sites
+pub mod Listing
 pub mod Reads
 pub mod Scans
 pub mod Words

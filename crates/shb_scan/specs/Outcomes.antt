@@ -1,5 +1,5 @@
 -- What a scan of a trace writes and answers, and what it leaves of its source and its sink.
-use Rattle.std.specs.Prelude.{◌≡◌, ◌-◌, ◌^◌, ◌≤◌, ℕ, Bool, List, length, Option, Result, IfOk, IfSome}
+use Rattle.std.specs.Prelude.{◌≡◌, ◌-◌, ◌^◌, ◌≤◌, ℕ, Bool, false, List, length, Option, Result, IfOk, IfSome}
 use Rattle.std.specs.Io.KnownBytes.{Appends}
 use Rattle.shb_io.specs.Devices.{AppendsPrefix, CountsFailure}
 use Rattle.shb_lines.specs.declared.fault.Fault.{Fault}
@@ -8,7 +8,7 @@ use Rattle.shb_lines.specs.text.Lines.{Moves}
 use Rattle.shb_lines.specs.text.Text.{lines_of}
 use Rattle.shb_lines.specs.text.TraceData.{IsTraceOf, TraceData}
 use Rattle.shb_discipline.specs.FirstFault.{HasNoFault, IsFirstFault}
-use Rattle.shb_format.specs.ScanText.{scan_bytes}
+use Rattle.shb_format.specs.Report.{IsReportOn}
 use Rattle.shb_nearest.specs.Nearest.{AreNearest}
 use Rattle.shb_scan.specs.declared.errors.ScanError.{ScanError}
 use Rattle.shb_scan.specs.Errors.{OnSink, OnTooManyLines, OnTrace, OnUnwritten, sink_failed, source_failed}
@@ -20,15 +20,15 @@ use Rattle.shb_scan.specs.Sites.{site_at}
 abbrev pub IsScan : Bool → TraceData → List (ℕ × ℕ) → Type 0
 IsScan by_variable trace races = AreNearest trace.events (site_at by_variable trace) races
 
--- the text has no fault, and P holds of the bytes of its scan
+-- the text has no fault, and P holds of the bytes of its scan: the report of its trace, without schedules, on these races
 pub record HasScan (by_variable : Bool) (text : List ℕ) (P : List ℕ → Type 0) : Type 0 where
   pub faultless : HasNoFault (scan_limits text) text
   pub trace : TraceData
   pub trace_is : IsTraceOf (lines_of text) trace
   pub disciplined : IsDisciplined trace.events
-  pub races : List (ℕ × ℕ)
-  pub scan : IsScan by_variable trace races
-  pub holds : P (scan_bytes by_variable trace races)
+  pub bytes : List ℕ
+  pub scan : IsReportOn (IsScan by_variable) false trace bytes
+  pub holds : P bytes
 
 -- of a source: the bytes still to come, how many bytes it has given, and how many reads have failed, at the start and at the end; of a sink: the bytes that it took, and how many writes have failed
 module _ {A B : Type 0} (remaining : A → Option (List ℕ)) (given failed_reads : A → ℕ) (source left : A) (taken : B → Option (List ℕ)) (failed_writes : B → ℕ) (sink written : B) where

@@ -22,9 +22,13 @@ use Rattle.shb_discipline.specs.FirstFault.{HasNoFault, IsFirstFault}
 use Rattle.shb_discipline.specs.State.{IsStateAfter}
 use Rattle.shb_discipline.specs.declared.state.State.{State}
 use Rattle.shb_format.specs.declared.counts.Counts.{Counts}
+use Rattle.shb_format.specs.Keyed.{AreKeyed}
+use Rattle.shb_format.specs.Places.{PlaceOf, places_of_pairs}
+use Rattle.shb_format.specs.Report.{pair_of}
 use Rattle.shb_nearest.specs.Found.{IsFoundRace, ends_of}
 use Rattle.shb_nearest.specs.Nearest.{AreNearest}
 use Rattle.shb_nearest.specs.Searched.{HasSearched}
+use Rattle.shb_nearest.specs.declared.access.FoundRace.{FoundRace}
 use Rattle.shb_nearest.specs.declared.access.Spot.{Spot}
 use Rattle.shb_nearest.specs.declared.search.NearestRaces.{NearestRaces}
 use Rattle.shb_scan.specs.declared.errors.ScanError.{ScanError}
@@ -86,7 +90,11 @@ IsStepped read left before scan (Err errors.TooManyLines) = 2 ^ 64 - 1 ≤ lengt
 IsStepped read left before scan (Err errors.Sink) = ⊥
 IsStepped read left before scan (Err _) = ⊤
 
--- what is found in a text that has no fault: its counts and names, and the nearest races of its trace
+-- the places of some races
+abbrev pub places_in : TraceData → List FoundRace → List PlaceOf
+places_in trace races = places_of_pairs trace (map pair_of (map ends_of races))
+
+-- what is found in a text that has no fault: its counts and names, the nearest races of its trace, and their places
 pub record IsFoundIn (text : List ℕ) (found : FoundScan) : Type 0 where
   pub faultless : HasNoFault (scan_limits text) text
   pub trace : TraceData
@@ -98,6 +106,8 @@ pub record IsFoundIn (text : List ℕ) (found : FoundScan) : Type 0 where
   pub located : AreSpots trace (names_of found.locations) spots
   pub nearest : AreNearest trace.events (site_at found.by_variable trace) (map ends_of found.races.items)
   pub accesses : All (IsFoundRace trace.events spots) found.races.items
+  pub few : length (names_of found.locations) ≤ 2 ^ 32
+  pub places : AreKeyed (names_of found.locations) found.places (places_in trace found.races.items)
 
 -- what the reading of a source answers, and what it leaves: the races that are found in all of its text; the first fault of the text; or that it has more lines than are counted. The source lost what was read
 pub record HasReadScan (old new : Option (List ℕ)) (given_before given_after failed_before failed_after : ℕ) (answer : Result FoundScan ScanError) : Type 0 where

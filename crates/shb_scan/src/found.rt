@@ -1,12 +1,12 @@
 //! What was found in a text that was read once, and its scan.
 ghost use Rattle.std.specs.Prelude.{◌≡◌, ◌-◌, ◌^◌, ◌<◌, ℕ, List, map};
 ghost use Rattle.shb_io.specs.Devices.{IsCounted, Writes};
-ghost use Rattle.shb_format.specs.ScanText.{scan_bytes};
 ghost use Rattle.shb_nearest.specs.Found.{ends_of};
+ghost use Rattle.shb_scan.specs.Listing.{listing_bytes};
 ghost use Rattle.shb_scan.specs.Scans.{IsFoundIn, counts_in};
 
 use crate::writing::{ScanNames, write_scan};
-use shb_format::Counts;
+use shb_format::{Counts, PlaceTable};
 use shb_io::{Failed, Sink};
 use shb_lines::{EventReader, Numbering, OwnedNames};
 use shb_nearest::FoundRace;
@@ -17,10 +17,12 @@ pub struct FoundScan {
     pub reader: EventReader,
     /// The different locations of its accesses.
     pub locations: OwnedNames,
-    /// Whether places are told apart by their variable too.
+    /// Whether races are told apart by their variable too.
     pub by_variable: bool,
     /// Its nearest races, in order.
     pub races: Vec<FoundRace>,
+    /// Their places, by the numbers of their locations.
+    pub places: PlaceTable,
 }
 
 impl Drop for FoundScan {
@@ -30,6 +32,7 @@ impl Drop for FoundScan {
             locations: _,
             by_variable: _,
             races: _,
+            places: _,
         } = self;
     }
 }
@@ -46,7 +49,7 @@ fn counts_of(numbering: &Numbering) -> Counts
     }
 }
 
-/// Writes the scan of the text that this was found in.
+/// Writes the scan of the text that this was found in, the list report of its nearest races.
 ///
 /// # Errors
 ///
@@ -55,7 +58,7 @@ pub fn write_found<K: Sink>(sink: &mut K, found: &FoundScan) -> Result<(), Faile
     requires countable { K.failure_count sink.old < 2 ^ 64 - 1 }
     requires found { (text : List ℕ) × IsFoundIn text found.now }
     ensures written { (text : List ℕ) (in_text : IsFoundIn text found.now) → Writes (K.taken sink.old) (K.taken sink.new) result
-        (scan_bytes found.now.by_variable in_text.trace (map ends_of found.now.races.items)) }
+        (listing_bytes in_text.trace (map ends_of found.now.races.items)) }
     ensures counted { IsCounted (K.failure_count sink.old) (K.failure_count sink.new) result }
 {
     let numbering = found.reader.numbering();
@@ -65,11 +68,5 @@ pub fn write_found<K: Sink>(sink: &mut K, found: &FoundScan) -> Result<(), Faile
         variables: numbering.variables(),
         locations: &found.locations,
     };
-    write_scan(
-        sink,
-        found.by_variable,
-        &counts,
-        &names,
-        found.races.as_slice(),
-    )
+    write_scan(sink, &counts, &names, &found.places, found.races.as_slice())
 }

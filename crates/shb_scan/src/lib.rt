@@ -1,11 +1,13 @@
-//! A scan of a trace: one pass over a stream, and its text.
+//! A scan of a trace: one pass over a stream, and its list report.
 //!
 //! [`read_scan`] reads a source once: a line at a time is taken (`EventReader` of `shb_lines`), its event is judged
 //! (`State` of `shb_discipline`) and searched for races (`NearestRaces` of `shb_nearest`), and then forgotten. What is
-//! left is a [`FoundScan`]: the nearest races, of each place or of each place and variable, and the names behind their numbers. [`write_found`] writes its text. [`run_scan`] does
-//! both, and has the theorem as its contract.
+//! left is a [`FoundScan`]: the nearest races, of each place or of each place and variable, with their places, and the
+//! names behind their numbers. [`write_found`] writes their list report. [`run_scan`] does both, and has the theorem as
+//! its contract.
 #![tactic(auto)]
 
+mod counting;
 mod errors;
 mod found;
 pub mod laws;

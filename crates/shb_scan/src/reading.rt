@@ -18,6 +18,7 @@ ghost use Rattle.shb_scan.specs.Limits.{most_scan_events, scan_bounds};
 ghost use Rattle.shb_scan.specs.FoundNames.{IsSpotOf};
 ghost use Rattle.shb_scan.specs.Scans.{HasEnded, HasNoted, HasReadScan, HasScanned, HasSpot, IsFoundIn, IsNext, IsStepped};
 
+use crate::counting::places_of;
 use crate::errors::ScanError;
 use crate::found::FoundScan;
 use crate::limits::scan_bounds;
@@ -186,8 +187,14 @@ impl Scan {
         self.take(alloc, taken)
     }
 
-    /// The races that were found, and the names behind their numbers. The search was asked to tell places apart so.
-    fn into_found(self, alloc: Global, by_variable: bool) -> Result<FoundScan, NoMemory>
+    /// The races that were found, their places, and the names behind their numbers. The search was asked to tell races
+    /// apart so.
+    fn into_found<R: RandomSource>(
+        self,
+        rt: &R,
+        alloc: Global,
+        by_variable: bool,
+    ) -> Result<FoundScan, NoMemory>
         requires { self.nearest.by_variable ≡ by_variable }
         ensures found { (text : List ℕ) (left : Option (List ℕ)) → HasEnded text left self → IfOk result (IsFoundIn text) }
         ensures form { IfOk result (λ found. found.by_variable ≡ by_variable) }
@@ -199,17 +206,19 @@ impl Scan {
             nearest,
         } = self;
         let races = nearest.races(alloc)?;
+        let places = places_of(rt, alloc, races.as_slice())?;
         Ok(FoundScan {
             reader,
             locations,
             by_variable,
             races,
+            places,
         })
     }
 }
 
-/// Reads a source to its end, and finds the nearest races of its trace. Neither the text nor the events are kept: memory
-/// grows with names, and with what the search keeps. A place is two locations; with `by_variable`, and a variable.
+/// Reads a source to its end, and finds the nearest races of its trace, one of each place; with `by_variable`, one of each
+/// place and variable. Neither the text nor the events are kept: memory grows with names, and with what the search keeps.
 ///
 /// # Errors
 ///
@@ -231,5 +240,5 @@ pub fn read_scan<S: Source, R: RandomSource>(
     let limits = scan_bounds();
     let mut scan = Scan::new(rt, alloc, by_variable)?;
     while scan.advance(alloc, source, &limits)? {}
-    Ok(scan.into_found(alloc, by_variable)?)
+    Ok(scan.into_found(rt, alloc, by_variable)?)
 }

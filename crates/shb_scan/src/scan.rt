@@ -9,8 +9,8 @@ use shb_io::{Sink, Source};
 use std::alloc::Global;
 use std::random::RandomSource;
 
-/// Reads a trace once, from front to end, and writes its scan: of each place that has a race the nearest one. A place is
-/// two locations; with `by_variable`, and a variable, which each place of the scan tells then.
+/// Reads a trace once, from front to end, and writes its scan: the list report of its nearest races, one of each place
+/// that has a race; with `by_variable`, one of each place and variable. A place is two locations.
 ///
 /// The trace may have any number of bytes, 4,294,967,294 events, 65,535 threads and lines of 4,096 bytes. Neither its
 /// text nor its events are kept: memory grows with its names, with what threads know of each other and with its places.

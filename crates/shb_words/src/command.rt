@@ -25,7 +25,7 @@ fn list_argument<'a>(alloc: Global) -> Arg<'a> {
 fn variables_argument<'a>(alloc: Global) -> Arg<'a> {
     Arg::new(alloc, "variables")
         .long("variables")
-        .help("One race of each place and variable, and which variable it is")
+        .help("One race of each place and variable")
         .action(ArgAction::SetTrue)
 }
 

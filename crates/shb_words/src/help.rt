@@ -118,24 +118,22 @@ Of each place, the locations of two accesses in their order, that has a race
 anywhere in the trace one is listed: the one whose second event comes first,
 and of those that this event has there the one whose first event comes last.
 They are the places of 'shb places --list', mostly with other races of them.
-With --variables one is listed of each place and variable, in the same way: a
-place is two locations and a variable then.
+With --variables one race of each place and variable is listed, in the same way.
 
 The scan:
-  How many events, threads, locks and variables the trace has, and how many
-  places. Then for each place the numbers of its two events, counted from 1,
-  their locations and their lines, by the second event, then by the first. The
-  last line is 'end'. With --variables the first line ends with 'variables', and
-  each place has a line 'on VARIABLE' before its locations. A scan has no
-  schedules, and 'shb check' doesn't judge it.
+  It has the form that 'shb places --list' writes. Races are in the order of
+  their second events, then of their first ones, and places in the order of
+  their first race. With --variables the count of a place is that of the
+  variables that race there. There are no schedules, so 'shb check' calls a scan
+  with races incomplete.
   Nothing is written before the trace was read to its end and judged.
 
 Costs:
   Memory grows with the names of the trace, with what its threads know of each
-  other and with its places, not with its length. A place where each element of
-  an array races is as many places with --variables. The time is that of one
-  pass; where hundreds of threads access one variable each access looks at all
-  of them.
+  other and with the races that are listed, not with its length. A place where
+  each element of an array races has as many with --variables. The time is that
+  of one pass; where hundreds of threads access one variable each access looks
+  at all of them.
 
 Exit status:
   0  the scan was written, or the help that was asked for
@@ -145,12 +143,14 @@ Exit status:
 
 Example:
   $ printf 'T1|w(y)|1\\nT2|r(y)|2\\nT3|r(y)|2\\n' | shb scan
-  shb-scan 1
+  shb-report 2
   events 3 threads 3 locks 0 variables 1
+  races 1
   places 1
-  place 1: 1 2
+  place 1: 1
   at 1
   and 2
+  race 1: 1 2
   first T1|w(y)|1
   second T2|r(y)|2
   end

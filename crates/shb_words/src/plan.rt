@@ -167,8 +167,8 @@ fn line_of(alloc: Global, words: &[String]) -> Result<Vec<&str>, NoMemory> {
 }
 
 /// The plan that the words of a command line ask for, the program's own name left out:
-/// `races` or `places`, each with `[--workers N] [--list] [TRACE]` and N from 1 to 64, `scan [--variables] [TRACE]`,
-/// `check TRACE`, or help. No words at all are `races --list`, with 4 workers.
+/// `races` or `places`, each with `[--workers N] [--list] [TRACE]` and N from 1 to 64,
+/// `scan [--variables] [TRACE]`, `check TRACE`, or help. No words at all are `races --list`, with 4 workers.
 ///
 /// # Errors
 ///

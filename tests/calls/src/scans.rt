@@ -11,7 +11,7 @@ use std::test::Fail;
 const READERS: &str = "T1|w(y)|1\nT2|r(y)|2\r\n\nT3|r(y)|2";
 
 const SCAN_OF_READERS: &str =
-    "shb-scan 1\nevents 3 threads 3 locks 0 variables 1\nplaces 1\nplace 1: 1 2\nat 1\nand 2\nfirst T1|w(y)|1\nsecond T2|r(y)|2\nend\n";
+    "shb-report 2\nevents 3 threads 3 locks 0 variables 1\nraces 1\nplaces 1\nplace 1: 1\nat 1\nand 2\nrace 1: 1 2\nfirst T1|w(y)|1\nsecond T2|r(y)|2\nend\n";
 
 /// The answer of a scan of a text that is read in such steps, and what was written.
 fn scanned(

@@ -5,7 +5,7 @@ use Rattle.std.proofs.lemmas.List.{length-map, map-append, take_more}
 use Rattle.std.specs.Fmt.{decimal}
 use Rattle.shb_lines.specs.text.TraceData.{TraceData}
 use Rattle.shb_format.specs.declared.places.PlaceCount.{PlaceCount}
-use Rattle.shb_format.specs.Writing.{labelled_line}
+use Rattle.shb_format.specs.Writing.{labelled_line, place_text}
 use Rattle.shb_format.specs.Places.{place_bytes, places_bytes, section_bytes, shown_place, shown_places}
 use Rattle.shb_format.specs.Value.{Place, lines_text, place_line, place_lines}
 use Rattle.shb_format.proofs.LineLemmas.{lines_text-append, place_lines-append}
@@ -18,9 +18,13 @@ last_labelled : (label text : List ℕ) → labelled_line label text ≡ (label 
 last_labelled label text = sym (append_assoc label text (codes "\n"))
 
 -- the three lines of a place
-pub place_pieces : (trace : TraceData) (number : ℕ) (counted : PlaceCount) (first second : List ℕ) → first ≡ (shown_place trace counted).first → second ≡ (shown_place trace counted).second
-    → (place_line number counted.count ++ codes "\n") ++ (labelled_line (codes "at ") first ++ labelled_line (codes "and ") second) ≡ place_bytes trace number counted
-place_pieces trace number counted first second e f = grind (arith, common_steps, append_assoc, codes, one_labelled, last_labelled)
+pub place_pieces : (number count : ℕ) (first second : List ℕ) → (place_line number count ++ codes "\n") ++ (labelled_line (codes "at ") first ++ labelled_line (codes "and ") second) ≡ place_text number count first second
+place_pieces number count first second = grind (arith, common_steps, append_assoc, codes, one_labelled, last_labelled)
+
+-- those of a place of a trace
+pub place_is : (trace : TraceData) (number : ℕ) (counted : PlaceCount) (first second : List ℕ) → first ≡ (shown_place trace counted).first → second ≡ (shown_place trace counted).second
+    → place_text number counted.count first second ≡ place_bytes trace number counted
+place_is trace number counted first second e f = ap (λ l. place_text number counted.count l second) e ∙ ap (place_text number counted.count (shown_place trace counted).first) f
 
 -- the lines of some places and of others
 bytes-append : (number : ℕ) (places more : List Place) → lines_text (place_lines number (places ++ more)) ≡ lines_text (place_lines number places) ++ lines_text (place_lines (number + length places) more)

@@ -46,7 +46,7 @@ pub fn head<S: Sink>(sink: &mut S, counts: &Counts, races: u64) -> Result<(), Fa
 }
 
 /// Adds the line with the numbers of a race and of its events, which are counted from 1.
-fn push_race_line(text: &mut TextBuffer, number: u64, pair: Pair)
+pub(crate) fn push_race_line(text: &mut TextBuffer, number: u64, pair: Pair)
     requires { length text.old + 80 ≤ ROOM }
     ensures { text.new ≡ text.old ++ (race_numbers_line number (pair.first + 1) (pair.second + 1) ++ codes "\n") }
 {

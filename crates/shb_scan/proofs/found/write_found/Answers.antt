@@ -1,11 +1,13 @@
 -- The names are those of the trace.
-use Rattle.std.proofs.Common.{◌∙◌, List, ap, map, refl, subst}
+use Rattle.std.proofs.Common.{◌∙◌, List, ap, map, refl, subst, sym}
 use Rattle.shb_io.specs.Devices.{Writes}
 use Rattle.shb_lines.specs.declared.numbering.Numbering.{Numbering}
-use Rattle.shb_format.specs.ScanText.{scan_bytes}
+use Rattle.shb_lines.specs.text.OwnedNames.{names_of}
+use Rattle.shb_format.specs.Keyed.{AreKeyed}
 use Rattle.shb_nearest.specs.Found.{ends_of}
 use Rattle.shb_nearest.specs.declared.access.FoundRace.{FoundRace}
-use Rattle.shb_scan.specs.Scans.{counts_in}
+use Rattle.shb_scan.specs.Listing.{listing_bytes}
+use Rattle.shb_scan.specs.Scans.{counts_in, places_in}
 use Rattle.shb_scan.proofs.Listed.{counts_are, have_names, made_of}
 use Rattle.shb_scan.proofs.found.write_found.Goals as goal
 
@@ -14,9 +16,17 @@ write_scan-requires-clause-named g c =
     have_names c.requires.found.0 c.args.found.now c.requires.found.1 _ (c.threads.ensures ∙ ap (λ (n : Numbering). n.threads) c.numbering-numbering.ensures) (c.variables.ensures ∙ ap (λ (n : Numbering). n.variables) c.numbering-numbering.ensures) refl
     c.as_slice.result.now c.as_slice.ensures.value
 
+pub write_scan-requires-clause-few : goal.write_scan-requires-clause-few
+write_scan-requires-clause-few g c = c.requires.found.1.few
+
+pub write_scan-requires-clause-keyed : goal.write_scan-requires-clause-keyed
+write_scan-requires-clause-keyed g c = (_, c.requires.found.1.places)
+
 pub returns-clause-written : goal.returns-clause-written
 returns-clause-written g c = λ text h.
-    subst (λ (items : List FoundRace). Writes (g.K.Sink.taken c.args.sink.now) (g.K.Sink.taken c.write_scan.new.sink) c.write_scan.result (scan_bytes c.args.found.now.by_variable h.trace (map ends_of items))) c.as_slice.ensures.value
-    (c.write_scan.ensures.written h.trace (c.counts_of-counts.ensures ∙ ap counts_in c.numbering-numbering.ensures ∙ counts_are text c.args.found.now h)
-    (made_of text c.args.found.now h _ (c.threads.ensures ∙ ap (λ (n : Numbering). n.threads) c.numbering-numbering.ensures) (c.variables.ensures ∙ ap (λ (n : Numbering). n.variables) c.numbering-numbering.ensures) refl
-    c.as_slice.result.now c.as_slice.ensures.value))
+    let found = c.args.found.now in
+    subst (λ (items : List FoundRace). Writes (g.K.Sink.taken c.args.sink.now) (g.K.Sink.taken c.write_scan.new.sink) c.write_scan.result (listing_bytes h.trace (map ends_of items))) c.as_slice.ensures.value
+    (c.write_scan.ensures.written h.trace (c.counts_of-counts.ensures ∙ ap counts_in c.numbering-numbering.ensures ∙ counts_are text found h)
+    (made_of text found h _ (c.threads.ensures ∙ ap (λ (n : Numbering). n.threads) c.numbering-numbering.ensures) (c.variables.ensures ∙ ap (λ (n : Numbering). n.variables) c.numbering-numbering.ensures) refl
+    c.as_slice.result.now c.as_slice.ensures.value)
+    (subst (λ (items : List FoundRace). AreKeyed (names_of found.locations) found.places (places_in h.trace items)) (sym c.as_slice.ensures.value) h.places))

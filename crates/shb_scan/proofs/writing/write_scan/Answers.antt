@@ -1,26 +1,55 @@
--- The head, the blocks and the tail.
-use Rattle.std.proofs.Common.{subst}
+-- The head, the places, the blocks and the tail.
+use Rattle.std.proofs.Common.{◌++◌, append_assoc, length, map, subst, sym}
 use Rattle.std.specs.Io.KnownBytes.{Appends}
-use Rattle.shb_io.specs.Devices.{AppendsPrefix}
+use Rattle.shb_io.specs.Devices.{AppendsPrefix, Writes}
 use Rattle.shb_io.proofs.Growth.{AppendsPrefix-after, AppendsPrefix-front, Writes-err, Writes-then}
-use Rattle.shb_scan.proofs.PlaceBlocks.{head_is}
+use Rattle.shb_format.specs.Places.{counts_in, section_bytes}
+use Rattle.shb_format.specs.Report.{counts_of, head_bytes, pair_of, tail_bytes}
+use Rattle.shb_nearest.specs.Found.{ends_of}
+use Rattle.shb_scan.specs.Scans.{places_in}
+use Rattle.shb_scan.proofs.RaceBlocks.{head_is, race_blocks}
 use Rattle.shb_scan.proofs.writing.write_scan.Goals as goal
 
-pub returns-in_err-scan_head-clause-written : goal.returns-in_err-scan_head-clause-written
-returns-in_err-scan_head-clause-written g c trace counts made =
-    let head = head_is c.args.by_variable trace c.args.races.now c.args.counts.now counts in
+pub returns-in_err-head-clause-written : goal.returns-in_err-head-clause-written
+returns-in_err-head-clause-written g c trace counts made keyed =
+    let front = head_bytes (counts_of trace) (length (map ends_of c.args.races.now)) in
+    let first = head_is trace c.args.races.now c.args.counts.now counts in
+    let section = section_bytes trace (counts_in (places_in trace c.args.races.now)) in
+    let rest = race_blocks trace c.args.races.now ++ tail_bytes in
     Writes-err _ _ _ _ _ c.from_residual.ensures.1
-    (AppendsPrefix-front _ _ _ _ (subst (AppendsPrefix (g.S.Sink.taken c.args.sink.now) (g.S.Sink.taken c.scan_head.new.sink)) head c.in_err-scan_head.ensures.written))
+    (subst (AppendsPrefix (g.S.Sink.taken c.args.sink.now) (g.S.Sink.taken c.head.new.sink)) (sym (append_assoc front section rest))
+    (AppendsPrefix-front _ _ _ (section ++ rest) (subst (AppendsPrefix (g.S.Sink.taken c.args.sink.now) (g.S.Sink.taken c.head.new.sink)) first c.in_err-head.ensures.written)))
 
-pub returns-in_err-write_places-clause-written : goal.returns-in_err-write_places-clause-written
-returns-in_err-write_places-clause-written g c trace counts made =
-    let head = head_is c.args.by_variable trace c.args.races.now c.args.counts.now counts in
-    Writes-err _ _ _ _ _ c.from_residual-in_err-write_places.ensures.1
-    (AppendsPrefix-after _ _ _ _ _ (subst (Appends (g.S.Sink.taken c.args.sink.now) (g.S.Sink.taken c.scan_head.new.sink)) head c.in_ok-scan_head.ensures.written)
-    (AppendsPrefix-front _ _ _ _ (c.in_err-write_places.ensures.written trace made)))
+pub returns-in_err-named_place_lines-clause-written : goal.returns-in_err-named_place_lines-clause-written
+returns-in_err-named_place_lines-clause-written g c trace counts made keyed =
+    let front = head_bytes (counts_of trace) (length (map ends_of c.args.races.now)) in
+    let first = head_is trace c.args.races.now c.args.counts.now counts in
+    let section = section_bytes trace (counts_in (places_in trace c.args.races.now)) in
+    let rest = race_blocks trace c.args.races.now ++ tail_bytes in
+    Writes-err _ _ _ _ _ c.from_residual-in_err-named_place_lines.ensures.1
+    (subst (AppendsPrefix (g.S.Sink.taken c.args.sink.now) (g.S.Sink.taken c.named_place_lines.new.sink)) (sym (append_assoc front section rest))
+    (AppendsPrefix-after _ _ _ _ (section ++ rest) (subst (Appends (g.S.Sink.taken c.args.sink.now) (g.S.Sink.taken c.head.new.sink)) first c.in_ok-head.ensures.written)
+    (AppendsPrefix-front _ _ section rest (c.in_err-named_place_lines.ensures.written trace (map pair_of (map ends_of c.args.races.now)) keyed))))
+
+pub returns-in_err-write_races-clause-written : goal.returns-in_err-write_races-clause-written
+returns-in_err-write_races-clause-written g c trace counts made keyed =
+    let front = head_bytes (counts_of trace) (length (map ends_of c.args.races.now)) in
+    let first = head_is trace c.args.races.now c.args.counts.now counts in
+    let section = section_bytes trace (counts_in (places_in trace c.args.races.now)) in
+    let blocks = race_blocks trace c.args.races.now in
+    Writes-err _ _ _ _ _ c.from_residual-in_err-write_races.ensures.1
+    (subst (AppendsPrefix (g.S.Sink.taken c.args.sink.now) (g.S.Sink.taken c.write_races.new.sink)) (sym (append_assoc front section (blocks ++ tail_bytes)))
+    (AppendsPrefix-after _ _ _ _ (section ++ (blocks ++ tail_bytes)) (subst (Appends (g.S.Sink.taken c.args.sink.now) (g.S.Sink.taken c.head.new.sink)) first c.in_ok-head.ensures.written)
+    (AppendsPrefix-after _ _ _ section (blocks ++ tail_bytes) (c.in_ok-named_place_lines.ensures.written trace (map pair_of (map ends_of c.args.races.now)) keyed)
+    (AppendsPrefix-front _ _ blocks tail_bytes (c.in_err-write_races.ensures.written trace made)))))
 
 pub returns-clause-written : goal.returns-clause-written
-returns-clause-written g c trace counts made =
-    let head = head_is c.args.by_variable trace c.args.races.now c.args.counts.now counts in
-    Writes-then _ _ _ _ _ _ (subst (Appends (g.S.Sink.taken c.args.sink.now) (g.S.Sink.taken c.scan_head.new.sink)) head c.in_ok-scan_head.ensures.written)
-    (Writes-then _ _ _ _ _ _ (c.in_ok-write_places.ensures.written trace made) c.tail.ensures.written)
+returns-clause-written g c trace counts made keyed =
+    let front = head_bytes (counts_of trace) (length (map ends_of c.args.races.now)) in
+    let first = head_is trace c.args.races.now c.args.counts.now counts in
+    let section = section_bytes trace (counts_in (places_in trace c.args.races.now)) in
+    let blocks = race_blocks trace c.args.races.now in
+    subst (λ bytes. Writes (g.S.Sink.taken c.args.sink.now) (g.S.Sink.taken c.tail.new.sink) c.tail.result bytes) (sym (append_assoc front section (blocks ++ tail_bytes)))
+    (Writes-then _ _ _ _ _ _ (subst (Appends (g.S.Sink.taken c.args.sink.now) (g.S.Sink.taken c.head.new.sink)) first c.in_ok-head.ensures.written)
+    (Writes-then _ _ _ _ _ _ (c.in_ok-named_place_lines.ensures.written trace (map pair_of (map ends_of c.args.races.now)) keyed)
+    (Writes-then _ _ _ _ _ _ (c.in_ok-write_races.ensures.written trace made) c.tail.ensures.written)))

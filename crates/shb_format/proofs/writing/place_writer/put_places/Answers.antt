@@ -4,8 +4,9 @@ use Rattle.shb_io.specs.Devices.{AppendsPrefix, HoldsBack}
 use Rattle.shb_format.specs.declared.places.PlaceCount.{PlaceCount}
 use Rattle.shb_format.specs.Places.{place_bytes, places_bytes, shown_places}
 use Rattle.shb_format.specs.Value.{lines_text, place_lines}
+use Rattle.shb_format.proofs.PlaceLemmas.{located}
 use Rattle.shb_format.proofs.writing.HeldLemmas.{HoldsBack-then, PutsPrefix-front, PutsPrefix-after, Puts-err}
-use Rattle.shb_format.proofs.writing.PlaceText.{places-next, places-split}
+use Rattle.shb_format.proofs.writing.PlaceText.{place_is, places-next, places-split}
 use Rattle.shb_format.proofs.writing.place_writer.put_places.Goals as goal
 
 pub returns-in_err-put_place-clause-put : goal.returns-in_err-put_place-clause-put
@@ -17,7 +18,9 @@ returns-in_err-put_place-clause-put g c =
     let d : PlaceCount = record { pair = record { first = 0; second = 0 }; count = 0 } in
     let place = place_bytes trace (k + 1) (get_or places k d) in
     let rest = lines_text (place_lines (k + 1 + 1) (shown_places trace (drop (k + 1) places))) in
-    let front = PutsPrefix-front _ _ c.loop-k.held place rest c.in_err-put_place.ensures.put in
+    let same = place_is trace (k + 1) (get_or places k d) c.location-first.result.now c.location-second.result.now (located _ _ c.location-first.ensures) (located _ _ c.location-second.ensures) in
+    let put = subst (λ (l : List ℕ). AppendsPrefix (g.S.Sink.taken c.loop-k.sink) (g.S.Sink.taken c.put_place.new.sink) (c.loop-k.held ++ l)) same c.in_err-put_place.ensures.put in
+    let front = PutsPrefix-front _ _ c.loop-k.held place rest put in
     let after = PutsPrefix-after _ _ _ held _ (places_bytes trace (take k places)) (place ++ rest) c.loop-k.invariant.held front in
     Puts-err _ _ _ _ held _ _ c.from_residual.ensures.1
     (subst (λ (l : List ℕ). AppendsPrefix (g.S.Sink.taken c.args.sink.now) (g.S.Sink.taken c.put_place.new.sink) (held ++ l)) (places-split trace places k d c.loop-k-test.true) after)
@@ -30,7 +33,9 @@ loop-k-preserved g c =
     let k = c.loop-k.k in
     let d : PlaceCount = record { pair = record { first = 0; second = 0 }; count = 0 } in
     let place = place_bytes trace (k + 1) (get_or places k d) in
-    let more = HoldsBack-then _ _ _ held _ _ (places_bytes trace (take k places)) place c.loop-k.invariant.held c.in_ok-put_place.ensures.put in record {
+    let same = place_is trace (k + 1) (get_or places k d) c.location-first.result.now c.location-second.result.now (located _ _ c.location-first.ensures) (located _ _ c.location-second.ensures) in
+    let put = subst (λ (l : List ℕ). HoldsBack (g.S.Sink.taken c.loop-k.sink) (g.S.Sink.taken c.put_place.new.sink) c.put_place.new.held (c.loop-k.held ++ l)) same c.in_ok-put_place.ensures.put in
+    let more = HoldsBack-then _ _ _ held _ _ (places_bytes trace (take k places)) place c.loop-k.invariant.held put in record {
       held = subst (λ (l : List ℕ). HoldsBack (g.S.Sink.taken c.args.sink.now) (g.S.Sink.taken c.put_place.new.sink) c.put_place.new.held (held ++ l)) (places-next trace places k d c.loop-k-test.true) more;
       counted = search rules;
     }

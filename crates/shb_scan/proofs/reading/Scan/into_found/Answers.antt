@@ -1,6 +1,16 @@
-use Rattle.std.proofs.Common.{refl}
+use Rattle.std.specs.Prelude.{All}
+use Rattle.std.specs.List.{IsDistinct}
+use Rattle.std.specs.Str.{bytes_eq}
+use Rattle.std.proofs.Common.{ℕ, List, refl, subst}
+use Rattle.shb_lines.specs.text.TraceData.{TraceData}
+use Rattle.shb_format.specs.Keyed.{AreKeyed}
+use Rattle.shb_nearest.specs.declared.access.FoundRace.{FoundRace}
+use Rattle.shb_scan.specs.FoundNames.{IsRaceLocated}
+use Rattle.shb_scan.specs.Scans.{places_in}
 use Rattle.shb_scan.proofs.Places.{found_in}
 use Rattle.shb_scan.proofs.reading.Scan.into_found.Goals as goal
 
 pub returns-clause-found : goal.returns-clause-found
-returns-clause-found c = λ text left h. found_in text left c.args.self _ h refl refl c.requires c.in_ok-races.ensures
+returns-clause-found g c = λ text left h. found_in text left c.args.self _ h refl refl c.requires c.in_ok-races.ensures
+    (subst (λ (items : List FoundRace). (trace : TraceData) (locations : List (List ℕ)) → IsDistinct bytes_eq locations → All (IsRaceLocated locations trace) items → AreKeyed locations c.in_ok-places.places (places_in trace items))
+    c.as_slice.ensures.value c.in_ok-places.ensures)

@@ -1,0 +1,17 @@
+use Rattle.std.specs.Prelude.{All}
+use Rattle.std.specs.List.{IsDistinct}
+use Rattle.std.specs.Str.{bytes_eq}
+use Rattle.std.proofs.Common.{ℕ, List, [], take}
+use Rattle.shb_lines.specs.text.TraceData.{TraceData}
+use Rattle.shb_format.specs.Keyed.{AreKeyed}
+use Rattle.shb_format.specs.Places.{places_after}
+use Rattle.shb_scan.specs.FoundNames.{IsRaceLocated}
+use Rattle.shb_scan.proofs.CountedPlaces.{AreFew, pairs_of}
+use Rattle.shb_scan.proofs.counting.places_of.Given as goal
+
+abbrev pub invariant-loop-race : goal.invariant-loop-race
+invariant-loop-race g l = record {
+  few : AreFew l.race-index l.places;
+  keyed : (trace : TraceData) (locations : List (List ℕ)) → IsDistinct bytes_eq locations → All (IsRaceLocated locations trace) l.races
+      → AreKeyed locations l.places (places_after trace [] (take l.race-index (pairs_of l.races)));
+}
