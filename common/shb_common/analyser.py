@@ -7,7 +7,7 @@ import typing
 
 from shb_common import variables
 from shb_common.refused import without_note
-from shb_common.report import BadReport
+from shb_common.report import BadReport, Report
 
 MOST_SAID = 4_096   # bytes of what the program says that are kept
 MOST_WORDS = 500    # of these, those that are told as words of one line
@@ -108,14 +108,14 @@ def must(answer):
 
 
 def places_of(read, trace, run, room=None):
-    """The places of an open trace with their variables. `read` is the `Report` of its places, or a `Scan`; `run` analyses an open trace
-    into an open file in the same way, and gives its `Answer`. Copies of the trace are made in `room`."""
+    """The places of an open trace with their variables. `read` is the `Report` of its places; `run` analyses an open trace into an open
+    file in the same way, and gives its `Answer`. Copies of the trace are made in `room`."""
     first = {(one.location, other.location): {one.name: variables.Found((race.first, race.second), (one, other), 1)}
              for race, (one, other) in read.races()}
     if not first:
         return []
     try:
-        found = all_variables({location for place in first for location in place}, trace, type(read), run, room)
+        found = all_variables({location for place in first for location in place}, trace, run, room)
     except variables.TooLong:
         return [Place(*place, named, True) for place, named in first.items()]
     if found.keys() != first.keys():
@@ -123,13 +123,13 @@ def places_of(read, trace, run, room=None):
     return [Place(*place, *kept(found[place])) for place in first]
 
 
-def all_variables(locations, trace, form, run, room=None):
-    """By place and variable: a race of it in an open trace, whose races have these locations. `form` is what `run` writes, as `read`."""
+def all_variables(locations, trace, run, room=None):
+    """By place and variable: a race of it in an open trace, whose races have these locations."""
     with tempfile.TemporaryFile(dir=room) as copy, tempfile.TemporaryFile(dir=room) as report:
         numbers = variables.write_copy(trace, locations, copy)
         must(run(copy, report))
         report.seek(0)
-        return variables.variables_in(form(report), numbers)
+        return variables.variables_in(Report(report), numbers)
 
 
 def kept(by_variable):

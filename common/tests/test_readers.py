@@ -15,7 +15,6 @@ from shb_common.files import NotRegular, open_regular, put, read_at_most
 from shb_common.known import BadLine, Known
 from shb_common.refused import explained
 from shb_common.report import BadReport, Report, in_order
-from shb_common.scan import Scan
 from shb_common.stacks import BadStacks, Stacks, Tables
 from shb_fix import lines
 from shb_fix.command import repaired
@@ -52,17 +51,20 @@ schedule 0:
 end
 """
 SCAN = b"""\
-shb-scan 1
+shb-report 2
 events 6 threads 3 locks 0 variables 2
+races 2
 places 2
-place 1: 2 4
+place 1: 1
 at a.c:1
 and b.c:2|more
-first T1|w(x)|a.c:1
-second T2|r(x)|b.c:2|more
-place 2: 1 6
+place 2: 1
 at 
 and 
+race 1: 2 4
+first T1|w(x)|a.c:1
+second T2|r(x)|b.c:2|more
+race 2: 1 6
 first T1|w(y)
 second T3|w(y)|
 end
@@ -102,14 +104,6 @@ def read_report(text):
         assert "\n" not in str(fault)
 
 
-def read_scan(text):
-    try:
-        for _ in Scan(io.BytesIO(text)).races():
-            pass
-    except BadReport as fault:
-        assert "\n" not in str(fault)
-
-
 def read_known(text):
     try:
         known = Known(text)
@@ -144,7 +138,7 @@ T2|vw(y)|a.c:8
 T1|wait(l)|a.c:9
 T1|acquire(l)
 """
-READERS = {"stacks": (read_stacks, STACKS), "report": (read_report, REPORT), "scan": (read_scan, SCAN), "known": (read_known, KNOWN),
+READERS = {"stacks": (read_stacks, STACKS), "report": (read_report, REPORT), "scan": (read_report, SCAN), "known": (read_known, KNOWN),
            "trace": (read_trace, b"T1|w(x)|1\nT2 | w(x)|2\n"), "fix": (read_trace_to_fix, FIX)}
 
 

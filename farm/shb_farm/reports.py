@@ -7,7 +7,6 @@ from shb_common import analyser, refused
 from shb_common.files import put_file, temporary_file
 from shb_common.limits import MOST_TEXT
 from shb_common.report import BadReport, Report
-from shb_common.scan import Scan
 from shb_common.variables import variable_of
 from shb_farm import calls, passes, running, traces
 from shb_farm.limits import memory_for
@@ -33,29 +32,29 @@ def analysed(work, name, trace):
 def analysed_text(work, name, trace):
     """The same of a trace that isn't packed."""
     if os.fstat(trace.fileno()).st_size <= MOST_TEXT:
-        end, places = kept(work, name, trace, work.form, Report)
+        end, places = kept(work, name, trace, work.form)
         if end.kind != "refused" or not end.words.endswith(refused.LIMITS):
             return end, places
-    end, places = kept(work, name, trace, passes.SCAN, Scan)
+    end, places = kept(work, name, trace, passes.SCAN)
     return end._replace(words=f"{end.words}; {SCANNED}") if end.kind == "report" and work.form != passes.FULL else end, places
 
 
-def kept(work, name, trace, form, read):
+def kept(work, name, trace, form):
     """The same by the report of a trace, or by its scan, which has no schedules. In a pass for full reports it is put in place, a report
     with what the view says of the trace."""
     with temporary_file(work.room) as (out, new):
-        end, places = written(work, form, trace, out, read)
+        end, places = written(work, form, trace, out)
         if end.kind != "report" or work.form != passes.FULL:
             return end, places
-        if work.view and read is Report:
+        if work.view and form != passes.SCAN:
             put_found(work, trace, new, name)
         size = os.fstat(out.fileno()).st_size
-        words = f"{passes.SCAN} {size}" if read is Scan else str(size)
+        words = f"{passes.SCAN} {size}" if form == passes.SCAN else str(size)
         put_file(new, passes.kept_path(work.out, name, words))
         return End("report", words), []
 
 
-def written(work, form, trace, out, read):
+def written(work, form, trace, out):
     """How the program ended on an open trace, writing this form to an open file, which counts only whole; and the places, of a pass for
     full reports none."""
     end = running.analyse(work, form, trace, out)
@@ -65,7 +64,7 @@ def written(work, form, trace, out, read):
         return end, []
     try:
         out.seek(0)
-        counts, places = places_of(work, form, trace, read(out))
+        counts, places = places_of(work, form, trace, Report(out))
     except BadReport as fault:
         return End("failed", f"`shb` wrote no whole report: {fault}"), []
     except analyser.Failed as fault:
@@ -76,7 +75,7 @@ def written(work, form, trace, out, read):
 
 def places_of(work, form, trace, read):
     """What a whole report or scan says of its trace, and its places; for a full report none."""
-    if isinstance(read, Report) and read.places is None:
+    if read.places is None:
         raise BadReport("it has no places")
     found = []
     if work.form == passes.FULL:

@@ -30,17 +30,20 @@ class Scans(farm.Case):
         kept = f"reports/{key_of('long.std')}.scan"
         self.assertEqual(self.table("places.tsv"), [["1", "unknown", "a.c:1", "b.c:2", "race.std", f"reports/{key_of('race.std')}.report", "1", "x", ""],
                                                     ["1", "unknown", "k.c:1", "k.c:2", "long.std", kept, "2", "y, z", ""]])
-        self.assertEqual((self.out / kept).read_bytes(), b"""shb-scan 1
+        self.assertEqual((self.out / kept).read_bytes(), b"""shb-report 2
 events 4194308 threads 3 locks 0 variables 2
+races 2
 places 2
-place 1: 1 4194307
+place 1: 1
 at k.c:1
 and k.c:2
-first T3|w(y)|k.c:1
-second T4|r(y)|k.c:2
-place 2: 2 4194308
+place 2: 1
 at k.c:2
 and k.c:1
+race 1: 1 4194307
+first T3|w(y)|k.c:1
+second T4|r(y)|k.c:2
+race 2: 2 4194308
 first T4|r(z)|k.c:2
 second T3|w(z)|k.c:1
 end

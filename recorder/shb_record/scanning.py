@@ -11,8 +11,7 @@ import tempfile
 from shb_common import analyser
 from shb_common.analyser import Place
 from shb_common.faults import Refused
-from shb_common.report import BadReport
-from shb_common.scan import Scan
+from shb_common.report import BadReport, Report
 from shb_common.stops import APART
 from shb_common.variables import MOST_VARIABLES, Found
 from shb_record.parts import ANALYSER
@@ -47,7 +46,7 @@ class Scanning:
             raise Refused(f"`shb scan` ended with status {answer.status}: {answer.words}")
         self.text.seek(0)
         try:
-            return self.places_of(Scan(self.text))
+            return self.places_of(Report(self.text))
         except BadReport as fault:
             raise Refused(f"`shb scan` wrote no whole text: {fault}") from None
 

@@ -157,7 +157,7 @@ class Command(recorder.Case):
         rows = [line.split("\t") for line in text_of(self.folder / "far_apart.shb" / "places.tsv").splitlines()[1:]]
         [row] = [row for row in rows if row[3] == "far"]
         self.assertEqual((sorted(row[:2]), row[2:5], re.sub(r"\d{2,}", "N", row[8])), (sorted((begin, end)), ["1", "far", "unknown"], "run1.N.scan"))
-        self.assertRegex(text_of(self.folder / "far_apart.shb" / row[8]), rf"(?m)^place \d: {row[5]} {row[6]}\nat \S+\|far\nand \S+\|far$")
+        self.assertRegex(text_of(self.folder / "far_apart.shb" / row[8]), rf"(?m)^race \d: {row[5]} {row[6]}\nfirst .+\|far\nsecond .+\|far$")
         for known, wanted in (("far_apart.c:*()\tfar_apart.c:*()\tcell\n", 66), ("*\t*\tcell\n*\t*\tfar\n", 0)):
             status, _, said = self.record("--window", "400", "--known", self.known(known), program)
             self.assertEqual((status, "1 unknown place with races" in said), (wanted, wanted == 66), said)
@@ -166,7 +166,7 @@ class Command(recorder.Case):
         """Such a fault of the converter makes no place up: the scan decides."""
         fake = self.folder / "shb"
         fake.write_text('#!/bin/sh\n[ "$1" = scan ] || exec ' + str(recorder.SHB) + ' "$@"\ncat > /dev/null\n'
-                        'printf "shb-scan 1\nevents 9 threads 3 locks 0 variables 1\nplaces 0\nend\n"\n')
+                        'printf "shb-report 2\nevents 9 threads 3 locks 0 variables 1\nraces 0\nplaces 0\nend\n"\n')
         fake.chmod(0o755)
         status, _, said = self.record(self.program(), "0", "race", SHB=str(fake))
         self.assertEqual(status, 125, said)
@@ -188,7 +188,7 @@ class Command(recorder.Case):
 
     def test_a_scan_that_fails(self):
         fake = self.folder / "shb"
-        for answer, wanted in (("exit 4", "`shb scan` ended with status 4: "), ("echo shb-scan 1", "`shb scan` wrote no whole text: line 2 of the scan is missing"),
+        for answer, wanted in (("exit 4", "`shb scan` ended with status 4: "), ("echo shb-report 2", "`shb scan` wrote no whole text: line 2 of the report is missing"),
                                ("kill -KILL $$", "`shb scan` ended with status -9: ")):
             fake.write_text(f'#!/bin/sh\n[ "$1" = scan ] || exec {recorder.SHB} "$@"\n{answer}\n')
             fake.chmod(0o755)
