@@ -133,13 +133,6 @@ exec REAL "$@"
                          [("start.c:6", {"write": 1}, {"main": 1}), ("worker.c:3", {"write": 1}, {"worker": 1})])
         self.assertEqual((place["places"], place["races"], place["variables"]), (1, 1, [{"name": "count", "races": 1}]))
 
-    def test_suspicions_stand_behind_the_races(self):
-        page = self.folder / "page.html"
-        self.assertEqual(run_here(["--suspicion", "x: <b>\x1b", "--suspicion", "y: z", "--html", page, TRACE]), (0, "", ""))
-        self.assertRegex(page.read_text(), r'(?s)id="g1".*id="suspicions"><h2>Suspicions</h2>.*<li>x: &lt;b&gt;\\x1b</li>\n<li>y: z</li>')
-        self.assertEqual(run_here(["--html", page, TRACE])[0], 0)
-        self.assertNotIn("Suspicions", page.read_text())
-
     def test_a_fault_of_the_view_itself_is_no_bad_report(self):
         with mock.patch("shb_view.command.make_view", lambda *_: None):
             status, out, err = run_here([TRACE])
@@ -148,9 +141,6 @@ exec REAL "$@"
     def test_a_title(self):
         status, out, _ = run_here(["--title", "./app 3\x1b", TRACE])
         self.assertEqual((status, out.split(": ")[0]), (0, "./app 3\\x1b"))
-
-    def test_a_window(self):
-        self.assertIn("   In this window 2 threads write", run_here(["--window", TRACE])[1])
 
     def test_a_name_that_is_not_utf8(self):
         """No word of `shb` may be so."""

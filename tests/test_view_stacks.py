@@ -53,8 +53,8 @@ class Stacks(program.Case):
     def test_the_text(self):
         status, out, err = self.shown(stacks())
         self.assertEqual((status, err), (0, ""))
-        self.assertIn("     in add<> (2 of 3 racing accesses)\n       from main a.c:31\n"
-                      "     in add<> (1 of 3 racing accesses)\n       from std::each each.h:8\n       from run a.c:20\n", out)
+        self.assertIn("     in add<> (2 of 3 accesses)\n       from main a.c:31\n"
+                      "     in add<> (1 of 3 accesses)\n       from std::each each.h:8\n       from run a.c:20\n", out)
         self.assertIn("     in get\n       from libc.so.6+0x10\n"
                       "       from sorter (no line is known: it called code without -fsanitize=thread)\n       from main a.c:31\n", out)
         self.assertIn("   thread T1 was created in main a.c:30\n", out)
@@ -140,11 +140,6 @@ class Stacks(program.Case):
         out = self.shown(stacks([1, 9, 5, 9, 5]), "--all", trace=trace)[1]
         self.assertEqual(out.count("   lock m for reading, held at a.c:5, was taken in make a.c:9, from main a.c:31\n"), 1)
 
-    def test_a_window_has_a_shift(self):
-        _, whole, _ = self.shown(stacks())
-        _, window, err = self.shown(stacks([1, 1, *NODES]), "--shift", "2")
-        self.assertEqual((window, err), (whole, ""))
-
     def test_locals(self):
         """A variable on a stack has the name of a local that it is at all its racing accesses."""
         trace = (b"main|fork(T1)|a.c:1\nT1|w(stack.main-0x40)|a.c:5\nmain|w(stack.main-0x40)|a.c:7\nT1|w(stack.main-0x38)|a.c:6\n"
@@ -154,12 +149,10 @@ class Stacks(program.Case):
         for more, names in ((b"", ["1. x of main (2 variables): "]), (b"local 3\tstack.main-0x40\t\n", ["1. stack.main-0x40: ", "x.size of main: "]),
                             (b"local 5\tstack.main-0x38\ty of f\n", ["x.head of main: ", "stack.main-0x38: "]),
                             (b"local 9\tstack.main-0x38\ty of f\n", ["1. x of main (2 variables): "])):
-            for shift in (0, 2):
-                moved = re.sub(rb"(?m)^local (\d+)", lambda it: b"local %d" % (int(it[1]) + shift), tables + more)
-                _, out, err = self.shown(stacks([1] * (5 + shift), moved), "--shift", str(shift), "--all", trace=trace)
-                self.assertEqual(err, "")
-                for name in names:
-                    self.assertIn(name, out)
+            _, out, err = self.shown(stacks([1] * 5, tables + more), "--all", trace=trace)
+            self.assertEqual(err, "")
+            for name in names:
+                self.assertIn(name, out)
         self.assertIn("Variables: x.head of main and x.size of main", out)
         self.assertIn("data race on x.head of main: a.c:5 and a.c:7\n", out)
         self.shown(stacks(tables=tables), "--html", page, trace=trace)
@@ -309,11 +302,11 @@ class Stacks(program.Case):
         page = self.folder / "page.html"
         out = self.shown(stacks([1, 2, 2, 2, 5]), "--text", "--html", page, trace=trace)[1]
         self.assertIn("In this trace l is held at 1 of 2 accesses at a.c:5.", out)
-        self.assertIn("     in add<> (1 of 2 racing accesses)\n       from std::each each.h:8\n", out)
-        self.assertIn("     in add<> (1 of 2 racing accesses, no lock held)\n       from main a.c:31\n", out)
+        self.assertIn("     in add<> (1 of 2 accesses)\n       from std::each each.h:8\n", out)
+        self.assertIn("     in add<> (1 of 2 accesses, no lock held)\n       from main a.c:31\n", out)
         found = Page(page.read_text())
-        self.assertEqual([text for _, text in found.all("p", "faint") if "racing" in text],
-                         ["1 of 2 racing accesses", "1 of 2 racing accesses, no lock held"])
+        self.assertEqual([text for _, text in found.all("p", "faint") if "of 2 accesses" in text],
+                         ["1 of 2 accesses", "1 of 2 accesses, no lock held"])
         self.assertNotIn("accesses, no lock held", self.shown(stacks())[1])
 
     def test_sources_that_were_recorded(self):
@@ -334,8 +327,6 @@ class Stacks(program.Case):
                 status, out, err = self.shown(content)
                 self.assertEqual((status, out), (4, ""))
                 self.assertRegex(err, r"\Ashb-view: \S*app.stacks doesn't have the stacks of this trace\n\Z")
-        for shift in ("1", "-1"):
-            self.assertEqual(self.shown(stacks(), f"--shift={shift}")[0], 4)
 
     def test_damaged_tables_are_refused_or_shown(self):
         for line in (b"frame x", b"stack x", b"stack 1", b"stack 1 1 99", b"thread T1", b"block 1", b"block a b", b"free 1", b"free a b", b"source a", b"atomic a\tb\tc", b"atomic a\tb\tc\tload",

@@ -38,8 +38,9 @@ def sections(text, report, is_good=True):
         given = view.Given("report", written, Verdict(is_good, ""), None)
         counts, gathered = Counts(*shb.counts_of(shb.read_trace(text)[0])), Gathered()
         view.read_report(given, counts, gathered, QUIET)
-        options, kinds = argparse.Namespace(html=True, all=False, window=False), view.Kinds(gathered, view.Stacks())
-        return view.make_sections(options, kinds, counts.events, Trace(file, QUIET), given, gathered.groups())[1]
+        options, kinds = argparse.Namespace(html=True, all=False), view.Kinds(gathered, view.Stacks())
+        made = view.Subject(given, counts, 0, 0, "", counts.events, None)
+        return view.make_sections(options, kinds, made, Trace(file, QUIET), gathered.groups())[1]
 
 
 def windows(text, report, is_good=True):

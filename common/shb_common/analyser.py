@@ -7,11 +7,11 @@ import typing
 
 from shb_common import variables
 from shb_common.refused import without_note
-from shb_common.report import BadReport, Report
+from shb_common.report import BadReport
 
 MOST_SAID = 4_096   # bytes of what the program says that are kept
 MOST_WORDS = 500    # of these, those that are told as words of one line
-LIST, HEAD, FULL, SCAN = ["places", "--list"], ["races", "--list"], ["places"], ["scan"]
+LIST, HEAD, FULL, SCAN = ["places", "--list"], ["races", "--list"], ["places"], ["scan", "--variables"]
 REFUSED = 2         # the status of `shb` for a refused trace
 
 
@@ -107,32 +107,17 @@ def must(answer):
     return answer
 
 
-def places_of(read, trace, run, room=None):
-    """The places of an open trace with their variables. `read` is the `Report` of its places; `run` analyses an open trace into an open
-    file in the same way, and gives its `Answer`. Copies of the trace are made in `room`."""
-    first = {(one.location, other.location): {one.name: variables.Found((race.first, race.second), (one, other), 1)}
-             for race, (one, other) in read.races()}
-    if not first:
-        return []
-    try:
-        found = all_variables({location for place in first for location in place}, trace, run, room)
-    except variables.TooLong:
-        return [Place(*place, named, True) for place, named in first.items()]
-    if found.keys() != first.keys():
-        raise BadReport("the places of the trace and of its copy differ")
-    return [Place(*place, *kept(found[place])) for place in first]
-
-
-def all_variables(locations, trace, run, room=None):
-    """By place and variable: a race of it in an open trace, whose races have these locations."""
-    with tempfile.TemporaryFile(dir=room) as copy, tempfile.TemporaryFile(dir=room) as report:
-        numbers = variables.write_copy(trace, locations, copy)
-        must(run(copy, report))
-        report.seek(0)
-        return variables.variables_in(Report(report), numbers)
-
-
-def kept(by_variable):
-    """The first so many variables, and whether there are more."""
-    names = list(by_variable)[:variables.MOST_VARIABLES]
-    return {name: by_variable[name] for name in names}, len(names) < len(by_variable)
+def places_in(report):
+    """The places of a `Report` that has one race of each variable at each place, as `scan --variables` writes it: each with its first so
+    many variables."""
+    found, more = {}, set()
+    for race, accesses in report.races():
+        place, name = tuple(access.location for access in accesses), accesses[0].name
+        by_variable = found.setdefault(place, {})
+        if name in by_variable:
+            raise BadReport(f"race {race.number} of the report: its variable has a race at this place already")
+        if len(by_variable) == variables.MOST_VARIABLES:
+            more.add(place)
+        else:
+            by_variable[name] = variables.Found((race.first, race.second), accesses)
+    return [Place(*place, by_variable, place in more) for place, by_variable in found.items()]

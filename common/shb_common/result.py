@@ -29,7 +29,7 @@ def entry(row, found, reads=((), ()), **more):
     """A row as an entry. `found` is the view's entry of it, nothing where it has none; `reads` are of each access its event and its
     fields there."""
     there = {one["in_trace"]: one for one in found.get("accesses", ())}
-    races = {one["name"]: {"races": one["races"]} for one in found.get("variables", ())}
+    races = {one["name"]: {"races": one["races"]} for one in found.get("variables", ()) if "races" in one}
     accesses = [{**there.get(text(in_trace), {}), **access(name, location, in_trace, *read)}
                 for name, location, in_trace, read in zip(row.names, row.key, row.texts, reads)]
     variables = [{"name": text(name), "state": "known" if is_known else "unknown", **races.get(text(name), {})} for name, is_known in row.variables]

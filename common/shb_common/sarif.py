@@ -1,4 +1,4 @@
-"""Places as a log in SARIF 2.1.0, the static analysis results interchange format of OASIS: one result a place, and one a suspicion."""
+"""Places as a log in SARIF 2.1.0, the static analysis results interchange format of OASIS: one result a place."""
 
 import collections
 import hashlib
@@ -27,16 +27,6 @@ RULE = {
                      "shb-view explains it."},
     "defaultConfiguration": {"level": "error"},
 }
-SUSPICION = {
-    "id": "suspicion",
-    "name": "Suspicion",
-    "shortDescription": {"text": "A lock is held at nearly all uses of a variable, and not at this one."},
-    "fullDescription": {"text": "In a recorded run several threads use a variable under one lock, and one use isn't under it. Nothing raced "
-                                "there, but in another interleaving it may, unless something else orders the uses."},
-    "help": {"text": "Take the lock here too. Where an atomic, a message or another lock orders the uses, add a line with both locations and "
-                     "the variable to the file of known places."},
-    "defaultConfiguration": {"level": "note"},
-}
 BASE = "SRCROOT"        # the folder that relative file names in the traces start from
 TRACES = "TRACES"       # the folder of the traces
 BASES = {BASE: "The folder that relative file names start from: the repository.", TRACES: "The folder of the traces."}
@@ -61,17 +51,6 @@ class Alert(typing.NamedTuple):
     def variables(self):
         """Those that race there."""
         return [name for name, _ in self.row.variables]
-
-
-class Suspicion(typing.NamedTuple):
-    """A suspicion for review: its use without the lock and one under it, each by its location of its own program and by what that is called;
-    what is said of them."""
-
-    key: tuple
-    names: typing.Tuple[bytes, bytes]
-    variable: bytes
-    lock: bytes
-    words: str
 
 
 class Access(typing.NamedTuple):
@@ -208,34 +187,19 @@ def result_of(alert, sources, seen):
     }
 
 
-def result_of_suspicion(one, sources):
-    """The result of one suspicion, at the use without the lock."""
-    lone, locked = (place_of(name, sources, location.path) for name, location in zip(one.names, one.key))
-    return {
-        "ruleId": SUSPICION["id"],
-        "ruleIndex": 1,
-        "level": "note",
-        "message": {"text": plain(one.words)},
-        "locations": [primary_of(lone, b"places.json")],
-        "relatedLocations": [location_of(locked, id=1, message={"text": "A use under the lock."})],
-        "partialFingerprints": {"suspicions/v1": fingerprint([*one.names, known.lasting(one.variable), known.lasting(one.lock)])},
-        "properties": {"variables": [printable(one.variable)]},
-    }
-
-
 def plain(text):
     """A text in a message, where brackets begin a link and backslashes escape."""
     return re.sub(r"([\\\[\]])", r"\\\1", text)
 
 
-def log(alerts, sources, notifications, is_whole, status, suspicions=()):
+def log(alerts, sources, notifications, is_whole, status):
     """A log as bytes. `notifications` are pairs of a level and a sentence; `is_whole` says that the command did all that it should."""
     seen, installed = collections.Counter(), version.installed()
     run = {
-        "tool": {"driver": {"name": "shb", **({"version": installed} if installed else {}), "rules": [RULE, SUSPICION]}},
+        "tool": {"driver": {"name": "shb", **({"version": installed} if installed else {}), "rules": [RULE]}},
         "originalUriBaseIds": {name: {"description": {"text": text}} for name, text in BASES.items()},
         "invocations": [{"executionSuccessful": is_whole, "exitCode": status, "toolExecutionNotifications":
                          [{"level": level, "message": {"text": text}} for level, text in notifications]}],
-        "results": [*(result_of(alert, sources, seen) for alert in alerts), *(result_of_suspicion(one, sources) for one in suspicions)],
+        "results": [result_of(alert, sources, seen) for alert in alerts],
     }
     return (json.dumps({"$schema": SCHEMA, "version": "2.1.0", "runs": [run]}, indent=1) + "\n").encode()

@@ -2,7 +2,6 @@
 
 import array
 import bisect
-import collections
 import functools
 import itertools
 import os
@@ -184,11 +183,6 @@ class Stacks(Tables):
         """Where the block of a variable was allocated."""
         found = BLOCK.fullmatch(name)
         return self.stack(self.blocks.get(int(found[1]), 0)) if found else ()
-
-    def counted(self, events, marked):
-        """The stacks of some events, each with whether the event is a marked one, and how many are so, the most frequent first."""
-        found = ((self.of_event(event), event in marked) for event in sorted(events) if self.numbers)
-        return collections.Counter(found).most_common()
 
 
 def events_in(file):

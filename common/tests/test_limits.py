@@ -6,7 +6,7 @@ import unittest
 
 from shb_common import limits
 
-HEADER = pathlib.Path(__file__).resolve().parents[2] / "recorder/converter/windows.h"
+HEADER = pathlib.Path(__file__).resolve().parents[2] / "recorder/converter/converter.h"
 
 
 class Limits(unittest.TestCase):

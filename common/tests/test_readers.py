@@ -11,6 +11,7 @@ import struct
 import tempfile
 
 import side_by_side
+from shb_common import analyser
 from shb_common.files import NotRegular, open_regular, put, read_at_most
 from shb_common.known import BadLine, Known
 from shb_common.refused import explained
@@ -50,7 +51,7 @@ second T2|w(x)|b.c:2
 schedule 0:
 end
 """
-SCAN = b"""\
+LISTED = b"""\
 shb-report 2
 events 6 threads 3 locks 0 variables 2
 races 2
@@ -81,7 +82,7 @@ def read_stacks(text):
             found = Stacks(file.name, 0, 3)
             for event in range(-1, 6):
                 found.of_event(event), found.free_of(event), found.local_of(b"stack.main-0x20", event)
-            found.counted([1, 2, 3], {2}), found.of_thread(b"T1"), found.of_variable(b"a.c:1#7+8"), found.of_variable(b"#" + b"9" * 30), found.functions
+            found.of_thread(b"T1"), found.of_variable(b"a.c:1#7+8"), found.of_variable(b"#" + b"9" * 30), found.functions
             for use in found.stores:
                 use.gives(), use.takes()
         except BadStacks as fault:
@@ -100,6 +101,13 @@ def read_report(text):
                 place = file.tell()
                 in_order(file, race, [race.first])
                 file.seek(place)
+    except BadReport as fault:
+        assert "\n" not in str(fault)
+
+
+def read_listed(text):
+    try:
+        analyser.places_in(Report(io.BytesIO(text)))
     except BadReport as fault:
         assert "\n" not in str(fault)
 
@@ -138,7 +146,7 @@ T2|vw(y)|a.c:8
 T1|wait(l)|a.c:9
 T1|acquire(l)
 """
-READERS = {"stacks": (read_stacks, STACKS), "report": (read_report, REPORT), "scan": (read_report, SCAN), "known": (read_known, KNOWN),
+READERS = {"stacks": (read_stacks, STACKS), "report": (read_report, REPORT), "listed": (read_listed, LISTED), "known": (read_known, KNOWN),
            "trace": (read_trace, b"T1|w(x)|1\nT2 | w(x)|2\n"), "fix": (read_trace_to_fix, FIX)}
 
 

@@ -37,8 +37,8 @@ Files in OUT:
   traces.tsv      how each trace ended: a report, refused, out of memory, time
                   or size, or missing; with its seconds and MiB
   reports/        for each unknown place the full report of the smallest trace
-                  that has it; of a trace that is too long for one what
-                  'shb scan' writes
+                  that has it; of a trace that is too long for one that of
+                  'shb scan', which has no schedules
 
 Known places:
   On a line two locations, or functions as FILE:FUNCTION(), in either order, and
@@ -185,7 +185,7 @@ def report_of(work, name, ending):
     """Where the full report of a trace is, below the folder of the outcomes, or why there is none."""
     if ending.kind != "report":
         return "missing" if ending.kind == "missing" else tables.why(ending)
-    return os.path.relpath(passes.kept_path(work.out, name, ending.words), work.out)
+    return os.path.relpath(passes.kept_path(work.out, name), work.out)
 
 
 def run(options):

@@ -12,7 +12,7 @@ import tempfile
 import time
 import typing
 
-LIST, FULL, SCAN = "list", "full", "scan"   # the places of a trace; its report with schedules; both of a trace that is too long for these
+LIST, FULL = "list", "full"     # the places of a trace; its report with schedules
 FOLDER_OF = {LIST: "outcomes", FULL: "reports"}
 LOCK, DONE = "lock", "done"
 TEMPORARY_SECONDS = 86_400      # a day: what no lock tells about is deleted then
@@ -101,9 +101,9 @@ def found_path(out, name):
     return pathlib.Path(out) / FOLDER_OF[FULL] / f"{key_of(name)}.json"
 
 
-def kept_path(out, name, words):
-    """What was kept of a trace whose outcome has these words in a pass for full reports: a report, or a scan where it is too long."""
-    return pathlib.Path(out) / FOLDER_OF[FULL] / f"{key_of(name)}.{'scan' if words.startswith(SCAN) else 'report'}"
+def kept_path(out, name):
+    """The report that was kept of a trace in a pass for full ones; of a trace that is too long for one it has no schedules."""
+    return pathlib.Path(out) / FOLDER_OF[FULL] / f"{key_of(name)}.report"
 
 
 def stands(outcome, work, name, stamp):
@@ -120,5 +120,5 @@ def is_final(outcome, work, name):
         return int(outcome.words) >= limit
     if work.form == LIST or outcome.kind != "report":
         return True
-    path = kept_path(work.out, name, outcome.words)
-    return path.exists() and os.stat(path).st_size == int(outcome.words.split()[-1])
+    path = kept_path(work.out, name)
+    return path.exists() and os.stat(path).st_size == int(outcome.words)

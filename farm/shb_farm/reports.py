@@ -1,18 +1,18 @@
-"""The report of one trace, or its scan where it is longer than a report may be of."""
+"""The report of one trace."""
 
 import os
 import sys
 
 from shb_common import analyser, refused
 from shb_common.files import put_file, temporary_file
-from shb_common.limits import MOST_TEXT
+from shb_common.limits import MOST_EVENTS, MOST_TEXT, MOST_THREADS
 from shb_common.report import BadReport, Report
 from shb_common.variables import variable_of
 from shb_farm import calls, passes, running, traces
 from shb_farm.limits import memory_for
 from shb_farm.running import METER, End
 
-SCANNED = "it is longer than a report may be of: its places are those of `shb scan`, without schedules"
+TOO_LONG = "it is longer than a report with schedules may be of: what is kept is that of `shb scan`, without schedules"
 MARKED = "a byte order mark before the first line is part of the first thread's name"
 
 
@@ -24,68 +24,84 @@ def analysed(work, name, trace):
             METER.text = os.fstat(text.fileno()).st_size
             if not work.last and memory_for(METER.text) > work.memory:
                 return End("memory", str(work.memory)), []      # the next pass that has room for it takes it up
-            return analysed_text(work, name, text)
+            return listed(work, text) if work.form == passes.LIST else (kept(work, name, text), [])
     except traces.BadPacking as fault:
         return fault.end, []
 
 
-def analysed_text(work, name, trace):
-    """The same of a trace that isn't packed."""
-    if os.fstat(trace.fileno()).st_size <= MOST_TEXT:
-        end, places = kept(work, name, trace, work.form)
-        if end.kind != "refused" or not end.words.endswith(refused.LIMITS):
-            return end, places
-    end, places = kept(work, name, trace, passes.SCAN)
-    return end._replace(words=f"{end.words}; {SCANNED}") if end.kind == "report" and work.form != passes.FULL else end, places
+def listed(work, trace):
+    """The same of a trace that isn't packed: by one race of each variable at each place, as `shb scan` lists them."""
+    with temporary_file(work.room) as (out, _):
+        end = running.analyse(work, passes.LIST, trace, out)
+        if end.kind != "report":
+            return told(end, trace), []
+        try:
+            report = report_in(out)
+            places = list(map(place_of, analyser.places_in(report)))
+        except BadReport as fault:
+            return not_whole(fault), []
+        return End("report", "; ".join([words_of(report.counts), *notes_of(trace, report.counts)])), places
 
 
-def kept(work, name, trace, form):
-    """The same by the report of a trace, or by its scan, which has no schedules. In a pass for full reports it is put in place, a report
-    with what the view says of the trace."""
+def kept(work, name, trace):
+    """How the program ended on a trace in a pass for full reports. The report is put in place, with what the view says of the trace; of
+    a trace that is too long for one the list of its places."""
     with temporary_file(work.room) as (out, new):
-        end, places = written(work, form, trace, out)
-        if end.kind != "report" or work.form != passes.FULL:
-            return end, places
-        if work.view and form != passes.SCAN:
+        end = written(work, passes.FULL, trace, out) if os.fstat(trace.fileno()).st_size <= MOST_TEXT else None
+        is_full = end is not None and not (end.kind == "refused" and end.words.endswith(refused.LIMITS))
+        if not is_full:
+            out.truncate(0)
+            end = written(work, passes.LIST, trace, out)
+        if end.kind != "report":
+            return told(end, trace)
+        if work.view and is_full:
             put_found(work, trace, new, name)
         size = os.fstat(out.fileno()).st_size
-        words = f"{passes.SCAN} {size}" if form == passes.SCAN else str(size)
-        put_file(new, passes.kept_path(work.out, name, words))
-        return End("report", words), []
+        put_file(new, passes.kept_path(work.out, name))
+        return End("report", str(size))
 
 
 def written(work, form, trace, out):
-    """How the program ended on an open trace, writing this form to an open file, which counts only whole; and the places, of a pass for
-    full reports none."""
+    """How the program ended on an open trace, writing this form to an open file from its beginning; it counts only whole."""
+    os.lseek(out.fileno(), 0, os.SEEK_SET)
     end = running.analyse(work, form, trace, out)
-    if end.kind == "refused" and not end.words.endswith(refused.LIMITS):
-        return End("refused", refused.explained(end.words, trace)), []
-    if end.kind != "report":
-        return end, []
-    try:
-        out.seek(0)
-        counts, places = places_of(work, form, trace, Report(out))
-    except BadReport as fault:
-        return End("failed", f"`shb` wrote no whole report: {fault}"), []
-    except analyser.Failed as fault:
-        return running.end_of(work, fault.answer.status, fault.answer.words, work.size), []
-    is_marked = os.pread(trace.fileno(), len(refused.MARK), 0) == refused.MARK
-    return End("report", f"{counts}; {MARKED}" if is_marked else counts), places
+    if end.kind == "report":
+        try:
+            for _ in report_in(out).races():
+                pass
+        except BadReport as fault:
+            return not_whole(fault)
+    return end
 
 
-def places_of(work, form, trace, read):
-    """What a whole report or scan says of its trace, and its places; for a full report none."""
-    if read.places is None:
+def report_in(out):
+    """The report in an open file."""
+    out.seek(0)
+    report = Report(out)
+    if report.places is None:
         raise BadReport("it has no places")
-    found = []
-    if work.form == passes.FULL:
-        for _ in read.races():
-            pass
-    else:
-        run = lambda given, out: running.run(work, [work.shb, *running.WORDS[form]], given, out)
-        found = list(map(place_of, analyser.places_of(read, trace, run, work.room)))
-    counts = read.counts
-    return f"events {counts.events} threads {counts.threads} locks {counts.locks} variables {counts.variables}", found
+    return report
+
+
+def not_whole(fault):
+    return End("failed", f"`shb` wrote no whole report: {fault}")
+
+
+def told(end, trace):
+    """How it ended, with the line for which the trace was refused."""
+    return End("refused", refused.explained(end.words, trace)) if end.kind == "refused" else end
+
+
+def words_of(counts):
+    return f"events {counts.events} threads {counts.threads} locks {counts.locks} variables {counts.variables}"
+
+
+def notes_of(trace, counts):
+    """What a reader must know of a trace that has a report."""
+    if os.pread(trace.fileno(), len(refused.MARK), 0) == refused.MARK:
+        yield MARKED
+    if counts.events > MOST_EVENTS or counts.threads > MOST_THREADS or os.fstat(trace.fileno()).st_size > MOST_TEXT:
+        yield TOO_LONG
 
 
 def place_of(place):

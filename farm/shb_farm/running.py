@@ -9,7 +9,7 @@ from shb_common import analyser
 from shb_farm.children import end_with
 from shb_farm.limits import MIB
 
-WORDS = {"list": [*analyser.LIST, "--workers", "1"], "full": [*analyser.FULL, "--workers", "1"], "scan": analyser.SCAN}
+WORDS = {"list": analyser.SCAN, "full": [*analyser.FULL, "--workers", "1"]}
 
 
 class End(typing.NamedTuple):

@@ -118,17 +118,6 @@ class Calls(Base):
         self.trace("app.stacks", stacks())
         self.assertEqual(self.steps(), self.ways("a.c"))
 
-    def test_a_window_of_a_run(self):
-        """Its stacks are beside the folder of the windows, whose table says where it begins; without the table none are shown."""
-        self.trace("run1.7.windows/window-0002.std", TRACE)
-        self.trace("run1.7.stacks", stacks((1, 1, 1, 1, 2, 5, 4)))
-        table = self.trace("run1.7.windows/windows.tsv", b"file\tfirst\tlast\tadded\nwindow-0001.std\t1\t4\t0\nwindow-0002.std\t5\t7\t1\n")
-        self.assertEqual(self.steps(), self.ways("a.c"))
-        table.unlink()
-        answer = self.farm()
-        self.assertEqual((answer.status, answer.err), (1, f"shb-farm: {self.traces}/run1.7.stacks: No such file or directory; its call stacks are left out\n"))
-        self.assertEqual(self.unknown(), b"# a.c:5\ta.c:7\n" + FUNCTIONS)
-
     def test_a_file_that_is_none(self):
         self.trace("app.std", TRACE)
         for content in (b"", b"shb-stacks 2 %020d\n" % 3, stacks((1, 2))):

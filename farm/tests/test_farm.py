@@ -85,7 +85,7 @@ class Tables(farm.Case):
                 "head -n -1": "line 11 of the report is missing; it should be `end`",
                 "head -c -1": "line 11 of the report is cut off: `end`; it should be `end`",
                 "sed /^second/d": "line 10 of the report is `end`; it should be `second ACCESS`",
-                "sed s/b.c:2$/c.c:3/": "race 1 of the report: its locations aren't those of the trace",
+                "sed 's/^second T2/second T1/'": "race 1 of the report: the events 1 and 2 don't conflict",
                 "sed 's/^and .*/and c.c:3/'": "the places that the report begins with aren't those of its races"}
         for number, (words, wanted) in enumerate(said.items()):
             shb = self.script(f"shb{number}", f"{farm.SHB} \"$@\" | {words}\n")
@@ -94,7 +94,7 @@ class Tables(farm.Case):
 
     def test_a_full_report_that_is_not_whole(self):
         self.trace("race.std", RACE)
-        shb = self.script("cut", f"case \"$*\" in *--list*) exec {farm.SHB} \"$@\" ;; esac\n{farm.SHB} \"$@\" | head -n -1\n")
+        shb = self.script("cut", f"case \"$*\" in scan*) exec {farm.SHB} \"$@\" ;; esac\n{farm.SHB} \"$@\" | head -n -1\n")
         self.assertEqual(self.farm("--memory", "256", shb=shb).status, 2)
         self.assertEqual(self.table("places.tsv"), [["1", "unknown", "a.c:1", "b.c:2", "race.std", "missing", "1", "x", ""]])
         self.assertEqual(list((self.out / "reports").glob("*.report")), [])

@@ -1,4 +1,4 @@
-"""Traces that are longer than a report may be of: they are scanned."""
+"""Traces that are longer than a report with schedules may be of."""
 
 import json
 
@@ -7,11 +7,11 @@ from farm import BAD, RACE
 from shb_farm import limits
 from shb_farm.passes import key_of
 
-MANY = 4_194_304        # events that a report may be of
+MANY = 4_194_304        # events that a report with schedules may be of
 END = b"A|end\n"
 FAR = b"T3|w(y)|k.c:1\nT4|r(z)|k.c:2\n" + END * MANY + b"T4|r(y)|k.c:2\nT3|w(z)|k.c:1\n"  # two races at two places, far apart
 THREADS = b"".join(b"T%d|w(x)|q.c:1\n" % number for number in range(1025))
-NOTE = "it is longer than a report may be of: its places are those of `shb scan`, without schedules"
+NOTE = "it is longer than a report with schedules may be of: what is kept is that of `shb scan`, without schedules"
 
 
 class Scans(farm.Case):
@@ -27,7 +27,7 @@ class Scans(farm.Case):
         self.assertTrue(answer.out.endswith(f"\n\nreport  long.std  {NOTE}\n"))
         [invocation] = json.loads((self.out / "places.sarif").read_text())["runs"][0]["invocations"]
         self.assertEqual(invocation["toolExecutionNotifications"], [{"level": "note", "message": {"text": f"long.std: {NOTE}"}}])
-        kept = f"reports/{key_of('long.std')}.scan"
+        kept = f"reports/{key_of('long.std')}.report"
         self.assertEqual(self.table("places.tsv"), [["1", "unknown", "a.c:1", "b.c:2", "race.std", f"reports/{key_of('race.std')}.report", "1", "x", ""],
                                                     ["1", "unknown", "k.c:1", "k.c:2", "long.std", kept, "2", "y, z", ""]])
         self.assertEqual((self.out / kept).read_bytes(), b"""shb-report 2
@@ -55,10 +55,10 @@ end
         shb = self.counting()
         self.assertEqual(self.farm(shb=shb).status, 1)
         self.assertEqual(self.ends()["threads.std"], ("report", f"events 1025 threads 1025 locks 0 variables 1; {NOTE}"))
-        self.assertEqual(self.runs(), 5)        # refused, scanned, scanned for its variables; then refused and scanned for what is kept
+        self.assertEqual(self.runs(), 3)        # a list; then for what is kept a report, which is refused, and a list
         self.assertEqual(self.farm(shb=shb).status, 1)
         self.assertEqual(self.runs(), 0)
-        (self.out / "reports" / f"{key_of('threads.std')}.scan").unlink()
+        (self.out / "reports" / f"{key_of('threads.std')}.report").unlink()
         self.assertEqual(self.farm(shb=shb).status, 1)
         self.assertEqual(self.runs(), 2)
 

@@ -69,7 +69,7 @@ def without_python(debian, package, top):
     run = block_from(README, "tar -xf").splitlines()[-1]
     said = debian.call(f"cd /root/{top} && {run}")
     expect(run, said[0].endswith(block_from(README, "race 1: ")) and said[1:] == ("", 0), said)
-    for command in ("shb-std", "shb-windows"):
+    for command in ("shb-std",):
         said = debian.call(f"/root/{top}/bin/{command} --help")
         expect(f"{command} --help", said[0] and said[1:] == ("", 0), said)
     said = debian.call(f"/root/{top}/bin/shb-view --help")

@@ -29,7 +29,7 @@ def call(*words, **how):
 
 def copy_of_repository(folder):
     """A repository of one commit with what is installed, as it is here now."""
-    ignore = shutil.ignore_patterns("lib", "shb-std", "shb-windows", "tests", "__pycache__")
+    ignore = shutil.ignore_patterns("lib", "shb-std", "tests", "__pycache__")
     folder.mkdir(parents=True)
     for name in PARTS:
         source = TOP / name

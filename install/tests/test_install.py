@@ -10,7 +10,7 @@ import installing
 from installing import TOP, call, contents
 
 RACE = "T1|w(x)|a.c:1\nT2|w(x)|b.c:2\n"
-COMMANDS = ("shb", "shb-farm", "shb-fix", "shb-record", "shb-std", "shb-view", "shb-windows")
+COMMANDS = ("shb", "shb-farm", "shb-fix", "shb-record", "shb-std", "shb-view")
 WANTED = ([f"bin/{name}" for name in COMMANDS]
           + [f"share/man/man1/{name}.1" for name in (*COMMANDS, "shb-races", "shb-places", "shb-check")]
           + [f"share/bash-completion/completions/{name}" for name in COMMANDS]

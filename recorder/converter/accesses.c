@@ -3,7 +3,7 @@
 #include <string.h>
 #include "converter.h"
 
-int whole_trace, only_open;
+int whole_trace;
 list_entry *list_entries;
 static u64 list_count, list_capacity;
 static map atomic_writers;
@@ -20,8 +20,6 @@ static u64 end_of(u64 i) { return address_of(i) + accessed_bytes(i); }
    the second, the same where the block isn't of one thread alone. After the third, the number of its only piece, or where
    the runs of several begin, with the mark. Without an access 0, or the mark alone where the record means more than that. */
 #define MARK (1u << 31)
-#define REPEATED (1u << 30)            /* beside the number of a piece: as find_repeated has it */
-static map repeated;                   /* the same of a record and one of its several pieces */
 u32 *known;
 
 /* ---- 1: users of blocks; a range over several is shared, to be cut at their bounds ---- */
@@ -143,10 +141,11 @@ void share_pieces(u64 i) {
 /* The same read, by the same thread at the same place under the same locks, with no write of the variable since, and
    nothing since by which the thread could order another: all that it conflicts with, and all that it orders, the first
    does too. */
+enum { RECENT = 1 << 18 };
+typedef struct { u64 site, epoch, locks; u32 piece, writes; } read;
+static read *recent;
+
 static int repeats(u64 i, use u, u32 number) {
-    enum { RECENT = 1 << 18 };
-    typedef struct { u64 site, epoch, locks; u32 piece, writes; } read;
-    static read *recent;
     if (!recent) recent = zeroed(RECENT, sizeof *recent);
     u64 site = own_place(u.thread, caller_of(i)) | (u64)u.thread << 48, epoch = thread_epoch(u.thread) + 1;
     read this = {site, epoch | (u64)(u.thread >> 16) << 48, held_locks(u.thread), number, piece_of(number)->writes};
@@ -157,137 +156,63 @@ static int repeats(u64 i, use u, u32 number) {
     return same && !whole_trace;
 }
 
-/* Of accesses in no open pair, where others of the piece race, a thread's first at a place under the same locks stands for the others. */
-static int is_left_out(u64 i, use u, u32 number) {
-    static map met;
-    if (is_open(number) && may_be_in_open_pair(number, u.thread, u.writes)) return 0;
-    if (is_mixed_open(number) && !u.writes && may_be_in_mixed_pair(number, u.thread, u.writes_atomically)) return 0;
-    if (!is_mixed_open(number) && !has_races(number)) return 1;
-    u64 before = met.count, what = mix(number | (u64)operation_of(i) << 32, all_held_locks(u.thread)) + (u.thread >> 16);
-    map_number(&met, own_place(u.thread, caller_of(i)) | (u64)u.thread << 48, what);
-    return met.count == before;
-}
+enum { NOBODY = -1u };
 
-/* An event of the variable that stands for the atomic writes of p by one thread. */
-static void writer_event(u64 i, const piece *p, const char *operation, u32 writer) {
-    char tail[100];
-    snprintf(tail, sizeof tail, "!%s", thread_name(writer));
-    event(thread_of(i), operation, variable_name(p->at, block_of(p->block)), tail, caller_of(i));
+/* An event of the variable itself, or of that which stands for its atomic writes by one thread. The page's trace lacks those of variables
+   in no race, but each thread's first one. */
+static void access_event(u64 i, const piece *p, const char *operation, u32 writer, int is_kept) {
+    char tail[100] = "";
+    u32 t = thread_of(i);
+    if (!is_kept && has_events(t)) {
+        pass_event(t, *operation == 'w');
+        return;
+    }
+    if (writer != NOBODY) snprintf(tail, sizeof tail, "!%s", thread_name(writer));
+    event(t, operation, variable_name(p->at, block_of(p->block)), tail, caller_of(i));
 }
 
 static int is_shared(const piece_use *p) { return p->many_users && p->written; }
 static int is_read_by_others(const piece_use *p, u32 t) { return p->many_readers || (p->reader && p->reader != t + 1); }
 
-static void order_piece(use u, u32 number) {
-    const piece_use *users = use_of_piece(number);
-    if (is_shared(users)) order_access(number, u.thread, u.writes);
-    if (u.writes_atomically && is_read_by_others(users, u.thread)) order_mixed_access(number, u.thread, 1);
-    if (u.reads && users->written_atomically) order_mixed_access(number, u.thread, 0);
-}
-
 /* An atomic write is a read of X, so that it conflicts with plain writes, and a write of a variable of X and its
    thread alone, which the plain reads of others read too: so it conflicts with these, and never with an atomic access. */
-static void piece_events(u64 i, use u, u32 number) {
+static void piece_events(u64 i, use u, u32 number, int is_kept) {
     const piece_use *users = use_of_piece(number);
     u32 t = u.thread;
-    int shared = (is_shared(users) && (!only_open || is_open(number))) || whole_trace, mixed_open = !only_open || is_mixed_open(number);
-    if (!shared && (!mixed_open || (!u.writes_atomically && !users->written_atomically))) return;
-    if (only_open && is_left_out(i, u, number)) return;
+    int shared = is_shared(users) || whole_trace;
+    if (!shared && !u.writes_atomically && !users->written_atomically) return;
     if (!u.writes && !u.writes_atomically && repeats(i, u, number)) return;
     piece *p = piece_of(number);
-    is_at_open = is_open(number) || is_mixed_open(number);
-    if (shared) event(t, u.writes ? "w" : "r", variable_name(p->at, block_of(p->block)), "", caller_of(i));
+    if (shared) access_event(i, p, u.writes ? "w" : "r", NOBODY, is_kept);
     if (u.writes) p->writes++;
     if (u.writes_atomically && is_read_by_others(users, t)) {
-        if (mixed_open) writer_event(i, p, "w", t);
+        access_event(i, p, "w", t, is_kept);
         p->writes++;
     }
-    if (!u.reads || !mixed_open) return;
+    if (!u.reads) return;
     for (u32 k = p->atomic_writers; k; k = list_entries[k - 1].next)
-        if (list_entries[k - 1].thread != t) writer_event(i, p, "r", list_entries[k - 1].thread);
+        if (list_entries[k - 1].thread != t) access_event(i, p, "r", list_entries[k - 1].thread, is_kept);
 }
 
-/* ---- what repeats: of accesses by one thread that are the same, between which no other thread made one that conflicts, the first
-   and the last stand for all. A race of another one has the same place as a race of the first with what comes before, or of the
-   last with what comes behind. ---- */
-typedef struct { u32 user; u64 count, start; } turns;        /* how many accesses; since which all are by this thread, plus one */
-typedef struct { turns all, writes, plain; } piece_turns;
-typedef struct { u64 turn, first, last; } same_accesses;
-static piece_turns *turns_of;          /* by piece, of those that are open */
-static same_accesses *same;
-static u64 turns_count, turns_capacity, same_count, same_capacity;
-static map piece_map, same_map;
-
-static void take_turn(turns *s, u32 t) {
-    s->count++;
-    if (s->user == t + 1) return;
-    s->user = t + 1;
-    s->start = s->count;
-}
-
-/* Equal for accesses of a thread between which the others made none of these. */
-static u64 turn_for(const turns *s, u32 t) { return s->user == t + 1 ? s->start : s->count; }
-
-/* Plain writes conflict with all accesses, reads with writes, and what writes atomically with plain ones. */
-static u64 turn_of(u32 number, use u) {
-    u32 k = map_number(&piece_map, number, 0);
-    if (k > turns_count) {
-        GROW(turns_of, turns_count, turns_capacity);
-        turns_of[turns_count++] = (piece_turns){0};
-    }
-    piece_turns *s = &turns_of[k - 1];
-    take_turn(&s->all, u.thread);
-    if (u.writes || u.writes_atomically) take_turn(&s->writes, u.thread);
-    if (u.writes || u.reads) take_turn(&s->plain, u.thread);
-    return turn_for(u.writes ? &s->all : u.writes_atomically ? &s->plain : &s->writes, u.thread);
-}
-
-/* Where stacks are asked for the accesses have the same stack, else the same place. */
-static same_accesses *same_as(u64 i, u32 t, u32 number) {
-    u64 stack = stack_at(t, caller_of(i)), what = mix(number | (u64)operation_of(i) << 32, all_held_locks(t)) + (t >> 16);
-    u32 k = map_number(&same_map, (stack ? stack : own_place(t, caller_of(i))) | (u64)t << 48, what);
-    if (k > same_count) {
-        GROW(same, same_count, same_capacity);
-        same[same_count++] = (same_accesses){0};
-    }
-    return &same[k - 1];
-}
-
-static void find_repeated(u64 i, use u, u32 number) {
-    if (!is_open(number) && !is_mixed_open(number)) return;
-    if (is_open(number)) pass_open_access(number, u.thread, u.writes);
-    u64 turn = turn_of(number, u);
-    if (operation_of(i) > OP_ATOMIC_UPDATE) return;
-    same_accesses *s = same_as(i, u.thread, number);
-    if (s->turn != turn || !s->first) *s = (same_accesses){turn, i, i};
-    if (s->last != s->first && known[s->last] & MARK) map_number(&repeated, s->last, number);
-    else if (s->last != s->first) known[s->last] |= REPEATED;
-    s->last = i;
-}
+static char word_of(u64 i, use u) { return operation_of(i) == OP_FREE ? 'f' : u.writes ? 'w' : u.writes_atomically ? 'a' : 'r'; }
 
 static void use_piece(u64 i, use u, u32 number) {
-    if (phase == ORDERING) order_piece(u, number);
-    else if (phase == SUSPECTING) {
-        if (is_shared(use_of_piece(number))) suspect_use(i, number, u.writes);
-    } else if (phase == FINDING_REPEATED) find_repeated(i, u, number);
-    else if (!map_find(&repeated, i, number)) {
-        u64 before = events;
-        piece_events(i, u, number);
-        if (events > before) note_name(piece_of(number)->at, piece_of(number)->block, before + 1, u.thread);
-    }
+    u64 before = written;
+    int is_kept = !for_page || is_racing(number);
+    piece_events(i, u, number, is_kept);
+    if (for_page && is_kept) count_use(u.thread, caller_of(i), number, word_of(i, u));
+    if (is_kept && written > before) note_name(piece_of(number)->at, piece_of(number)->block, before + 1, u.thread);
 }
 
-void leave_out_closed(u64 i) {
-    u32 number = known[i];
-    if (number & MARK || !number || is_open(number) || is_mixed_open(number)) return;
-    known[i] = means_more(i) ? MARK : 0;
+void begin_accesses(void) {
+    if (recent) memset(recent, 0, RECENT * sizeof *recent);
+    forget_writes();
 }
 
 void access_events(u64 i) {
     u32 found = known[i];
     if (!(found & ~MARK)) return;
     use u = use_of(i);
-    if (!(found & MARK) && found & REPEATED) return;
     if (!(found & MARK)) {
         use_piece(i, u, found);
         return;

@@ -3,11 +3,13 @@
 #include <stddef.h>
 #include <stdint.h>
 #include "../record.h"
-#include "windows.h"
 
 typedef uint64_t u64;
 typedef uint32_t u32;
 enum { THREADS = 1 << 20 };            /* of a record, whose numbers may be used again */
+/* What shb takes of a trace, as common/shb_common/limits.py has it; the last is the most threads of shb scan. */
+enum { SHB_EVENTS = 4194304, SHB_THREADS = 1024, SHB_LINE = 4096, SHB_BYTES = 1 << 30, SCAN_THREADS = 65535 };
+typedef struct { const char *at; u64 length; } part;         /* of a text, without an end of its own */
 
 /* The last line of a help text, after an empty one, and what --version says: what is installed. The installation defines it. */
 #ifdef SHB_VERSION
@@ -137,9 +139,8 @@ typedef struct {
 typedef struct {
     u32 user : 28, many_users : 1, written : 1, written_atomically : 1;          /* the first thread that used it, plus one */
     u32 reader : 28, many_readers : 1;                       /* and that read it plainly */
-    u32 open : 1, mixed_open : 1;      /* by order.c */
 } piece_use;
-enum { MOST_PIECES = (1 << 30) - 1 };  /* in accesses.c two marks stand above their numbers */
+enum { MOST_PIECES = (1u << 31) - 1 }; /* in accesses.c a mark stands above their numbers */
 extern u64 range_steps;                /* in this pass: pages and pieces after the first of each range */
 void begin_memory_pass(void);
 block *meet_block(u64 i);              /* it, or null; each pass calls it for each OP_ALLOC and OP_START: the newest block holds its addresses */
@@ -154,6 +155,7 @@ int in_one_grain(u64 address, u64 end);                      /* then it lies in 
 u32 *pieces_at(u64 *cut, u64 end, u32 *count);
 piece *piece_of(u32 number);
 piece_use *use_of_piece(u32 number);
+void forget_writes(void);              /* of all pieces */
 
 /* stacks.c: call stacks, in a file beside the trace. */
 void open_stacks(const char *path);
@@ -162,30 +164,49 @@ void meet_call(u64 i);                 /* each record of the fourth pass, before
 u64 own_place(u32 t, u64 caller);      /* of what a thread does now: the innermost place in the program's own code, or the caller */
 u32 stack_at(u32 t, u64 caller);
 void stack_of_event(u32 number);       /* of the event that comes next */
+void keep_stack(u32 number);           /* it is written, though no event has it */
 void stack_of_thread(u32 t, u32 number);
 void stack_of_block(const block *b, u32 number);
 void note_crash(u64 i);                /* a record OP_CRASH */
 void say_crash(void);                  /* at the end */
 void note_free(u64 first, u64 last);   /* the events of one call that frees a block */
 void note_name(u64 at, u32 block, u64 event, u32 t);         /* of a piece or an object: this event of a thread is of it */
-void note_functions(u64 caller);        /* it lies in these, and no event need be there */
 void note_atomic(u64 i, u64 object);   /* a use of an atomic that several threads use */
 void forget_calls(void);               /* between the passes that meet them */
-void leave_stacks(void);               /* in a process that writes no stacks */
+void pause_stacks(int is_paused);      /* while a trace is written that has none */
 void end_stacks(void);
 
 /* The local that lies there on a stack now; "" where none is known, and of other memory. It stands for good. */
 const char *local_now(u64 at, const block *b);
 
-/* suspicions.c: variables that a lock protects at nearly all uses, in a file beside the trace. */
-void open_suspicions(const char *path);
-void find_suspicions(u64 i);           /* each record of a pass of its own */
-void suspect_use(u64 i, u32 piece, int writes);              /* of a variable that several threads use */
-void end_suspicions(void);             /* after the last pass */
+/* state.c: what a trace can go on with, and which locks are held in it. */
+enum event_kind { IS_ACCESS, IS_ACQUIRE, IS_RELEASE, IS_FORK, IS_JOIN, IS_MARK };
+typedef void (*held_lock)(part thread, part lock, part place, u32 stack);
+extern u32 thread_limit;               /* of the trace */
+u32 trace_threads(void);                /* so many were met, in any trace */
+u32 trace_thread(const char *name, u64 length);              /* its number, from 1 */
+int trace_event(u64 length, enum event_kind kind, u32 thread, part operand, part place, u32 stack);      /* 0 where the trace can't go on with it */
+void each_held(held_lock give);        /* each acquire that isn't released, the oldest first */
+void forget_trace(void);
+
+/* page.c: the trace of a page, and the uses of variables in races. */
+enum page_step { PAGE_PAUSES, SPAN_BEGINS, PAGE_GOES_ON, SPAN_ENDS, PAGE_ENDS };
+enum { LOCK_TAIL_BYTES = THREAD_BYTES + 40 };
+extern int for_page;                   /* is it what the pass writes? */
+int read_races(const char *path);      /* 0 where there are none */
+void open_uses(const char *path);
+int is_racing(u32 piece);
+enum page_step step_page(u64 number);  /* before each event of the run, by its number, until the page ends */
+void end_page(void);
+int is_behind_page(void);
+void note_written(u64 number, u64 in_page);                  /* an event of the run, by both its numbers */
+void hold_for_uses(u32 t, u64 key), leave_for_uses(u32 t, u64 key);      /* a lock */
+part name_of_held(u64 key, u32 t, char *tail);               /* objects.c: of such a lock */
+void count_use(u32 t, u64 caller, u32 piece, char word);
+void end_uses(u64 in_page);            /* so many events */
 
 /* accesses.c, objects.c: what the passes do with a record. */
 extern int whole_trace;                /* also what cannot conflict */
-extern int only_open;                  /* of pieces only those with conflicting accesses that are left open */
 extern u32 *known;                     /* of each record: 0 where the passes that follow pass over it (accesses.c) */
 void find_users(u64 i);
 void find_cuts(u64 i);
@@ -197,33 +218,9 @@ void forget_states(void);              /* of objects, between the passes */
 int holds_unwritten(u32 t);            /* does it hold a lock whose acquire isn't in the trace? */
 void write_holds(u32 t);               /* writes these */
 u64 held_locks(u32 t);                 /* equal where it holds the same locks by which it orders no other thread */
-u64 all_held_locks(u32 t);             /* equal where it holds the same locks */
 void access_events(u64 i);
-void leave_out_closed(u64 i);          /* pieces that aren't open */
 void object_events(u64 i);
 void fence_events(u64 i);
-
-/* order.c: what locks, threads and the like order. */
-/* The passes in which events are met: the last one writes them. */
-extern enum phase { SUSPECTING, ORDERING, FINDING_REPEATED, WRITING } phase;
-void order_fork(u32 t, u32 child), order_join(u32 t, u32 child);
-void order_acquire(u32 t, u64 object, u64 which);            /* a lock, by two words */
-void order_release(u32 t, u64 object, u64 which, int is_last);       /* is_last: nobody takes it any more */
-/* The same in the passes after the first one. `pass_acquire` returns 0 if the acquire and the release after it add no order, so that
-   both can be left out where no event is between them. */
-void begin_times(void);
-void pass_access(u32 t), pass_fork(u32 t, u32 child), pass_join(u32 t, u32 child);
-int pass_acquire(u32 t, u64 object, u64 which);
-void pass_release(u32 t, u64 object, u64 which, int is_last, int is_met);        /* met: not left out */
-void pass_open_access(u32 piece, u32 t, int writes);         /* in the pass that finds what repeats: so has_races is known after it */
-int has_races(u32 piece);              /* of an open one; an atomic write with a plain read isn't meant */
-void order_access(u32 piece, u32 t, int writes);
-void order_mixed_access(u32 piece, u32 t, int writes);       /* an atomic write, or a plain read of what is also written so */
-int order_is_known(void);              /* if not, the next three can't be asked */
-int is_open(u32 piece);                /* are conflicting accesses of it left open? */
-int is_mixed_open(u32 piece);          /* atomic writes and plain reads? */
-int may_be_in_open_pair(u32 piece, u32 t, int writes);                   /* of an open piece, the access that comes next */
-int may_be_in_mixed_pair(u32 piece, u32 t, int writes);
 
 /* A list of threads is the number of its first entry, or 0. */
 typedef struct { u32 thread, next; } list_entry;
@@ -231,20 +228,21 @@ extern list_entry *list_entries;
 void add_to_list(u32 *list, u32 thread);
 
 /* events.c: the events of the trace. */
-extern u64 event_limit, events;
-extern int into_windows;               /* the events go to windows, and no limit cuts them */
+extern u64 event_limit;
+extern u64 events;                     /* of the run's trace so far */
+extern u64 written;                    /* of the one that is written: the same, or those of the page */
 extern const char *cut_reason;         /* null while the trace goes on */
 extern const char *too_many_threads;   /* what it is then */
-/* With the limits of shb scan, and behind the location of an access, after a bar, its variable; where order.c knows the order only if it
-   leaves a pair of accesses of that open. */
-void begin_scan_trace(int is_order_known);
-extern int is_at_open;                 /* does it, of the variable of the events that come next? */
+void begin_events(void);               /* each pass that writes a trace */
+void begin_accesses(void);             /* the same */
+void use_limits_of_scan(void);
 void name_thread(u32 t, u64 function); /* by the function that it runs, where it has no name yet */
 void name_by_own(u32 t, u64 function); /* the same, by one that it enters, if that is the program's own */
 void give_name(u32 t, const char *piece, int is_first);      /* a piece of one that the program gave; the main thread keeps its own */
 const char *thread_name(u32 t);        /* with an end */
 u64 thread_epoch(u32 t);               /* it grows with each event of the thread that could order another */
 int has_events(u32 t);
+void pass_event(u32 t, int writes);    /* an access that the page's trace lacks */
 part name_of_thread(u32 t);
 part variable_name(u64 address, const block *b);             /* it stands until the next call */
 void event(u32 t, const char *operation, part name, const char *tail, u64 caller);

@@ -6,24 +6,26 @@
 
 static const u64 SCAN_EVENTS = 4294967294;
 
-u64 event_limit = SHB_EVENTS, events;
-int into_windows;
+u64 event_limit = SHB_EVENTS, events, written;
 const char *cut_reason, *too_many_threads = "before a thread too many: shb takes 1,024";
 static u64 bytes, byte_limit = SHB_BYTES;
-static int for_scan, is_order_known;
-int is_at_open;
 
-void begin_scan_trace(int is_order_known_) {
-    for_scan = 1;
-    is_order_known = is_order_known_;
+void use_limits_of_scan(void) {
     event_limit = SCAN_EVENTS;
     byte_limit = -1;
     thread_limit = SCAN_THREADS;
     too_many_threads = "before a thread too many: shb scan takes 65,535";
 }
 
-/* in_windows: its number in windows.c, from its first event on */
-static struct { char name[THREAD_BYTES]; u32 length, in_windows; u64 epoch; } threads[THREADS];
+/* number: in state.c, from its first event on */
+static struct { char name[THREAD_BYTES]; u32 length, number; u64 epoch; } threads[THREADS];
+
+void begin_events(void) {
+    for (u32 t = 0; t < thread_bound(); t++) threads[t].number = threads[t].epoch = 0;
+    events = written = bytes = 0;
+    cut_reason = 0;
+    forget_trace();
+}
 
 static uint8_t is_named[THREADS];      /* has it a name besides its number? */
 
@@ -71,7 +73,7 @@ part name_of_thread(u32 t) {
 const char *thread_name(u32 t) { return name_of_thread(t).at; }
 
 u64 thread_epoch(u32 t) { return threads[t].epoch; }
-int has_events(u32 t) { return threads[t].in_windows > 0; }
+int has_events(u32 t) { return threads[t].number > 0; }
 
 /* ---- texts: each adds to what is written before `to`, and gives where the next may stand ---- */
 /* Most are short: a few words, copied where they stand, cost less than a call. */
@@ -176,18 +178,14 @@ static char *add_line(char *to, u32 t, const char *operation, part name, const c
     to = add_text(to, tail);
     to = add_text(to, ")|");
     to = add(to, place);
-    if (for_scan && !operation[1] && (is_at_open || !is_order_known)) {          /* so the places of shb scan have a variable each */
-        *to++ = '|';
-        to = add_text(add(to, name), tail);
-    }
     *to++ = '\n';
     return to;
 }
 
-static enum window_kind kind_of(const char *operation) {
-    if (!operation[1]) return WINDOW_ACCESS;
-    if (*operation == 'b') return WINDOW_MARK;
-    return *operation == 'a' ? WINDOW_ACQUIRE : *operation == 'r' ? WINDOW_RELEASE : *operation == 'f' ? WINDOW_FORK : WINDOW_JOIN;
+static enum event_kind kind_of(const char *operation) {
+    if (!operation[1]) return IS_ACCESS;
+    if (*operation == 'b') return IS_MARK;
+    return *operation == 'a' ? IS_ACQUIRE : *operation == 'r' ? IS_RELEASE : *operation == 'f' ? IS_FORK : IS_JOIN;
 }
 
 /* A record that was changed may have events that a trace can't go on with. */
@@ -195,29 +193,81 @@ static void need_event(int can_follow, const char *line, const char *end) {
     if (!can_follow) die("event %lu, %.*s: a trace can't go on with this event", events + 1, (int)(end - line - 1), line);
 }
 
-void hold_event(u32 t, const char *operation, part name, const char *tail, u64 caller, u32 stack) {
+static char *room_for_line(void) {
     if (lines_bytes > sizeof lines - SHB_LINE) write_lines();
-    part place = place_of(caller), thread = name_of_thread(t);
-    char *line = lines + lines_bytes, *end = add_line(line, t, operation, name, tail, place);
-    u64 length = end - line - 1;
-    const char *operand = line + thread.length + strlen(operation) + 2;
-    part operand_part = {operand, name.length + strlen(tail)};
-    if (!threads[t].in_windows) threads[t].in_windows = window_thread(thread.at, thread.length);
-    if (into_windows) need_event(window_event(line, length, kind_of(operation), threads[t].in_windows, operand_part, place), line, end);
-    else {
-        if (events == event_limit) cut_reason = "at the limit of events";
-        else if (bytes + length + 1 > byte_limit) cut_reason = "at 1 GiB of text";
-        if (cut_reason) return;
-        need_event(trace_event(length, kind_of(operation), threads[t].in_windows, operand_part, place), line, end);
-        bytes += length + 1;
-        lines_bytes += length + 1;
-    }
+    return lines + lines_bytes;
+}
+
+/* Keeps the line that stands behind the others. */
+static void keep_line(const char *end, u32 stack) {
+    bytes += end - (lines + lines_bytes);
+    lines_bytes = end - lines;
     stack_of_event(stack);
+    written++;
+}
+
+/* ---- the trace of a page ---- */
+static void keep_hold(const char *operation, part thread, part lock, part place, u32 stack) {
+    char *to = add(room_for_line(), thread);
+    *to++ = '|';
+    to = add_text(to, operation);
+    *to++ = '(';
+    to = add_text(add(to, lock), ")|");
+    to = add(to, place);
+    *to++ = '\n';
+    keep_line(to, stack);
+}
+
+static void acquire_again(part thread, part lock, part place, u32 stack) { keep_hold("acq", thread, lock, place, stack); }
+static void release_before(part thread, part lock, part place, u32 stack) { keep_hold("rel", thread, lock, place, 0); }
+
+/* Gives whether the page's trace has the next event: all between two ends of a span, else forks and joins, and the first of a thread. */
+static enum page_step meet_page(void) {
+    if (is_behind_page()) return PAGE_ENDS;
+    enum page_step step = step_page(events + 1);
+    if (step == SPAN_BEGINS) each_held(acquire_again);
+    if (step == SPAN_ENDS) each_held(release_before);
+    return step;
+}
+
+static int is_for_page(enum page_step step, enum event_kind kind, int is_first) {
+    if (step == PAGE_ENDS) return 0;
+    return step == SPAN_BEGINS || step == PAGE_GOES_ON || is_first || kind == IS_FORK || kind == IS_JOIN;
+}
+
+void pass_event(u32 t, int writes) {
+    if (is_behind_page()) return;
+    if (holds_unwritten(t)) write_holds(t);
+    meet_page();
+    threads[t].epoch += writes;
     events++;
+}
+
+/* ---- an event ---- */
+void hold_event(u32 t, const char *operation, part name, const char *tail, u64 caller, u32 stack) {
+    enum event_kind kind = kind_of(operation);
+    int is_first = !threads[t].number;
+    enum page_step step = for_page ? meet_page() : PAGE_GOES_ON;
+    char *line = room_for_line();
+    part place = place_of(caller), thread = name_of_thread(t);
+    char *end = add_line(line, t, operation, name, tail, place);
+    const char *operand = line + thread.length + strlen(operation) + 2;
+    if (is_first) threads[t].number = trace_thread(thread.at, thread.length);
+    if (written == event_limit && for_page) end_page();
+    else if (written == event_limit) cut_reason = "at the limit of events";
+    else if (bytes + (end - line) > byte_limit) cut_reason = "at 1 GiB of text";
+    if (cut_reason) return;
+    need_event(trace_event(end - line - 1, kind, threads[t].number, (part){operand, name.length + strlen(tail)}, place, stack), line, end);
+    events++;
+    if (for_page && !is_for_page(step, kind, is_first)) return;
+    if ((kind == IS_ACQUIRE || kind == IS_RELEASE) && step != SPAN_BEGINS && step != PAGE_GOES_ON) end = add_line(line, t, "begin", thread, "", place);
+    keep_line(end, stack);
+    if (for_page) note_written(events, written);
 }
 
 /* `name` and `tail` may lie in buffers that the writing of another event uses. */
 void event(u32 t, const char *operation, part name, const char *tail, u64 caller) {
+    if (for_page && is_behind_page()) return;
     u64 own = own_place(t, caller);
     u32 stack = stack_at(t, caller);
     if (holds_unwritten(t)) {
@@ -228,5 +278,4 @@ void event(u32 t, const char *operation, part name, const char *tail, u64 caller
         hold_event(t, operation, (part){own_name, name.length}, own_tail, own, stack);
     } else hold_event(t, operation, name, tail, own, stack);
     if (*operation != 'r' || operation[1]) threads[t].epoch++;
-    if (!operation[1]) pass_access(t);
 }

@@ -185,4 +185,8 @@ u32 *pieces_at(u64 *cut, u64 end, u32 *count) {
 }
 
 piece *piece_of(u32 number) { return &pieces[number - 1]; }
+void forget_writes(void) {
+    for (u64 k = 0; k < piece_count; k++) pieces[k].writes = 0;
+}
+
 piece_use *use_of_piece(u32 number) { return &piece_uses[number - 1]; }

@@ -241,33 +241,49 @@ static which to_thread(u32 version, u32 t) { return (which){'>', version, t}; }
 static which by_thread(u32 version, u32 t) { return (which){'<', version, t}; }
 
 /* ---- 4: locks that are held and whose acquire tells a thread nothing: of one thread alone; reader-writer locks, whose order is told
-   by locks of their own; and with -r others where order.c says so. Such a lock is acquired in the trace right before its thread's
+   by locks of their own. Such a lock is acquired in the trace right before its thread's
    next event, if there is one until the release: so each lock that is held at an access in the trace is there. ---- */
 typedef struct { u64 caller; u32 object, stack; which lock; uint8_t written; } hold;
-static struct { hold *list; u64 count, capacity, unwritten, sum, others; } held[THREADS];    /* others: a sum of those that aren't in the list */
+static struct { hold *list; u64 count, capacity, unwritten, sum; } held[THREADS];
 
 static void forget_holds(void) {
-    for (u32 t = 0; t < thread_bound(); t++) held[t].count = held[t].unwritten = held[t].sum = held[t].others = 0;
+    for (u32 t = 0; t < thread_bound(); t++) held[t].count = held[t].unwritten = held[t].sum = 0;
 }
 
 static u64 sum_of_lock(const object *o, which w) { return mix(o - objects + 1, w.sign); }
 int holds_unwritten(u32 t) { return held[t].unwritten > 0; }
 u64 held_locks(u32 t) { return held[t].sum; }
-u64 all_held_locks(u32 t) { return held[t].sum + held[t].others; }
 
-enum { TAIL_BYTES = THREAD_BYTES + 40 };
 static part name_of_lock(const object *o, which w, u32 t, char *tail) {
     int length = 0;
     *tail = 0;
-    if (w.sign == 'r') snprintf(tail, TAIL_BYTES, "@reader.%s", thread_name(t));
-    else if (w.sign) length = snprintf(tail, TAIL_BYTES, "%s%u", o->mark, w.version);
-    if (w.sign == '<' || w.sign == '>') snprintf(tail + length, TAIL_BYTES - length, "%c%s", w.sign, thread_name(w.thread));
-    if (phase == WRITING) note_name(o->at, o->block, events + 1, t);
+    if (w.sign == 'r') snprintf(tail, LOCK_TAIL_BYTES, "@reader.%s", thread_name(t));
+    else if (w.sign) length = snprintf(tail, LOCK_TAIL_BYTES, "%s%u", o->mark, w.version);
+    if (w.sign == '<' || w.sign == '>') snprintf(tail + length, LOCK_TAIL_BYTES - length, "%c%s", w.sign, thread_name(w.thread));
+    note_name(o->at, o->block, written + 1, t);
     return variable_name(o->at, block_of(o->block));
 }
 
+/* The locks that the program has are those under which a page's variables are used. */
+static u64 key_of(const object *o, which w) { return (u64)(o - objects) << 1 | (w.sign == 'r'); }
+
+part name_of_held(u64 key, u32 t, char *tail) {
+    const object *o = &objects[key >> 1];
+    *tail = 0;
+    if (key & 1) snprintf(tail, LOCK_TAIL_BYTES, "@reader.%s", thread_name(t));
+    return variable_name(o->at, block_of(o->block));
+}
+
+static void note_for_uses(const object *o, which w, u32 t, const char *operation) {
+    if (!for_page || (w.sign && w.sign != 'r')) return;
+    if (*operation == 'a') hold_for_uses(t, key_of(o, w));
+    else leave_for_uses(t, key_of(o, w));
+}
+
 static void write_hold(u32 t, const hold *h, const char *operation, u64 caller, u32 stack) {
-    char tail[TAIL_BYTES];
+    note_for_uses(&objects[h->object], h->lock, t, operation);
+    if (for_page && is_behind_page()) return;
+    char tail[LOCK_TAIL_BYTES];
     part name = name_of_lock(&objects[h->object], h->lock, t, tail);
     hold_event(t, operation, name, tail, caller, stack);
 }
@@ -282,7 +298,6 @@ void write_holds(u32 t) {
 }
 
 static void take_hold(object *o, u32 t, which w, u64 caller) {
-    if (phase == ORDERING) return;
     GROW(held[t].list, held[t].count, held[t].capacity);
     held[t].list[held[t].count++] = (hold){own_place(t, caller), o - objects, stack_at(t, caller), w, 0};
     held[t].unwritten++;
@@ -327,36 +342,24 @@ static void holds_after(u64 i, object *o, int is_private) {
     o->holder = t + 1;
     if (o->writer) return;             /* its last writer never released it */
     take_hold(o, t, own, caller_of(i));
-    if (phase != ORDERING) o->writer = t + 1;
+    o->writer = t + 1;
 }
 
 /* ---- 4: events ---- */
 static void lock_event(object *o, u32 t, const char *operation, which w, u64 caller) {
-    char tail[TAIL_BYTES];
+    note_for_uses(o, w, t, operation);
+    if (for_page && is_behind_page()) return;
+    char tail[LOCK_TAIL_BYTES];
     part name = name_of_lock(o, w, t, tail);
     event(t, operation, name, tail, caller);
 }
 
-/* The two words by which order.c knows a lock; and whether nobody takes it any more when t leaves it. */
-static u64 first_word(const object *o, which w) { return (u64)(o - objects) << 8 | w.sign; }
-static u64 second_word(which w) { return (u64)w.thread << 32 | w.version; }
-static int is_last(which w, u32 t) { return w.sign == '>' && w.thread == t; }
-
-static void take_lock(object *o, u32 t, which w, u64 caller) {
-    if (phase == ORDERING) order_acquire(t, first_word(o, w), second_word(w));
-    if (phase != ORDERING && !pass_acquire(t, first_word(o, w), second_word(w)) && phase == WRITING) take_hold(o, t, w, caller);
-    else {
-        if (phase == WRITING) lock_event(o, t, "acq", w, caller);
-        held[t].others += sum_of_lock(o, w);
-    }
-}
+static void take_lock(object *o, u32 t, which w, u64 caller) { lock_event(o, t, "acq", w, caller); }
 
 static void leave_lock(object *o, u32 t, which w, u64 caller) {
-    int written = 1;
-    if (phase == ORDERING) order_release(t, first_word(o, w), second_word(w), is_last(w, t));
-    if (phase != WRITING || !end_hold(o, t, w, &written)) held[t].others -= sum_of_lock(o, w);
-    if (phase == WRITING && written) lock_event(o, t, "rel", w, caller);
-    if (phase != ORDERING) pass_release(t, first_word(o, w), second_word(w), is_last(w, t), written);
+    int is_written = 1;
+    end_hold(o, t, w, &is_written);
+    if (is_written) lock_event(o, t, "rel", w, caller);
 }
 
 static void pass_lock(object *o, u32 t, which w, u64 caller) {
@@ -388,7 +391,7 @@ static void atomic_events(u64 i, object *o) {
     u64 caller = caller_of(i);
     int stores = operation_of(i) == OP_ATOMIC_STORE, loads = operation_of(i) == OP_ATOMIC_LOAD;
     int by_lock = is_by_lock(i) || (stores && gives(i));
-    if (o->many_users && phase == WRITING) note_atomic(i, o - objects);
+    if (o->many_users) note_atomic(i, o - objects);
     if (!stores) read_value(i, o, by_lock, take_version);
     if (!loads) write_value(i, o);
     if (by_lock) take_lock(o, t, of_version(o->head), caller);

@@ -62,7 +62,7 @@ static const char *path;
 static calls_of_thread stacks[THREADS];
 static u64 told_way, has_way;          /* of which record; the passes pass over some */
 static node *nodes;                    /* from 1 */
-static u64 node_count, node_capacity, written;
+static u64 node_count, node_capacity, nodes_written;
 static map node_map;
 static u32 buffer[NODES_AT_ONCE];
 static u64 buffered;
@@ -374,7 +374,7 @@ static void use(u32 number) {
 
 static void write_nodes(void) {
     if (fwrite(buffer, sizeof *buffer, buffered, file) != buffered) cannot_write();
-    written += buffered;
+    nodes_written += buffered;
     buffered = 0;
 }
 
@@ -385,6 +385,7 @@ void stack_of_event(u32 number) {
     use(number);
 }
 
+void keep_stack(u32 number) { use(number); }
 void stack_of_thread(u32 t, u32 number) { thread_nodes[t] = number; }
 
 void note_atomic(u64 i, u64 object) {
@@ -426,13 +427,6 @@ static u32 frame_number(inlined_frame *f) {
     fprintf(file, "%s %s\t%s\n", f->in_system_file ? "system-frame" : "frame", f->function, f->location);
     if (!f->in_system_file && f->has_line) note_line(f->location);
     return f->number = ++frame_count;
-}
-
-static u64 *callers, caller_count, caller_capacity;          /* without an event, whose functions are told */
-
-void note_functions(u64 caller) {
-    GROW(callers, caller_count, caller_capacity);
-    callers[caller_count++] = caller;
 }
 
 static inlined_frame *entered(u32 number) { return outermost(frames_of(nodes[number].function)); }
@@ -510,7 +504,10 @@ void note_crash(u64 i) {
     crash.caller = own_place(thread_of(i), caller_of(i));
     crash.thread = thread_of(i);
     crash.is_met = 1;
+    int is_paused = !with_stacks;
+    pause_stacks(0);
     crash.node = stack_at(thread_of(i), caller_of(i));
+    pause_stacks(is_paused);
     use(crash.node);
 }
 
@@ -544,13 +541,11 @@ void say_crash(void) {
     fputc('\n', stderr);
 }
 
-void leave_stacks(void) { with_stacks = 0; }
+void pause_stacks(int is_paused) { with_stacks = file && !is_paused; }
 
 void end_stacks(void) {
     if (!with_stacks) return;
     write_nodes();
-    for (u64 i = 0; i < caller_count; i++)
-        for (inlined_frame *f = frames_of(callers[i]); f; f = f->outer) frame_number(f);
     for (u32 t = 0; t < thread_bound(); t++) use(thread_nodes[t]);
     for (u64 b = 1; b < block_count; b++)
         if (block_of(b)->named) use(block_nodes[b]);
@@ -566,9 +561,9 @@ void end_stacks(void) {
     if (fclose(lines)) die("out of memory");
     fwrite(lines_text, 1, lines_bytes, file);
     write_sources(file);
-    if (!has_calls && written) fprintf(stderr, "shb-std: no call stacks are known: the program was recorded with SHB_STACKS=0, or compiled without "
+    if (!has_calls && nodes_written) fprintf(stderr, "shb-std: no call stacks are known: the program was recorded with SHB_STACKS=0, or compiled without "
                                                "hooks of functions\n");
     rewind(file);
-    fprintf(file, STACKS_BEGIN, written);
+    fprintf(file, STACKS_BEGIN, nodes_written);
     if (fflush(file) || ferror(file) || fclose(file)) cannot_write();
 }

@@ -41,8 +41,8 @@ recorder's (recorder/README.md).
 SIGINT and SIGTERM end the program, are passed on to it unless the terminal did so, and end the runs; what
 was recorded is shown. Another one ends that at once, and records that weren't shown are kept.
 
-Exit status: 66 if there is a race of a variable that isn't known at its place, whatever the program's own status was;
-125 if nothing can be said or something failed, with the reason; 124 if not the whole run was recorded and
+Exit status: 125 if a check failed, whatever else was found; 66 if there is a race of a variable that isn't known at its place,
+whatever the program's own status was; 125 if nothing can be said or something failed, with the reason; 124 if not the whole run was recorded and
 there is no such race (where the program was killed, and its own status says so, that one); 126 or 127 if
 the program can't be run or isn't there; else the program's own, 128 + N if signal N ended it. What is said
 at the end has the program's own status and the path of the page."""
@@ -52,12 +52,11 @@ def parser_of_words():
     """The words that the command takes. What stands after the program's name belongs to it."""
     parser = Parser("shb-record", ABOUT, NOTES, FAILED, usage=USAGE)
     parser.add_argument("-o", metavar="DIR", dest="folder",
-                        help="the folder of the results (PROGRAM.shb in this folder): for each process its trace, its report and a page with "
+                        help="the folder of the results (PROGRAM.shb in this folder): for each process with a place its page's trace, its scan and a page with "
                         "its races; places.tsv, places.json, places.sarif and unknown.places; and a list of what was made there. What the "
                         "list of an earlier call names is replaced, and nothing else. While another call uses DIR, the results go to DIR-2, "
-                        "DIR-3 and so on. The places are those of the whole run, however long it is (shb help scan). The pages of a run that "
-                        "is longer than a trace may be are of overlapping windows (shb-windows --help says what they are); those that have no "
-                        "place that is shown are deleted")
+                        "DIR-3 and so on. The places are those of the whole run, however long it is (shb help scan). A page has a "
+                        "trace of its own, which is cut around its races")
     how_often = parser.add_mutually_exclusive_group()
     how_often.add_argument("--runs", metavar="N", type=number(1), help="run it N times, each with another interleaving (1); each place is shown once")
     how_often.add_argument("--until-found", metavar="N", type=number(1),
@@ -70,18 +69,15 @@ def parser_of_words():
                         "FILE:FUNCTION(), in either order, and the variable, with tabs between; * stands for any text; a line that begins with "
                         "# is a comment. A line with two fields is of every variable. Lines that match nothing are reported")
     parser.add_argument("--fail-on-stale", action="store_true", help="such lines end with status 66 too")
-    parser.add_argument("--fail-on-suspicion", action="store_true",
-                        help="a suspicion ends with status 66 too: a variable that one lock protects at nearly all uses, and that wasn't in a race in "
-                        "these runs. Suspicions are shown behind the races. One is passed over where --known has its two locations and its variable")
     parser.add_argument("--source", metavar="DIR", action="append", default=[],
                         help="look for source files below this folder too; may be given again. Those of the debug information are found without it")
     parser.add_argument("--strip", metavar="DIR", help="name files below this folder by their paths from it (shb-std --help)")
     parser.add_argument("--window", metavar="N", type=number(0), default=MOST_EVENTS,
-                        help="the most events of a window (%(default)s, which is what a trace may have)")
+                        help="the most events of a page's trace (%(default)s)")
     parser.add_argument("--wait", metavar="N", type=number(0), default=10,
                         help="wait up to N seconds for processes that outlive the program (%(default)s), and for those that SIGINT or SIGTERM "
                         "is passed on to, before they are killed")
-    parser.add_argument("--keep", action="store_true", help="keep the records (16 bytes an access) and all windows")
+    parser.add_argument("--keep", action="store_true", help="keep the records (16 bytes an access)")
     parser.add_argument("words", metavar="PROGRAM", nargs=argparse.REMAINDER, help="the program, and the words that it is given")
     return parser
 
@@ -157,8 +153,10 @@ def record(options):
 
 
 def status_of(look, own):
+    if look.is_contradicted:
+        return FAILED
     unknown = look.places.unknown()
-    if unknown or look.options.fail_on_stale and look.stale() or look.options.fail_on_suspicion and look.suspicions.unknown():
+    if unknown or look.options.fail_on_stale and look.stale():
         return RACES
     if look.has_failed:
         return FAILED
@@ -170,8 +168,6 @@ def conclude(look, own):
     rows = look.places.rows()
     unknown = count(row for row in rows if not row.is_known)
     passed_over = count(rows) - unknown
-    for line in look.suspicions.lines(look.options.runs):
-        say(line)
     for words in known.words_of_stale(look.stale(), look.places.names):
         say(f"{look.options.known_path}, {words}")
     say(counted(unknown, "unknown place" if look.options.known_path else "place") + " with races"

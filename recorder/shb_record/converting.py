@@ -5,13 +5,17 @@ import hashlib
 import pathlib
 import re
 import shutil
+import signal
 import subprocess
 import tempfile
 import typing
 
 from shb_common.faults import Refused
 from shb_common.stops import APART
+from shb_common.uses import BadUses, Uses
+from shb_common.words import counted
 from shb_record.parts import CONVERTER
+from shb_record.scanning import Contradiction
 
 CUTS = "the recording is not the whole run: ", "the trace is cut "
 KILLED = CUTS[0] + "the program was killed"
@@ -36,18 +40,6 @@ class Process(typing.NamedTuple):
     @property
     def program(self):
         return self.modules[0] if self.modules else b""
-
-
-class Trace(typing.NamedTuple):
-    """A process's trace, or a window of it: the events of the whole that it has, after so many that were added to it."""
-
-    path: pathlib.Path
-    first: int
-    last: int
-    added: int
-
-    def number(self, event):
-        return event - self.added + self.first - 1
 
 
 def processes(folder, number):
@@ -76,60 +68,84 @@ def replay_in(header):
     return f"the replay was left after {int(done[1]):,} of {int(there[1]):,} turns; from there on slices were drawn"
 
 
-def check_room(process, window):
-    """Three and a half windows are there at once, beside those that are kept. In measured programs at most a tenth of the record's
-    entries have a line, so a trace takes less than half of the record's bytes."""
-    needed, free = min(process.record.stat().st_size // 2, window * LINE_BYTES * 7 // 2), shutil.disk_usage(process.record.parent).free
+def check_room(process, most_events):
+    """A page's trace has so many events at most. In measured programs at most a tenth of the record's entries have a line."""
+    needed, free = min(process.record.stat().st_size // 2, most_events * LINE_BYTES), shutil.disk_usage(process.record.parent).free
     if needed > free:
-        raise Refused(f"{process.name}: its windows may take about {needed:,} bytes of the disk, and {free:,} are free; "
-                     "--window makes smaller ones")
+        raise Refused(f"{process.name}: its page may take about {needed:,} bytes of the disk, and {free:,} are free; "
+                      "--window makes a smaller one")
 
 
 class Conversion:
-    """Turns a record into a trace, in windows where it is long. Each window can be deleted once it was given."""
+    """Turns a record into the run's trace, for `shb scan`, and where that finds races into the trace of their page. `trace`, `uses` and
+    `stacks` are of that trace; `numbers` has its event for each event of a race there that it has."""
 
     def __init__(self, process, options):
-        self.process, self.stacks = process, process.record.with_suffix(".stacks")
-        self.folder, self.suspicions = process.record.with_suffix(".windows"), process.record.with_suffix(".suspicions")
+        self.process = process
+        self.trace, self.uses, self.stacks = (process.record.with_suffix(suffix) for suffix in (".std", ".uses", ".stacks"))
         strip = ["--strip", options.strip] if options.strip else []
-        self.words = [CONVERTER, "-r", "--windows", self.folder, "--one-by-one", "--stacks", self.stacks, "--suspicions", self.suspicions, *strip,
+        self.words = [CONVERTER, "--scan", "--only", "/dev/stdin", "--page", self.trace, "--uses", self.uses, "--stacks", self.stacks, *strip,
                       "-n", str(options.window), process.record]
         self.size, self.notes, self.cuts = "", [], []  # known at the end: how much there is, what is said of it, what makes it a part
+        self.numbers = {}
 
-    def traces(self, scan):
-        """The trace or its windows, one after the other, each with whether there are several; none where the trace is empty.
-        Meanwhile `scan` gets the whole."""
-        before, is_cut_up = None, False
-        pipes = {"bufsize": 0, "stdin": subprocess.PIPE, "stdout": subprocess.PIPE, "pass_fds": [scan.descriptor]}
-        words = [*self.words[:-1], "--scan", f"/dev/fd/{scan.descriptor}", self.words[-1]]
-        with tempfile.TemporaryFile() as said, subprocess.Popen(words, stderr=said, **pipes, **APART) as ran:
+    def places(self, scan):
+        """The places of the run. Where there are some the page's trace is there then."""
+        with tempfile.TemporaryFile() as said, subprocess.Popen(self.words, stdin=subprocess.PIPE, stdout=scan.descriptor, stderr=said, **APART) as ran:
+            scan.begun()
             try:
-                scan.begun()
-                for row in ran.stdout:
-                    name, *numbers = row.decode().split("\t")
-                    with contextlib.suppress(BrokenPipeError):  # its status says how it ended
-                        ran.stdin.write(b"\n")  # one window more is made before this one is given, for the first may be the only one
-                    if before:
-                        is_cut_up = True
-                        yield before, is_cut_up
-                    before = Trace(self.folder / name, *map(int, numbers))
-                self.end(ran.wait(), said)
+                places, fault = [], None
+                try:
+                    places = scan.places()
+                except Refused as its:
+                    fault = its
+                with contextlib.suppress(BrokenPipeError):  # its status says how it ended
+                    ran.stdin.write(b"".join(lines_of(places)))
+                    ran.stdin.close()
+                status = ran.wait()
+                if fault and status in (0, NOT_WHOLE, -signal.SIGPIPE):
+                    raise type(fault)(f"{self.process.name}: {fault}")
+                self.end(status, said)
             finally:
                 ran.kill()
-        if before and before.last:
-            yield before, is_cut_up
+        if places:
+            self.numbers = self.numbers_of(places)
+        return places
+
+    def numbers_of(self, places):
+        """The events of the page's trace that are those of races of the run; they have the same lines."""
+        try:
+            numbers = Uses(self.uses).events
+        except BadUses as fault:
+            raise Contradiction(f"{self.process.name}: the file of uses {fault}") from None
+        wanted = {numbers[event]: access for place in places for race in place.variables.values()
+                  for event, access in zip(race.events, race.accesses) if event in numbers}
+        with open(self.trace, "rb") as trace:
+            for number, line in enumerate(trace, 1):
+                access = wanted.pop(number, None)
+                if access and line != b"%b|%b(%b)|%b\n" % access:
+                    raise Contradiction(f"{self.process.name}: event {number:,} of the page's trace isn't that of `shb scan`")
+        if wanted:
+            raise Contradiction(f"{self.process.name}: the page's trace lacks {counted(len(wanted), 'event')} of `shb scan`")
+        return numbers
 
     def end(self, status, file):
         file.seek(0)
-        lines = file.read().decode(errors="backslashreplace").splitlines()
-        said = list(dict.fromkeys(line.replace("shb-std: ", "", 1) for line in lines))  # its process for the scan says some once more
+        said = file.read().decode(errors="backslashreplace").replace("shb-std: ", "").splitlines()
         if status not in (0, NOT_WHOLE):
             how = f"status {status}" if status > 0 else f"signal {-status}"
             raise Refused(f"{self.process.name}: {'; '.join(said) or f'shb-std ended with {how}'}")
-        sizes = (re.sub(", 1 windows$", "", line) for line in said if re.match(r"\d+ records, ", line))
-        self.size = re.sub(r"\d+", lambda number: f"{int(number[0]):,}", ", ".join(sizes))
-        self.notes = [line for line in said if not re.match(r"\d+ records, ", line)]
+        is_size = re.compile(r"\d+ records, ").match
+        self.size = ", ".join(re.sub(r"\d+", lambda number: f"{int(number[0]):,}", line) for line in said if is_size(line))
+        self.notes = [line for line in said if not is_size(line)]
         self.cuts = [note for note in self.notes if note.startswith(CUTS)] if status == NOT_WHOLE else []
+
+
+def lines_of(places):
+    """What `shb-std --only` is given."""
+    for place in places:
+        for name, race in place.variables.items():
+            yield b"%d %d %b\n" % (*race.events, name)
 
 
 def order_of(record):

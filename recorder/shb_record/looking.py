@@ -3,77 +3,43 @@
 import json
 import os
 import sys
-import tempfile
-import typing
 
-from shb_common import analyser, known
+from shb_common import known
 from shb_common.faults import Refused
 from shb_common.printable import printable
 from shb_common.programs import Origin
-from shb_common.report import BadReport, Report
 from shb_common.stacks import BadStacks, Tables
 from shb_common.standard import words_of
 from shb_common.stops import APART
 from shb_common.words import counted
-from shb_record.converting import CRASHED, KILLED, Conversion, Trace, check_room, order_of, processes
+from shb_record.converting import CRASHED, KILLED, Conversion, check_room, order_of, processes
 from shb_record.modules import Modules
 from shb_record.parts import ANALYSER, now, say
 from shb_record.places import Places
 from shb_record.running import cause
-from shb_record.scanning import lacking, scanning
-from shb_record.suspicions import Suspicions
+from shb_record.scanning import Contradiction, scanning
 
 
 KINDS = {b"r": "read", b"w": "written"}
 
 
-class Analysed(typing.NamedTuple):
-    """A trace that is kept, with its places and the report of these. Of the places that no trace has, the scan of the whole."""
-
-    trace: typing.Any
-    places: typing.List[analyser.Place]
-    report: typing.Optional[bytes]
-    is_window: bool
-
-
 class Looked:
-    """What was found in a process: where its windows begin, the places of its traces and of the whole, and the traces with places that
-    no trace of it before had."""
+    """What was found in a process: its places, those that no process before it had, and where its page's trace and files are."""
 
     def __init__(self, process, options):
         self.process, self.conversion = process, Conversion(process, options)
-        self.starts, self.places, self.analysed, self.new, self.whole = [], {}, [], [], []
-        self.stacks = None
-
-    def reach(self):
-        """How far apart accesses may be, of which each race is in a window."""
-        return min((after - start for start, after in zip(self.starts, self.starts[1:])), default=0)
-
-    def take(self, places):
-        """Takes the places of a window, and says whether one, or a variable of one, is new."""
-        new = list(lacking(places, self.places.values()))
-        for place in places:
-            key = place.first, place.second
-            before = self.places.get(key, place)
-            self.places[key] = place._replace(variables={**place.variables, **before.variables}, has_more=place.has_more or before.has_more)
-        return bool(new)
-
-    def take_whole(self, places):
-        """Takes the places of the whole. Those of its traces that the whole lacks can't be, and go; how many these are."""
-        self.whole, there = places, {(place.first, place.second) for place in places}
-        self.analysed = [one._replace(places=[place for place in one.places if (place.first, place.second) in there]) for one in self.analysed]
-        return len(self.places.keys() - there)
+        self.places, self.new, self.events = [], [], 0
+        self.trace = self.scan = self.uses = self.stacks = None
 
 
 class Look:
     def __init__(self, options, results):
         self.options, self.results, self.started = options, results, now()[:-3]
         self.places, self.pages, self.found = Places(options.known), [], {}
-        self.suspicions = Suspicions(self.places)
         self.runs = []  # of each run: the order of each process
         self.has_replayed, self.again = False, None  # did a process follow the list? the list of the first with an unknown place
         self.modules = Modules()
-        self.is_cut = self.is_killed = self.has_failed = self.has_threads = False
+        self.is_cut = self.is_killed = self.has_failed = self.is_contradicted = self.has_threads = False
 
     def run(self, number):
         """Looks at the processes of a run; one that can't be looked at doesn't keep others from being shown."""
@@ -83,7 +49,7 @@ class Look:
         self.runs.append([])
         looked = [self.tried(self.analyse, process, Looked(process, self.options)) for process in found]
         # Only when the source files of all programs are known it is known which names they share.
-        has_events = [one is None or bool(one.starts) for one in [one and self.tried(self.show, one.process, one) for one in looked]]
+        has_events = [one is None or bool(one.events) for one in [one and self.tried(self.show, one.process, one) for one in looked]]
         for process in found:
             if process.record.exists():
                 process.record.unlink()
@@ -112,7 +78,6 @@ class Look:
     def stale(self):
         """The lines of the known places that matched nothing, which is asked when all places were."""
         self.places.unknown()
-        self.suspicions.unknown()
         return self.places.given.stale() if self.runs and not self.has_failed else []
 
     def meaning(self):
@@ -124,82 +89,43 @@ class Look:
     def fail(self, fault):
         say(words_of(fault))
         self.has_failed = True
+        self.is_contradicted = self.is_contradicted or isinstance(fault, Contradiction)
 
     def analyse(self, process, looked):
-        """Converts and analyses a process, its windows as one run."""
+        """Converts and analyses a process."""
         check_room(process, self.options.window)
-        try:
-            with scanning(self.results.work) as scan:
-                for trace, is_window in looked.conversion.traces(scan):
-                    self.trace(process, trace, is_window, looked)
-                self.take_whole(process, looked, scan)
-        except (Refused, OSError):
-            self.take_places(process, looked)
-            raise
-        self.take_places(process, looked)
-
-    def take_whole(self, process, looked, scan):
-        """Takes the places of the whole: all that there are, and no others. What of them no trace has is kept as the scan has it."""
-        try:
-            made_up = looked.take_whole(scan.places())
-        except Refused as fault:  # what the traces have is shown all the same
-            self.fail(f"{process.name}: {fault}")
-            return
-        if made_up:
-            self.fail(Refused(f"{process.name}: {counted(made_up, 'place')} of its trace can't be, since the whole has no such race: this is a fault "
-                             "of shb-std"))
-        if scan.unexpected:
-            self.fail(Refused(f"{process.name}: {counted(len(scan.unexpected), 'place')} may have more variables, since shb-std treats accesses that race as ordered: "
-                             "this is a fault of shb-std"))
-        rest = list(lacking(looked.whole, looked.places.values()))
-        if rest:
-            path = self.results.path(f"{process.base}.scan")
-            scan.copy(path)
-            looked.analysed.append(Analysed(Trace(path, 1, 0, 0), rest, None, False))
-
-    def trace(self, process, trace, is_window, looked):
-        """Analyses a trace or a window, and keeps it where it has a place that none before had."""
-        if is_window and not looked.starts:
-            self.results.path(f"{process.base}.windows").mkdir()
-        looked.starts.append(trace.first)
-        base = f"{process.base}.windows/{trace.path.stem}" if is_window else process.base
-        trace = trace._replace(path=self.results.keep(trace.path, f"{base}.std"))
-        places, report = places_of(trace.path, self.results.work)
-        if looked.take(places):
-            looked.analysed.append(Analysed(trace, places, report, is_window))
-        elif is_window and not self.options.keep:
-            trace.path.unlink()
-
-    def take_places(self, process, looked):
-        """Adds the places of a process to those of all, by the source files and functions that its stacks name."""
-        origin = Origin(None, process.program)
-        if looked.starts and looked.conversion.size:  # else it isn't whole
-            looked.stacks = self.results.keep(looked.conversion.stacks, f"{process.base}.stacks")
-            origin = Origin(tables_in(looked.stacks), process.program)
-            origin.add_modules(process.modules)
-            self.modules.add(process.modules)
-            self.suspicions.add(process, origin, looked.conversion.suspicions)
-        looked.new = [(one, self.places.add_new(process, one.trace, origin, one.places, one.report is not None)) for one in looked.analysed]
+        conversion = looked.conversion
+        with scanning(self.results.work) as scan:
+            looked.places = conversion.places(scan)
+            looked.events = scan.events
+            origin = Origin(None, process.program)
+            if looked.events:
+                self.modules.add(process.modules)
+            if looked.places:
+                looked.trace, looked.uses, looked.stacks = (self.results.keep(path, f"{process.base}{path.suffix}")
+                                                            for path in (conversion.trace, conversion.uses, conversion.stacks))
+                looked.scan = self.results.path(f"{process.base}.scan")
+                scan.copy(looked.scan)
+                origin = Origin(tables_in(looked.stacks), process.program)
+                origin.add_modules(process.modules)
+        looked.new = self.places.add_new(process, looked.trace, origin, looked.places, conversion.numbers)
 
     def show(self, process, looked):
         """Shows a process, and says how much it has."""
-        conversion = looked.conversion
-        for one, new in looked.new:
-            self.show_analysed(process, looked, one, self.places.unknown_of(new))
-        if any(self.results.folder.glob(f"{process.base}.windows/*")):
-            self.results.keep(conversion.folder / "windows.tsv", f"{process.base}.windows/windows.tsv")
-        cuts = conversion.cuts if looked.starts else [cut for cut in conversion.cuts if cut != KILLED]  # without a second thread nothing is lost
+        conversion, unknown = looked.conversion, self.places.unknown_of(looked.new)
+        if unknown:
+            self.show_places(process, looked, unknown)
+        cuts = conversion.cuts if looked.events else [cut for cut in conversion.cuts if cut != KILLED]  # without a second thread nothing is lost
         self.is_cut = self.is_cut or bool(cuts) and cuts != [KILLED]
         self.is_killed = self.is_killed or cuts == [KILLED]
-        self.has_threads = self.has_threads or bool(looked.starts)
-        self.keep_turns(process, any(self.places.unknown_of(new) for _, new in looked.new))
-        if looked.starts and self.options.runs > 1:
+        self.has_threads = self.has_threads or bool(looked.events)
+        self.keep_turns(process, bool(unknown))
+        if looked.events and self.options.runs > 1:
             self.runs[-1].append(order_of(process.record))
-        if looked.starts:
-            covered = f" that cover races of accesses up to {looked.reach():,} events apart" * (len(looked.starts) > 1)
-            say(f"{process.name} ({process.command}): {conversion.size}{covered}; {counted(len(looked.whole or looked.places), 'place')} with races")
+        if looked.events:
+            say(f"{process.name} ({process.command}): {conversion.size}; {counted(len(looked.places), 'place')} with races")
         for note in conversion.notes:
-            if looked.starts or note != KILLED:
+            if looked.events or note != KILLED:
                 more = "; SHB_RECORDS=NUMBER allows more records, of 16 bytes each" * ("SHB_RECORDS is reached" in note)
                 say(f"{process.name} ({process.command}): {note}{more}")
 
@@ -214,45 +140,35 @@ class Look:
             self.has_replayed = True
             say(f"{process.name} ({process.command}): {process.replay}")
 
-    def show_analysed(self, process, looked, one, unknown):
-        """The view's page and text of a trace with new places that aren't known. Of another one what was kept is deleted."""
-        if one.report is None:
-            show_apart(unknown, looked.reach())
+    def show_places(self, process, looked, unknown):
+        """The view's page and text of new places that aren't known, and what it found; where it fails, the new places alone."""
+        numbers = looked.conversion.numbers
+        is_on_page = [any(all(map(numbers.get, one.place.variables[name].events)) for name in one.variables & one.place.variables.keys()) for one in unknown]
+        show_apart([one for one, is_there in zip(unknown, is_on_page) if not is_there])
+        if not any(is_on_page):
             return
-        if not unknown:
-            if one.is_window and not self.options.keep:
-                one.trace.path.unlink()
-            return
-        self.results.path(one.trace.path.with_suffix(".report").relative_to(self.results.folder)).write_bytes(one.report)
         first = [note for note in looked.conversion.notes if note.startswith(CRASHED)] + looked.conversion.cuts
         notes = [f"{note[0].upper()}{note[1:]}." for note in [*first, *[process.replay] * bool(process.replay)]]
-        notes += [window_note(one.trace, looked.reach())] * one.is_window
-        stacks = ["--recorded-source", "--stacks", looked.stacks] if looked.stacks else []
-        words = [f"--title={process.command} ({process.name}, {self.started})", *(f"--note={note}" for note in notes), *stacks,
-                 *(f"--about={line}" for line in self.meaning()), *(f"--suspicion={line}" for line in self.suspicions.lines_of(process)),
-                 *(f"--source={folder}" for folder in self.options.source), *["--window"] * one.is_window]
-        self.show_trace(process, one.trace, unknown, words)
-
-    def show_trace(self, process, trace, unknown, words):
-        """The view's page and text of a trace, and what it found; where it fails, the new places alone."""
         only, found = self.results.work / "new.places", self.results.work / "found.json"
-        page = self.results.path(trace.path.with_suffix(".html").relative_to(self.results.folder))
+        page = self.results.path(f"{process.base}.html")
         lines = b"".join(line for one in unknown for line in lines_of_new(one))
         only.write_bytes(lines)
-        words = [*words, f"--shift={trace.number(0)}", "--text", "--only", only, "--json", found, "--html", page, trace.path]
+        words = [f"--title={process.command} ({process.name}, {self.started})", *(f"--note={note}" for note in notes),
+                 "--recorded-source", "--stacks", looked.stacks, "--scan", looked.scan, "--uses", looked.uses,
+                 *(f"--about={line}" for line in self.meaning()), *(f"--source={folder}" for folder in self.options.source),
+                 "--text", "--only", only, "--json", found, "--html", page, looked.trace]
         from shb_view.command import explain  # takes its time, and a run without a place does without
         if explain(list(map(os.fspath, words)), ANALYSER, sys.stderr, **APART):
             print(lines.decode(errors="backslashreplace"), end="", file=sys.stderr)
             return
         self.pages.append(page)
-        self.found[process.name, trace] = json.loads(found.read_text(encoding="ascii"))
+        self.found[process.name, looked.trace] = json.loads(found.read_text(encoding="ascii"))
 
 
-def show_apart(unknown, reach):
-    """Says which places of the whole no page shows."""
+def show_apart(unknown):
+    """Says which places of the run no page shows."""
     if unknown:
-        why = f"their accesses are more than {reach:,} events apart" if reach else "the trace of the page lacks them, by a fault of shb-std"
-        say(f"{counted(len(unknown), 'place')} of the whole run without a page, since {why}:")
+        say(f"{counted(len(unknown), 'place')} of the run without a page, since their accesses are too far apart:")
     for new in unknown:
         for name in sorted(set(new.place.variables) & new.variables):
             first, second = (f"{printable(access.location)} {KINDS[access.word]} by {printable(access.thread)}" for access in new.place.variables[name].accesses)
@@ -265,32 +181,9 @@ def lines_of_new(new):
     return [known.line_of(pair, variable) for variable in sorted(new.variables)]
 
 
-def places_of(trace, room):
-    """The places of a trace with their variables, and the report of them without schedules."""
-    def run(given, out):
-        return analyser.call([ANALYSER, *analyser.LIST], given, out, **APART)
-
-    with open(trace, "rb") as file, tempfile.TemporaryFile(dir=room) as report:
-        try:
-            analyser.must(run(file, report))
-            report.seek(0)
-            found = analyser.places_of(Report(report), file, run, room)
-        except analyser.Failed as fault:
-            raise Refused(f"`shb places --list` of {trace} ended with status {fault.answer.status}: {fault.answer.words}") from None
-        except BadReport as fault:
-            raise Refused(f"`shb places --list` wrote no whole report: {fault}") from None
-        report.seek(0)
-        return found, report.read()
-
-
 def tables_in(stacks):
     try:
         return Tables(stacks)
     except BadStacks as fault:
         raise Refused(f"{stacks} {fault}") from None
 
-
-def window_note(trace, reach):
-    """What the page and the text of a window begin with."""
-    return (f"This is {trace.path.stem.replace('-', ' ')} of a long run, events {trace.first:,} to {trace.last:,} of it: event N here is event N + "
-            f"{trace.number(0):,} of the run. Races of accesses that are more than {reach:,} events apart may not be listed.")

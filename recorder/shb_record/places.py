@@ -9,7 +9,7 @@ from shb_common.variables import name_of
 
 
 class New(typing.NamedTuple):
-    """What of a place of a trace nothing before had: the key of its two locations, the place, and of its new variables the names in
+    """What of a place of a process nothing before had: the key of its two locations, the place, and of its new variables the names in
     the trace and on the page."""
 
     key: tuple
@@ -19,17 +19,16 @@ class New(typing.NamedTuple):
 
 class Places(places.Places):
     """The places of all runs. Of each variable a race is kept, with its events in the whole run; a trace is the name of its process
-    and the `Trace`."""
+    and the path of its page's."""
 
     def __init__(self, given):
         super().__init__(given)
         self.known_before = set()
 
-    def add_new(self, process, trace, origin, found, has_locals):
-        """Takes the places of a trace, and gives those that are new, or have a new variable. `has_locals` says whether the process's
-        table of locals is of its events."""
-        local_of = origin.tables.local_of if has_locals else origin.tables.lasting
-        in_run = [named(place, trace, local_of) for place in found]
+    def add_new(self, process, trace, origin, found, numbers):
+        """Takes the places of a process, and gives those that are new, or have a new variable. `numbers` has the events that the page's
+        trace has, whose locals are known."""
+        in_run = [named(place, origin.tables, numbers) for place in found]
         keys = self.add((process.name, trace), origin, [place for place, _ in in_run])
         new = [New(key, place, self.new_variables(key, names)) for key, place, (_, names) in zip(keys, found, in_run)]
         return [one for one in new if one.variables]
@@ -56,13 +55,14 @@ class Places(places.Places):
         return [row for row in self.rows() if not row.is_known]
 
 
-def named(place, trace, local_of):
-    """A place with its races in the whole run, by the names of their variables on the page; and these by those in the trace."""
+def named(place, tables, numbers):
+    """A place with its races by the names of their variables on the page; and these by those in the trace."""
     names, variables = {}, {}
     for raw, race in place.variables.items():
-        in_run = race._replace(events=tuple(map(trace.number, race.events)))
-        names[raw] = name_of(in_run, local_of)
-        variables.setdefault(names[raw], in_run)
+        on_page = [numbers.get(event) for event in race.events]
+        local_of, events = (tables.local_of, tuple(on_page)) if all(on_page) else (tables.lasting, race.events)
+        names[raw] = name_of(race._replace(events=events), local_of)
+        variables.setdefault(names[raw], race)
     return place._replace(variables=variables), names
 
 
@@ -78,5 +78,5 @@ def table(rows):
     for row in rows:
         process, trace = row.example
         names = b", ".join(known.written(name) for name, _ in row.variables) + b", .." * row.has_more
-        words = row.state(), *map(str, row.race.events), process, trace.path.name
+        words = row.state(), *map(str, row.race.events), process, trace.name
         yield b"\t".join([*row.names, b"%d" % row.places, names, *map(os.fsencode, words)]) + b"\n"

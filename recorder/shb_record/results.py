@@ -15,7 +15,7 @@ from shb_record.parts import now, say
 LIST = "made-by-shb-record.txt"
 LIST_BEGIN = "# What shb-record made in this folder"
 TABLES = "unknown.places", "places.tsv", "places.json", "places.sarif"
-OURS = re.compile(r"run\d+\.\d[\d-]*\.(rec|turns|std|scan|stacks|report|html|windows(/(window-\d+\.(std|report|html)|windows\.tsv))?)"
+OURS = re.compile(r"run\d+\.\d[\d-]*\.(rec|turns|std|scan|uses|stacks|report|html|windows(/(window-\d+\.(std|report|html)|windows\.tsv))?)"
                   r"|work-\w+|places\.(tsv|json|sarif)|unknown\.places")
 
 

@@ -1,29 +1,27 @@
-"""`shb scan` on all that a process recorded, while a smaller trace is made for the pages.
-
-What it reads has behind each location of a variable that may race a bar and the variable, so each of its places has one variable; here
-they are taken apart.
-"""
+"""`shb scan` on all that a process recorded: which places there are, and of which variables."""
 
 import contextlib
 import os
 import tempfile
 
 from shb_common import analyser
-from shb_common.analyser import Place
 from shb_common.faults import Refused
 from shb_common.report import BadReport, Report
 from shb_common.stops import APART
-from shb_common.variables import MOST_VARIABLES, Found
 from shb_record.parts import ANALYSER
 
 
+class Contradiction(Refused):
+    """A check failed: the parts of this command don't fit each other."""
+
+
 class Scanning:
-    """A running `shb scan`, which reads from a pipe. `descriptor` is where the trace is to be written; who has it as well can be
-    started before `begun`, after which the scan ends when they have ended."""
+    """A running `shb scan`, which reads from a pipe. `descriptor` is where the trace is to be written; it ends when whoever was started
+    with it has ended, and `begun` was called."""
 
     def __init__(self, room):
         self.text = tempfile.TemporaryFile(dir=room)
-        self.unexpected = set()  # places without a variable: the converter took their accesses for ordered
+        self.events = 0  # of the run, when all is read
         reading, self.descriptor = os.pipe()
         with open(reading, "rb") as pipe:
             self.run = analyser.Run([ANALYSER, *analyser.SCAN], pipe, self.text, **APART)
@@ -40,31 +38,17 @@ class Scanning:
         self.text.close()
 
     def places(self):
-        """The places of the whole, with their variables, when all is read."""
+        """The places of the run, with their variables, when all is read."""
         answer = self.run.answer()
         if answer.status:
             raise Refused(f"`shb scan` ended with status {answer.status}: {answer.words}")
         self.text.seek(0)
         try:
-            return self.places_of(Report(self.text))
+            report = Report(self.text)
+            self.events = report.counts.events
+            return analyser.places_in(report)
         except BadReport as fault:
-            raise Refused(f"`shb scan` wrote no whole text: {fault}") from None
-
-    def places_of(self, scan):
-        """By place: its first so many variables, each with a race of it."""
-        found, more = {}, set()
-        for race, accesses in scan.races():
-            locations = [access.location.partition(b"|") for access in accesses]
-            place = tuple(location for location, _, _ in locations)
-            if not all(bar for _, bar, _ in locations):
-                self.unexpected.add(place)
-            one, other = (access._replace(location=location) for access, location in zip(accesses, place))
-            by_variable = found.setdefault(place, {})
-            if len(by_variable) == MOST_VARIABLES:
-                more.add(place)
-            else:
-                by_variable[one.name] = Found((race.first, race.second), (one, other), 1)
-        return [Place(*place, by_variable, place in more) for place, by_variable in found.items()]
+            raise Contradiction(f"`shb scan` wrote no whole report: {fault}") from None
 
     def copy(self, path):
         """Puts what it wrote into a file."""
@@ -81,17 +65,3 @@ def scanning(room):
         yield scan
     finally:
         scan.close()
-
-
-def lacking(places, others):
-    """Of these places those that the others lack, with the variables that they lack. Where variables weren't listed nothing is said
-    of them."""
-    known = {(other.first, other.second): other for other in others}
-    for place in places:
-        other = known.get((place.first, place.second))
-        if other is None:
-            yield place
-        elif not other.has_more:
-            variables = {name: race for name, race in place.variables.items() if name not in other.variables}
-            if variables:
-                yield place._replace(variables=variables)

@@ -18,11 +18,10 @@ def tables_of(look, status):
 
 def document(look, rows, entries, status):
     """All places with what is known of them, as `result.document` has them."""
-    stale, unknown, suspicions = look.stale(), count(row for row in rows if not row.is_known), look.suspicions.entries()
-    summary = {"places": count(rows), "unknown": unknown, "known": count(rows) - unknown, "suspicions": len(suspicions), "stale": len(stale),
+    stale, unknown = look.stale(), count(row for row in rows if not row.is_known)
+    summary = {"places": count(rows), "unknown": unknown, "known": count(rows) - unknown, "stale": len(stale),
                "status": status, "runs": len(look.runs)}
-    return result.document("shb-record", summary, [entry(row, entries) for row in rows], stale=result.stale_of(stale), notes=list(look.meaning()),
-                           suspicions=suspicions)
+    return result.document("shb-record", summary, [entry(row, entries) for row in rows], stale=result.stale_of(stale), notes=list(look.meaning()))
 
 
 def entry(row, entries):
@@ -31,7 +30,7 @@ def entry(row, entries):
     reads = list(zip(row.race.events, row.race.accesses))
     if row.race.accesses[0].location != row.texts[0]:
         reads.reverse()
-    return result.entry(row, result.entry_of(entries, row), reads, process=process, trace=trace.path.name)
+    return result.entry(row, result.entry_of(entries, row), reads, process=process, trace=trace.name)
 
 
 def log(look, rows, entries, status):
@@ -40,6 +39,6 @@ def log(look, rows, entries, status):
     for row in rows:
         process, trace = row.example
         facts = " ".join(result.entry_of(entries, row).get("facts", ()))
-        alerts.append(sarif.Alert(row, facts, f"Seen in {process}, {trace.path.name}", os.fsencode(trace.path.relative_to(look.results.folder)), (), {}))
+        alerts.append(sarif.Alert(row, facts, f"Seen in {process}, {trace.name}", os.fsencode(trace.relative_to(look.results.folder)), (), {}))
     notes = [("note", line) for line in look.meaning()]
-    return sarif.log(alerts, sarif.NoSources(), notes, not look.has_failed and not look.is_cut, status, look.suspicions.alerts())
+    return sarif.log(alerts, sarif.NoSources(), notes, not look.has_failed and not look.is_cut, status)

@@ -1,8 +1,8 @@
 #!/usr/bin/env python3
-"""Gives shb-std changed records, its reader of debug information changed modules, and shb-windows changed traces for some time, by
-clang's libFuzzer with its sanitizers.
+"""Gives shb-std changed records, and its reader of debug information changed modules, for some time, by clang's libFuzzer with its
+sanitizers.
 
-    fuzz.py SECONDS FOLDER [records|modules|traces]
+    fuzz.py SECONDS FOLDER [records|modules]
 
 Each has so many seconds. FOLDER gets the programs, the inputs by which a new way was gone, which a later call begins with, and what was
 found (crash-.., timeout-..). The last lines are libFuzzer's: how many inputs there were.
@@ -22,7 +22,6 @@ sys.path[:0] = [str(HERE), str(SOURCES.parent / "tests")]
 import test_record
 
 SANITIZERS = ["-fsanitize=address,undefined", "-fno-sanitize-recover=all"]
-TRACE = b"\x06main|fork(T1)|a.c:1\nmain|acq(l)|a.c:2\nT1|w(x)|a.c:3\nmain|rel(l)|\r\nT1|begin\nT1|r(x)|1|2\nT1|end()|\nmain|join(T1)|a\n"
 HEADER = b"command a b\n0 ffff 0 /nowhere/a\n10000 20000 10000 /nowhere/libb.so\n"
 
 
@@ -87,10 +86,9 @@ def modules():
                     yield program.read_bytes()
 
 
-LONGEST = {"records": 8192, "modules": 32768, "traces": 8192}
+LONGEST = {"records": 8192, "modules": 32768}
 WHAT = {"records": ([], sorted(SOURCES.glob("converter/*.c")), list(records())),
-        "modules": (["-DFUZZ_MODULES"], sorted(SOURCES.glob("converter/*.c")), modules()),
-        "traces": (["-DFUZZ_TRACES"], [SOURCES / "windows/main.c", SOURCES / "converter/windows.c", SOURCES / "converter/tables.c"], [TRACE])}
+        "modules": (["-DFUZZ_MODULES"], sorted(SOURCES.glob("converter/*.c")), modules())}
 
 
 def build(name, folder):

@@ -1,6 +1,5 @@
-/* libFuzzer's side of fuzz.py: each input is given to shb-std as a record, or to its reader of debug information as a module, or to
-   shb-windows as a trace, in a process of its own, for all of them are written to run once.  What the process counted of the ways that
-   it went is added to the counts here. */
+/* libFuzzer's side of fuzz.py: each input is given to shb-std as a record, or to its reader of debug information as a module, in a process
+   of its own, for both are written to run once.  What the process counted of the ways that it went is added to the counts here. */
 #define _GNU_SOURCE
 #include <fcntl.h>
 #include <signal.h>
@@ -21,7 +20,7 @@ int command(int count, char **words);  /* main of the command that is tried */
 extern uint8_t __start___sancov_cntrs, __stop___sancov_cntrs;
 void __sanitizer_cov_8bit_counters_init(uint8_t *start, uint8_t *stop);      /* linkers drop clang's own call of it */
 static uint8_t *counted;               /* shared with the process */
-static char folder[] = "/tmp/shb-fuzz-XXXXXX", windows[64], stacks[64], input[64], package[64], said[64];
+static char folder[] = "/tmp/shb-fuzz-XXXXXX", races[64], page[64], stacks[64], input[64], package[64], said[64];
 static int file, words_file;
 
 static size_t count_bytes(void) { return &__stop___sancov_cntrs - &__start___sancov_cntrs; }
@@ -36,12 +35,15 @@ static void end_process(void) {
 int LLVMFuzzerInitialize(int *count, char ***words) {
     counted = mmap(0, count_bytes(), PROT_READ | PROT_WRITE, MAP_SHARED | MAP_ANONYMOUS, -1, 0);
     if (counted == MAP_FAILED || !mkdtemp(folder)) abort();
-    snprintf(windows, sizeof windows, "%s/windows", folder);
+    snprintf(races, sizeof races, "%s/races", folder);
+    snprintf(page, sizeof page, "%s/page", folder);
     snprintf(stacks, sizeof stacks, "%s/stacks", folder);
     snprintf(input, sizeof input, "%s/input.dwo", folder);    /* it is also what a module's split files and package are */
     snprintf(package, sizeof package, "%s/input.dwo.dwp", folder);
     if (symlink("input.dwo", package)) abort();
     snprintf(said, sizeof said, "%s/said", folder);
+    file = open(races, O_RDWR | O_CREAT | O_TRUNC, 0600);
+    if (file < 0 || dprintf(file, "1 3 0x5000\n2 40 0x5008\n") < 0 || close(file)) abort();
     file = open(input, O_RDWR | O_CREAT | O_TRUNC, 0600);
     words_file = open(said, O_RDWR | O_CREAT | O_TRUNC | O_APPEND, 0600);
     if (file < 0 || words_file < 0) abort();
@@ -53,17 +55,7 @@ static void put(const void *bytes, size_t count, off_t at) {
     if (pwrite(file, bytes, count, at) != (ssize_t)count) abort();
 }
 
-#ifdef FUZZ_TRACES
-/* The first byte says how many events a window has. */
-static int prepare(const uint8_t *data, size_t size, char **words) {
-    static char most[8];
-    snprintf(most, sizeof most, "%d", 2 + data[0]);
-    put(data + 1, size - 1, 0);
-    char *all[] = {"shb-windows", "-n", most, "-o", windows, input};
-    memcpy(words, all, sizeof all);
-    return 6;
-}
-#elif defined FUZZ_MODULES
+#ifdef FUZZ_MODULES
 static int prepare(const uint8_t *data, size_t size, char **words) {
     put(data, size, 0);
     return 0;
@@ -100,11 +92,11 @@ static int prepare(const uint8_t *data, size_t size, char **words) {
     put(data + from + head, size - from - head, HEADER_BYTES);
     int count = 0;
     words[count++] = "shb-std";
-    if (data[0] & 1) words[count++] = "-r";
+    if (data[0] & 1) words[count++] = "--scan";
     if (data[0] & 2) words[count++] = "-a";
     if (data[0] & 4) { words[count++] = "--stacks"; words[count++] = stacks; }
-    if (data[0] & 8) { words[count++] = "--windows"; words[count++] = windows; words[count++] = "-n"; words[count++] = "8"; }
-    if (data[0] & 16) { words[count++] = "--suspicions"; words[count++] = "/dev/null"; }
+    if (data[0] & 8) { words[count++] = "--only"; words[count++] = races; words[count++] = "--page"; words[count++] = page; }
+    if (data[0] & 8 && data[0] & 16) { words[count++] = "--uses"; words[count++] = "/dev/null"; }
     words[count++] = input;
     return count;
 }

@@ -36,7 +36,7 @@ def build_recorder(folder, *settings):
     """Builds the recorder from its sources in a new folder."""
     global BUILT
     copy = folder / "recorder"
-    shutil.copytree(SOURCES, copy, ignore=shutil.ignore_patterns("lib", "shb-std", "shb-windows", "tests"))
+    shutil.copytree(SOURCES, copy, ignore=shutil.ignore_patterns("lib", "shb-std", "tests"))
     must(call("make", "-C", copy, *settings))
     for name in ("view", "common"):
         if not (folder / name).exists():
@@ -79,6 +79,25 @@ def settings(path, seed=1, slice=200, **more):
 
 def convert(path, *options):
     return call(BUILT / "shb-std", *options, path)
+
+
+def scanned(record, page, converter=None):
+    """The places of a record by the scan of its trace, each with its two locations in order and a variable; the page's trace of these is
+    written to a file, or none. It has both accesses of each race of the scan where the file of uses says."""
+    uses = page.with_suffix(".uses")
+    words = [str(word) for word in (converter or BUILT / "shb-std", "--scan", "--only", "/dev/stdin", "--page", page, "--uses", uses, record)]
+    with subprocess.Popen(words, stdin=subprocess.PIPE, stdout=subprocess.PIPE, stderr=subprocess.PIPE) as ran:
+        listed = must(call(SHB, "scan", "--variables", stdin=ran.stdout)).stdout
+        found = re.findall(rb"^race \d+: (\d+) (\d+)\nfirst (.*?\|[rw]\((.*?)\)\|(.*))\nsecond (.*?\|[rw]\(.*?\)\|(.*))$", listed, re.M)
+        ran.communicate(b"".join(b"%b %b %b\n" % (first, second, name) for first, second, _, name, _, _, _ in found))
+        if ran.returncode:
+            raise AssertionError(f"{words}: status {ran.returncode}")
+    lines = page.read_bytes().split(b"\n") if found else []
+    there = {number: lines[int(in_page) - 1] for in_page, number in re.findall(rb"^event\t(\d+)\t(\d+)$", uses.read_bytes(), re.M)} if found else {}
+    for first, second, one, _, _, other, _ in found:
+        if (there.get(first), there.get(second)) != (one, other):
+            raise AssertionError(f"{record}: the page's trace lacks {first} or {second}")
+    return {(tuple(sorted((one.decode(), other.decode()))), name.decode()) for _, _, _, name, one, _, other in found}
 
 
 def part(answer):

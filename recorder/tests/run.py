@@ -14,7 +14,7 @@ import tempfile
 HERE = pathlib.Path(__file__).resolve().parent
 sys.dont_write_bytecode = True
 sys.path.insert(0, str(HERE))
-sys.path.append(str(HERE.parents[1] / "tests"))
+sys.path += [str(HERE.parents[1] / name) for name in ("tests", "common")]
 
 import recorder
 import side_by_side

@@ -53,8 +53,8 @@ class Command(recorder.Case):
         page, = (self.folder / "status.shb").glob("*.html")
         self.assertEqual(said.splitlines()[-3:], ["shb-record: 1 place with races; the program's own status: 0; files in "
                                                   f"{self.folder}/status.shb", ONE, f"shb-record: page: {page}"])
-        self.assertRegex(text_of(page), r"<title>\S+/status 0 race \(run 1, process \d+, \d{4}-\d\d-\d\d \d\d:\d\d\): 1 race at 1 place, ")
-        self.assertEqual(self.names(), [*TABLES, "run1.N.html", "run1.N.report", "run1.N.stacks", "run1.N.std", "run1.N.turns",
+        self.assertRegex(text_of(page), r"<title>\S+/status 0 race \(run 1, process \d+, \d{4}-\d\d-\d\d \d\d:\d\d\): 1 place with races, ")
+        self.assertEqual(self.names(), [*TABLES, "run1.N.html", "run1.N.scan", "run1.N.stacks", "run1.N.std", "run1.N.turns", "run1.N.uses",
                                         "unknown.places"])
         self.assertIn("     | shared = 1; /* RACE */\n", said)  # by the debug information
         self.assertIn("<code>    shared = 1; /* RACE */</code>", text_of(page))
@@ -78,22 +78,21 @@ class Command(recorder.Case):
         _, _, said = self.record(self.program(), "0", "race")
         page, = (self.folder / "status.shb").glob("*.html")
         for shown in said, text_of(page):
-            self.assertIn("1 race at 1 place, in 1 group", shown)
+            self.assertIn("1 place with races, in 1 group", shown)
             self.assertIn("no lock held", shown)
             self.assertNotRegex(shown, "(?i)pairs? of (lines|locations)|location pair|lock in the trace|without a lock")
 
-    def test_a_pair_that_races_in_both_orders_is_shown_with_all_its_races(self):
+    def test_a_pair_that_races_in_both_orders_is_shown(self):
         """x is written by one thread first, and then by the other; y by the other first."""
         status, _, said = self.record(self.program("both_orders.c"))
         self.assertEqual(status, 66)
-        report, page = (next((self.folder / "both_orders.shb").glob(f"run1.*.{kind}")) for kind in ("report", "html"))
-        [there, back] = re.findall(r"(?m)^at (.*)\nand (.*)$", text_of(report))
+        scan, page = (next((self.folder / "both_orders.shb").glob(f"run1.*.{kind}")) for kind in ("scan", "html"))
+        [there, back] = re.findall(r"(?m)^at (.*)\nand (.*)$", text_of(scan))
         self.assertEqual(there, back[::-1])
         for shown in said, text_of(page):
-            self.assertRegex(shown, r"2 races at 2 places, in \d group")
-        self.assertIn(f"races with {there[1]} (2 races)", said)
+            self.assertRegex(shown, r"2 places with races, in \d group")
+        self.assertIn(f"races with {there[1]}\n", said)
         self.assertIn("shb-record: 2 places with races;", said)
-        self.assertNotIn("has not all races", said)
         self.assertNotIn("can't judge it", said)
 
     def test_a_thread_whose_name_is_hostile(self):
@@ -110,104 +109,60 @@ class Command(recorder.Case):
         status, _, said = self.record("-o", "both", "--known", "first/unknown.places", program)
         self.assertEqual((status, "1 unknown place with races, 1 known one passed over" in said, "b/util.c:3" in said), (66, True, True), said)
 
-    def test_a_long_run_is_cut_into_windows(self):
-        """The first and the last step of the program race; so its last window has a place that no other has."""
-        program = self.program("long_race.c")
-        early, late = (f"long_race.c:{number}" for number, line in enumerate(
-            text_of(recorder.PROGRAMS / "long_race.c").splitlines(), 1) if "RACE" in line)
-        status, _, said = self.record("--window", "2000", program)
-        self.assertEqual(status, 66)
-        events, windows = (int(number.replace(",", "")) for number in re.search(r"([\d,]+) events, (\d+) windows that ", said).groups())
+    def test_a_long_run(self):
+        """The first and the last step of the program race."""
+        status, _, said = self.record(self.program("long_race.c"))
+        events = int(re.search(r"([\d,]+) events; 2 places with races", said)[1].replace(",", ""))
         rows = [line.split("\t") for line in text_of(self.folder / "long_race.shb" / "places.tsv").splitlines()[1:]]
-        found = {row[0]: (row[1], row[8]) for row in rows}
-        self.assertEqual(found, {early: (early, "window-0001.std"), late: (late, f"window-{windows:04}.std")})
-        numbers = {row[0]: [int(number) for number in row[5:7]] for row in rows}
-        self.assertLess(numbers[early][1], 100)
-        self.assertGreater(numbers[late][0], events - 100)
-        reach = re.search(rf"{windows} windows that cover races of accesses up to ([\d,]+) events apart; 2 places with races", said)[1]
-        self.assertIn(int(reach.replace(",", "")), range(950, 1001))  # half a window, but for locks that are held where it begins
-        *shown, table = sorted((self.folder / "long_race.shb").glob("*.windows/*"))  # other windows are gone
-        self.assertEqual([path.name for path in shown], [f"window-{number:04}.{end}" for number in (1, windows) for end in ("html", "report", "std")])
-        self.assertRegex(text_of(table), rf"\Afile\tfirst\tlast\tadded\nwindow-0001.std\t1\t\d+\t0\n(.*\n)+window-{windows:04}.std\t\d+\t{events}\t\d+\n\Z")
-        for path in shown[0], shown[3]:
-            self.assertIn(f"Races of accesses that are more than {reach} events apart may not be listed.", text_of(path))
-            self.assertIn("In this window ", text_of(path))
+        marked = sorted(f"long_race.c:{number}" for number, line in enumerate(text_of(recorder.PROGRAMS / "long_race.c").splitlines(), 1) if "RACE" in line)
+        self.assertEqual((status, sorted(row[0] for row in rows)), (66, marked))
+        numbers = sorted([int(number) for number in row[5:7]] for row in rows)
+        self.assertLess(numbers[0][1], 100)
+        self.assertGreater(numbers[1][0], events - 100)
 
-    def test_windows_are_analysed_one_by_one(self):
-        """Of some ten windows there are at most the first, the one that is looked at, one after it and two that are being written."""
-        fake, log = self.folder / "shb", self.folder / "log"
-        fake.write_text(f'#!/bin/sh\n[ "$1 $2" = "places --list" ] && find . -name "window-*.std" | wc -l >> {log}\nexec {recorder.SHB} "$@"\n')
-        fake.chmod(0o755)
-        status, _, said = self.record("--window", "700", self.program("long_race.c"), SHB=str(fake))
-        self.assertEqual(status, 66, said)
-        numbers = list(map(int, text_of(log).split()))
-        self.assertGreater(len(numbers), 8)
-        self.assertLessEqual(max(numbers), 5)
-
-    def test_a_race_that_no_window_has(self):
+    def test_a_race_that_no_page_has(self):
+        """Where its trace has room for a part alone."""
         program = self.program("far_apart.c")
-        begin, end = (f"far_apart.c:{number}" for number, line in enumerate(
-            text_of(recorder.PROGRAMS / "far_apart.c").splitlines(), 1) if "RACE" in line and "far" in line)
         status, _, said = self.record("--window", "400", program)
         self.assertEqual(status, 66)
-        reach = re.search(r"windows that cover races of accesses up to ([\d,]+) events apart; \d places with races", said)[1]
-        by_begin, by_end = f"{begin} written by T1.begin", f"{end} written by T2.end"
-        head = f"shb-record: 1 place of the whole run without a page, since their accesses are more than {reach} events apart:\nshb-record:   far: "
-        self.assertTrue(any(f"{head}{one}, and {other}\n" in said for one, other in ((by_begin, by_end), (by_end, by_begin))), said)
+        head = "shb-record: 1 place of the run without a page, since their accesses are too far apart:\nshb-record:   far: "
+        self.assertIn(head, said)
         rows = [line.split("\t") for line in text_of(self.folder / "far_apart.shb" / "places.tsv").splitlines()[1:]]
-        [row] = [row for row in rows if row[3] == "far"]
-        self.assertEqual((sorted(row[:2]), row[2:5], re.sub(r"\d{2,}", "N", row[8])), (sorted((begin, end)), ["1", "far", "unknown"], "run1.N.scan"))
-        self.assertRegex(text_of(self.folder / "far_apart.shb" / row[8]), rf"(?m)^race \d: {row[5]} {row[6]}\nfirst .+\|far\nsecond .+\|far$")
+        self.assertEqual(len([row for row in rows if row[3] == "far"]), 1)
         for known, wanted in (("far_apart.c:*()\tfar_apart.c:*()\tcell\n", 66), ("*\t*\tcell\n*\t*\tfar\n", 0)):
             status, _, said = self.record("--window", "400", "--known", self.known(known), program)
             self.assertEqual((status, "1 unknown place with races" in said), (wanted, wanted == 66), said)
 
-    def test_a_place_that_the_whole_lacks(self):
-        """Such a fault of the converter makes no place up: the scan decides."""
-        fake = self.folder / "shb"
-        fake.write_text('#!/bin/sh\n[ "$1" = scan ] || exec ' + str(recorder.SHB) + ' "$@"\ncat > /dev/null\n'
-                        'printf "shb-report 2\nevents 9 threads 3 locks 0 variables 1\nraces 0\nplaces 0\nend\n"\n')
+    def test_how_often_shb_runs(self):
+        """Once, with and without a race."""
+        fake, log = self.folder / "shb", self.folder / "log"
+        fake.write_text(f'#!/bin/sh\necho "$@" >> {log}\nexec {recorder.SHB} "$@"\n')
         fake.chmod(0o755)
-        status, _, said = self.record(self.program(), "0", "race", SHB=str(fake))
-        self.assertEqual(status, 125, said)
-        self.assertIn("1 place of its trace can't be, since the whole has no such race: this is a fault of shb-std", said)
-        self.assertEqual((text_of(self.folder / "status.shb" / "unknown.places"), self.names()),
-                         ("", [*TABLES, "run1.N.stacks", "run1.N.std", "unknown.places"]))
-
-    def test_a_scan_without_variables(self):
-        """Where a fault takes a variable for one that can't race, its place is found all the same, and the fault is noticed."""
-        fake = self.folder / "shb"
-        fake.write_text(f'#!/bin/sh\n[ "$1" = scan ] || exec {recorder.SHB} "$@"\nsed "s/^\\([^|]*|[^|]*|[^|]*\\)|.*/\\1/" | {recorder.SHB} scan\n')
-        fake.chmod(0o755)
-        status, _, said = self.record(self.program(), "0", "race", SHB=str(fake))
-        self.assertEqual((status, text_of(self.folder / "status.shb" / "unknown.places")), (66, UNKNOWN), said)
-        self.assertIn("1 place may have more variables, since shb-std treats accesses that race as ordered: this is a fault of shb-std", said)
-        known = self.folder / "known.places"
-        known.write_text(UNKNOWN)
-        self.assertEqual(self.record("--known", str(known), self.program(), "0", "race", SHB=str(fake))[0], 125)
+        for words in ("0", "race"), ("0",):
+            self.record(self.program(), *words, SHB=str(fake))
+        self.assertEqual(text_of(log), "scan --variables\n" * 2)
 
     def test_a_scan_that_fails(self):
         fake = self.folder / "shb"
-        for answer, wanted in (("exit 4", "`shb scan` ended with status 4: "), ("echo shb-report 2", "`shb scan` wrote no whole text: line 2 of the report is missing"),
+        for answer, wanted in (("exit 4", "`shb scan` ended with status 4: "), ("echo shb-report 2", "`shb scan` wrote no whole report: line 2 of the report is missing"),
                                ("kill -KILL $$", "`shb scan` ended with status -9: ")):
             fake.write_text(f'#!/bin/sh\n[ "$1" = scan ] || exec {recorder.SHB} "$@"\n{answer}\n')
             fake.chmod(0o755)
             status, _, said = self.record(self.program(), "0", "race", SHB=str(fake))
-            self.assertEqual((status, wanted in said), (66, True), said)
+            self.assertEqual((status, wanted in said), (125, True), said)
             self.assertIn("not all could be looked at", said)
-            self.assertIn("run1.N.html", self.names())
 
-    def test_a_disk_without_room_for_windows(self):
-        """Of 16 events each, so three and a half have 56 events, of 64 bytes."""
+    def test_a_disk_without_room(self):
+        """For a page's trace of 16 events, of 64 bytes each."""
         command, program = self.folder / "command", self.program()
-        for free, wanted in ((3583, 125), (3584, 66)):
+        for free, wanted in ((1023, 125), (1024, 66)):
             command.write_text("#!/usr/bin/env python3\nimport runpy, shutil\nuse = shutil.disk_usage('/')\n"
                                f"shutil.disk_usage = lambda path: use._replace(free={free})\n"
                                f"runpy.run_path({str(recorder.BUILT / 'shb-record')!r}, run_name='__main__')\n")
             command.chmod(0o755)
             status, _, said = self.record("--window", "16", program, "0", "race", command=command)
             self.assertEqual(status, wanted, said)
-            sentence = f"process N: its windows may take about 3,584 bytes of the disk, and {free:,} are free; --window makes smaller ones\n"
+            sentence = f"process N: its page may take about 1,024 bytes of the disk, and {free:,} are free; --window makes a smaller one\n"
             self.assertEqual(sentence in re.sub(r"process \d+", "process N", said), wanted == 125, said)
             self.assertEqual(any(name.endswith(".std") for name in self.names()), wanted == 66)
 
@@ -236,7 +191,7 @@ class Command(recorder.Case):
         how = {**os.environ, "SHB": str(recorder.SHB)}
         ran = subprocess.run([str(recorder.BUILT / "shb-record"), "-o", folder, str(self.program()), "0", "race"], env=how, capture_output=True,
                              timeout=recorder.SECONDS)
-        self.assertEqual((ran.returncode, b"1 race at 1 place" in ran.stderr), (66, True), ran.stderr)
+        self.assertEqual((ran.returncode, b"1 place with races" in ran.stderr), (66, True), ran.stderr)
 
     def test_statuses_without_a_race(self):
         program = self.program()
@@ -416,14 +371,7 @@ class Command(recorder.Case):
             status, _, said = self.record("--known", "status.shb/unknown.places", "-o", f"{folder}.results", program, "0", "race")
             self.assertEqual(status, wanted, said)
             ends = {path.suffix for path in (self.folder / f"{folder}.results").glob("run*")}
-            self.assertEqual(ends, {".std", ".stacks", *[".html", ".report", ".turns"] * bool(wanted)})
-
-    def test_windows_without_an_unknown_place_are_deleted(self):
-        """That their places are known by functions is found out when all are made."""
-        program = self.program("long_race.c")
-        status, _, said = self.record("--window", "2000", "--known", self.known("long_race.c:*()\tlong_race.c:*()\n"), program)
-        self.assertEqual((status, "0 unknown places with races, 2 known ones passed over" in said), (0, True), said)
-        self.assertEqual(list((self.folder / "long_race.shb").glob("*.windows/*")), [])
+            self.assertEqual(ends, {".std", ".stacks", ".scan", ".uses", *[".html", ".turns"] * bool(wanted)})
 
     def test_a_file_of_known_places_with_a_line_that_is_none(self):
         status, _, said = self.record("--known", self.known("a.c:1\tb.c:2\na.c:1 b.c:2\n"), self.program(), "0")
@@ -434,7 +382,7 @@ class Command(recorder.Case):
         status, out, said = self.record("--runs", "3", self.program(), "0", "race")
         self.assertEqual((status, out), (66, "said by the program\n" * 3))
         self.assertEqual(len(re.findall(r"(?m)^shb-record: run [123], process ", said)), 3)
-        self.assertEqual(len(re.findall("^.*race .run 1, .*: 1 race at 1 ", said, re.M)), 1)  # the view's first line
+        self.assertEqual(len(re.findall("^.*race .run 1, .*: 1 place with races, in ", said, re.M)), 1)  # the view's first line
         self.assertNotRegex(said, "(?m)^.*race .run [23]")
         self.assertIn("shb-record: 1 place with races;", said)
 
@@ -529,8 +477,8 @@ class Command(recorder.Case):
         found = re.findall(r"(?m)^shb-record: run 1, process \d+ \((.*)\): .*; (\d+) places? with races$", said)
         self.assertEqual(sorted(found), [("./atomic_plain", "1"), ("./status 0 race", "1")])
         self.assertIn("shb-record: 2 places with races; the program's own status: 0;", said)
-        self.assertEqual(self.names("make.shb"), [*TABLES, *["run1.N.html"] * 2, *["run1.N.report"] * 2,
-                                                  *["run1.N.stacks"] * 2, *["run1.N.std"] * 2, *["run1.N.turns"] * 2, "unknown.places"])
+        self.assertEqual(self.names("make.shb"), [*TABLES, *["run1.N.html"] * 2, *["run1.N.scan"] * 2,
+                                                  *["run1.N.stacks"] * 2, *["run1.N.std"] * 2, *["run1.N.turns"] * 2, *["run1.N.uses"] * 2, "unknown.places"])
 
     def test_a_daemon_is_waited_for(self):
         status, out, said = self.record(self.program("daemon.c"))
@@ -550,8 +498,8 @@ class Command(recorder.Case):
     def test_results_of_an_earlier_call_are_replaced(self):
         program = self.program()
         self.record("--keep", program, "0", "race")
-        self.assertEqual(self.names(), [*TABLES, "run1.N.html", "run1.N.rec", "run1.N.report", "run1.N.stacks",
-                                        "run1.N.std", "run1.N.turns", "unknown.places"])
+        self.assertEqual(self.names(), [*TABLES, "run1.N.html", "run1.N.rec", "run1.N.scan", "run1.N.stacks",
+                                        "run1.N.std", "run1.N.turns", "run1.N.uses", "unknown.places"])
         _, _, said = self.record(program, "0")
         self.assertRegex(said, rf"(?m)^shb-record: {self.folder}/status.shb: the results of an earlier call are replaced on \S+ \S+, for: "
                          rf"{program} 0 race$")
@@ -586,7 +534,7 @@ class Command(recorder.Case):
         folders = [re.search(r"files in (.*)", text)[1] for text in said]
         self.assertEqual(sorted(folders), [f"{self.folder}/sh.shb{end}" for end in ("", "-2", "-3", "-4")])
         for folder in folders:
-            self.assertEqual(self.names(folder), [*TABLES, "run1.N.html", "run1.N.report", "run1.N.stacks", "run1.N.std", "run1.N.turns",
+            self.assertEqual(self.names(folder), [*TABLES, "run1.N.html", "run1.N.scan", "run1.N.stacks", "run1.N.std", "run1.N.turns", "run1.N.uses",
                                                   "unknown.places"])
 
     def test_a_part_of_a_run_is_called_one(self):
@@ -601,7 +549,7 @@ class Command(recorder.Case):
         status, _, said = self.record(program, SHB_RECORDS="1000")
         self.assertEqual(status, 66, said)
         self.assertIn("shb-record: 1 place with races; not the whole", said)
-        self.assertRegex(said, rf"(?m)^.*run 1, .*: .* at .*\n{re.escape(why)}$")  # below the view's first line
+        self.assertRegex(said, rf"(?m)^.*run 1, .*: .* with races, in .*\n{re.escape(why)}$")  # below the view's first line
         page, = (self.folder / "long_race.shb").glob("*.html")
         self.assertRegex(text_of(page), rf"<h1>[^<]*</h1><p class=\"verdict bad\">{re.escape(why)}</p>")
         _, _, said = self.record(program)
@@ -620,7 +568,7 @@ class Command(recorder.Case):
         """Of every command: 3, but 125 where a program is run, whose own status may be 3."""
         top = recorder.SOURCES.parent
         commands = [recorder.SHB, recorder.BUILT / "shb-record", top / "view" / "shb-view", top / "farm" / "shb-farm",
-                    recorder.BUILT / "shb-std", recorder.BUILT / "shb-windows"]
+                    recorder.BUILT / "shb-std"]
         for command in commands:
             wanted = 125 if command.name == "shb-record" else 3
             answer = recorder.call(command, "--nonsense", cwd=self.folder)
@@ -631,7 +579,7 @@ class Command(recorder.Case):
         """Of every command but shb, whose words are fixed."""
         top = recorder.SOURCES.parent
         for command in (recorder.BUILT / "shb-record", top / "view" / "shb-view", top / "farm" / "shb-farm", top / "fix" / "shb-fix",
-                        recorder.BUILT / "shb-std", recorder.BUILT / "shb-windows"):
+                        recorder.BUILT / "shb-std"):
             answer = recorder.call(command, "--version", cwd=self.folder)
             self.assertEqual((answer.returncode, answer.stdout.decode(), answer.stderr), (0, f"{command.name} of a checkout\n", b""))
 
@@ -646,7 +594,7 @@ class Command(recorder.Case):
             fake.write_text(f"#!/bin/sh\n{recorder.SHB} {end}\n")
             fake.chmod(0o755)
             status, _, said = self.record(self.program(), "0", "race", SHB=str(fake))
-            self.assertEqual((status, "`shb places --list` wrote no whole report: line " in said), (125, True), said)
+            self.assertEqual((status, "`shb scan` wrote no whole report: line " in said), (125, True), said)
 
     def test_a_converter_that_is_killed(self):
         """It has written a row, and nobody reads the answer."""
@@ -675,8 +623,7 @@ class Command(recorder.Case):
     def test_an_analyser_that_fails_late(self):
         """The second process is the one that it doesn't take."""
         fake = self.folder / "shb"
-        fake.write_text(f'#!/bin/sh\nif [ "$1 $2" = "places --list" ]; then [ -e ran2 ] && exit 4; [ -e ran ] && touch ran2; touch ran; fi\n'
-                        f'exec {recorder.SHB} "$@"\n')
+        fake.write_text(f'#!/bin/sh\n[ -e ran ] && exit 4; touch ran\nexec {recorder.SHB} "$@"\n')
         fake.chmod(0o755)
         program = self.program()
         status, _, said = self.record("sh", "-c", f"{program} 0 race; {program} 0 race", SHB=str(fake))
@@ -740,13 +687,31 @@ class Command(recorder.Case):
 
     def test_a_second_signal_while_a_page_is_made(self):
         """The places are known by then."""
-        fake = self.folder / "shb"
-        fake.write_text(f'#!/bin/sh\n[ "$1" = races ] || exec {recorder.SHB} "$@"\nkill -INT $PPID; kill -TERM $PPID; exec sleep 1000\n')
-        fake.chmod(0o755)
-        status, _, said = self.record(self.program(), "0", "race", SHB=str(fake))
+        status, said = self.signalled("SIGINT", "SIGTERM")
         self.assertEqual((status, "stopped at once" in said, "1 place with races" in said), (66, True, True), said)
         self.assertIn("run1.N.rec", self.names())
         self.assertNotIn("run1.N.html", self.names())
+
+    def signalled(self, *numbers):
+        """Sends signals to the command when it begins a page."""
+        command = self.folder / "command"
+        command.write_text("#!/usr/bin/env python3\nimport os, runpy, signal, sys\n"
+                           f"sys.path[:0] = [{str(recorder.SOURCES.parent / 'view')!r}, {str(recorder.SOURCES.parent / 'common')!r}]\n"
+                           "import shb_view.command\nmade = shb_view.command.explain\n"
+                           "def explain(*words, **how):\n"
+                           f"    for name in {numbers!r}:\n        os.kill(os.getpid(), getattr(signal, name))\n    return made(*words, **how)\n"
+                           f"shb_view.command.explain = explain\nrunpy.run_path({str(recorder.BUILT / 'shb-record')!r}, run_name='__main__')\n")
+        command.chmod(0o755)
+        status, _, said = self.record(self.program(), "0", "race", command=command)
+        return status, said
+
+    def test_a_check_that_fails_whatever_else_is_found(self):
+        """Of two processes with a race the second one's report isn't whole."""
+        fake, program = self.folder / "shb", self.program()
+        fake.write_text(f'#!/bin/sh\nif [ -e ran ]; then {recorder.SHB} "$@" | sed "\\$d"; exit 0; fi\ntouch ran\nexec {recorder.SHB} "$@"\n')
+        fake.chmod(0o755)
+        status, _, said = self.record("sh", "-c", f"{program} 0 race; {program} 0 race", SHB=str(fake))
+        self.assertEqual((status, "1 place with races; not all could be looked at" in said), (125, True), said)
 
     def test_without_an_analyser_the_program_does_not_run(self):
         status, out, said = self.record(self.program(), "0", SHB="/nowhere/shb")

@@ -59,14 +59,14 @@ class Programs(recorder.Case):
         kept_apart = {b"work.door of main", b"work.count of main"}
         for compiler in ("gcc", "clang"):
             record, path = self.recorded(compiler, "-O1", "local_locks.c"), self.folder / "app.stacks"
-            for options in ((), ("-r",), ("-a",)):
+            for options in ((), ("-a",)):
                 lines = recorder.must(recorder.convert(record, *options, "--stacks", path)).stdout.splitlines()
                 stacks, named = Stacks(path, 0, len(lines)), set()
                 for line in lines:
                     name = line.split(b"(", 1)[1].split(b")|")[0].partition(b"@")[0].partition(b"!")[0]
                     named.update([stacks.lasting_locals.get(name)] if name.startswith(b"stack.main") else [])
                 named.update(stacks.lasting_locals.get(use.name) for use in stacks.stores)
-                wanted = raced if options == ("-r",) else raced | kept_apart
+                wanted = raced | kept_apart
                 others = named - raced - kept_apart - {b"one of main", b"other of main"}
                 self.assertEqual((wanted - named, others), (set(), set()), (compiler, options))
 
@@ -78,7 +78,7 @@ class Programs(recorder.Case):
         for compiler in ("gcc", "clang"):
             for option in ("-O0", "-O1", "-O2"):
                 record = self.recorded(compiler, option, "dead_locals.c")
-                trace.write_bytes(recorder.must(recorder.convert(record, "-r", "--stacks", path)).stdout)
+                trace.write_bytes(recorder.must(recorder.convert(record, "--stacks", path)).stdout)
                 view = recorder.SOURCES.parent / "view" / "shb-view"
                 shown = recorder.call(sys.executable, "-B", view, "--stacks", path, trace, env={**os.environ, "SHB": str(recorder.SHB)})
                 with self.subTest(compiler=compiler, option=option):

@@ -90,38 +90,10 @@ class Canned(recorder.Case):
         self.assertNotIn(b"cut", recorder.convert(self.record, "-n", str(len(TRACE))).stderr)
 
     def test_the_trace_for_scan(self):
-        """It has the variable behind the location of each access, which all race; neither -r nor a limit nor windows change it, nor it the trace."""
-        wanted = [line + "|" + line.split("(")[1].split(")")[0] if line.split("|")[1][:2] in ("r(", "w(") else line for line in TRACE]
-        scan = self.folder / "scan"
-        for words in ((), ("-r",), ("-n", "5"), ("--windows", self.folder / "windows"), ("-r", "--stacks", self.folder / "stacks")):
-            before = recorder.convert(self.record, *words)
-            answer = recorder.convert(self.record, "--scan", scan, *words)
-            self.assertEqual((answer.returncode, answer.stdout, answer.stderr), (before.returncode, before.stdout, before.stderr))
-            self.assertEqual(scan.read_text().splitlines(), wanted)
-
-    def test_the_trace_for_scan_of_what_is_ordered(self):
-        """With -r a variable that a lock orders isn't behind its locations. Events are left out of neither."""
-        events = [(0, "WRITE", RANGE, 0x111, 8), (0, "LOCK", LOCK, 0x112), (0, "WRITE", RANGE + 64, 0x113, 8), (0, "UNLOCK", LOCK, 0x114),
-                  (1, "LOCK", LOCK, 0x212), (1, "WRITE", RANGE + 64, 0x213, 8), (1, "UNLOCK", LOCK, 0x214), (1, "WRITE", RANGE, 0x211, 8),
-                  (0, "WRITE", RANGE, 0x115, 8)]
-        self.record.write_bytes(HEADER + entry(0, "FORK", 1, 0x101) + b"".join(entry(*event) for event in events) + bytes(64))
-        found = {}
-        for words in (), ("-r",):
-            recorder.must(recorder.convert(self.record, "--scan", self.folder / "scan", *words))
-            found[words] = [line for line in (self.folder / "scan").read_text().splitlines() if "|w(" in line]
-        self.assertEqual(found[()], [f"{thread}|w({name})|{location}|{name}" for thread, name, location in
-                                     [("main", "0x40000000", "0x111"), ("main", "0x40000040", "0x113"), ("T1", "0x40000040", "0x213"),
-                                      ("T1", "0x40000000", "0x211"), ("main", "0x40000000", "0x115")]])
-        self.assertEqual(found["-r",], [line.replace("|0x40000040", "") for line in found[()]])
-
-    def test_a_trace_for_scan_that_nobody_reads_on(self):
-        """Where its reader ends early the trace is whole all the same; where it can't be written there is none."""
-        trace = f"{recorder.BUILT}/shb-std --scan /dev/fd/9 {self.record} > {self.folder}/trace"
-        self.record.write_bytes(HEADER + entry(0, "FORK", 1, 0x101) + b"".join(entry(k % 2, "WRITE", RANGE, 0x300 + k % 7, 1) for k in range(100_000)))
-        recorder.must(recorder.call("bash", "-c", f"{trace} 9> >(exec true)"))
-        self.assertEqual(len((self.folder / "trace").read_text().splitlines()), 100_001)
-        answer = recorder.call("bash", "-c", f"{trace} 9> /dev/full")
-        self.assertEqual((answer.returncode, b"the trace for shb scan could not be written" in answer.stderr), (2, True))
+        """It is the same, and no limit cuts it."""
+        for words in ((), ("-n", "5"), ("--stacks", self.folder / "stacks")):
+            answer = recorder.must(recorder.convert(self.record, "--scan", *words))
+            self.assertEqual(answer.stdout.decode().splitlines(), TRACE)
 
     def test_a_recording_that_ended_early_is_said(self):
         for how, said in ((b"", b"the program was killed"), (b"the disk is\nfull", b"the disk is!full")):
@@ -333,28 +305,13 @@ class Open(recorder.Case):
         super().setUp()
         self.record = self.folder / "app.rec"
 
-    def test_what_is_ordered_is_left_out(self):
-        self.record.write_bytes(HEADER + b"".join(entries for entries, _ in OPEN))
-        trace = recorder.must(recorder.convert(self.record, "-r")).stdout
-        self.assertEqual(trace.decode().splitlines(), [line for _, lines in OPEN for line in lines])
-        races = {("0x103", "0x207"), ("0x105", "0x208"), ("0x10e", "0x20b")}  # of DATA none: the read of FLAG orders it
-        self.assertEqual(recorder.places(trace), races)
-        self.assertEqual(recorder.places(recorder.must(recorder.convert(self.record)).stdout), races)
-
-    def test_what_repeats_is_left_out(self):
-        self.record.write_bytes(HEADER + b"".join(entries for entries, _ in REPEATED))
-        trace = recorder.must(recorder.convert(self.record, "-r")).stdout
-        self.assertEqual(trace.decode().splitlines(), [line for _, lines in REPEATED for line in lines])
-        self.assertEqual(recorder.places(trace), {("0x103", "0x201"), ("0x103", "0x202")})
-        self.assertEqual(recorder.places(recorder.must(recorder.convert(self.record)).stdout), recorder.places(trace))
-
     def test_a_thread_without_events_that_another_one_joins(self):
         """It comes after what its creator did, and before what the joining thread does."""
         entries = [entry(0, "FORK", 1, 0x101), entry(0, "WRITE", CELL, 0x102, 4), entry(0, "FORK", 2, 0x103), entry(1, "JOIN", 2, 0x201),
                    entry(1, "WRITE", CELL, 0x202, 4)]
         self.record.write_bytes(HEADER + b"".join(entries))
-        for words in ((), ("-r",), ("-a",), ("--windows", self.folder / "windows")):
-            trace = recorder.must(recorder.convert(self.record, *words)).stdout or (self.folder / "windows" / "window-0001.std").read_bytes()
+        for words in ((), ("-a",), ("--scan",)):
+            trace = recorder.must(recorder.convert(self.record, *words)).stdout
             self.assertIn(b"T2|begin(T2)|0x201\nT1|join(T2)|0x201\n", trace)
             self.assertEqual(recorder.places(trace), set())
 
@@ -363,18 +320,9 @@ class Open(recorder.Case):
                    entry(0, "JOIN", 1, 0x104), entry(0, "LOCK", LOCK, 0x105), entry(0, "UNLOCK", LOCK, 0x106), entry(2, "LOCK", LOCK, 0x301),
                    entry(2, "UNLOCK", LOCK, 0x302), entry(2, "WRITE", CELL, 0x303, 4), entry(3, "WRITE", CELL, 0x401, 4)]
         self.record.write_bytes(HEADER + b"".join(entries))
-        trace = recorder.must(recorder.convert(self.record, "-r")).stdout
+        trace = recorder.must(recorder.convert(self.record)).stdout
         self.assertEqual(recorder.places(trace), {("0x201", "0x401"), ("0x303", "0x401")})
 
-    def test_more_threads_than_are_ordered(self):
-        """At one time; then nothing is left out, neither the accesses under the lock nor the lock, which so orders nothing."""
-        for threads, events in ((1000, 1000), (1100, 4400)):
-            under = [entry(t, operation, address, 0x200, size) for t in range(1, threads + 1)
-                     for operation, address, size in (("LOCK", LOCK, 0), ("WRITE", GUARDED, 4), ("UNLOCK", LOCK, 0))]
-            forks = [entry(0, "FORK", t, 0x100) for t in range(1, threads + 1)]
-            self.record.write_bytes(HEADER + b"".join(forks + under))
-            answer = recorder.must(recorder.convert(self.record, "-r", "--windows", self.folder / "windows"))
-            self.assertIn(b" %d events" % events, answer.stderr)
 
 
 def random_bytes(draw, count):
@@ -471,7 +419,7 @@ class Damaged(recorder.Case):
                                 ("the thread was joined before", [fork, start, join, *write]),
                                 ("a thread cannot join itself", [entry(0, "JOIN", 0, 0x101)])):
             record.write_bytes(HEADER + block + b"".join(entries))
-            for options in ((), ("--windows", self.folder / "windows")):
+            for options in ((), ("--scan",)):
                 with self.subTest(reason, options=options):
                     answer = recorder.convert(record, *options)
                     self.assertEqual(answer.returncode, 2)
@@ -482,8 +430,7 @@ class Damaged(recorder.Case):
         fork, start, join = entry(0, "FORK", 1, 0x101), entry(1, "START", STACK, 0x500, 4096), entry(0, "JOIN", 1, 0x103)
         write, record = entry(1, "WRITE", BLOCK, 0x201, 8), self.folder / "app.rec"
         record.write_bytes(HEADER + entry(0, "ALLOC", BLOCK, 0x100, 16) + (fork + start + write + join) * 3)
-        recorder.must(recorder.convert(record, "--windows", self.folder / "windows"))
-        trace = (self.folder / "windows" / "window-0001.std").read_text()
+        trace = recorder.must(recorder.convert(record, "--scan")).stdout.decode()
         self.assertEqual(re.findall(r"^(\w+)\|(\w+)(?:\((T\d+)\))?", trace, re.M),
                          [event for thread in ("T1", "T65534", "T65535")
                           for event in (("main", "fork", thread), (thread, "w", ""), ("main", "join", thread))])
@@ -495,8 +442,7 @@ class Damaged(recorder.Case):
         record.write_bytes(HEADER + names(0, b"not main") + entry(0, "ALLOC", BLOCK, 0x100, 16) + fork + names(1, b"first")
                            + write + names(1, b"fifteen bytes..") + join + fork + write + join
                            + fork + names(1, b"") + write + names(1, b"third") + join)
-        recorder.must(recorder.convert(record, "-a", "--windows", self.folder / "windows"))
-        lines = (self.folder / "windows" / "window-0001.std").read_text().splitlines()
+        lines = recorder.must(recorder.convert(record, "-a", "--scan")).stdout.decode().splitlines()
         self.assertEqual([line.split("|")[:2] for line in lines],
                          [[*event] for thread in ("T1.fifteen bytes..", "T65534", "T65535.third")
                           for event in (("main", f"fork({thread})"), (thread, "w(0x100#1)"), ("main", f"join({thread})"))])

@@ -5,13 +5,11 @@ import subprocess
 import tempfile
 import typing
 
-from shb_common.analyser import FULL, HEAD, LIST, REFUSED, Run, rewound
+from shb_common.analyser import FULL, HEAD, LIST, REFUSED, SCAN, Run, rewound
 from shb_common.faults import Refused
 from shb_common.refused import line_and_hint, without_note
-from shb_common.report import BadReport, Race, Report
-from shb_common.variables import TooLong, variables_in, write_copy
+from shb_common.report import BadReport, Report
 from shb_view.names import short
-from shb_view.words import EACH, SOME
 
 MOST_BYTES = 4_096  # of a verdict that are looked at
 MOST_SAID, MOST_SHOWN = 200, 100  # columns of the program's words and of a refused line that are shown
@@ -58,10 +56,10 @@ class Analyser:
         line, hint = found
         return f"\n  {short(line, MOST_SHOWN)}" + (f"\n  hint: {hint}" if hint else "")
 
-    def head(self, take=None, trace=None):
-        """The report of `races --list` of the trace, or of this open one. The accesses of its races are given to `take`, if there is
-        one and the races are few; else the rest isn't read."""
-        with self.started(HEAD, trace or self.trace, subprocess.PIPE) as run:
+    def head(self, take=None):
+        """The report of `races --list` of the trace. The accesses of its races are given to `take`, if there is one and the races are
+        few; else the rest isn't read."""
+        with self.started(HEAD, self.trace, subprocess.PIPE) as run:
             try:
                 report = Report(run.out)
                 if take and report.count <= MOST_LISTED:
@@ -72,26 +70,20 @@ class Analyser:
                 self.ended(HEAD, run)
                 raise Refused(f"`shb races --list` wrote no report: {fault}") from None
 
-    def share_variables(self, head, take):
-        """Gives a race of each variable at each place to `take`, with how many there are, whatever the number of races: `shb` counts
-        them in a copy of the trace whose locations have the variable. Says whether each variable was found."""
-        locations = {location for place in head.places for location in place}
-        with tempfile.TemporaryFile() as copy, tempfile.TemporaryFile() as report:
-            try:
-                numbers = write_copy(self.trace, locations, copy)
-            except TooLong:
-                return SOME
-            counts = self.head(trace=copy).places
-            self.write_places(False, report, copy)
-            for by_variable in variables_in(Report(report), numbers, counts).values():
-                for found in by_variable.values():
-                    take(Race(0, *found.events, b"", b"", None), *found.accesses, found.races)
-        return EACH
+    def share_variables(self, take):
+        """Gives one race of each variable at each place to `take`, whatever the number of races."""
+        with tempfile.TemporaryFile() as listed:
+            self.write(SCAN, listed)
+            for race, accesses in Report(listed).races():
+                take(race, *accesses)
 
-    def write_places(self, with_schedules, file, trace=None):
-        """Writes the report of one race of each place, of the trace or of this open one."""
-        words = FULL if with_schedules else LIST
-        with self.started(words, trace or self.trace, file) as run:
+    def write_places(self, with_schedules, file):
+        """Writes the report of one race of each place."""
+        self.write(FULL if with_schedules else LIST, file)
+
+    def write(self, words, file):
+        """Writes the report of a command to an open file."""
+        with self.started(words, self.trace, file) as run:
             self.ended(words, run)
         file.seek(0)
 

@@ -41,20 +41,21 @@ def arguments(words, program):
                         help="a note on the trace, shown below the title; may be given again")
     parser.add_argument("--about", metavar="TEXT", action="append", default=[],
                         help="a fact on the trace, as that a library wasn't recorded; may be given again")
-    parser.add_argument("--suspicion", metavar="TEXT", action="append", default=[],
-                        help="a line for the page's section of suspicions, behind the races; may be given again")
     parser.add_argument("--json", metavar="FILE", help="write the places to this file, for programs (docs/FORMATS.md has the form)")
     parser.add_argument("--stacks", metavar="FILE", help="show call stacks and names of locals, as `shb-std --stacks` wrote them")
     parser.add_argument("--recorded-source", action="store_true", help="show lines of the source files that the file of --stacks names")
-    parser.add_argument("--shift", metavar="N", type=int, default=0,
-                        help="the trace is a window of a run: its event E is event E + N of the file of stacks")
-    parser.add_argument("--window", action="store_true", help="the trace is a window of a longer one; each fact mentions that")
+    parser.add_argument("--scan", metavar="FILE", help="the races are those of this file, which `shb scan --variables` wrote of the run that the trace is "
+                        "of: `shb` isn't asked; it needs --uses")
+    parser.add_argument("--uses", metavar="FILE", help="the uses of the variables in the whole run, as `shb-std --uses` wrote them")
     parser.add_argument("--check", action="store_true", help="run `shb check` on the REPORT that is given")
     parser.add_argument("--shb", metavar="PROGRAM", default=os.environ.get("SHB") or program, help="the `shb` to run")
     parser.add_argument("trace", metavar="TRACE", help="a trace, as `shb` reads it")
     parser.add_argument("report", metavar="REPORT", nargs="?",
                         help="a report of it (- is standard input), if `shb` isn't to make one")
-    return parser.parsed(words)
+    found = parser.parsed(words)
+    if bool(found.scan) != bool(found.uses) or found.scan and found.report:
+        parser.error("--scan and --uses go together, and without a REPORT")
+    return found
 
 
 def show(options, progress, out):

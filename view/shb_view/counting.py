@@ -8,7 +8,8 @@ import typing
 from shb_common.faults import Refused
 from shb_common.report import BadReport
 from shb_common.variables import without_end
-from shb_view.held import Held, called
+from shb_view.groups import name_parts
+from shb_view.held import MOST_COUNTED, Held, called
 from shb_view.trace import CHANGED, OPENS, fields_of
 
 BEFORE = 6  # events of a thread right before its access
@@ -74,10 +75,13 @@ class Kinds:
 
 
 class Counting:
-    def __init__(self, groups, wanted, kinds):
-        """`groups` has a number for each racing variable; `wanted` are the accesses to be noted, `kinds` says what an access is."""
+    def __init__(self, groups, wanted, kinds, uses=None):
+        """`groups` has a number for each racing variable; `wanted` are the accesses to be noted, `kinds` says what an access is; `uses`
+        are those of the whole run where the trace is a part of it."""
+        self.uses = uses
         self.groups, self.wanted, self.access_kinds = groups, wanted, kinds
         self.lines, self.reads = kinds.gathered.lines, kinds.gathered.reads
+        self.racing_reads = racing_reads(kinds.gathered) if uses is not None else {}
         self.racing = set().union(*kinds.gathered.racing.values())
         self.bare = set()  # those of the racing events whose thread holds no lock
         # By group, how many accesses there are of each kind: its location (None where lines aren't told apart any more),
@@ -88,7 +92,8 @@ class Counting:
         self.held = collections.defaultdict(lambda: Held(kinds.locks))  # by thread
         self.recent = collections.defaultdict(lambda: collections.deque(maxlen=BEFORE))  # by thread: its last events
         self.before = {}  # by group and thread: its last access
-        self.writes = {}  # by variable: its last write
+        self.writes = {}  # by variable: its last write, and the thread and location of that
+        self.callers = collections.defaultdict(collections.Counter)  # by variable and location, of a run: its stacks, each with whether no lock is held
         self.seen = set()  # the locations of races where the second access reads what the first wrote
         self.forks = {}  # by thread
         self.names = {}  # each thread's name once
@@ -97,6 +102,8 @@ class Counting:
         """Takes all events of the trace; there have to be so many."""
         self.take_all(trace)
         self.held.clear()
+        if self.uses is not None:
+            self.take_uses()
         if trace.count() != events:
             raise Refused(CHANGED)
         if self.found != len(self.lines):
@@ -125,18 +132,20 @@ class Counting:
             self.found += 1
             if self.lines[number] != line:
                 raise BadReport(f"the report is of another trace: it has another line for event {number}")
+        thread, _, *location = line.split(b"|", 2)
         if word == b"w":
-            self.writes[variable] = number
-        elif self.writes.get(variable) in self.reads.get(number, ()):
-            self.seen.add(self.reads[number][self.writes[variable]])
+            self.writes[variable] = number, thread, b"".join(location)
+        elif variable in self.writes:
+            self.see(number, variable, thread, b"".join(location))
         if not self.access_kinds.is_in_life(number, variable):
             return
-        thread, _, *location = line.split(b"|", 2)
         held = self.held[thread]
         if number in self.racing and not held.locks:
             self.bare.add(number)
         if number in self.wanted:
             self.noted[number] = Noted(array.array("I", self.recent[thread]), *held.newest())
+        if self.uses is not None:
+            return
         counts, thread = self.counts[group], self.names.setdefault(thread, thread)
         kind = (location[0] if location else b"", thread, self.access_kinds.of(number, word, variable), held.names())
         access = Access(number, variable, kind, self.access_kinds.stacks.free_of(number) if word == b"w" else None)
@@ -152,6 +161,34 @@ class Counting:
                 self.kinds += 1
         counts[kind] = counts.get(kind, 0) + 1
 
+    def see(self, number, variable, thread, location):
+        """Takes a read of what a racing write wrote. Of a scan one race of a variable at a place is known, and stands for others there."""
+        write, writer, written = self.writes[variable]
+        if write in self.reads.get(number, ()):
+            self.seen.add(self.reads[number][write])
+        elif writer != thread and (written, location) in self.racing_reads.get(variable, ()):
+            self.seen.add((written, location))
+
+    def take_uses(self):
+        """Takes the uses of the whole run. A free is one of all variables of its block."""
+        kinds, frees = self.access_kinds, {}
+        groups = {kinds.in_trace(variable): group for variable, group in self.groups.items()}
+        for use in self.uses:
+            group = groups.get(use.variable)
+            if group is None or use.variable.startswith(b"stack.") and use.variable in kinds.locals and kinds.locals[use.variable] != use.local:
+                continue
+            self.callers[use.variable, use.location][use.stack, not use.locks] += use.count
+            locks = tuple(called(lock, kinds.locks) for lock in use.locks) if len(use.locks) <= MOST_COUNTED else None
+            kind = use.location, use.thread, use.word, locks
+            if use.word == b"f":
+                block = name_parts(use.variable)["block"]
+                before = frees.get((group, kind, block), 0)
+                frees[group, kind, block] = max(before, use.count)
+                count = max(use.count - before, 0)
+            else:
+                count = use.count
+            self.counts[group][kind] = self.counts[group].get(kind, 0) + count
+
     def is_next(self, last, thread):
         """Whether an access is the event before the present one in its thread."""
         return bool(self.recent[thread]) and self.recent[thread][-1] == last.number
@@ -163,3 +200,12 @@ class Counting:
             return access.free == last.free
         is_read = access.variable in self.access_kinds.atomics and kind[2] == b"r" and kind == last.kind
         return is_read and access.variable != last.variable and self.is_next(last, thread)
+
+
+def racing_reads(gathered):
+    """By variable: the locations of writes and reads that race, whichever comes first."""
+    found = {}
+    for (variable, place), words in gathered.words.items():
+        if words != (b"w", b"w"):
+            found.setdefault(variable, set()).add(place if words[0] == b"w" else place[::-1])
+    return found

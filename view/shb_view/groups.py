@@ -78,11 +78,13 @@ class Gathered:
         self.racing = {}  # by variable and location: the events of the races that were read
         self.reads = {}  # by a read: the writes before it that it races with, each with the locations of both
         self.variables = {}  # by place: how many races each variable has, by its name in the trace
+        self.words = {}  # by variable and place: whether the first race there reads or writes first, and then
 
     def share(self, race, first, second, races=1):
-        """Takes the variable of two racing accesses that aren't shown themselves, which stand for so many races."""
+        """Takes the variable of two racing accesses that aren't shown themselves. They count as so many races."""
         by_variable = self.variables.setdefault((first.location, second.location), {})
         by_variable[first.name] = by_variable.get(first.name, 0) + races
+        self.words.setdefault((first.name, (first.location, second.location)), (first.word, second.word))
         if (first, second) not in self.joined:
             self.joined.add((first, second))
             atomic = atomic_of(first, second)
@@ -95,7 +97,7 @@ class Gathered:
             self.reads.setdefault(race.second, {})[race.first] = first.location, second.location
 
     def add(self, race, first, second, places):
-        """Takes a race and its accesses; `places` has how many races each place has, if that is known."""
+        """Takes a race and its accesses; `places` has how many races each place has, if that is known; it is empty where they aren't counted."""
         place = first.location, second.location
         locations = tuple(sorted(place))
         pair = self.pairs.setdefault(locations, Pair(locations, race))
@@ -152,10 +154,9 @@ def object_of(group):
 
 
 def group_name(view, group):
-    """What a group is about, as parts. Of a sample the other races may be of further variables."""
+    """What a group is about, as parts."""
     name, more = common_name(group.variables)
-    others = "and perhaps others" if view.is_sample == "some" and group.listed() < group.races() else ""
-    return [Code(name), *(f" {words}" for words in (more, others) if words)]
+    return [Code(name), *[f" {more}"] * bool(more)]
 
 
 def common_name(variables):

@@ -48,8 +48,6 @@ def page_parts(view):
         part = section_part(view, number, section) + "\n"
         size += len(part.encode())
         yield part
-    if view.suspicions:
-        yield suspicions_part(view) + "\n"
     yield "</main>\n" + element("script", Markup(script)) + "\n</body>\n</html>\n"
 
 
@@ -86,13 +84,6 @@ def group_list(view):
     more = view.groups - len(view.sections)
     rows += [element("li", f"and {counted(more, 'more group')}")] if more else []
     return element("ol", joined(rows, "\n"), class_="groups", id="groups")
-
-
-def suspicions_part(view):
-    """What is said of variables that may race, and didn't in this run."""
-    parts = [element("h2", "Suspicions"), element("p", "No race in this run: a lock is held at nearly all uses of the variable, and not at this one."),
-             element("ul", joined([element("li", line) for line in view.suspicions], "\n"))]
-    return element("section", joined(parts, "\n"), id="suspicions")
 
 
 def section_part(view, number, section):

@@ -14,7 +14,7 @@ def document(view):
     pairs = [(section, pair) for section in view.sections for pair in section.group.pairs]
     origin, names = naming(view.stacks, {location for _, pair in pairs for location in pair.locations})
     places = [entry(view, section, pair, origin, names) for section, pair in pairs]
-    summary = {"races": view.races, "places": view.pairs, "groups": view.groups, **view.counts._asdict()}
+    summary = {**({} if view.of_scan else {"races": view.races}), "places": view.pairs, "groups": view.groups, **view.counts._asdict()}
     notes = [*view.notes, *notes_of(view), *view.about]
     return result.document("shb-view", summary, places, title=view.title, notes=notes)
 
@@ -33,7 +33,7 @@ def entry(view, section, pair, origin, names):
             found.update(site_entry(sites[location]))
         found["stacks"] = [stack_entry(frames, count) for (frames, _), count in section.callers.get(location, ())[:MOST_STACKS] if frames]
         accesses.append(found)
-    return {"places": len(pair.orders), "accesses": accesses, "variables": view.variables(pair), "races": pair.races,
+    return {"places": len(pair.orders), "accesses": accesses, "variables": view.variables(pair), **({} if view.of_scan else {"races": pair.races}),
             "headline": flat(headline(section)), "facts": [flat(parts) for parts in sentences(section)]}
 
 

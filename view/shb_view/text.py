@@ -121,7 +121,7 @@ def stack_lines(callers):
         yield from (f"       from {parts}" for parts in others)
     if len(shown) > MOST_STACKS:
         rest = sum(count for _, count in shown.most_common()[MOST_STACKS:])
-        yield f"     and {counted(len(shown) - MOST_STACKS, 'more stack')} ({counted(rest, 'racing access', 'racing accesses')})"
+        yield f"     and {counted(len(shown) - MOST_STACKS, 'more stack')} ({counted(rest, 'access', 'accesses')})"
 
 
 def window_lines(window):

@@ -1,5 +1,6 @@
 """What is shown of a trace, for the text and the page alike."""
 
+import collections
 import contextlib
 import os
 import stat
@@ -14,6 +15,7 @@ from shb_common.report import BadReport, Counts, Report, in_order
 from shb_common.result import text
 from shb_common.standard import faults_of
 from shb_common.stacks import AtomicUse, Stacks
+from shb_common.uses import BadUses, Uses
 from shb_common.variables import without_block
 from shb_common.words import counted
 from shb_view.analyser import MOST_LISTED, Analyser, Verdict
@@ -50,9 +52,10 @@ class Section(typing.NamedTuple):
 
 class View(typing.NamedTuple):
     """All that is shown. `races` is how many the trace has, `listed` how many of these a given report has. `pairs` and `groups` are
-    how many there are, `sections` those that are shown. `is_sample` isn't empty where one race of each variable at each place is
-    known, and says whether `EACH` variable is, or `SOME`. `notes` are what the caller said of the trace, `about` what it said of the
-    recorder, `suspicions` what of variables that may race; `only` are the places whose groups the text has, or None for all."""
+    how many there are, `sections` those that are shown. of a sample (`is_sample`) one race of each variable at each place
+    is known. `of_scan` says that the races are one of each variable at each place of a run,
+    which aren't counted, and `counts` those of the run. `notes` are what the caller said of the trace, `about` what it said of the
+    recorder; `only` are the places whose groups the text has, or None for all."""
 
     title: str
     counts: Counts
@@ -62,24 +65,24 @@ class View(typing.NamedTuple):
     groups: int
     sections: typing.List[Section]
     verdict: Verdict
-    is_sample: str
+    is_sample: bool
+    of_scan: bool
     source: Source
     notes: typing.List[str]
     about: typing.List[str]
-    suspicions: typing.List[str]
     stacks: Stacks
     kinds: Kinds
     gathered: Gathered
     only: typing.Optional[known.Known]
 
     def variables(self, pair):
-        """The variables that race at two lines, each with how many races it has."""
+        """The variables that race at two lines, each with how many races it has where they are counted."""
         found = {}
         for place in pair.orders:
             for name, races in self.gathered.variables.get(place, {}).items():
                 name = text(without_block(self.kinds.name(name)))
                 found[name] = found.get(name, 0) + races
-        return [{"name": name, "races": races} for name, races in sorted(found.items())]
+        return [{"name": name, **({} if self.of_scan or self.is_sample else {"races": races})} for name, races in sorted(found.items())]
 
 
 class Given(typing.NamedTuple):
@@ -97,30 +100,66 @@ class Given(typing.NamedTuple):
         return in_order(self.file, race, events) if is_known and race.schedule is not None else (events, None)
 
 
+class Subject(typing.NamedTuple):
+    """The races of a trace with so many events; `counts` of it, or of the run that it is a part of; and of that the uses, or None."""
+
+    given: Given
+    counts: Counts
+    races: int
+    listed: int
+    is_sample: bool
+    events: int
+    uses: typing.Optional[list]
+
+
 def make_view(options, progress):
     """The view of what the options name."""
     with contextlib.ExitStack() as stack:
         file = stack.enter_context(open_regular(options.trace))
-        analyser = Analyser(options.shb, file, options.how)
         gathered = Gathered()
-        head = analyser.head(None if options.report else gathered.share)
-        is_sample = "" if options.report or head.count <= MOST_LISTED else analyser.share_variables(head, gathered.share)
-        given = given_report(options, analyser, stack) if options.report else own_report(analyser, head, stack)
-        listed, has_schedules = read_report(given, head.counts, gathered, progress) if options.report or head.count else (0, True)
-        if options.report and not has_schedules:
-            given = given._replace(verdict=NO_SCHEDULES)
-        stacks = stacks_of(options.stacks, options.shift, head.counts.events) if options.stacks else Stacks()
+        made = scanned(options, gathered, progress, stack) if options.scan else analysed(options, file, gathered, progress, stack)
+        stacks = stacks_of(options.stacks, 0, made.events) if options.stacks else Stacks()
         gathered.name_locals(stacks)
         groups = gathered.groups()
         kinds = Kinds(gathered, stacks)
-        count, sections = make_sections(options, kinds, head.counts.events, Trace(file, progress), given, groups)
+        count, sections = make_sections(options, kinds, made, Trace(file, progress), groups)
         title = readable(os.fsencode(options.title or os.path.basename(options.trace)))
         pairs = sum(group.count() for group in groups)
         source = Source(options.source, os.fstat(file.fileno()).st_mtime, stacks.sources if options.recorded_source else {})
-        notes, about, suspicions = ([readable(os.fsencode(line)) for line in lines] for lines in (options.note, options.about, options.suspicion))
-        return View(title, head.counts, head.count, listed if options.report else head.count, pairs, count, sections, given.verdict,
-                    is_sample, source, [*notes, *warnings(options.trace)], about, suspicions, stacks, kinds, gathered,
-                    places_of(options.only) if options.only else None)
+        notes, about = ([readable(os.fsencode(line)) for line in lines] for lines in (options.note, options.about))
+        return View(title, made.counts, made.races, made.listed, pairs, count, sections, made.given.verdict, made.is_sample, bool(options.scan),
+                    source, [*notes, *warnings(options.trace)], about, stacks, kinds, gathered, places_of(options.only) if options.only else None)
+
+
+def analysed(options, file, gathered, progress, stack):
+    """The races of an open trace, as `shb` or a report has them."""
+    analyser = Analyser(options.shb, file, options.how)
+    head = analyser.head(None if options.report else gathered.share)
+    is_sample = not options.report and head.count > MOST_LISTED
+    if is_sample:
+        analyser.share_variables(gathered.share)
+    given = given_report(options, analyser, stack) if options.report else own_report(analyser, head, stack)
+    listed, has_schedules = read_report(given, head.counts, gathered, progress) if options.report or head.count else (0, True)
+    if options.report and not has_schedules:
+        given = given._replace(verdict=NO_SCHEDULES)
+    return Subject(given, head.counts, head.count, listed if options.report else head.count, is_sample, head.counts.events, None)
+
+
+def scanned(options, gathered, progress, stack):
+    """The races of a scan with both accesses in the trace, by their numbers there."""
+    try:
+        uses = Uses(options.uses)
+    except BadUses as fault:
+        raise Damaged(f"{readable(os.fsencode(options.uses))} {fault}") from None
+    file, listed = stack.enter_context(open(options.scan, "rb")), 0
+    with faults_of(options.scan):
+        scan = Report(file)
+        for race, accesses in scan.races():
+            first, second = (uses.events.get(event) for event in (race.first, race.second))
+            if first and second:
+                listed += 1
+                gathered.add(race._replace(first=first, second=second), *accesses, {})
+    return Subject(Given(options.scan, file, OWN, None), scan.counts, listed, listed, False, uses.count, uses.uses)
 
 
 def places_of(path):
@@ -195,22 +234,21 @@ def read_report(given, counts, gathered, progress):
     return report.count, report.has_schedules
 
 
-def make_sections(options, kinds, events, trace, given, groups):
-    """How many groups there are, and those that are shown, in the order of their facts and then most races first; with their windows
-    if these are asked for. The trace has so many events."""
+def make_sections(options, kinds, made, trace, groups):
+    """How many groups there are, and those that are shown, in the order of their facts and then most races first, or uses of a run; with their windows
+    if these are asked for."""
     if not groups:
         return 0, []
     wanted = {access for race in (group.closest() for group in groups) for access in (race.first, race.second)}
     variables = {variable: number for number, group in enumerate(groups) for variable in group.names}
-    counting = Counting(variables, wanted, kinds)
+    counting = Counting(variables, wanted, kinds, made.uses)
     try:
-        counting.read(trace, events)
+        counting.read(trace, made.events)
         found = merged_groups(groups, counting.counts)
-        first = sorted(found, key=lambda it: (it.rank, -it.group.races()))[:MOST_GROUPS]
-        whole = "window" if options.window else "trace"
-        sections = [make_section(it.group, it.counts, whole, counting) for it in first]
+        first = sorted(found, key=lambda it: (it.rank, -(it.group.races() or sum(it.counts.values()))))[:MOST_GROUPS]
+        sections = [make_section(it.group, it.counts, counting) for it in first]
         if options.html or options.all:
-            windows = make_windows(trace, [section.group.closest() for section in sections], counting, given.order)
+            windows = make_windows(trace, [section.group.closest() for section in sections], counting, made.given.order)
             sections = [section._replace(window=window) for section, window in zip(sections, windows)]
     except (IndexError, KeyError):
         raise Refused(CHANGED) from None
@@ -253,19 +291,30 @@ def joined_counts(counts):
     return found
 
 
-def make_section(group, counts, whole, counting):
-    """A group as it is shown, but for its window. `whole` is what the facts are of: a trace or a window of one."""
+def make_section(group, counts, counting):
+    """A group as it is shown, but for its window."""
     sites, places, kinds = sites_of(group, counts), group.places(), counting.access_kinds
-    fact = fact_of(sites, whole)
+    fact = fact_of(sites, "trace")
     seen = sorted((pair for pair in counting.seen if tuple(sorted(pair)) in places), key=lambda pair: list(map(by_numbers, pair)))
-    return Section(group, sites, fact, None, callers_of(group, kinds, counting.bare), seen, publications(kinds.stacks, sites, fact))
+    return Section(group, sites, fact, None, callers_of(group, counting), seen, publications(kinds.stacks, sites, fact))
 
 
-def callers_of(group, kinds, bare):
-    """The stacks of the racing accesses of each racing line, each with whether it is told that no lock is held: where that is so at
-    some of them. `bare` are the events at which none is."""
-    events = {}
-    for variable in group.names:
-        for location in group.locations():
-            events.setdefault(location, set()).update(kinds.gathered.racing.get((variable, location), ()))
-    return {location: kinds.stacks.counted(found, bare if found & bare != found else set()) for location, found in events.items()}
+def callers_of(group, counting):
+    """The stacks of the racing accesses of each racing line, or of a run those of all accesses of the variables there, each with whether
+    it is told that no lock is held: where that is so at some of them."""
+    kinds, found = counting.access_kinds, {}
+    for location in group.locations():
+        stacks = collections.Counter()
+        if counting.uses is None:
+            events = set().union(*(kinds.gathered.racing.get((variable, location), ()) for variable in group.names))
+            stacks.update((kinds.stacks.of_event(event), event in counting.bare) for event in sorted(events) if kinds.stacks.numbers)
+        else:
+            for variable in {kinds.in_trace(name) for name in group.names}:
+                for (stack, is_bare), count in counting.callers[variable, location].items():
+                    stacks[kinds.stacks.stack(stack), is_bare] += count
+        is_told = len({is_bare for _, is_bare in stacks}) > 1
+        found[location] = collections.Counter()
+        for (frames, is_bare), count in stacks.items():
+            found[location][frames, is_bare and is_told] += count
+        found[location] = found[location].most_common()
+    return found

@@ -11,7 +11,6 @@ MOST_SITES = 20  # lines that are shown of a group
 MOST_LOCKS, MOST_SOME, MOST_PARTNERS, MOST_THREADS = 8, 3, 8, 3  # that are named at a line; MOST_SOME are held at some accesses
 MOST_VARIABLES = 8  # that are named of a group
 NO_LOCK = "no lock held"
-SOME, EACH = "some", "each"  # variables that a sample of the races has
 
 
 class Code(bytes):
@@ -86,19 +85,21 @@ def accesses_text(site):
 
 
 def share(count, total, is_bare):
-    """How many of a line's racing accesses have a stack, and that they hold no lock where others do."""
-    return f"{count:,} of {counted(total, 'racing access', 'racing accesses')}" + (f", {NO_LOCK}" if is_bare else "")
+    """How many of a line's accesses have a stack, and that they hold no lock where others do."""
+    return f"{count:,} of {counted(total, 'access', 'accesses')}" + (f", {NO_LOCK}" if is_bare else "")
 
 
 def partner_parts(site):
     """The lines that a line races with, most races first."""
     partners = sorted(site.partners.items(), key=lambda item: (-item[1], by_numbers(item[0])))
-    return listed([[place(location), f" ({counted(races, 'race')})"] for location, races in partners], MOST_PARTNERS)
+    return listed([[place(location), f" ({counted(races, 'race')})" if races else ""] for location, races in partners], MOST_PARTNERS)
 
 
 def summary(view):
     """How much the report and the trace have."""
     size = ", ".join(counted(count, name[:-1]) for name, count in view.counts._asdict().items())
+    if view.of_scan:
+        return f"{counted(view.pairs, 'place')} with races, in {counted(view.groups, 'group')}", size
     races = counted(view.races, "race") if view.listed == view.races else f"{view.listed:,} of {counted(view.races, 'race')}"
     lines = f" at {counted(view.pairs, 'place')}, in {counted(view.groups, 'group')}" if view.groups else ""
     return f"{races}{lines}", size
@@ -117,8 +118,7 @@ def notes_of(view):
     if view.listed < view.races:
         yield "The report doesn't list all races of the trace; the counts are the report's."
     if view.is_sample:
-        yield ("The trace has too many races to look at each. Call stacks are those of one race of each variable at each place"
-               + (", and some variables aren't named." if view.is_sample == SOME else "."))
+        yield "The trace has too many races to look at each. Call stacks are those of one race of each variable at each place."
     if view.source.has_files() and view.sections:
         shown = [site.location for section in view.sections for site in section.sites[:MOST_SITES] if site.location]
         yield from view.source.missing(shown)
@@ -135,5 +135,6 @@ def seen_parts(section):
 
 
 def races_text(group):
-    """How many races a group has, at how many places."""
-    return f"{counted(group.races(), 'race')}, {counted(group.count(), 'place')}"
+    """How many races a group has, where that is known, at how many places."""
+    races = group.races()
+    return (f"{counted(races, 'race')}, " if races else "") + counted(group.count(), "place")

@@ -1,0 +1,64 @@
+"""What `shb-std --uses` writes beside the trace of a page: how often each thread used each variable in a race in the whole run, and which
+events of that trace those of the races are. The head of recorder/converter/page.c has its form."""
+
+import typing
+
+from shb_common.files import open_regular
+from shb_common.printable import printable
+
+WORDS = b"r", b"w", b"a", b"f"
+MOST_DIGITS = 18
+
+
+class BadUses(Exception):
+    """The words say what is wrong with a file of uses."""
+
+
+class Use(typing.NamedTuple):
+    """`word` is r, w, a (written atomically) or f (freed); `local` the local that a variable on a stack was then, or nothing;
+    `stack` the number of its call stack, or 0; `locks` are those held, the oldest first."""
+
+    count: int
+    word: bytes
+    variable: bytes
+    local: bytes
+    thread: bytes
+    location: bytes
+    stack: int
+    locks: typing.Tuple[bytes, ...]
+
+
+class Uses:
+    """`events` has for an event of the run that of the page's trace; `count` is how many that trace has."""
+
+    def __init__(self, path):
+        self.uses, self.events, self.count = [], {}, None
+        with open_regular(path) as file:
+            for number, line in enumerate(file, 1):
+                kind, *fields = line.rstrip(b"\n").split(b"\t")
+                try:
+                    self.take(kind, fields)
+                except (ValueError, IndexError):
+                    raise BadUses(f"is damaged in line {number}: `{printable(line[:80].rstrip())}`") from None
+        if self.count is None:
+            raise BadUses("is cut off")
+
+    def take(self, kind, fields):
+        if kind == b"use":
+            count, word, variable, local, thread, location, stack, *locks = fields
+            if word not in WORDS:
+                raise ValueError
+            self.uses.append(Use(number_of(count), word, variable, local, thread, location, number_of(stack), tuple(locks)))
+        elif kind == b"event":
+            in_page, in_run = map(number_of, fields)
+            self.events[in_run] = in_page
+        elif kind == b"events":
+            [self.count] = map(number_of, fields)
+        else:
+            raise ValueError
+
+
+def number_of(text):
+    if not text.isdigit() or len(text) > MOST_DIGITS:
+        raise ValueError
+    return int(text)
