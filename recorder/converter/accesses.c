@@ -160,15 +160,16 @@ enum { NOBODY = -1u };
 
 /* An event of the variable itself, or of that which stands for its atomic writes by one thread. The page's trace lacks those of variables
    in no race, but each thread's first one. */
-static void access_event(u64 i, const piece *p, const char *operation, u32 writer, int is_kept) {
-    char tail[100] = "";
+static void piece_event(u64 i, u32 number, const char *operation, u32 writer, int is_kept) {
+    char tail[100];
+    const piece *p = piece_of(number);
     u32 t = thread_of(i);
-    if (!is_kept && has_events(t)) {
-        pass_event(t, *operation == 'w');
-        return;
+    if (!is_kept && has_events(t)) pass_event(t, *operation == 'w');
+    else if (writer == NOBODY) access_event(t, operation, number, caller_of(i));
+    else {
+        snprintf(tail, sizeof tail, "!%s", thread_name(writer));
+        event(t, operation, variable_name(p->at, block_of(p->block)), tail, caller_of(i));
     }
-    if (writer != NOBODY) snprintf(tail, sizeof tail, "!%s", thread_name(writer));
-    event(t, operation, variable_name(p->at, block_of(p->block)), tail, caller_of(i));
 }
 
 static int is_shared(const piece_use *p) { return p->many_users && p->written; }
@@ -183,15 +184,15 @@ static void piece_events(u64 i, use u, u32 number, int is_kept) {
     if (!shared && !u.writes_atomically && !users->written_atomically) return;
     if (!u.writes && !u.writes_atomically && repeats(i, u, number)) return;
     piece *p = piece_of(number);
-    if (shared) access_event(i, p, u.writes ? "w" : "r", NOBODY, is_kept);
+    if (shared) piece_event(i, number, u.writes ? "w" : "r", NOBODY, is_kept);
     if (u.writes) p->writes++;
     if (u.writes_atomically && is_read_by_others(users, t)) {
-        access_event(i, p, "w", t, is_kept);
+        piece_event(i, number, "w", t, is_kept);
         p->writes++;
     }
     if (!u.reads) return;
     for (u32 k = p->atomic_writers; k; k = list_entries[k - 1].next)
-        if (list_entries[k - 1].thread != t) access_event(i, p, "r", list_entries[k - 1].thread, is_kept);
+        if (list_entries[k - 1].thread != t) piece_event(i, number, "r", list_entries[k - 1].thread, is_kept);
 }
 
 static char word_of(u64 i, use u) { return operation_of(i) == OP_FREE ? 'f' : u.writes ? 'w' : u.writes_atomically ? 'a' : 'r'; }

@@ -51,6 +51,7 @@ void begin_thread_pass(void);
 int meet_fork(u64 i);                  /* each pass calls these for each fork and join; 0 where there are too many threads */
 void meet_join(u64 i);
 u32 thread_bound(void);                /* all threads are below it */
+u32 next_thread(u32 t);                /* the one after it, of those that there may be */
 u32 thread_of(u64 i);
 u32 other_thread_of(u64 i);            /* of a fork or join */
 int writes_plainly(u64 i), is_atomic(u64 i), writes_atomically(u64 i);
@@ -81,6 +82,8 @@ void read_modules(char *header);
 void note_caller(u64 caller);
 void find_places(void);                /* of all callers that were noted */
 part place_of(u64 caller);
+enum { WIDE = 32 };                    /* bytes behind some texts that may be read: they are copied in pieces of so many */
+part line_end_of(u64 caller);          /* ")|" and its place, with WIDE bytes behind it */
 int is_own_place(u64 caller);          /* not in a header or a library of the system */
 int is_of_system(u64 caller);          /* is it in a module of the system's, other than the recorder? */
 int is_of_recorder(u64 caller);
@@ -186,6 +189,7 @@ extern u32 thread_limit;               /* of the trace */
 u32 trace_threads(void);                /* so many were met, in any trace */
 u32 trace_thread(const char *name, u64 length);              /* its number, from 1 */
 int trace_event(u64 length, enum event_kind kind, u32 thread, part operand, part place, u32 stack);      /* 0 where the trace can't go on with it */
+int trace_access(u64 length, u32 thread);                    /* the same of an access, in a thread that is in the trace already */
 void each_held(held_lock give);        /* each acquire that isn't released, the oldest first */
 void forget_trace(void);
 
@@ -246,5 +250,6 @@ void pass_event(u32 t, int writes);    /* an access that the page's trace lacks 
 part name_of_thread(u32 t);
 part variable_name(u64 address, const block *b);             /* it stands until the next call */
 void event(u32 t, const char *operation, part name, const char *tail, u64 caller);
+void access_event(u32 t, const char *operation, u32 piece, u64 caller);                  /* the same of a piece */
 void hold_event(u32 t, const char *operation, part name, const char *tail, u64 caller, u32 stack);       /* orders no thread */
 void write_lines(void);                /* the last of the trace */

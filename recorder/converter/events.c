@@ -18,10 +18,10 @@ void use_limits_of_scan(void) {
 }
 
 /* number: in state.c, from its first event on */
-static struct { char name[THREAD_BYTES]; u32 length, number; u64 epoch; } threads[THREADS];
+static struct { char name[THREAD_BYTES + WIDE]; u32 length, number; u64 epoch; } threads[THREADS];
 
 void begin_events(void) {
-    for (u32 t = 0; t < thread_bound(); t++) threads[t].number = threads[t].epoch = 0;
+    for (u32 t = 0; t < thread_bound(); t = next_thread(t)) threads[t].number = threads[t].epoch = 0;
     events = written = bytes = 0;
     cut_reason = 0;
     forget_trace();
@@ -32,7 +32,7 @@ static uint8_t is_named[THREADS];      /* has it a name besides its number? */
 /* "_" stands for what would end a field or a line, and for the signs behind which names of locks and variables name a thread or a
    block. */
 static void set_name(u32 t, const char *name) {
-    snprintf(threads[t].name, sizeof threads[t].name, "T%u%s%s", t, *name ? "." : "", name);
+    snprintf(threads[t].name, THREAD_BYTES, "T%u%s%s", t, *name ? "." : "", name);
     for (char *p = threads[t].name; *p; p++)
         if ((unsigned char)*p < ' ' || strchr("|!@#", *p)) *p = '_';
     threads[t].length = strlen(threads[t].name);
@@ -64,7 +64,7 @@ void give_name(u32 t, const char *piece, int is_first) {
 
 part name_of_thread(u32 t) {
     if (!threads[t].length) {
-        snprintf(threads[t].name, sizeof threads[t].name, t ? "T%u" : "main", t);
+        snprintf(threads[t].name, THREAD_BYTES, t ? "T%u" : "main", t);
         threads[t].length = strlen(threads[t].name);
     }
     return (part){threads[t].name, threads[t].length};
@@ -135,21 +135,21 @@ static char *add_descriptor_name(char *to, u64 address) {
     return add_text(to, address & 8 ? ".data" : "");
 }
 
-/* Short ones are mostly found in a table of recent ones. */
+/* Debug information is searched for each once, while they are no more than this. */
 static part symbol_of(u64 address) {
-    enum { RECENT = 1 << 16, SHORT = 84 };
-    static struct { u64 address; u32 length; char name[SHORT]; } recent[RECENT];
+    enum { MOST_KEPT = 1 << 20 };
     static char name[NAME_BYTES];
-    u32 at = mix(address, 0) & (RECENT - 1);
-    if (recent[at].address != address || !recent[at].length) {
-        symbol_name(address, name, sizeof name);
-        u64 length = strlen(name);
-        if (length > SHORT) return (part){name, length};
-        recent[at].address = address;
-        recent[at].length = length;
-        memcpy(recent[at].name, name, length);
-    }
-    return (part){recent[at].name, recent[at].length};
+    static map met;
+    static part *kept;
+    static u64 count, capacity;
+    u32 number = map_find(&met, address, 0);
+    if (number) return kept[number - 1];
+    symbol_name(address, name, sizeof name);
+    part found = {name, strlen(name)};
+    if (count == MOST_KEPT) return found;
+    map_number(&met, address, 0);
+    GROW(kept, count, capacity);
+    return kept[count++] = (part){memcpy(zeroed(found.length + 1, 1), name, found.length), found.length};
 }
 
 part variable_name(u64 address, const block *b) {
@@ -157,6 +157,23 @@ part variable_name(u64 address, const block *b) {
     if (!b && address < FIRST_DESCRIPTOR) return symbol_of(address);
     char *end = b ? add_block_name(name, address, b) : add_descriptor_name(name, address);
     return (part){name, end - name};
+}
+
+/* Of a piece, with WIDE bytes behind it. Short ones are mostly found in a table of recent ones. */
+static part piece_name(u32 number) {
+    enum { RECENT = 1 << 16, SHORT = 59 };
+    static struct { u32 piece; uint8_t length; char name[SHORT]; } recent[RECENT];
+    static char long_name[NAME_BYTES + WIDE];
+    u32 at = number & (RECENT - 1);
+    if (recent[at].piece != number) {
+        const piece *p = piece_of(number);
+        part name = variable_name(p->at, block_of(p->block));
+        if (name.length > SHORT) return (part){memcpy(long_name, name.at, name.length), name.length};
+        recent[at].piece = number;
+        recent[at].length = name.length;
+        memcpy(recent[at].name, name.at, name.length);
+    }
+    return (part){recent[at].name, recent[at].length};
 }
 
 /* ---- events ---- */
@@ -278,4 +295,37 @@ void event(u32 t, const char *operation, part name, const char *tail, u64 caller
         hold_event(t, operation, (part){own_name, name.length}, own_tail, own, stack);
     } else hold_event(t, operation, name, tail, own, stack);
     if (*operation != 'r' || operation[1]) threads[t].epoch++;
+}
+
+/* Texts with WIDE bytes behind them are copied in pieces. */
+static inline char *add_wide(char *to, part text) {
+    memcpy(to, text.at, WIDE);
+    if (text.length > WIDE) memcpy(to + WIDE, text.at + WIDE, text.length - WIDE);
+    return to + text.length;
+}
+
+static char *add_access(char *to, u32 t, char word, part name, part line_end) {
+    to = add_wide(to, name_of_thread(t));
+    *to++ = '|';
+    *to++ = word;
+    *to++ = '(';
+    to = add_wide(to, name);
+    to = add_wide(to, line_end);
+    *to++ = '\n';
+    return to;
+}
+
+/* Most events are accesses of the run's trace by a thread that is in it: they take less than others. */
+void access_event(u32 t, const char *operation, u32 number, u64 caller) {
+    part name = piece_name(number);
+    int is_usual = !for_page && !holds_unwritten(t) && threads[t].number && name.length && written < event_limit;
+    char *line = room_for_line(), *end = is_usual ? add_access(line, t, *operation, name, line_end_of(own_place(t, caller))) : line;
+    if (!is_usual || bytes + (end - line) > byte_limit) {
+        event(t, operation, name, "", caller);
+        return;
+    }
+    need_event(trace_access(end - line - 1, threads[t].number), line, end);
+    events++;
+    keep_line(end, stack_at(t, caller));
+    threads[t].epoch += *operation == 'w';
 }

@@ -115,7 +115,7 @@ static void write_trace(void) {
     forget_calls();
     begin_events();
     begin_accesses();
-    memset(forked_by, 0, sizeof forked_by);
+    for (u32 t = 0; t < thread_bound(); t = next_thread(t)) forked_by[t] = 0;
     pass(write_events, 0);
     write_lines();
     if (fflush(stdout) || ferror(stdout)) die("cannot write the trace: %s", strerror(errno));

@@ -465,6 +465,13 @@ static char *address_place(u64 caller) {
     return copy(cleaned(text));
 }
 
+/* A copy with ")|" before it and WIDE bytes behind. */
+static char *line_end(const char *text) {
+    char *copied = zeroed(strlen(text) + 2 + WIDE, 1);
+    memcpy(copied, ")|", 2);
+    return memcpy(copied + 2, text, strlen(text));
+}
+
 /* Names the frames of a caller; its location is the first one outside of the system's headers, else the first. */
 static void find_place(u64 caller, u32 number) {
     module *m = module_at(caller);
@@ -474,7 +481,9 @@ static void find_place(u64 caller, u32 number) {
         if (f->has_line && !f->in_system_file) name_lambda(f);
         if (f->has_line && (!chosen || (chosen->in_system_file && !f->in_system_file))) chosen = f;
     }
-    places[number].text = chosen ? copy(chosen->location) : address_place(caller);
+    char *address = chosen ? 0 : address_place(caller);
+    places[number].text = line_end(chosen ? chosen->location : address);
+    free(address);
     places[number].length = strlen(places[number].text);
     places[number].is_own = m && !is_recorder(m) && !(chosen ? chosen->in_system_file : in_system(m->path));
     if (places[number].frames) return;
@@ -496,6 +505,7 @@ static void find_asked_places(void) {
    shown, and mostly none is. Its source files aren't the program's, so the names of those don't hang on it. */
 void find_places(void) {
     places = zeroed(callers.count + 1, sizeof *places);
+    places[0].text = line_end("");
     for (module *m = modules; m < modules + module_count; m++) {
         if (!in_system(m->path) && !is_recorder(m)) note_sources_of(m->path);
         m->is_late = is_recorder(m) || (m > modules && in_system(m->path) && !has_own_lines(m->path));
@@ -518,6 +528,11 @@ static u32 found_place(u64 caller) {
 part place_of(u64 caller) {
     u32 number = found_place(caller);
     return (part){places[number].text, places[number].length};
+}
+
+part line_end_of(u64 caller) {
+    part place = place_of(caller);
+    return (part){place.at - 2, place.length + 2};
 }
 
 int is_own_place(u64 caller) { return places[caller_number(caller)].is_own; }

@@ -226,7 +226,7 @@ void forget_states(void) {
         o->gift_count = 0;
         o->waiter_count = o->first_waiters;
     }
-    for (u32 t = 0; t < thread_bound(); t++) fences[t].count = fences[t].fenced = 0;
+    for (u32 t = 0; t < thread_bound(); t = next_thread(t)) fences[t].count = fences[t].fenced = 0;
     if (seen_count) memset(seen, 0, seen_count * sizeof *seen);
     if (seen_count) memset(noted, 0, seen_count * sizeof *noted);
     forget_holds();
@@ -247,7 +247,7 @@ typedef struct { u64 caller; u32 object, stack; which lock; uint8_t written; } h
 static struct { hold *list; u64 count, capacity, unwritten, sum; } held[THREADS];
 
 static void forget_holds(void) {
-    for (u32 t = 0; t < thread_bound(); t++) held[t].count = held[t].unwritten = held[t].sum = 0;
+    for (u32 t = 0; t < thread_bound(); t = next_thread(t)) held[t].count = held[t].unwritten = held[t].sum = 0;
 }
 
 static u64 sum_of_lock(const object *o, which w) { return mix(o - objects + 1, w.sign); }

@@ -34,6 +34,14 @@ void begin_thread_pass(void) {
 
 void meet_join(u64 i) { is_joined[address_of(i)] = 1; }
 
+static u32 own_numbers = 1;            /* those of threads in records that were met are below it */
+
+static void note_number(u64 number) {
+    if (number >= own_numbers && number < THREAD_NUMBERS) own_numbers = number + 1;
+}
+
+u32 next_thread(u32 t) { return t + 1 == own_numbers ? THREAD_NUMBERS : t + 1; }
+
 u32 thread_bound(void) { return thread_count < THREAD_NUMBERS ? THREAD_NUMBERS : thread_count; }
 
 int meet_fork(u64 i) {
@@ -87,6 +95,8 @@ int is_record(u64 i) {
     if (!is_whole(i)) return 0;
     if (!is_good(i)) die("record %lu of %s is damaged", i + 1, record_path);
     met_sum += entry_sum(i, records[i]);
+    if (operation_of(i) != OP_SIZE) note_number(records[i].where >> 48);
+    if (operation_of(i) == OP_FORK || operation_of(i) == OP_JOIN) note_number(address_of(i));
     return 1;
 }
 

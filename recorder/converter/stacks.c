@@ -231,7 +231,7 @@ u32 stack_at(u32 t, u64 caller) {
 }
 
 void forget_calls(void) {
-    for (u32 t = 0; t < thread_bound(); t++) {
+    for (u32 t = 0; t < thread_bound(); t = next_thread(t)) {
         calls_of_thread *s = &stacks[t];
         s->count = s->known = s->owned = s->told_depth = s->depth = s->last = 0;
     }
@@ -546,12 +546,12 @@ void pause_stacks(int is_paused) { with_stacks = file && !is_paused; }
 void end_stacks(void) {
     if (!with_stacks) return;
     write_nodes();
-    for (u32 t = 0; t < thread_bound(); t++) use(thread_nodes[t]);
+    for (u32 t = 0; t < thread_bound(); t = next_thread(t)) use(thread_nodes[t]);
     for (u64 b = 1; b < block_count; b++)
         if (block_of(b)->named) use(block_nodes[b]);
     for (u64 k = 1; k <= node_count; k++)
         if (nodes[k].used) write_stack(k);
-    for (u32 t = 0; t < thread_bound(); t++)
+    for (u32 t = 0; t < thread_bound(); t = next_thread(t))
         if (thread_nodes[t]) fprintf(file, "thread %s\t%u\n", thread_name(t), thread_nodes[t]);
     for (u64 b = 1; b < block_count; b++)
         if (block_of(b)->named && block_nodes[b]) fprintf(file, "block %lu %u\n", b, block_nodes[b]);

@@ -159,6 +159,8 @@ int trace_event(u64 length, enum event_kind kind, u32 t, part operand, part plac
     return 1;
 }
 
+int trace_access(u64 length, u32 t) { return length <= SHB_LINE && threads[t].started && !threads[t].joined; }
+
 void forget_trace(void) {
     for (u64 k = 1; k <= thread_names.count; k++) threads[k] = (thread){0};
     for (u64 k = 1; k <= lock_names.count; k++) locks[k] = (lock){0};
