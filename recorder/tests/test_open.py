@@ -6,6 +6,7 @@ import re
 import shutil
 
 import recorder
+from analysis import Step
 from test_record import HEADER, entry
 
 ORDERS = 0, 2, 3, 4, 5  # relaxed, acquire, release, both, sequentially consistent
@@ -24,7 +25,7 @@ class Drawn:
         self.draw = random.Random(seed)
         self.cells = [0x5000 + 8 * k for k in range(self.draw.randrange(1, 4))]
         self.places, self.words = self.draw.randrange(1, 5), self.draw.choice(self.all_words)
-        self.owners, self.readers, self.running, self.entries = {}, set(), [0], []
+        self.owners, self.readers, self.running, self.steps = {}, set(), [0], []
         self.unused = list(range(1, self.draw.randrange(2, 7)))
         for _ in range(self.draw.randrange(10, 100)):
             self.thread = self.draw.choice(self.running)
@@ -34,7 +35,11 @@ class Drawn:
 
     def add(self, operation, address, size=0):
         place = (self.thread + 1) << 16 | len(operation) << 8 | self.draw.randrange(self.places) + 1
-        self.entries.append(entry(self.thread, operation, address, place, size))
+        self.steps.append(Step(self.thread, operation, address, place, size))
+
+    @property
+    def entries(self):
+        return [entry(step.thread, step.operation, step.address, step.place, step.size) for step in self.steps]
 
     def step(self, word):
         cell = self.draw.choice(self.cells)

@@ -1,0 +1,171 @@
+"""The scan of `shb-std`'s text has the places of a record: of records drawn at random `analysis.py` finds the same, from the entries alone.
+
+What decides which accesses `shb` is given, and of which variable, is in the converter; so a fault there would be found, which is tested too.
+"""
+
+import io
+import re
+
+import recorder
+import test_open
+from analysis import Analysis
+from shb_common.report import Report
+from test_record import HEADER, entry
+
+MOST_ORDER = 4095  # of accesses that are late behind one entry
+BLOCK = re.compile(rb"0x[0-9a-f]+#(\d+)(?:\+(\d+))?")
+
+
+class Drawn(test_open.Drawn):
+    """Besides: accesses of any bytes of a few cells, blocks that are freed and allocated again, ends of locks and semaphores, counters."""
+
+    all_words = [words + more for words in test_open.WORDS for more in ("", "B", "BD", "RWBB")] + ["RWGG", "RWGAF"]
+    sizes = 1, 2, 3, 4, 8, 16, 24
+
+    def step(self, word):
+        if word in "RW":
+            cell = self.draw.choice([*self.cells, *self.blocks()]) + self.draw.randrange(12)
+            self.add("READ" if word == "R" else "WRITE", cell, self.draw.choice(self.sizes))
+        elif word == "B":
+            at = self.draw.choice((0x8000, 0x8020, 0x8040))
+            self.add(*self.draw.choice((("ALLOC", at, 16 * self.draw.randrange(1, 5)), ("FREE", at))))
+        elif word == "G":  # gives, and takes what others gave
+            cell = self.draw.choice(self.cells[:2])
+            self.add("ATOMIC_UPDATE", cell, 4 | 3 << 5)
+            if self.draw.random() < 0.3:
+                super().step("W")
+            self.add("ATOMIC_LOAD", cell, 4 | 2 << 5)
+        elif word == "D":
+            self.add("DESTROY", self.draw.choice((0x6000, 0x7000)))
+        else:
+            super().step(word)
+
+    def blocks(self):
+        return [step.address for step in self.steps if step.operation == "ALLOC"][-3:]
+
+
+def file_of(drawn, draw):
+    """The record of drawn steps. Some plain accesses come late, as the recorder's do, and some of these twice."""
+    file, late, order, before = [], [], 0, None
+    for step in drawn.steps:
+        written = entry(step.thread, step.operation, step.address, step.place, step.size)
+        if step.operation in ("READ", "WRITE") and draw.random() < drawn.late:
+            order = order + 1 if before == len(file) else 1
+            before = len(file)
+            late.append((before << 12 | order, written))
+        else:
+            file.append(written)
+        if draw.random() < 0.1:
+            come(file, late, draw)
+    come(file, late, draw)
+    return HEADER + b"".join(file)
+
+
+def come(file, late, draw):
+    for position, written in [*late, *draw.sample(late, len(late) // 4)]:
+        file += [entry(0, "LATE", position & (1 << 48) - 1, 0), written]
+    late.clear()
+
+
+def draw_record(folder, seed):
+    """The steps of a drawn record, which is written to a file."""
+    drawn = Drawn(seed)
+    drawn.late = drawn.draw.choice((0, 0, 0.3, 0.8))
+    path = folder / "app.rec"
+    path.write_bytes(file_of(drawn, drawn.draw))
+    return drawn.steps, path
+
+
+def scanned(path, converter):
+    """By two places: the first bytes of the variables of which `shb scan` finds a race, as (number of the block, address or offset)."""
+    trace = recorder.must(recorder.call(converter, "--scan", path)).stdout
+    report = Report(io.BytesIO(recorder.must(recorder.call(recorder.SHB, "scan", "--variables", input=trace)).stdout))
+    found = {}
+    for _, (one, other) in report.races():
+        name = one.name.partition(b"!")[0]
+        block = BLOCK.fullmatch(name)
+        byte = (int(block[1]), int(block[2] or 0)) if block else (0, int(name, 16))
+        found.setdefault((int(one.location, 16), int(other.location, 16)), set()).add(byte)
+    return found
+
+
+def differs(steps, found):
+    """What of these places isn't as the analysis has it, or nothing. A variable is named by its first byte; the bytes behind it that race
+    at the same place are of it too."""
+    analysis = Analysis(steps)
+    at = {block.number: block.at for block in analysis.blocks}
+    wanted = {place: {(block, byte - at.get(block, 0)) for block, byte in racing} for place, racing in analysis.races.items()}
+    if found.keys() != wanted.keys():
+        return "places", sorted(found.keys() ^ wanted.keys())
+    for place, racing in wanted.items():
+        begun = {(block, byte) for block, byte in racing if (block, byte - 1) not in racing}
+        if not begun <= found[place] <= racing:
+            return "variables", place
+    return None
+
+
+class Decided(recorder.Case):
+    def test_the_scan_has_the_races_of_the_record(self):
+        places = 0
+        for seed in range(300):
+            steps, path = draw_record(self.folder, seed)
+            found = scanned(path, recorder.BUILT / "shb-std")
+            self.assertIsNone(differs(steps, found), seed)
+            places += len(found)
+        self.assertGreater(places, 1000)
+
+
+FAULTS = {  # to plant in the converter: the file, what stands there, and what in its place
+    "users": ("accesses.c", "if (b->user != t + 1 || with_others) b->many_users = 1;", "if (with_others) b->many_users = 1;"),
+    "cuts": ("accesses.c", "if (operation_of(i) != OP_FREE) cut(end_of(i));", ""),
+    "atomics": ("accesses.c", "if (u.writes_atomically && is_read_by_others(users, t)) {", "if (u.writes_atomically && users->many_readers) {"),
+    "reuse": ("memory.c", "u32 newest = grain > p->whole ? grain : p->whole;", "u32 newest = grain ? 1 : p->whole;"),
+    "late": ("late.c", "return one < other ? -1 : one > other;", "return one > other ? -1 : one < other;"),
+    "scan_name": ("events.c", "        part name = variable_name(p->at, block", "        part name = variable_name(p->at & ~1ul, block"),
+    "shared_lock": ("objects.c", "    int orders = o->many_users || whole_trace;", "    int orders = whole_trace || is_atomic(i);"),
+    "repeats": ("accesses.c", " && last->writes == this.writes", ""),
+    "fences": ("objects.c", "if (releases(i)) fences[thread_of(i)].fenced = 1;", ""),
+    "no begin of a thread that did nothing": ("main.c", "if (!has_events(child) &&", "if (0 &&"),
+    "numbers that are used again": ("records.c", "if (is_joined[number]) with_number[number] = thread_bound();", ""),
+}
+
+
+FAULTS_OF_PAGES = {
+    "no page for what is written atomically": ("page.c", "if (sign) add_name(", "if (0) add_name("),
+    "a write that is passed over orders nothing": ("events.c", "threads[t].epoch += writes;", ""),
+    "locks before what is passed over aren't counted": ("events.c", "    if (holds_unwritten(t)) write_holds(t);\n    meet_page();", "    meet_page();"),
+    "the second pass goes on with the reads of the first": ("accesses.c", "if (recent) memset", "if (0) memset"),
+}
+
+
+class Planted(recorder.Case):
+    def test_each_fault_of_pages_is_found(self):
+        for number, (fault, (name, before, after)) in enumerate(FAULTS_OF_PAGES.items()):
+            with self.subTest(fault):
+                converter = test_open.planted(self.folder / f"page{number}", name, before, after)
+                self.assertTrue(any(self.has_other_page(converter, seed) for seed in range(300)))
+
+    def has_other_page(self, converter, seed):
+        """Whether the page's trace hasn't the places of the run, or lacks accesses of a race."""
+        _, path = draw_record(self.folder, seed)
+        page = self.folder / "page.std"
+        try:
+            found = recorder.scanned(path, page, converter)
+            return bool(found) and recorder.places(page.read_bytes()) != {place for place, _ in found}
+        except AssertionError:
+            return True
+
+    def is_found(self, converter):
+        for seed in range(300):
+            steps, path = draw_record(self.folder, seed)
+            try:
+                if differs(steps, scanned(path, converter)):
+                    return True
+            except AssertionError:
+                return True  # it can't go on
+        return False
+
+    def test_each_fault_is_found(self):
+        for number, (fault, (name, before, after)) in enumerate(FAULTS.items()):
+            with self.subTest(fault):
+                self.assertTrue(self.is_found(test_open.planted(self.folder / str(number), name, before, after)))
