@@ -216,6 +216,7 @@ void find_users(u64 i);
 void find_cuts(u64 i);
 void share_pieces(u64 i);
 void share_object(u64 i);
+void note_record(u64 i);              /* behind each of the passes that share objects and write events, but those of calls */
 extern int has_fences;                 /* known before the third pass */
 void share_fence(u64 i);
 void forget_states(void);              /* of objects, between the passes */

@@ -80,7 +80,13 @@ typedef struct { u32 object, version; } note;
 static struct { note *notes; u64 count, capacity; int fenced; } fences[THREADS];   /* fenced: by a release fence */
 int has_fences;
 
+/* What t gave before, and what it has taken, is in what it gives now. */
 static void give(object *o, u32 t, int locked) {
+    u64 kept = 0;
+    u32 last = *seen_by(o, t);
+    for (u64 k = 0; k < o->gift_count; k++)
+        if (o->gifts[k].giver != t && o->gifts[k].version > last) o->gifts[kept++] = o->gifts[k];
+    o->gift_count = kept;
     GROW(o->gifts, o->gift_count, o->gift_capacity);
     o->gifts[o->gift_count++] = (gift){++o->version, t, locked};
 }
@@ -91,6 +97,29 @@ static void take_gifts(object *o, u32 t, int by_lock, handing hand, u64 caller) 
     for (u64 k = o->gift_count; k-- > 0 && o->gifts[k].version > last;)
         if (o->gifts[k].giver != t && !(by_lock && o->gifts[k].locked)) hand(o, o->gifts[k].version, t, caller);
     *seen_by(o, t) = o->version;
+}
+
+static struct { u64 record, object; } last_of[THREADS];      /* a thread's last record; the object that it gave something by that; plus one */
+
+void note_record(u64 i) {
+    u32 t = thread_of(i);
+    if (last_of[t].record != i + 1) last_of[t].object = 0;
+    last_of[t].record = i + 1;
+}
+
+static void note_gift(u64 i, const object *o) {
+    last_of[thread_of(i)].object = o - objects + 1;
+    last_of[thread_of(i)].record = i + 1;
+}
+
+/* Who gave, and takes what others gave before it does anything else, may give it all on, and nothing besides: so those who take after it
+   take one gift. Gives whether it does. */
+static int gives_all_on(object *o, u32 t) {
+    u64 k = 0;
+    while (k < o->gift_count && o->gifts[k].giver != t) k++;
+    if (o->gift_count <= 2 || k == o->gift_count || last_of[t].object != (u64)(o - objects + 1)) return 0;
+    give(o, t, 0);
+    return 1;
 }
 
 /* A relaxed read: t will take the gifts at its next fence, if there is one. */
@@ -132,13 +161,13 @@ static void store_value(u64 i, object *o) {
     o->head = o->version;
 }
 
-/* An update keeps what the value before gave; one by the lock has taken all, and gives it on. */
+/* An update keeps what the value before gave, but for what is in its own gift; one by the lock has taken all. */
 static void write_value(u64 i, object *o) {
+    if (gives(i)) note_gift(i, o);
     if (operation_of(i) == OP_ATOMIC_STORE) {
         store_value(i, o);
         return;
     }
-    if (is_by_lock(i)) o->gift_count = 0;
     if (gives(i)) give(o, thread_of(i), is_by_lock(i));
 }
 
@@ -165,7 +194,9 @@ static void will_read(object *o, u32 t) {
 
 static void share_atomic(u64 i, object *o) {
     if (operation_of(i) != OP_ATOMIC_STORE) read_value(i, o, is_by_lock(i), add_taker);
-    if (operation_of(i) != OP_ATOMIC_LOAD) write_value(i, o);
+    if (operation_of(i) == OP_ATOMIC_LOAD) {
+        if (acquires(i)) gives_all_on(o, thread_of(i));
+    } else write_value(i, o);
 }
 
 void share_fence(u64 i) { pass_fence(i, add_taker); }
@@ -226,7 +257,10 @@ void forget_states(void) {
         o->gift_count = 0;
         o->waiter_count = o->first_waiters;
     }
-    for (u32 t = 0; t < thread_bound(); t = next_thread(t)) fences[t].count = fences[t].fenced = 0;
+    for (u32 t = 0; t < thread_bound(); t = next_thread(t)) {
+        fences[t].count = fences[t].fenced = 0;
+        last_of[t].object = 0;
+    }
     if (seen_count) memset(seen, 0, seen_count * sizeof *seen);
     if (seen_count) memset(noted, 0, seen_count * sizeof *noted);
     forget_holds();
@@ -393,6 +427,7 @@ static void atomic_events(u64 i, object *o) {
     int by_lock = is_by_lock(i) || (stores && gives(i));
     if (o->many_users) note_atomic(i, o - objects);
     if (!stores) read_value(i, o, by_lock, take_version);
+    if (loads && acquires(i) && gives_all_on(o, t)) publish(o, t, caller);
     if (!loads) write_value(i, o);
     if (by_lock) take_lock(o, t, of_version(o->head), caller);
     access_events(i);

@@ -125,6 +125,8 @@ FAULTS = {  # to plant in the converter: the file, what stands there, and what i
     "shared_lock": ("objects.c", "    int orders = o->many_users || whole_trace;", "    int orders = whole_trace || is_atomic(i);"),
     "repeats": ("accesses.c", " && last->writes == this.writes", ""),
     "fences": ("objects.c", "if (releases(i)) fences[thread_of(i)].fenced = 1;", ""),
+    "what others gave is dropped": ("objects.c", "if (o->gifts[k].giver != t && o->gifts[k].version > last)", "if (0)"),
+    "more than gifts is given on": ("objects.c", " || last_of[t].object != (u64)(o - objects + 1)", ""),
     "no begin of a thread that did nothing": ("main.c", "if (!has_events(child) &&", "if (0 &&"),
     "numbers that are used again": ("records.c", "if (is_joined[number]) with_number[number] = thread_bound();", ""),
 }
