@@ -10,7 +10,8 @@
 #include <unistd.h>
 #include "dwarf.h"
 
-enum { MOST_INFLATED = 1 << 30 };
+enum { MOST_INFLATED = 1 << 30 };     /* of one section, and half of all together */
+static u64 inflated_bytes;
 
 /* ---- the sections of a file ---- */
 static bytes part_of(bytes file, u64 offset, u64 size) {
@@ -49,6 +50,8 @@ static Elf64_Shdr header_of(bytes file, const char *name) {
     return next_header(file, name, &first);
 }
 
+static int is_in_budget(u64 size) { return size && size <= MOST_INFLATED && inflated_bytes + size <= 2ull * MOST_INFLATED; }
+
 /* What a section has that was compressed (-gz), by the library of its form where that is on the machine; it stays for good. */
 static bytes inflated(bytes section) {
     typedef int of_zlib(uint8_t *, unsigned long *, const uint8_t *, unsigned long);
@@ -60,11 +63,14 @@ static bytes inflated(bytes section) {
     skip(&section, sizeof head);
     void *library = dlopen(head.ch_type == ZLIB ? "libz.so.1" : "libzstd.so.1", RTLD_NOW);
     void *function = library ? dlsym(library, head.ch_type == ZLIB ? "uncompress" : "ZSTD_decompress") : 0;
-    uint8_t *to = function && head.ch_size && head.ch_size <= MOST_INFLATED ? malloc(head.ch_size) : 0;
+    uint8_t *to = function && is_in_budget(head.ch_size) ? malloc(head.ch_size) : 0;
     unsigned long size = head.ch_size, from = section.end - section.at;
     int is_done = to && (head.ch_type == ZLIB ? !((of_zlib *)function)(to, &size, section.at, from)
                          : head.ch_type == ZSTD && ((of_zstd *)function)(to, size, section.at, from) == size);
-    if (is_done) return (bytes){to, to + size, 0};
+    if (is_done) {
+        inflated_bytes += size;
+        return (bytes){to, to + size, 0};
+    }
     free(to);
     return (bytes){0};
 }

@@ -76,20 +76,24 @@ unit *unit_at(struct members *m, u64 offset) {
 }
 
 /* ---- abbreviations ---- */
+/* Codes count from 1 on, so none is above the section's size. In a hostile module each unit may have all of a long one. */
 static void read_abbreviations(unit *u) {
+    enum { MOST_IN_ALL = 1 << 28 };
+    static u64 in_all;
     bytes b = u->in->of[ABBREVIATIONS];
+    u64 most = b.end - b.at < MOST_CODES ? b.end - b.at : MOST_CODES;
     skip(&b, u->abbreviations);
-    for (u64 code = 0; !b.is_bad && (code = variable(&b));) {
+    for (u64 code = 0; !b.is_bad && in_all < MOST_IN_ALL && (code = variable(&b)); in_all++) {
         abbreviation a = {.tag = variable(&b)};
         a.has_children = fixed(&b, 1);
         a.attributes = b;
         for (u64 name, form; name = variable(&b), form = variable(&b), !b.is_bad && (name || form);)
             if (form == FORM_CONSTANT) variable(&b);
-        while (u->code_count <= code && code < MOST_CODES) {
+        for (; u->code_count <= code && code < most; in_all++) {
             GROW(u->codes, u->code_count, u->code_capacity);
             u->codes[u->code_count++] = (abbreviation){0};
         }
-        if (code < MOST_CODES && !b.is_bad) u->codes[code] = a;
+        if (code < most && !b.is_bad) u->codes[code] = a;
     }
 }
 

@@ -20,13 +20,15 @@ static sections *with_linked(const struct members *m, sections of_file) {
     return found;
 }
 
-/* A file may have a section for each of its units of a type. */
+/* A file may have a section for each of its units of a type. In a hostile one many sections are the same bytes. */
 static void read_file(struct members *m, bytes file) {
+    enum { SMALLEST_UNIT = 11 };
     static const char *const names[] = {[INFO] = ".debug_info.dwo", [TYPES] = ".debug_types.dwo"};
     sections first = read_sections(file, ".dwo");
+    u64 most = m->unit_count + (file.end - file.at) / SMALLEST_UNIT;
     for (enum section k = INFO; k <= TYPES; k++) {
         u64 number = 0;
-        for (bytes part; (part = next_section(file, names[k], &number)).at;) {
+        for (bytes part; m->unit_count <= most && (part = next_section(file, names[k], &number)).at;) {
             first.of[INFO] = first.of[TYPES] = (bytes){0};
             first.of[k] = part;
             read_units(m, with_linked(m, first));
