@@ -127,7 +127,8 @@ def record(options):
     try:
         for number in range(1, options.runs + 1):
             run = Run(options, number, results.work)
-            own, stops.first = own or run.status(), stops.first or run.stop
+            own = own or run.status()
+            stops.note(run.stop, run.stopped)
             look.run(number)
             if stops.first:
                 say(f"stopped by {signal.Signals(stops.first).name}")

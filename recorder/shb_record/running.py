@@ -29,7 +29,7 @@ class Run:
     did is shown all the same."""
 
     def __init__(self, options, number, folder):
-        self.wait, self.stop, self.end = options.wait, None, None  # the signal that stopped it, and when it is killed
+        self.wait, self.stop, self.stopped, self.end = options.wait, None, None, None  # the last signal, when the first came, and when it is killed
         watched = STOPS | {signal.SIGCHLD}
         before = signal.pthread_sigmask(signal.SIG_BLOCK, watched)
         try:
@@ -49,7 +49,7 @@ class Run:
         """Waits for a signal, passes it on, and kills what was told to end and is still there. The terminal has told all by itself."""
         took = signal.sigwaitinfo(watched) if seconds is None else signal.sigtimedwait(watched, max(seconds, 0))
         if took and took.si_signo in STOPS:
-            self.stop = took.si_signo
+            self.stop, self.stopped = took.si_signo, self.stopped or time.monotonic()
             if took.si_code <= 0:  # from a process, not from the terminal
                 self.end = self.end or time.monotonic() + self.wait
                 self.tell(self.stop)

@@ -687,10 +687,16 @@ class Command(recorder.Case):
 
     def test_a_second_signal_while_a_page_is_made(self):
         """The places are known by then."""
-        status, said = self.signalled("SIGINT", "SIGTERM")
+        status, said = self.signalled("SIGINT", "SIGTERM", "SIGTERM")
         self.assertEqual((status, "stopped at once" in said, "1 place with races" in said), (66, True, True), said)
         self.assertIn("run1.N.rec", self.names())
         self.assertNotIn("run1.N.html", self.names())
+
+    def test_a_signal_that_comes_twice(self):
+        """`timeout` sends SIGTERM to the command, and then to its whole group."""
+        status, said = self.signalled("SIGTERM", "SIGTERM")
+        self.assertEqual((status, "stopped at once" in said), (66, False), said)
+        self.assertIn("run1.N.html", self.names())
 
     def signalled(self, *numbers):
         """Sends signals to the command when it begins a page."""
