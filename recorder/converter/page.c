@@ -17,7 +17,7 @@
 #include <string.h>
 #include "converter.h"
 
-enum { CONTEXT = 2000, SHORT_RUN = 20000, ONE_TRACE = 200000 };          /* events */
+enum { CONTEXT = 2000, SHORT_RUN = 20000, ONE_TRACE = 200000, SPARSE = 4 };          /* events; one of SPARSE is kept, about */
 typedef struct { u64 first, last; } span;
 
 int for_page;
@@ -64,10 +64,39 @@ static void add_race(u64 first, u64 second, const char *variable) {
     if (sign) add_name(variable, sign - variable);
 }
 
+static u64 length_of(const span *s) { return s->last - s->first; }
+
+/* How many events are between the accesses of races. */
+static u64 covered(void) {
+    u64 sum = 0, end = 0;
+    qsort(spans, span_count, sizeof *spans, by_first);
+    for (u64 k = 0; k < span_count; k++) {
+        u64 from = spans[k].first > end ? spans[k].first : end;
+        if (spans[k].last > from) sum += spans[k].last - from;
+        if (spans[k].last > end) end = spans[k].last;
+    }
+    return sum;
+}
+
+/* Where a page has no room for all races, those whose accesses are far apart give way: else the first such one may take it all. */
+static void drop_far(void) {
+    while (covered() > SPARSE * event_limit) {
+        u64 longest = 0, kept = 0;
+        for (u64 k = 0; k < span_count; k++)
+            if (length_of(&spans[k]) > longest) longest = length_of(&spans[k]);
+        for (u64 k = 0; k < span_count; k++) kept += length_of(&spans[k]) <= longest / 2;
+        if (!kept) return;
+        kept = 0;
+        for (u64 k = 0; k < span_count; k++)
+            if (length_of(&spans[k]) <= longest / 2) spans[kept++] = spans[k];
+        span_count = kept;
+    }
+}
+
 /* Where all races are near each other there is one span, and it begins and ends with the run where that is short. */
 static void join_spans(void) {
     u64 count = 0, last = 0;
-    qsort(spans, span_count, sizeof *spans, by_first);
+    drop_far();
     for (u64 k = 0; k < span_count; k++)
         if (spans[k].last > last) last = spans[k].last;
     u64 gap = last - spans[0].first <= ONE_TRACE ? -1ull : SHORT_RUN;
