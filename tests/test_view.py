@@ -20,8 +20,8 @@ from shb_view import command, counting, groups, names
 FORK_JOIN = """\
 fork-join.std: 1 race at 1 place, in 1 group (7 events, 2 threads, 0 locks, 2 variables)
 
-1. count: 2 threads write (1 race, 1 place)
-   In this trace 2 threads write, and no lock is held at any access.
+1. count: start.c:6 and worker.c:3 write without a lock (1 race, 1 place)
+   In this trace no lock is held at any access; 2 threads write, at start.c:6 and worker.c:3.
    start.c:6: 1 write by main
      no lock held
      races with worker.c:3 (1 race)
@@ -40,7 +40,7 @@ FORK_JOIN_ALL = FORK_JOIN + """
        thread started by main at start.c:5 (event 2)
      write by main at start.c:6 (event 5)
        no lock held
-     In this trace 2 threads write, and no lock is held at any access.
+     In this trace no lock is held at any access; 2 threads write, at start.c:6 and worker.c:3.
      `shb places` has a schedule of it, race 1: after its 3 events both accesses can execute next.
    Before the accesses:
      1  main    w(config)     start.c:4
@@ -52,8 +52,8 @@ FORK_JOIN_ALL = FORK_JOIN + """
 UNLOCKED_READ = """\
 unlocked-read.std: 3 races at 3 places, in 2 groups (18 events, 3 threads, 1 lock, 3 variables)
 
-1. items: main.c:11 doesn't hold lock (1 race, 1 place)
-   In this trace lock is held at queue.c:22, and not at main.c:11.
+1. items: main.c:11 reads without lock (1 race, 1 place)
+   In this trace every access at queue.c:22 and queue.c:31 holds lock, and main.c:11 reads without it.
    main.c:11 read what queue.c:22 wrote. This racy read may hide other races: fix it and run again.
    queue.c:22: 1 write by producer
      holds lock
@@ -66,8 +66,8 @@ unlocked-read.std: 3 races at 3 places, in 2 groups (18 events, 3 threads, 1 loc
    queue.c:31: 1 read by consumer
      holds lock
 
-2. closed: one thread writes (2 races, 2 places)
-   In this trace only main writes, at main.c:12, and no lock is held at any access.
+2. closed: main.c:12 writes, queue.c:29 reads without a lock (2 races, 2 places)
+   In this trace no lock is held at any access; one thread writes, at main.c:12.
    queue.c:29 read what main.c:12 wrote. This racy read may hide other races: fix it and run again.
    main.c:12: 1 write by main
      no lock held
@@ -80,7 +80,7 @@ unlocked-read.std: 3 races at 3 places, in 2 groups (18 events, 3 threads, 1 loc
 ACCOUNT = """\
 account.std: 1 race at 1 place, in 1 group (12 events, 2 threads, 1 lock, 1 variable)
 
-1. balance: account.c:8 doesn't hold door (1 race, 1 place)
+1. balance: account.c:8 reads without door (1 race, 1 place)
    In this trace every write holds door, and account.c:8 reads without it.
    account.c:8 read what account.c:10 wrote. This racy read may hide other races: fix it and run again.
    account.c:10: 2 reads and 2 writes by T1.pay and main
@@ -95,8 +95,8 @@ account.std: 1 race at 1 place, in 1 group (12 events, 2 threads, 1 lock, 1 vari
 PLACES = """\
 places.std: 6 races at 3 places, in 1 group (4 events, 4 threads, 0 locks, 1 variable)
 
-1. total: 3 threads write (6 races, 3 places)
-   In this trace 3 threads write, and no lock is held at any access.
+1. total: Counter.java:12 writes, Report.java:30 reads without a lock (6 races, 3 places)
+   In this trace no lock is held at any access; 3 threads write, at Counter.java:12.
    Report.java:30 read what Counter.java:12 wrote. This racy read may hide other races: fix it and run again.
    Counter.java:12: 3 writes by T1, T2 and T4
      no lock held
@@ -131,7 +131,7 @@ class Text(program.Case):
         self.expect(run(words), 0, noted(FORK_JOIN, "The report wasn't checked (--check does it).").encode())
         self.expect(run(["--check", *words]), 0, noted(FORK_JOIN, "shb check: ok 1").encode())
         self.assertEqual(run(["--all", "--check", *words]).out.decode().splitlines()[-6:-4], [
-            "     In this trace 2 threads write, and no lock is held at any access.",
+            "     In this trace no lock is held at any access; 2 threads write, at start.c:6 and worker.c:3.",
             "     `shb check` found the schedule of race 1 good: after its 3 events both accesses can execute next."])
         said = run(["--all", *words]).out.decode()
         self.assertIn("     No schedule of this race is at hand: events are shown in the order of the trace.\n", said)
@@ -208,17 +208,17 @@ class Facts(program.Case):
 
     def test_lines_are_in_the_order_of_their_numbers(self):
         self.assertEqual(self.said("A w x 10", "A w x 9", "A w x 100", "B r x 4"),
-                         ["In this trace only A writes, at f.c:9, f.c:10 and f.c:100, and no lock is held at any access."])
+                         ["In this trace no lock is held at any access; one thread writes, at f.c:9, f.c:10 and f.c:100."])
 
     def test_a_line_that_sometimes_lacks_the_lock(self):
         self.assertEqual(self.said("A acq l 1", "A w x 2", "A rel l 3", "B r x 4", "B acq l 5", "B r x 4"),
-                         ["In this trace every write holds l, and f.c:4 reads without it at some accesses."])
+                         ["In this trace every write holds l, and f.c:4 reads without it at 1 of 2 accesses."])
 
     def test_a_lock_at_some_lines_that_write(self):
         self.assertEqual(self.said("A acq l 1", "A w x 2", "A rel l 3", "B w x 4"),
-                         ["In this trace l is held at f.c:2, and not at f.c:4."])
+                         ["In this trace every other access holds l, and f.c:4 writes without it."])
         self.assertEqual(self.said("A acq l 1", "A w x 2", "A rel l 3", "B w x 4", "B acq l 5", "B w x 4"),
-                         ["In this trace l is held at f.c:2, and not always at f.c:4."])
+                         ["In this trace every other access holds l, and f.c:4 writes without it at 1 of 2 accesses."])
 
     def test_a_line_that_writes_and_sometimes_lacks_the_lock(self):
         """As in a helper that one caller calls without the lock; of several such lines each is said."""
@@ -245,7 +245,7 @@ class Facts(program.Case):
         self.assertEqual(self.said(*lines), ["In this trace every write holds rw, and f.c:7 reads without it."])
         out = run_here([self.file(trace_of(*lines))])[1]
         self.assertIn("   f.c:5: 2 reads by A and B\n     holds rw for reading\n", out)
-        self.assertEqual(re.findall(r"(.*) hold rw", out), ["1. x: f.c:7 doesn't"])
+        self.assertEqual(re.findall(r"(.*) without rw \(", out), ["1. x: f.c:7 reads"])
 
     def test_an_atomic_and_a_plain_access(self):
         """As the recorder writes them: T's atomic write of n is `r(n)` and `w(n!T)` under a lock that the program doesn't have; a plain
@@ -267,18 +267,17 @@ class Facts(program.Case):
         self.assertIn("   f.c:3: 1 read by C\n", out)
 
     def test_several_threads_write(self):
-        self.assertEqual(self.said("A w x 1", "B w x 2"), ["In this trace 2 threads write, and no lock is held at any access."])
+        self.assertEqual(self.said("A w x 1", "B w x 2"), ["In this trace no lock is held at any access; 2 threads write, at f.c:1 and f.c:2."])
         self.assertEqual(self.said("A w x 1", "B acq l 2", "B w x 3", "B rel l 4", "C w x 3", "D w x 5", "D acq l 2", "D r x 6"),
-                         ["In this trace l is held at 1 of 2 accesses at f.c:3."])
+                         ["In this trace every read holds l, and f.c:3, f.c:1 and f.c:5 write without it at 3 of 4 accesses."])
 
     def test_one_thread_writes(self):
-        self.assertEqual(self.said("A w x 1", "B acq l 2", "B r x 3"),
-                         ["In this trace only A writes, at f.c:1, and no single lock is held at all accesses."])
+        self.assertEqual(self.said("A w x 1", "B acq l 2", "B r x 3"), ["In this trace every read holds l, and f.c:1 writes without it."])
 
     def test_a_lock_that_readers_alone_hold_is_no_rule(self):
         """The writer never holds it; so nothing says that it belongs to the variable."""
         self.assertEqual(self.said("A w x 1", "B acq l 2", "B r x 3", "B rel l 4", "C r x 5"),
-                         ["In this trace only A writes, at f.c:1, and no single lock is held at all accesses."])
+                         ["In this trace f.c:1 holds no lock, f.c:3 holds l and f.c:5 holds no lock, and no lock is common to them."])
 
     def test_many_lines_are_not_all_named(self):
         reads = [f"R{line} r x {line}" for line in range(11, 16)]
@@ -290,7 +289,7 @@ class Facts(program.Case):
         lines = ["A w one 1", "R r one 2", "S r one 3", "A w two 4", "B w two 5", "A acq l 6", "A w three 7", "A rel l 8", "B r three 9",
                  "A acq l 10", "A w four 11", "A rel l 12", "B w four 13", "A w five 14", "R r five 15", "S r five 16", "Q r five 17"]
         heads = re.findall(r"^\d+\. (\w+):", run_here([self.file(trace_of(*lines))])[1], re.M)
-        self.assertEqual(heads, ["three", "four", "two", "five", "one"])
+        self.assertEqual(heads, ["three", "four", "five", "one", "two"])
 
     def test_a_foreign_report_of_ordered_accesses(self):
         """No report of `shb` has such a pair, and the fact says why."""
@@ -298,8 +297,8 @@ class Facts(program.Case):
         report = (b"shb-report 2\nevents 5 threads 2 locks 1 variables 1\nraces 1\nplaces 1\nplace 1: 1\nat f.c:2\nand f.c:5\n"
                   b"race 1: 2 5\nfirst A|w(x)|f.c:2\nsecond B|w(x)|f.c:5\nend\n")
         [section] = sections(trace, report, None)
-        self.assertEqual("".join(part if isinstance(part, str) else part.decode() for part in section.fact.sentence),
-                         "In this trace every access holds l, which orders them: these are no races.")
+        self.assertEqual("".join(part if isinstance(part, str) else part.decode() for part in section.fact.sentences[0]),
+                         "In this trace every access holds l: these are no races.")
 
 
 class Sites(program.Case):
@@ -316,7 +315,7 @@ class Sites(program.Case):
         self.assertEqual(said[4:14], [
             "   f.c:2: 1 write by A", "     holds l; holds m", "     races with f.c:4 (1 race) and f.c:9 (1 race)",
             "   f.c:4: 2 reads by B", "     holds l at 1 of 2; no lock held at 1 of 2", "     races with f.c:2 (1 race)",
-            "   f.c:9: 1 read by C", "     holds n2; doesn't hold l", "     races with f.c:2 (1 race)",
+            "   f.c:9: 1 read by C", "     holds n2", "     races with f.c:2 (1 race)",
             "   f.c:7: 1 read by B"])
         self.assertEqual(said[14:], ["     holds l; holds n"])
 
@@ -335,8 +334,8 @@ class Sites(program.Case):
         locks = [f"A acq l{k} 1" for k in range(65)]
         said = self.lines(*locks, "A w x 2", "B w x 3")
         self.assertIn("     locks not counted at 1 of 1", said)
-        self.assertIn("   In this trace 2 threads write, and the locks held at 1 access aren't counted.", said)
-        self.assertIn("   In this trace l0 is held at f.c:2, and not at f.c:3.", self.lines(*locks[:64], "A w x 2", "B w x 3"))
+        self.assertIn("   In this trace the locks held at 1 access aren't counted.", said)
+        self.assertIn("   In this trace every other access holds l0, and f.c:3 writes without it.", self.lines(*locks[:64], "A w x 2", "B w x 3"))
 
     def test_no_fact_of_a_lock_where_some_locks_are_not_counted(self):
         """Both writes hold l0, and the first one too many others."""
@@ -344,7 +343,7 @@ class Sites(program.Case):
         said = self.lines(*(f"A acq {lock} 1" for lock in locks), "A w x 2", *(f"A rel {lock} 3" for lock in locks),
                           "C acq l0 4", "C w x 5", "C rel l0 6", "B r x 7")
         self.assertEqual([line for line in said if "In this trace" in line],
-                         ["   In this trace 2 threads write, and the locks held at 1 access aren't counted."])
+                         ["   In this trace the locks held at 1 access aren't counted."])
 
     def test_nested_acquires_of_a_lock(self):
         said = self.lines("A acq l 1", "A acq l 1", "A rel l 1", "A w x 2", "A rel l 3", "B r x 4")
@@ -381,7 +380,7 @@ class Sites(program.Case):
         self.addCleanup(setattr, counting, "MOST_KINDS", most)
         said = self.lines("A w x 1", "B w x 2", "B r x 3", "A r x 1", "A w x 1")
         self.assertEqual(said[3:], [
-            "   In this trace 2 threads write, and the locks held at 2 accesses aren't counted.",
+            "   In this trace the locks held at 2 accesses aren't counted.",
             "   f.c:1: 2 writes by A", "     no lock held", "     races with f.c:2 (2 races) and f.c:3 (2 races)",
             "   f.c:2: 1 write by B", "     no lock held", "     races with f.c:1 (2 races)",
             "   (further lines): 2 reads", "     locks not counted at 2 of 2"])
@@ -490,7 +489,7 @@ class Groups(program.Case):
                                    "Call stacks are those of one race of each variable at each place.\n")):
             events = [f"{thread} w {variable} {line}" for thread, line in (("A", 1), ("B", 2)) for _ in range(many) for variable in "xy"]
             out = run_here([self.file(trace_of(*events))])[1]
-            self.assertIn(f"\n{note}\n1. x and 1 more: 2 threads write ({2 * many * many:,} races, 1 place)\n", out)
+            self.assertIn(f"\n{note}\n1. x and 1 more: f.c:1 and f.c:2 write without a lock ({2 * many * many:,} races, 1 place)\n", out)
             found = self.folder / "found.json"
             self.assertEqual(run_here(["--json", found, self.file(trace_of(*events))])[0], 0)
             [place] = json.loads(found.read_text())["places"]
@@ -520,7 +519,7 @@ class Groups(program.Case):
         said = run_here([EXAMPLES / "places.std", self.folder / "t.report"])[1].splitlines()
         self.assertEqual(said[0], "places.std: 3 of 6 races at 3 places, in 1 group (4 events, 4 threads, 0 locks, 1 variable)")
         self.assertEqual(said[2:5], ["The report doesn't list all races of the trace; the counts are the report's.", "",
-                                     "1. total: 3 threads write (3 races, 3 places)"])
+                                     "1. total: Counter.java:12 writes, Report.java:30 reads without a lock (3 races, 3 places)"])
 
     def test_two_hundred_groups_are_shown(self):
         for many, more in ((200, ""), (202, "\nand 2 more groups\n")):
@@ -695,7 +694,7 @@ class Names(program.Case):
         name = "v" * 200
         out = run_here([self.file(f"A|w({name})|{name}\nB|w({name})|b\n".encode())])[1]
         cut = "v" * 39 + "…" + "v" * 40
-        self.assertIn(f"1. {cut}: 2 threads write", out)
+        self.assertIn(f"1. {cut}: b and {cut} write without a lock", out)
         self.assertIn(f"   {cut}: 1 write by A\n", out)
         self.assertNotIn("v" * 41, out)
 

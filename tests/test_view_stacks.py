@@ -183,7 +183,7 @@ class Stacks(program.Case):
             tables = TABLES + f"local 0\ta.c:9#2+40\t{member}\nlocal 0\ta.c:9#2\t{lock}\n".encode()
             _, out, err = self.shown(stacks([1, 9, 5, 7, 5], tables), "--all", trace=trace)
             self.assertEqual(err, "")
-            self.assertIn(f"1. {member}: a.c:7 doesn't hold {lock} (", out)
+            self.assertIn(f"1. {member}: a.c:7 writes without {lock} (", out)
             self.assertRegex(out, rf"(?m)^     2  T1 +acq\({re.escape(lock)}\) +a\.c:4$")
             self.assertIn("   block a.c:9#2 was allocated in make a.c:9, from main a.c:31\n", out)
             self.assertNotIn("#2+40", out)
@@ -202,7 +202,7 @@ class Stacks(program.Case):
         _, out, err = self.shown(stacks([0] * 9, tables), trace=trace)
         self.assertEqual(err, "")
         self.assertIn("1. Account.balance (2 blocks): ", out)
-        self.assertIn("     holds Account.lock of a.c:9#2 at 1 of 2; holds Account.lock of a.c:9#3 at 1 of 2\n", out)
+        self.assertIn("     holds its own lock Account.lock\n", out)
 
     def test_locks_and_atomics_on_stacks(self):
         """They have the name of the local that they are, where that is the same one in the whole trace, also of a lock for reading."""
@@ -217,11 +217,11 @@ class Stacks(program.Case):
             self.shown(stacks([1, 9, 5, 7, 5], tables), "--html", self.folder / "page.html", trace=trace)
             self.assertIn(f"lock {name}, held at a.c:5, was taken at", [text for _, text in Page((self.folder / "page.html").read_text()).all("p")])
         trace = b"main|fork(T1)|a.c:1\nmain|w(a.c:9#2)|a.c:5\nT1|r(a.c:9#2)|a.c:7\n"
-        tables = (b"atomic stack.main-0x20\tmain\ta.c:6\tstore relaxed\natomic stack.main-0x20\tT1\ta.c:4\tload acquire\n"
+        tables = (b"use 3\tstack.main-0x20\tmain\ta.c:6\tstore relaxed\nuse 3\tstack.main-0x20\tT1\ta.c:4\tload acquire\n"
                   b"local 3\tstack.main-0x20\tq.tail of main\n")
         _, out, _ = self.shown(stacks(tables=TABLES + tables), trace=trace)
-        self.assertIn(": a.c:6 writes q.tail of main relaxed (", out)
-        self.assertIn("   main and T1 use the atomic q.tail of main: a.c:6 writes it relaxed", out)
+        self.assertIn(": a.c:6 writes q.tail of main without release (", out)
+        self.assertIn("   main and T1 hand this on by the atomic q.tail of main: a.c:6 writes it relaxed after the first access, ", out)
 
     def test_a_free(self):
         """One call frees a block of two variables that another thread uses: it is one free, and no write."""
@@ -262,34 +262,45 @@ class Stacks(program.Case):
         self.assertIn("   a.c:5 read what a.c:7 freed. This racy read may hide other races: fix it and run again.\n", out)
 
     def test_an_atomic_that_hands_on_without_order(self):
-        """The trace need not have it. With release and acquire it orders, and is no reason; nor is one that one of the threads alone uses."""
-        trace = b"main|fork(T1)|a.c:1\nmain|w(a.c:9#2)|a.c:5\nT1|r(a.c:9#2)|a.c:7\nmain|join(T1)|a.c:8\nmain|fork(T2)|a.c:9\n"
-        says = ("   main and T1 use the atomic slot: a.c:6 writes it {}, a.c:4 reads it {}. A write with release and a read with acquire "
-                "would order what comes before the write and after the read.\n")
-        for store, load, words in (("relaxed", "acquire", ("relaxed", "with acquire")), ("release", "relaxed", ("with release", "relaxed")),
-                                   ("release", "acquire", None), ("both", "both", None)):
-            tables = f"atomic slot\tmain\ta.c:6\tstore {store}\natomic slot\tT1\ta.c:4\tload {load}\natomic own\tT1\ta.c:3\tstore relaxed\n"
-            _, out, err = self.shown(stacks(tables=TABLES + tables.encode()), trace=trace)
-            self.assertEqual((err, "use the atomic" in out), ("", words is not None))
-            self.assertTrue(words is None or says.format(*words) + "   In this trace only main writes" in out, out)
+        """Between the two accesses one thread stores it and the other loads that store; the trace need not have it."""
+        says = ("   main and T1 hand this on by the atomic slot: a.c:6 writes it {} after the first access, and a.c:4 reads it {} before the "
+                "second. With {} they would be ordered.\n")
+        both = "relaxed", "relaxed", "release and acquire"
+        for uses, words, headline in (
+                (("main store relaxed", "T1 load acquire"), ("relaxed", "with acquire", "release"), "a.c:6 writes slot without release"),
+                (("main store release", "T1 load relaxed"), ("with release", "relaxed", "acquire"), "a.c:4 reads slot without acquire"),
+                (("main store relaxed", "T1 load relaxed"), both, "a.c:6 writes slot without release, and a.c:4 reads it without acquire"),
+                (("main store relaxed", "T1 load relaxed", "T1 fence acquire"), ("relaxed", "with acquire", "release"), "a.c:6 writes slot without release"),
+                (("main store relaxed", "T1 fence acquire", "T1 load relaxed"), both, "a.c:6 writes slot without release, and a.c:4 reads it without acquire"),
+                (("main store relaxed", "T2 update relaxed", "T1 load relaxed"), both, "a.c:6 writes slot without release, and a.c:4 reads it without acquire"),
+                (("main store release", "T1 load acquire"), None, None), (("T1 load relaxed", "main store relaxed"), None, None),
+                (("main store relaxed", "T2 store relaxed", "T1 load relaxed"), None, None), (("T1 store relaxed", "T1 load relaxed"), None, None),
+                (("main update relaxed", "T1 update relaxed"), None, None)):
+            with self.subTest(uses):
+                out = self.with_uses(3, uses)
+                self.assertEqual("hand this on" in out, words is not None)
+                self.assertIn(says.format(*words) if words else "   In this trace no lock is held", out)
+                self.assertIn(f"1. a.c:9#2: {headline or 'a.c:5 writes, a.c:7 reads without a lock'} (1 race, 1 place)\n", out)
+        for event in (2, 4):   # before the first access, and after the second
+            self.assertNotIn("hand this on", self.with_uses(event, ("main store relaxed", "T1 load relaxed")))
 
-    def test_what_hands_on_without_order_is_the_headline(self):
+    def with_uses(self, event, uses):
+        """What is said of a race of main's write with T1's read, where an atomic is used before an event."""
+        lines = {"store": "a.c:6", "load": "a.c:4", "update": "a.c:8", "fence": "a.c:3"}
         trace = b"main|fork(T1)|a.c:1\nmain|w(a.c:9#2)|a.c:5\nT1|r(a.c:9#2)|a.c:7\nmain|join(T1)|a.c:8\nmain|fork(T2)|a.c:9\n"
-        page = self.folder / "page.html"
-        for store, load, words in (("relaxed", "acquire", "a.c:6 writes slot relaxed"), ("release", "relaxed", "a.c:4 reads slot relaxed"),
-                                   ("both", "both", "one thread writes")):
-            tables = f"atomic slot\tmain\ta.c:6\tstore {store}\natomic slot\tT1\ta.c:4\tload {load}\n"
-            out = self.shown(stacks(tables=TABLES + tables.encode()), "--text", "--html", page, trace=trace)[1]
-            self.assertIn(f"1. a.c:9#2: {words} (1 race, 1 place)\n", out)
-            self.assertEqual(([text for _, text in Page(page.read_text()).all("h2")], [text for _, text in Page(page.read_text()).all("span", "tag")]),
-                             ([f"1 a.c:9#2: {words}"], [words]))
+        tables = ""
+        for thread, kind, order in map(str.split, uses):
+            tables += f"use {event}\t{'slot' * (kind != 'fence')}\t{thread}\t{lines[kind]}\t{kind} {order}\n"
+        status, out, err = self.shown(stacks(tables=TABLES + tables.encode()), trace=trace)
+        self.assertEqual((status, err), (0, ""))
+        return out
 
     def test_its_lines_are_marked_in_the_code(self):
         """Those that the first sentence names, where they are near an access."""
         (self.folder / "a.c").write_text("".join(f"line {number}\n" for number in range(1, 20)))
         os.utime(self.folder / "a.c", (1000, 1000))
         trace = b"main|fork(T1)|a.c:1\nmain|w(a.c:9#2)|a.c:5\nT1|r(a.c:9#2)|a.c:7\nmain|join(T1)|a.c:8\nmain|fork(T2)|a.c:9\n"
-        tables = b"atomic slot\tmain\ta.c:6\tstore relaxed\natomic slot\tT1\ta.c:15\tload acquire\n"
+        tables = b"use 3\tslot\tmain\ta.c:6\tstore relaxed\nuse 3\tslot\tT1\ta.c:15\tload acquire\n"
         page = self.folder / "page.html"
         self.shown(stacks(tables=TABLES + tables), "--source", self.folder, "--html", page, trace=trace)
         rows = [text for _, text in Page(page.read_text()).all("tr") if "\u2022" in text]
@@ -329,7 +340,7 @@ class Stacks(program.Case):
                 self.assertRegex(err, r"\Ashb-view: \S*app.stacks doesn't have the stacks of this trace\n\Z")
 
     def test_damaged_tables_are_refused_or_shown(self):
-        for line in (b"frame x", b"stack x", b"stack 1", b"stack 1 1 99", b"thread T1", b"block 1", b"block a b", b"free 1", b"free a b", b"source a", b"atomic a\tb\tc", b"atomic a\tb\tc\tload",
+        for line in (b"frame x", b"stack x", b"stack 1", b"stack 1 1 99", b"thread T1", b"block 1", b"block a b", b"free 1", b"free a b", b"source a", b"use 1\ta\tb\tc", b"use 1\ta\tb\tc\tload", b"use 1\ta\tb\tc\tload strong", b"use a\tb\tc\td\tload relaxed",
                      b"stack 1 0 0", b"stack 1 0 -1", b"free 99999999999999999999999 1", b"local 1\tx", b"block 1 -1", b"thread a\tx"):
             with self.subTest(line=line):
                 status, _, err = self.shown(stacks(tables=TABLES + line + b"\n"))

@@ -37,9 +37,9 @@ def entry(row, found, reads=((), ()), **more):
             **{name: found[name] for name in ("races", "headline", "facts") if name in found}, **more}
 
 
-def entries_of(trace, found):
-    """The entries of what the view found in a trace, by the trace and the two locations as it has them."""
-    return {(trace, frozenset(one["in_trace"] for one in place["accesses"])): place for place in found["places"]}
+def entries_of(trace, places):
+    """Entries of what the view found in a trace, by the trace and the two locations as it has them."""
+    return {(trace, frozenset(one["in_trace"] for one in place["accesses"])): place for place in places}
 
 
 def entry_of(entries, row):

@@ -19,7 +19,7 @@ NUMBER_BYTES = 4    # of an event's stack
 BLOCK = re.compile(rb".*#([0-9]{1,18})(?:\+[0-9]+)?", re.S)  # a variable in a block, as the recorder names it
 QUALIFIERS = re.compile(rb"(?: const| volatile)+$")
 ORDERS = b"relaxed", b"acquire", b"release", b"both"
-USES = b"load", b"store", b"update"
+USES = b"load", b"store", b"update", b"fence"
 FRAMES = b"frame", b"system-frame"
 OTHER = "doesn't have the stacks of this trace"
 MOST_DEEP = 200  # calls of a stack that are looked at
@@ -42,8 +42,10 @@ class Frame(typing.NamedTuple):
 
 
 class AtomicUse(typing.NamedTuple):
-    """How a thread uses an atomic at a line: `kind` is load, store or update, `order` relaxed, acquire, release or both."""
+    """A use of an atomic before an event: `kind` is load, store, update or, without a name, fence; `order` relaxed, acquire, release or
+    both."""
 
+    event: int
     name: bytes
     thread: bytes
     location: bytes
@@ -56,6 +58,16 @@ class AtomicUse(typing.NamedTuple):
 
     def takes(self):
         return self.order in (b"acquire", b"both")
+
+    def words(self):
+        """What it does, as parts."""
+        does = {b"load": "reads it", b"store": "writes it", b"update": "updates it"}[self.kind]
+        return [does, {b"relaxed": " relaxed", b"acquire": " with acquire", b"release": " with release", b"both": " with acquire and release"}[self.order]]
+
+    def said(self):
+        """The same for programs."""
+        return {"event": self.event, "thread": printable(self.thread), "location": printable(self.location), "kind": self.kind.decode(),
+                "order": self.order.decode()}
 
 
 class Tables:
@@ -114,7 +126,7 @@ class Stacks(Tables):
         super().__init__()
         self.numbers, self.shift = (), shift
         self.frames, self.calls, self.threads, self.blocks = [None], {}, {}, {}
-        self.stores, self.loads = [], {}  # uses of atomics; the loads by name; an update is both
+        self.uses = []  # of atomics, as they happened
         self.free_starts, self.free_ends = array.array("Q"), array.array("Q")
         if path:
             with open_regular(path) as file:
@@ -144,12 +156,8 @@ class Stacks(Tables):
         self.free_starts.append(first)
         self.free_ends.append(last)
 
-    def take_atomic(self, name, thread, location, how):
-        use = AtomicUse(name, thread, location, *how)
-        if use.kind != b"load":
-            self.stores.append(use)
-        if use.kind != b"store":
-            self.loads.setdefault(name, []).append(use)
+    def take_use(self, event, name, thread, location, how):
+        self.uses.append(AtomicUse(event - self.shift, name, thread, location, *how))
 
     def stack(self, number):
         """The frames of a stack, the innermost first."""
@@ -247,7 +255,7 @@ def use_of(text):
 
 # Of each kind of line what stands between its fields (None: blanks), and what reads each. A stack has further numbers, its frames.
 FORMS = {b"frame": (b"\t", bytes, bytes), b"system-frame": (b"\t", bytes, bytes), b"thread": (b"\t", bytes, whole),
-         b"stack": (None, whole, whole), b"block": (None, whole, whole), b"free": (None, whole, whole), b"atomic": (b"\t", bytes, bytes, bytes, use_of),
+         b"stack": (None, whole, whole), b"block": (None, whole, whole), b"free": (None, whole, whole), b"use": (b"\t", whole, bytes, bytes, bytes, use_of),
          b"source": (b"\t", bytes, bytes), b"line": (b"\t", bytes, sum_of), b"local": (b"\t", whole, bytes, bytes)}
 
 

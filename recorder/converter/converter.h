@@ -174,7 +174,8 @@ void note_crash(u64 i);                /* a record OP_CRASH */
 void say_crash(void);                  /* at the end */
 void note_free(u64 first, u64 last);   /* the events of one call that frees a block */
 void note_name(u64 at, u32 block, u64 event, u32 t);         /* of a piece or an object: this event of a thread is of it */
-void note_atomic(u64 i, u64 object);   /* a use of an atomic that several threads use */
+void note_use(u64 i, u64 object, int gives);       /* of an atomic that several threads use: what stores, and a thread's first load of another's store */
+void note_fence(u64 i);                /* with acquire */
 void forget_calls(void);               /* between the passes that meet them */
 void pause_stacks(int is_paused);      /* while a trace is written that has none */
 void end_stacks(void);
@@ -203,6 +204,7 @@ int is_racing(u32 piece);
 enum page_step step_page(u64 number);  /* before each event of the run, by its number, until the page ends */
 void end_page(void);
 int is_behind_page(void);
+int is_in_span(void);
 void note_written(u64 number, u64 in_page);                  /* an event of the run, by both its numbers */
 void hold_for_uses(u32 t, u64 key), leave_for_uses(u32 t, u64 key);      /* a lock */
 part name_of_held(u64 key, u32 t, char *tail);               /* objects.c: of such a lock */

@@ -417,7 +417,10 @@ static void take_version(object *o, u32 version, u32 t, u64 caller) {
     pass_lock(o, t, to_thread(version, t), caller);
 }
 
-void fence_events(u64 i) { pass_fence(i, take_version); }
+void fence_events(u64 i) {
+    if (acquires(i)) note_fence(i);
+    pass_fence(i, take_version);
+}
 
 /* A store that gives is the first to take the lock of its head, so by that it gives alone. */
 static void atomic_events(u64 i, object *o) {
@@ -425,7 +428,7 @@ static void atomic_events(u64 i, object *o) {
     u64 caller = caller_of(i);
     int stores = operation_of(i) == OP_ATOMIC_STORE, loads = operation_of(i) == OP_ATOMIC_LOAD;
     int by_lock = is_by_lock(i) || (stores && gives(i));
-    if (o->many_users) note_atomic(i, o - objects);
+    if (o->many_users) note_use(i, o - objects, gives(i));
     if (!stores) read_value(i, o, by_lock, take_version);
     if (loads && acquires(i) && gives_all_on(o, t)) publish(o, t, caller);
     if (!loads) write_value(i, o);

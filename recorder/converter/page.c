@@ -154,8 +154,10 @@ int is_racing(u32 number) {
 int is_behind_page(void) { return span_at == span_count; }
 void end_page(void) { span_at = span_count; }
 
+static int is_inside;
+int is_in_span(void) { return is_inside; }
+
 enum page_step step_page(u64 number) {
-    static int is_inside;
     if (is_inside && number > spans[span_at].last) {
         is_inside = 0;
         span_at++;

@@ -18,8 +18,13 @@
                                                      block's type, as "Account.balance"; with " of FILE:LINE#NUMBER", the
                                                      block's name, where several blocks of the trace have this type,
                                                      or a static variable has its name
-       atomic NAME TAB THREAD TAB LOCATION TAB KIND ORDER       an atomic that several threads use: a load, store or update with
-                                                     the order relaxed, acquire, release or both, whether or not it is an event
+       use EVENT TAB NAME TAB THREAD TAB LOCATION TAB KIND ORDER       a use before this event of an atomic that several threads use,
+                                                     whether or not it is an event: a load, store or update with the order
+                                                     relaxed, acquire, release or both. In the order in which they happened
+                                                     each store and update, and each thread's first load of what another
+                                                     thread stored. A store after a release fence is one with release. Of a
+                                                     fence with acquire the kind is fence, and NAME is empty. Of a page's
+                                                     trace only those within its spans
        crash THREAD TAB SIGNAL TAB ADDRESS TAB NODE  how the program ended, where a signal ended it that a thread's own code made; the
                                                      address, hexadecimal, is what it had no access to, or empty
        source NAME TAB PATH                          a source file, as locations name it, and where it was when it was compiled
@@ -33,7 +38,7 @@
 #include "converter.h"
 
 #define STACKS_BEGIN "shb-stacks 1 %020lu\n"
-enum { NODES_AT_ONCE = 1 << 14, MOST_FRAMES_OF_A_CALL = 64, MOST_LEFT = 256 };
+enum { NODES_AT_ONCE = 1 << 14, MOST_FRAMES_OF_A_CALL = 64, MOST_LEFT = 256, MOST_USES = 1 << 20 };
 
 /* way: where code without hooks was called that has the caller, or 0. own: the innermost of the program's own places from here
    on further out, or 0. */
@@ -388,20 +393,52 @@ void stack_of_event(u32 number) {
 void keep_stack(u32 number) { use(number); }
 void stack_of_thread(u32 t, u32 number) { thread_nodes[t] = number; }
 
-void note_atomic(u64 i, u64 object) {
+static int notes_uses(void) {
+    static u64 noted;
+    return with_stacks && (!for_page || is_in_span()) && noted < MOST_USES && ++noted;
+}
+
+/* Of loads with acquire and of others. */
+static int is_first_load(u64 store, u32 t, int acquires) {
+    static map loaded;
+    static u64 loads;
+    if (map_number(&loaded, store, (u64)t << 1 | acquires) <= loads) return 0;
+    loads++;
+    return 1;
+}
+
+/* The number of an object's last store, with its thread; 0 before one. */
+static u64 *last_store(u64 object) {
+    static map storers;
+    static u64 *last, count, capacity;
+    u32 number = map_number(&storers, object, 0);
+    if (number > count) {
+        GROW(last, count, capacity);
+        last[count++] = 0;
+    }
+    return &last[number - 1];
+}
+
+void note_use(u64 i, u64 object, int gives) {
     static const char *const orders[] = {"relaxed", "acquire", "release", "both"};
-    static map met;
-    static u64 count;
-    int order = acquires(i) + 2 * releases(i);
-    enum operation operation = operation_of(i);
-    u64 use = caller_of(i) | (u64)operation << 48 | (u64)order << 56;
-    if (!with_stacks || map_number(&met, object << 20 | thread_of(i), use) <= count) return;
-    count++;
+    static u64 stores;
+    u32 t = thread_of(i);
+    u64 *last = last_store(object);
+    int is_load = operation_of(i) == OP_ATOMIC_LOAD, is_store = operation_of(i) == OP_ATOMIC_STORE;
+    if (is_load && (!*last || (*last & 0xffff) == t || !is_first_load(*last, t, acquires(i)))) return;
+    if (!is_load) *last = ++stores << 16 | t;
+    if (!notes_uses()) return;
     const block *b = block_at(address_of(i));
-    note_name(address_of(i), block_number(b), events + 1, thread_of(i));
+    note_name(address_of(i), block_number(b), written + 1, t);
     part name = variable_name(address_of(i), b), place = place_of(caller_of(i));
-    fprintf(lines, "atomic %.*s\t%s\t%.*s\t%s %s\n", (int)name.length, name.at, thread_name(thread_of(i)), (int)place.length, place.at,
-            operation == OP_ATOMIC_LOAD ? "load" : operation == OP_ATOMIC_STORE ? "store" : "update", orders[order]);
+    fprintf(lines, "use %lu\t%.*s\t%s\t%.*s\t%s %s\n", written + 1, (int)name.length, name.at, thread_name(t), (int)place.length, place.at,
+            is_load ? "load" : is_store ? "store" : "update", orders[acquires(i) + 2 * (!is_load && gives)]);
+}
+
+void note_fence(u64 i) {
+    if (!notes_uses()) return;
+    part place = place_of(caller_of(i));
+    fprintf(lines, "use %lu\t\t%s\t%.*s\tfence acquire\n", written + 1, thread_name(thread_of(i)), (int)place.length, place.at);
 }
 
 void note_free(u64 first, u64 last) {

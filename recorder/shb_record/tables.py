@@ -9,19 +9,21 @@ from shb_record.places import count, table
 
 def tables_of(look, status):
     """The tables of all that was looked at, by their names."""
-    rows, entries = look.places.rows(), {}
-    for example, found in look.found.items():
-        entries.update(result.entries_of(example, found))
+    rows, entries, groups = look.places.rows(), {}, []
+    for (process, trace), found in look.found.items():
+        places = [{**place, "group": len(groups) + place["group"]} for place in found["places"]]
+        entries.update(result.entries_of((process, trace), places))
+        groups += [{**group, "process": process, "trace": trace.name} for group in found["groups"]]
     return {"unknown.places": unknown_places(rows), "places.tsv": b"".join(table(rows)),
-            "places.json": document(look, rows, entries, status), "places.sarif": log(look, rows, entries, status)}
+            "places.json": document(look, rows, entries, groups, status), "places.sarif": log(look, rows, entries, status)}
 
 
-def document(look, rows, entries, status):
+def document(look, rows, entries, groups, status):
     """All places with what is known of them, as `result.document` has them."""
     stale, unknown = look.stale(), count(row for row in rows if not row.is_known)
     summary = {"places": count(rows), "unknown": unknown, "known": count(rows) - unknown, "stale": len(stale),
                "status": status, "runs": len(look.runs)}
-    return result.document("shb-record", summary, [entry(row, entries) for row in rows], stale=result.stale_of(stale), notes=list(look.meaning()))
+    return result.document("shb-record", summary, [entry(row, entries) for row in rows], stale=result.stale_of(stale), notes=list(look.meaning()), groups=groups)
 
 
 def entry(row, entries):
@@ -30,7 +32,8 @@ def entry(row, entries):
     reads = list(zip(row.race.events, row.race.accesses))
     if row.race.accesses[0].location != row.texts[0]:
         reads.reverse()
-    return result.entry(row, result.entry_of(entries, row), reads, process=process, trace=trace.name)
+    found = result.entry_of(entries, row)
+    return result.entry(row, found, reads, process=process, trace=trace.name, **({"group": found["group"]} if found else {}))
 
 
 def log(look, rows, entries, status):

@@ -85,7 +85,7 @@ class Counting:
         self.racing = set().union(*kinds.gathered.racing.values())
         self.bare = set()  # those of the racing events whose thread holds no lock
         # By group, how many accesses there are of each kind: its location (None where lines aren't told apart any more),
-        # thread, word of `words.KINDS` and the names of the locks held (None where they aren't counted).
+        # thread, word of `words.KINDS`, the names of the locks held (None where they aren't counted), and the variable (not of a free).
         self.counts = collections.defaultdict(dict)
         self.kinds = self.found = 0
         self.noted = {}  # by event
@@ -147,16 +147,18 @@ class Counting:
         if self.uses is not None:
             return
         counts, thread = self.counts[group], self.names.setdefault(thread, thread)
-        kind = (location[0] if location else b"", thread, self.access_kinds.of(number, word, variable), held.names())
-        access = Access(number, variable, kind, self.access_kinds.stacks.free_of(number) if word == b"w" else None)
+        word = self.access_kinds.of(number, word, variable)
+        of = b"" if word == b"f" else self.access_kinds.in_trace(variable)
+        kind = (location[0] if location else b"", thread, word, held.names(), of)
+        access = Access(number, variable, kind, self.access_kinds.stacks.free_of(number) if word == b"f" else None)
         last, self.before[group, thread] = self.before.get((group, thread)), access
         if last and self.is_part(access, last, kind, thread):
             return
-        if last and kind[2] == b"a" and last.kind == (*kind[:2], b"r", kind[3]) and self.is_next(last, thread):
+        if last and kind[2] == b"a" and last.kind == (*kind[:2], b"r", *kind[3:]) and self.is_next(last, thread):
             counts[last.kind] -= 1  # an atomic write reads what plain accesses write
         if kind not in counts:
             if self.kinds == MOST_KINDS:
-                kind = (None, b"", word, None)
+                kind = (None, b"", word, None, b"")
             else:
                 self.kinds += 1
         counts[kind] = counts.get(kind, 0) + 1
@@ -179,14 +181,13 @@ class Counting:
                 continue
             self.callers[use.variable, use.location][use.stack, not use.locks] += use.count
             locks = tuple(called(lock, kinds.locks) for lock in use.locks) if len(use.locks) <= MOST_COUNTED else None
-            kind = use.location, use.thread, use.word, locks
+            kind = use.location, use.thread, use.word, locks, b"" if use.word == b"f" else use.variable
+            count = use.count
             if use.word == b"f":
                 block = name_parts(use.variable)["block"]
                 before = frees.get((group, kind, block), 0)
-                frees[group, kind, block] = max(before, use.count)
-                count = max(use.count - before, 0)
-            else:
-                count = use.count
+                frees[group, kind, block] = max(before, count)
+                count = max(count - before, 0)
             self.counts[group][kind] = self.counts[group].get(kind, 0) + count
 
     def is_next(self, last, thread):

@@ -1,15 +1,22 @@
-"""What a trace says of a group: each line that uses its variables, and one sentence of fact. A fact holds for the trace and for the
-variables of the listed races, and says so; it names no fault."""
+"""What a trace says of a group. A fact is one of the forms below, whose definitions docs/FORMATS.md has; it holds for the trace and for
+each variable of the listed races, and names no fault. The first that holds is the group's."""
 
 import collections
+import re
 import typing
 
+from shb_common.result import text
 from shb_common.words import counted
 from shb_view.held import read_lock
 from shb_view.names import by_numbers
-from shb_view.words import Code, listed, place
+from shb_view.words import Code, Own, listed, lock_name, place
 
 MOST_NAMED = 3  # lines in a sentence
+NUMBERS = re.compile(rb"(?<=#)[0-9]+|(?<=\[)[0-9]+(?=\])")  # of a block, and of an element
+
+
+# The forms, in the order in which they are tried, each with a number: the least is shown first and in the first colour.
+RANKS = {"published": 0, "freed": 0, "plain": 1, "uncounted": 3, "read-lock": 1, "without": 1, "sometimes": 2, "apart": 2, "no-lock": 3, "ordered": 5}
 
 
 class Site:
@@ -25,11 +32,15 @@ class Site:
         self.wrong = collections.Counter()  # how many of these write
         self.bare = 0  # accesses that hold no lock
         self.unknown = 0  # accesses whose locks aren't counted
+        self.variables = set()
         self.partners = {}  # the lines that it races with, with how many races
         self.later = set()  # those of these whose access came later in a race that was read
 
     def total(self):
         return sum(self.accesses.values())
+
+    def reads(self):
+        return self.accesses[b"r"] > 0
 
     def writes(self):
         return self.total() > self.accesses[b"r"]
@@ -42,7 +53,12 @@ class Site:
         """Whether some access doesn't hold the lock as it has to."""
         return self.guarded(lock) < self.total()
 
-    def add(self, thread, word, locks, count):
+    def held(self):
+        """The locks that each access holds."""
+        return sorted(lock for lock in {*self.locks, *self.reading} if self.guarded(lock) == self.total())
+
+    def add(self, variable, thread, word, locks, count):
+        self.variables.add(variable)
         self.accesses[word] += count
         self.threads[thread] += count
         if word != b"r":
@@ -51,31 +67,62 @@ class Site:
             self.unknown += count
         elif not locks:
             self.bare += count
-        for lock in locks or ():
-            shared = read_lock(lock)
-            if shared:
-                self.reading[shared] += count
-                self.wrong[shared] += count if word != b"r" else 0
+        for lock, is_shared in locks or ():
+            if is_shared:
+                self.reading[lock] += count
+                self.wrong[lock] += count if word != b"r" else 0
             else:
                 self.locks[lock] += count
 
 
 class Fact(typing.NamedTuple):
-    """`rank` orders groups, the least first. `tag` is a short form of the sentence. `lock` is the one that it is about, or None."""
+    """`form` is one of the definitions, and `said` has what it is said of, by names that programs read. `tag` is a short form of the
+    sentences. `lock` is the one that it is about, or None. `uses` are lines of the code that it names besides the group's."""
 
-    rank: int
+    form: str
+    said: dict
     tag: list
-    sentence: list
-    lock: typing.Optional[bytes]
+    sentences: list
+    lock: typing.Optional[bytes] = None
+    uses: tuple = ()
+
+
+class Locks:
+    """The locks of a group's variables. Of those that differ by numbers of blocks and elements alone, as `a[3].door`, a variable's own
+    one is that which most of its accesses hold; it has one name for all variables."""
+
+    def __init__(self, counts):
+        held, self.own = collections.Counter(), {}
+        for (_, _, _, locks, variable), count in counts.items():
+            for lock in {read_lock(lock) or lock for lock in locks or ()} if variable else ():
+                held[variable, lock] += count
+        self.held = list(held)
+        for variable, lock in sorted(held, key=lambda it: (-held[it], it)):
+            self.own.setdefault(NUMBERS.sub(b"*", lock), {}).setdefault(variable, lock)
+
+    def name(self, variable, lock):
+        """The lock as it is named of the variable, and whether it is held for reading."""
+        shared = read_lock(lock)
+        lock = shared or lock
+        own = self.own.get(NUMBERS.sub(b"*", lock), {})
+        is_own = len(set(own.values())) > 1 and own.get(variable) == lock
+        return (Own(NUMBERS.sub(b"*", lock)) if is_own else lock), bool(shared)
+
+    def of(self, name):
+        """By variable: the lock of this name."""
+        if isinstance(name, Own):
+            return self.own[name]
+        return {variable: lock for variable, lock in self.held if lock == name}
 
 
 def sites_of(group, counts):
-    """The lines that use a group's variables: racing ones first, then those that write, then by how often."""
-    sites, racing = {}, group.locations()
-    for (location, thread, word, locks), count in counts.items():
+    """The lines that use a group's variables: racing ones first, then those that write, then by how often; and their locks."""
+    sites, racing, locks = {}, group.locations(), Locks({kind: count for kind, count in counts.items() if count})
+    for (location, thread, word, held, variable), count in counts.items():
         if not count:
             continue
-        sites.setdefault(location, Site(location)).add(thread, word, locks, count)
+        named = None if held is None else [locks.name(variable, lock) for lock in held]
+        sites.setdefault(location, Site(location)).add(variable, thread, word, named, count)
     for pair in group.pairs:
         one, other = pair.locations
         for location, partner in {(one, other), (other, one)}:
@@ -85,147 +132,186 @@ def sites_of(group, counts):
             if first in sites:
                 sites[first].later.add(second)
     order = sorted(sites.values(), key=lambda site: (site.location is None, by_numbers(site.location or b"")))
-    return sorted(order, key=lambda site: (site.location not in racing, not site.writes(), -site.total()))
+    return sorted(order, key=lambda site: (site.location not in racing, not site.writes(), -site.total())), locks
 
 
-def fact_of(sites, whole):
-    """The first fact that applies. Locks that more accesses hold come first. `whole` is what the sites are counted in, a trace or a
-    window of one."""
-    locks = collections.Counter()
-    for site in sites:
-        locks.update(site.locks)
-        locks.update(site.reading)
-    names = [] if any(site.unknown for site in sites) else sorted(locks, key=lambda lock: (-locks[lock], lock))
-    for fact in (freed, not_atomic):
-        found = fact(sites, whole)
-        if found:
-            return found
-    for fact in (written_under_read_lock, held_at_all, held_at_writes, held_apart, held_at_some, held_sometimes):
-        for lock in names:
-            found = fact(sites, lock, whole)
-            if found:
-                return found
-    return fact_of_writers(sites, whole)
+def fact_of(sites, locks, whole, published=()):
+    """The first fact that holds. `whole` is what the sites are counted in, a trace or a run; `published` is what
+    `handed.published` gives of the group."""
+    racing = [site for site in sites if site.partners]
+    used = [site for site in sites if site.accesses[b"f"] < site.total()]  # a line that frees alone says nothing of locks
+    of_locks = uncounted(used, whole) if any(site.unknown for site in used) else lock_fact(used, racing, locks, whole)
+    found = publication(published) or freed(racing, whole) or not_atomic(racing, whole) or of_locks or no_lock(racing, whole)
+    if found.form != "published" or not of_locks or of_locks.form != "without":
+        return found
+    also = {"form": of_locks.form, **of_locks.said}  # either of the two would mend it
+    return found._replace(said={**found.said, "also": also}, sentences=[*found.sentences, *of_locks.sentences])
 
 
-def freed(sites, whole):
+def publication(published):
+    """Between the two accesses of each race an atomic was stored by the first's thread and loaded by the second's."""
+    if not published:
+        return None
+    store, load, *_ = published[0][0]
+    wrong, order = (load, "acquire") if store.gives() else (store, "release")
+    both = "" if store.gives() or load.takes() else [", and ", place(load.location), " reads it without acquire"]
+    tag = [place(wrong.location), " reads " if wrong is load else " writes ", Code(published[0][0].name), f" without {order}", *both]
+    said = [{"atomic": text(pair.store.name), "store": pair.store.said(), "load": pair.load.said(), "missing": pair.lacking(), "races": races}
+            for pair, races in published]
+    return Fact("published", {"by": said}, tag, [handed_words(pair) for pair, _ in published], None,
+                tuple(use for pair, _ in published for use in (pair.store, pair.load)))
+
+
+def handed_words(pair):
+    """What is said of an atomic that was handed on, as parts."""
+    store, load = pair.store, pair.load
+    return [Code(store.thread), " and ", Code(load.thread), " hand this on by the atomic ", Code(pair.name), ": ", place(store.location), " ",
+            *store.words(), " after the first access, and ", place(load.location), " ", *load.words(),
+            f" before the second. With {' and '.join(pair.lacking())} they would be ordered."]
+
+
+def freed(racing, whole):
     """Racing lines that free the block which the others use."""
-    frees = [site for site in sites if site.partners and site.accesses[b"f"]]
-    used = dict.fromkeys(partner for site in frees for partner in sorted(site.partners) if partner != site.location)
+    frees = [site for site in racing if site.accesses[b"f"]]
     if not frees:
         return None
+    used = dict.fromkeys(partner for site in frees for partner in sorted(site.partners) if partner != site.location)
     threads = listed([[Code(thread)] for thread in sorted(set().union(*(site.writers for site in frees)))], MOST_NAMED)
     uses = ["the use at ", *listed([[place(location)] for location in used], MOST_NAMED)] if used else ["another free of it"]
     sentence = [f"In this {whole} ", *threads, " frees the block at " if len(threads) == 1 else " free the block at ", *lines_of(frees),
                 ", and nothing orders the free and ", *uses, "."]
-    after = used_after(frees, sites)
-    if not after:
-        return Fact(1, ["freed at " if used else "freed twice at ", *lines_of(frees), " while in use" if used else ""], sentence, None)
-    sentence += [" The use at ", *after, " came after it here: a use after free."]
-    return Fact(0, ["used at ", *after, " after it was freed at ", *lines_of(frees)], sentence, None)
-
-
-def used_after(frees, sites):
-    """The lines whose use came after a free in a race, as parts. A line that frees and does something else says nothing of that."""
     found = set().union(*(site.later for site in frees if site.accesses[b"f"] == site.total()))
-    return listed([[place(site.location)] for site in sites if site.location in found and not site.accesses[b"f"]], MOST_NAMED)
+    after = [site for site in racing if site.location in found and not site.accesses[b"f"]]
+    said = {"frees": names_of(frees), "uses": list(map(text, used)), "after": names_of(after)}
+    if not after:
+        return Fact("freed", said, ["freed at " if used else "freed twice at ", *lines_of(frees), " while in use" if used else ""], [sentence])
+    sentence += [" The use at ", *lines_of(after), " came after it here: a use after free."]
+    return Fact("freed", said, ["used at ", *lines_of(after), " after it was freed at ", *lines_of(frees)], [sentence])
 
 
-def not_atomic(sites, whole):
+def not_atomic(racing, whole):
     """Racing lines that aren't atomic, where others are."""
-    racing = [site for site in sites if site.partners]
     atomic, plain = [site for site in racing if site.accesses[b"a"]], [site for site in racing if not site.accesses[b"a"]]
     if not atomic or not plain:
         return None
     verb, write = "is" if len(plain) == 1 else "are", "writes" if len(atomic) == 1 else "write"
     sentence = [f"In this {whole} ", *lines_of(atomic), f" {write} atomically, and ", *lines_of(plain), f" {verb} not atomic."]
-    return Fact(1, [*lines_of(plain), f" {verb} not atomic"], sentence, None)
+    return Fact("plain", {"atomic": names_of(atomic), "plain": names_of(plain)}, [*lines_of(plain), f" {verb} not atomic"], [sentence])
 
 
-def written_under_read_lock(sites, lock, whole):
-    """Racing lines that write while they hold a lock for reading, which keeps out writers alone."""
-    wrong = [site for site in sites if site.partners and site.wrong[lock]]
+def uncounted(sites, whole):
+    count = counted(sum(site.unknown for site in sites), "access", "accesses")
+    return Fact("uncounted", {}, ["locks not counted"], [[f"In this {whole} the locks held at {count} aren't counted."]])
+
+
+def lock_fact(sites, racing, locks, whole):
+    """What is held at the lines. Locks that more lines hold at each access come first, then those that more accesses hold."""
+    names = {lock for site in sites for lock in (*site.locks, *site.reading)}
+    def weight(lock):
+        holding = [site for site in sites if not site.lacks(lock)]
+        return -len(holding), -sum(site.guarded(lock) for site in sites), not isinstance(lock, Own), lock
+    names = sorted(names, key=weight)
+    for rule in (under_read_lock, without, sometimes):
+        for lock in names:
+            found = rule(sites, racing, lock, locks, whole)
+            if found:
+                return found
+    return apart(racing, locks, whole) if names else None
+
+
+def under_read_lock(sites, racing, lock, locks, whole):
+    """Racing lines whose writes hold a lock for reading, which keeps out writers alone."""
+    wrong = [site for site in racing if site.wrong[lock]]
     if not wrong:
         return None
-    verb, name = "writes" if len(wrong) == 1 else "write", Code(lock)
-    sentence = [f"In this {whole} ", *lines_of(wrong), f" {verb} while holding ", name, " for reading, as other threads can at the same time."]
-    return Fact(1, [*lines_of(wrong), f" {verb} under the read lock of ", name], sentence, lock)
+    verb, name = "writes" if len(wrong) == 1 else "write", lock_name(lock)
+    sentence = [f"In this {whole} ", *lines_of(wrong), f" {verb} while holding ", *name, " for reading, as other threads can at the same time."]
+    said = {"lines": names_of(wrong), "name": text(lock), "locks": by_variable(locks, lock)}
+    return Fact("read-lock", said, [*lines_of(wrong), f" {verb} under the read lock of ", *name], [sentence], lock)
 
 
-def held_at_all(sites, lock, whole):
-    """No report of `shb` has such a race, since the lock orders the accesses."""
-    if any(site.lacks(lock) for site in sites):
+def without(sites, racing, lock, locks, whole):
+    """Racing lines that don't hold a lock which all others, or all others that race, hold at each access. Where they hold other locks,
+    that more lines have this one says that it is theirs too."""
+    lacking, holding = [site for site in racing if site.lacks(lock)], [site for site in sites if not site.lacks(lock)]
+    of, variables = locks.of(lock), set().union(*(site.variables for site in racing))
+    holders = set().union(*(site.variables for site in holding))
+    if not lacking or not holding or not variables <= holders or not variables <= set(of):
         return None
-    name = Code(lock)
-    sentence = [f"In this {whole} every access holds ", name, ", which orders them: these are no races."]
-    return Fact(5, ["every access holds ", name], sentence, lock)
-
-
-def held_at_writes(sites, lock, whole):
-    """A lock that all writes hold and some racing line doesn't."""
-    without = [site for site in sites if site.partners and site.lacks(lock)]
-    if not without or any(site.writes() and site.lacks(lock) for site in sites):
+    if not any(site.writes() for site in holding) and any(site.reads() for site in lacking):
+        return None  # what some readers alone hold is no rule
+    is_bare = all(site.bare == site.total() for site in lacking)
+    if not is_bare and not any(site.guarded(lock) for site in lacking) and len(holding) <= len(lacking):
         return None
-    name, lines = Code(lock), lines_of(without)
-    read = "reads" if len(without) == 1 else "read"
-    some = " at some accesses" if any(site.guarded(lock) for site in without) else ""
-    sentence = [f"In this {whole} every write holds ", name, ", and ", *lines, f" {read} without it{some}."]
-    return Fact(1, tag_of(without, lock), sentence, lock)
+    others, name, lines = [site for site in sites if site.lacks(lock) and not site.partners], lock_name(lock), lines_of(lacking)
+    writes = not any(site.writes() for site in others) and not any(site.writes() for site in lacking) and any(site.writes() for site in holding)
+    reads = not any(site.reads() for site in others) and not any(site.reads() for site in lacking) and any(site.reads() for site in holding)
+    scope = "writes" if writes else "reads" if reads else "all" if not others else "lines"
+    who = {"writes": ["every write"], "reads": ["every read"], "all": ["every other access"],
+           "lines": ["every access at ", *lines_of(holding)]}[scope]
+    some = [site for site in lacking if site.guarded(lock)]
+    does = "reads" if not any(site.writes() for site in lacking) else "writes" if not any(site.reads() for site in lacking) else "uses it"
+    verb = does if len(lacking) == 1 else {"reads": "read", "writes": "write", "uses it": "use it"}[does]
+    at = f" at {sum(site.total() - site.guarded(lock) for site in lacking):,} of {sum(site.total() for site in lacking):,} accesses" if some else ""
+    sentence = [f"In this {whole} ", *who, " holds ", *name, ", and ", *lines, f" {verb} without it{at}."]
+    instead = [[place(site.location), " holds ", *listed([lock_name(other) for other in site.held()], MOST_NAMED)] for site in lacking if site.held()]
+    if instead:
+        sentence += [" ", *listed(instead, MOST_NAMED), "."]
+    said = {"lines": names_of(lacking), "sometimes": names_of(some), "scope": scope, "holding": names_of(holding), "name": text(lock),
+            "locks": by_variable(locks, lock), "instead": held_of(lacking, locks)}
+    tag = [*lines, f" {verb} without ", *name] if not some else [*lines, " doesn't always hold " if len(lacking) == 1 else " don't always hold ", *name]
+    return Fact("without", said, tag, [sentence], lock)
 
 
-def held_apart(sites, lock, whole):
-    """Racing lines that all hold locks at every access, but none that is common to them."""
-    held = {site.location: {name for name in (*site.locks, *site.reading) if not site.lacks(name)} for site in sites if site.partners}
-    if not all(held.values()) or set.intersection(*held.values()) or not any(lock in names for names in held.values()):
-        return None
-    holds = listed([[place(location), " holds ", Code(lock if lock in names else min(names))] for location, names in held.items()], MOST_NAMED)
-    lines = listed([[place(location)] for location in held], MOST_NAMED)
-    return Fact(2, [*lines, " hold different locks"], [f"In this {whole} ", *holds, ", and no lock is common to them."], None)
-
-
-def held_at_some(sites, lock, whole):
-    """A lock that some racing line which writes holds, and another racing line doesn't."""
-    racing = [site for site in sites if site.partners]
-    holding = [site for site in racing if not site.lacks(lock)]
-    without = [site for site in racing if site.lacks(lock)]
-    if not without or not any(site.writes() for site in holding):
-        return None
-    not_at = ", and not always at " if any(site.guarded(lock) for site in without) else ", and not at "
-    sentence = [f"In this {whole} ", Code(lock), " is held at ", *lines_of(holding), not_at, *lines_of(without), "."]
-    return Fact(2, tag_of(without, lock), sentence, lock)
-
-
-def held_sometimes(sites, lock, whole):
-    """A lock that racing lines which write hold at some of their accesses."""
-    some = [site for site in sites if site.partners and site.writes() and site.guarded(lock)]
+def sometimes(sites, racing, lock, locks, whole):
+    """A lock that racing lines hold at some accesses, and no line at each."""
+    some = [site for site in racing if site.lacks(lock) and site.guarded(lock) and site.writes()]
     if not some:
         return None
     counts = [[f"{site.guarded(lock):,} of {counted(site.total(), 'access', 'accesses')} at ", place(site.location)] for site in some]
-    return Fact(2, tag_of(some, lock), [f"In this {whole} ", Code(lock), " is held at ", *listed(counts, MOST_NAMED), "."], lock)
+    said = {"lines": {text(site.location or b""): [site.guarded(lock), site.total()] for site in some}, "name": text(lock),
+            "locks": by_variable(locks, lock)}
+    tag = [*lines_of(some), " doesn't always hold " if len(some) == 1 else " don't always hold ", *lock_name(lock)]
+    return Fact("sometimes", said, tag, [[f"In this {whole} ", *lock_name(lock), " is held at ", *listed(counts, MOST_NAMED), "."]], lock)
+
+
+def apart(racing, locks, whole):
+    """No lock is held at every access of all racing lines."""
+    common = set.intersection(*(set(site.held()) for site in racing))
+    if common:
+        name = lock_name(min(common))
+        return Fact("ordered", {}, ["every access holds ", *name], [[f"In this {whole} every access holds ", *name, ": these are no races."]])
+    holds = [[place(site.location), " holds ", *(listed([lock_name(lock) for lock in site.held()], MOST_NAMED) if site.held() else
+              ["no lock" if site.bare == site.total() else "none at each of its accesses"])] for site in racing]
+    all_hold = all(site.held() for site in racing)
+    tag = [*lines_of(racing), " hold different locks" if all_hold else " have no lock in common"]
+    return Fact("apart", {"lines": names_of(racing), "all_hold": all_hold, "held": held_of(racing, locks)}, tag,
+                [[f"In this {whole} ", *listed(holds, MOST_NAMED), ", and no lock is common to them."]])
+
+
+def no_lock(racing, whole):
+    """No lock is held at any access."""
+    writing, writers = [site for site in racing if site.writes()], set().union(*(site.writers for site in racing))
+    verb, count = "writes" if len(writing) == 1 else "write", f"{len(writers):,} threads" if len(writers) > 1 else "one thread"
+    readers = [site for site in racing if not site.writes()]
+    also = [", ", *lines_of(readers), " reads" if len(readers) == 1 else " read"] if readers else []
+    sentence = [f"In this {whole} no lock is held at any access; {count} ", "writes, at " if len(writers) == 1 else "write, at ", *lines_of(writing), "."]
+    return Fact("no-lock", {"writes": names_of(writing), "writers": sorted(map(text, writers))}, [*lines_of(writing), f" {verb}", *also, " without a lock"],
+                [sentence])
+
+
+def by_variable(locks, lock):
+    return {text(variable): text(found) for variable, found in sorted(locks.of(lock).items())}
+
+
+def held_of(sites, locks):
+    """By line: each lock that is held there at each access, by variable."""
+    return {text(site.location or b""): [by_variable(locks, lock) for lock in site.held()] for site in sites if site.held()}
+
+
+def names_of(sites):
+    return [text(site.location or b"") for site in sites]
 
 
 def lines_of(sites):
     return listed([[place(site.location)] for site in sites], MOST_NAMED)
-
-
-def tag_of(without, lock):
-    """Which lines lack a lock."""
-    verb = " doesn't " if len(without) == 1 else " don't "
-    holds = "always hold " if any(site.guarded(lock) for site in without) else "hold "
-    return [*lines_of(without), verb, holds, Code(lock)]
-
-
-def fact_of_writers(sites, whole):
-    """How many threads write, where no lock tells more."""
-    writers = set().union(*(site.writers for site in sites))
-    unknown = sum(site.unknown for site in sites)
-    if unknown:
-        locks = f"the locks held at {counted(unknown, 'access', 'accesses')} aren't counted"
-    elif any(site.locks or site.reading for site in sites):
-        locks = "no single lock is held at all accesses"
-    else:
-        locks = "no lock is held at any access"
-    if len(writers) > 1:
-        return Fact(3, [f"{len(writers):,} threads write"], [f"In this {whole} {len(writers):,} threads write, and {locks}."], None)
-    lines = lines_of([site for site in sites if site.writes()])
-    return Fact(4, ["one thread writes"], [f"In this {whole} only ", Code(*writers), " writes, at ", *lines, f", and {locks}."], None)

@@ -64,6 +64,16 @@ def distance(race):
     return race.second - race.first, race.first
 
 
+class Between(typing.NamedTuple):
+    """A race that was read: its events, the threads of the first and the second, and its variable."""
+
+    first: int
+    second: int
+    giver: bytes
+    taker: bytes
+    variable: bytes
+
+
 class Gathered:
     """The races of a report, as pairs and groups."""
 
@@ -77,6 +87,7 @@ class Gathered:
         self.texts = {}  # each line once
         self.racing = {}  # by variable and location: the events of the races that were read
         self.reads = {}  # by a read: the writes before it that it races with, each with the locations of both
+        self.races = {}  # by variable, by place: the races that were read
         self.variables = {}  # by place: how many races each variable has, by its name in the trace
         self.words = {}  # by variable and place: whether the first race there reads or writes first, and then
 
@@ -91,6 +102,8 @@ class Gathered:
             if atomic:
                 self.atomics[first.name] = atomic
             self.join(tuple(sorted((first.location, second.location))), atomic or first.name)
+        its = Between(race.first, race.second, first.thread, second.thread, self.atomics.get(first.name, first.name))
+        self.races.setdefault(first.name, {}).setdefault((first.location, second.location), {})[its] = None
         self.racing.setdefault((first.name, first.location), set()).add(race.first)
         self.racing.setdefault((second.name, second.location), set()).add(race.second)
         if second.word == b"r":
@@ -107,6 +120,14 @@ class Gathered:
         self.share(race, first, second, 1 if places is None else 0)
         for number, line in ((race.first, race.first_line), (race.second, race.second_line)):
             self.lines[number] = self.texts.setdefault(line, line)
+
+    def races_of(self, names):
+        """By place: the races of these variables that were read."""
+        found = {}
+        for name in names:
+            for place, races in self.races.get(name, {}).items():
+                found.setdefault(place, []).extend(races)
+        return {place: sorted(races) for place, races in found.items()}
 
     def top(self, one):
         """What stands for the group of a pair or a variable."""

@@ -6,13 +6,14 @@ import pathlib
 
 from shb_common.stacks import bare
 from shb_common.words import counted
+from shb_view.facts import RANKS
 from shb_view.groups import group_name
 from shb_view.issue import issue_lines, order_text
 from shb_view.markup import Markup, code, element, joined, marked, with_commands
 from shb_view.names import code_line, short
 from shb_view.picture import picture
 from shb_view.source import excerpt
-from shb_view.stacks import frame_parts, headline, origins, sentences
+from shb_view.stacks import frame_parts, origins
 from shb_view.words import (VERBS, MOST_SITES, MOST_VARIABLES, NO_LOCK, Code, accesses_text, listed, lock_parts, lock_words, notes_of,
                             partner_parts, place, races_text, seen_parts, share, summary, thread_parts)
 
@@ -77,10 +78,10 @@ def group_list(view):
     rows = []
     for number, section in enumerate(view.sections, 1):
         link = element("a", f"{number}. ", marked(group_name(view, section.group), NAME), href=f"#g{number}")
-        tag = element("span", marked(headline(section), NAME), class_="tag")
+        tag = element("span", marked(section.fact.tag, NAME), class_="tag")
         races = element("span", races_text(section.group), class_="faint")
-        rows.append(element("li", link, " ", tag, " ", races, element("p", marked(sentences(section)[0], NAME)),
-                            class_=f"rank{section.fact.rank}"))
+        rows.append(element("li", link, " ", tag, " ", races, element("p", marked(section.fact.sentences[0], NAME)),
+                            class_=f"rank{RANKS[section.fact.form]}"))
     more = view.groups - len(view.sections)
     rows += [element("li", f"and {counted(more, 'more group')}")] if more else []
     return element("ol", joined(rows, "\n"), class_="groups", id="groups")
@@ -89,9 +90,9 @@ def group_list(view):
 def section_part(view, number, section):
     """All that is said of a group."""
     anchor = f"g{number}e"
-    first, *others = sentences(section)
+    first, *others = section.fact.sentences
     parts = [element("h2", element("a", number, href=f"#g{number}"), " ", marked(group_name(view, section.group), NAME), ": ",
-                     marked(headline(section), NAME)),
+                     marked(section.fact.tag, NAME)),
              element("p", marked(first, NAME), " ", races_text(section.group), ". ",
                      element("a", "All groups", href="#groups", class_="back"))]
     parts += [element("p", marked(words, NAME)) for words in [*others, *seen_parts(section)]]
@@ -144,7 +145,7 @@ def function_words(head, frames, location):
 
 def atomic_lines(view, section, found):
     """The lines of this file at which atomics are used that hand on without order."""
-    uses = [view.source.place(use.location) for pair in section.publications for use in pair]
+    uses = [view.source.place(use.location) for use in section.fact.uses]
     return {use.number for use in uses if use and use.path == found.path}
 
 
@@ -174,7 +175,7 @@ def site_table(view, section):
 
 def site_cells(view, section, site, heads):
     line = view.source.code(site.location)
-    locks = [element("span", marked(parts, NAME), class_=kind) for kind, parts in lock_words(site, section.fact.lock)]
+    locks = [element("span", marked(parts, NAME), class_=kind) for kind, parts in lock_words(site)]
     cells = {"Line": "further lines" if site.location is None else marked([place(site.location)], NAME),
              "Code": element("code", code_line(line, LINE)) if line is not None else "",
              "Accesses": accesses_text(site),

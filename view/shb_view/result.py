@@ -2,8 +2,8 @@
 
 from shb_common import result
 from shb_common.programs import naming
+from shb_view.handed import MOST_RACES
 from shb_view.issue import flat
-from shb_view.stacks import headline, sentences
 from shb_view.words import KINDS, notes_of
 
 MOST_STACKS, MOST_FRAMES = 8, 40    # of an access
@@ -11,12 +11,12 @@ MOST_STACKS, MOST_FRAMES = 8, 40    # of an access
 
 def document(view):
     """The places of the groups that are shown, as `result.document` has them."""
-    pairs = [(section, pair) for section in view.sections for pair in section.group.pairs]
-    origin, names = naming(view.stacks, {location for _, pair in pairs for location in pair.locations})
-    places = [entry(view, section, pair, origin, names) for section, pair in pairs]
+    pairs = [(number, section, pair) for number, section in enumerate(view.sections, 1) for pair in section.group.pairs]
+    origin, names = naming(view.stacks, {location for _, _, pair in pairs for location in pair.locations})
+    places = [{**entry(view, section, pair, origin, names), "group": number} for number, section, pair in pairs]
     summary = {**({} if view.of_scan else {"races": view.races}), "places": view.pairs, "groups": view.groups, **view.counts._asdict()}
     notes = [*view.notes, *notes_of(view), *view.about]
-    return result.document("shb-view", summary, places, title=view.title, notes=notes)
+    return result.document("shb-view", summary, places, title=view.title, notes=notes, groups=[group_entry(view, section) for section in view.sections])
 
 
 def entry(view, section, pair, origin, names):
@@ -34,7 +34,15 @@ def entry(view, section, pair, origin, names):
         found["stacks"] = [stack_entry(frames, count) for (frames, _), count in section.callers.get(location, ())[:MOST_STACKS] if frames]
         accesses.append(found)
     return {"places": len(pair.orders), "accesses": accesses, "variables": view.variables(pair), **({} if view.of_scan else {"races": pair.races}),
-            "headline": flat(headline(section)), "facts": [flat(parts) for parts in sentences(section)]}
+            "headline": flat(section.fact.tag), "facts": [flat(parts) for parts in section.fact.sentences]}
+
+
+def group_entry(view, section):
+    """The fact of a group, with the variables and the races that were looked at; of variables on stacks the locals that they are."""
+    names, locals = section.group.names, view.kinds.locals
+    races = sorted(race[:2] for its in view.gathered.races_of(names).values() for race in its[:MOST_RACES])
+    return {"form": section.fact.form, "group": [result.text(name) for name in names], **section.fact.said,
+            "locals": {result.text(name): result.text(locals[name]) for name in names if name in locals}, "all_races": races}
 
 
 def site_entry(site):

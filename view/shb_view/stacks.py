@@ -8,8 +8,6 @@ from shb_common.words import counted
 from shb_view.names import readable
 from shb_view.words import Code, listed, lock_parts, place
 
-WITH = {b"relaxed": "relaxed", b"acquire": "with acquire", b"release": "with release", b"both": "with acquire and release"}
-MOST_ATOMICS = 3  # that are named of a group
 MOST_THREADS = 3  # that are named of those with one stack
 MAKES_FIBER, HANDLER = b"__tsan_create_fiber", b"signal handler"
 WITHOUT_LINE = {MAKES_FIBER: " (which made the fiber)", HANDLER: ""}
@@ -19,10 +17,10 @@ class Damaged(Exception):
     """The words say what is wrong with a file beside the trace: with its call stacks or its places."""
 
 
-def stacks_of(path, shift, events):
+def stacks_of(path, events):
     """The stacks of a trace with so many events, from a file."""
     try:
-        return Stacks(path, shift, events)
+        return Stacks(path, 0, events)
     except BadStacks as fault:
         raise Damaged(f"{readable(os.fsencode(path))} {fault}") from None
 
@@ -49,43 +47,6 @@ def created_parts(threads):
     if len(threads) == 1:
         return ["thread ", Code(threads[0]), " was created"]
     return ["threads ", *listed(([Code(thread)] for thread in threads), MOST_THREADS), " were created"]
-
-
-def publications(stacks, sites, fact):
-    """The first few atomics that a racing thread which writes stores to and another racing thread loads, without an order that the
-    language gives: each as the store and the load. Where a lock tells what is missing there are none."""
-    if fact.lock or fact.rank <= 1:
-        return []
-    racing, found = [site for site in sites if site.partners], {}
-    writers, others = set().union(*(site.writers for site in racing)), {thread for site in racing for thread in site.threads}
-    for store in stacks.stores:
-        for load in stacks.loads.get(store.name, ()) if store.thread in writers else ():
-            if load.thread in others and store.thread != load.thread and not (store.gives() and load.takes()):
-                name = stacks.lasting_locals.get(store.name, store.name)
-                found.setdefault((name, store.location, load.location), (store._replace(name=name), load._replace(name=name)))
-                if len(found) == MOST_ATOMICS:
-                    return list(found.values())
-    return list(found.values())
-
-
-def headline(section):
-    """The group's fact in a few words, or the first atomic by which its threads hand on something without order."""
-    for store, load in section.publications[:1]:
-        use, verb = (load, " reads ") if store.gives() else (store, " writes ")
-        return [place(use.location), verb, Code(use.name), " ", WITH[use.order]]
-    return section.fact.tag
-
-
-def sentences(section):
-    """What is said of a group, as parts for each sentence: what tells most is the first."""
-    return [*(publication_parts(store, load) for store, load in section.publications), section.fact.sentence]
-
-
-def publication_parts(store, load):
-    """What is said of an atomic by which threads hand on something without order, as parts."""
-    return [Code(store.thread), " and ", Code(load.thread), " use the atomic ", Code(store.name), ": ", place(store.location),
-            f" writes it {WITH[store.order]}, ", place(load.location), f" reads it {WITH[load.order]}. A write with release and a read "
-            "with acquire would order what comes before the write and after the read."]
 
 
 def caller_lines(frames, most):

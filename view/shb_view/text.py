@@ -9,7 +9,7 @@ from shb_common.words import counted
 from shb_view.groups import group_name
 from shb_view.issue import issue_lines
 from shb_view.names import code_line, columns, padded, short
-from shb_view.stacks import caller_lines, headline, origins, sentences
+from shb_view.stacks import caller_lines, origins
 from shb_view.words import (MOST_SITES, MOST_VARIABLES, Code, accesses_text, flat_in, listed, lock_words, notes_of, operation_text,
                             partner_parts, place, races_text, seen_parts, share, summary, thread_parts)
 
@@ -81,8 +81,8 @@ def is_asked_for(only, origin, names, pair, group):
 
 def section_lines(view, number, section, colours):
     name = flat(group_name(view, section.group))
-    yield colours.bold(f"{number}. {name}: {flat(headline(section))}") + f" ({races_text(section.group)})"
-    yield from (f"   {flat(parts)}" for parts in [*sentences(section), *seen_parts(section)])
+    yield colours.bold(f"{number}. {name}: {flat(section.fact.tag)}") + f" ({races_text(section.group)})"
+    yield from (f"   {flat(parts)}" for parts in [*section.fact.sentences, *seen_parts(section)])
     if len(section.group.variables) > 1:
         yield f"   Variables: {flat(listed([[Code(name)] for name in section.group.variables], MOST_VARIABLES))}"
     for site in section.sites[:MOST_SITES]:
@@ -103,7 +103,7 @@ def site_lines(view, section, site, colours):
         yield f"     | {code_line(code, LINE)}"
     if source and source.fault:
         yield f"     | ({source.fault})"
-    yield "     " + "; ".join(flat(parts) for _, parts in lock_words(site, section.fact.lock))
+    yield "     " + "; ".join(flat(parts) for _, parts in lock_words(site))
     if site.partners:
         yield f"     races with {flat(partner_parts(site))}"
         yield from stack_lines(section.callers.get(site.location, []))

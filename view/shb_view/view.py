@@ -14,17 +14,18 @@ from shb_common.limits import MOST_TEXT
 from shb_common.report import BadReport, Counts, Report, in_order
 from shb_common.result import text
 from shb_common.standard import faults_of
-from shb_common.stacks import AtomicUse, Stacks
+from shb_common.stacks import Stacks
 from shb_common.uses import BadUses, Uses
 from shb_common.variables import without_block
 from shb_common.words import counted
 from shb_view.analyser import MOST_LISTED, Analyser, Verdict
 from shb_view.counting import Counting, Kinds
-from shb_view.facts import Fact, Site, fact_of, sites_of
+from shb_view.facts import RANKS, Fact, Site, fact_of, sites_of
 from shb_view.groups import Gathered, Group, object_of
+from shb_view.handed import handed, published
 from shb_view.names import by_numbers, readable
 from shb_view.source import Source
-from shb_view.stacks import Damaged, publications, stacks_of
+from shb_view.stacks import Damaged, stacks_of
 from shb_view.trace import CHANGED, Trace, warnings
 from shb_view.windows import Window, make_windows
 
@@ -47,7 +48,6 @@ class Section(typing.NamedTuple):
     window: typing.Optional[Window]
     callers: dict  # by racing line: the stacks of its racing accesses, as `callers_of` gives them, each with how many have it
     seen: typing.List[typing.Tuple[bytes, bytes]]  # lines of races where the second reads what the first wrote
-    publications: typing.List[typing.Tuple[AtomicUse, AtomicUse]]
 
 
 class View(typing.NamedTuple):
@@ -118,7 +118,7 @@ def make_view(options, progress):
         file = stack.enter_context(open_regular(options.trace))
         gathered = Gathered()
         made = scanned(options, gathered, progress, stack) if options.scan else analysed(options, file, gathered, progress, stack)
-        stacks = stacks_of(options.stacks, 0, made.events) if options.stacks else Stacks()
+        stacks = stacks_of(options.stacks, made.events) if options.stacks else Stacks()
         gathered.name_locals(stacks)
         groups = gathered.groups()
         kinds = Kinds(gathered, stacks)
@@ -244,9 +244,9 @@ def make_sections(options, kinds, made, trace, groups):
     counting = Counting(variables, wanted, kinds, made.uses)
     try:
         counting.read(trace, made.events)
-        found = merged_groups(groups, counting.counts)
-        first = sorted(found, key=lambda it: (it.rank, -(it.group.races() or sum(it.counts.values()))))[:MOST_GROUPS]
-        sections = [make_section(it.group, it.counts, counting) for it in first]
+        found = merged_groups(groups, counting.counts, Facts(kinds, "trace" if made.uses is None else "run"))
+        first = sorted(found, key=lambda it: (RANKS[it.fact.form], -(it.group.races() or sum(it.counts.values()))))[:MOST_GROUPS]
+        sections = [make_section(it, counting) for it in first]
         if options.html or options.all:
             windows = make_windows(trace, [section.group.closest() for section in sections], counting, made.given.order)
             sections = [section._replace(window=window) for section, window in zip(sections, windows)]
@@ -255,31 +255,44 @@ def make_sections(options, kinds, made, trace, groups):
     return len(found), sections
 
 
-class Ranked(typing.NamedTuple):
-    """A group with its counts and the rank of its fact."""
+class Found(typing.NamedTuple):
+    """A group with its counts, its lines and its fact."""
 
-    rank: int
     group: Group
     counts: dict
+    sites: typing.List[Site]
+    fact: Fact
 
 
-def merged_groups(groups, counts):
+class Facts:
+    """Makes facts of groups. `whole` is what they are of: a trace or a run."""
+
+    def __init__(self, kinds, whole):
+        self.kinds, self.whole = kinds, whole
+        self.pairs = handed(kinds.stacks.uses, len(kinds.stacks.free_starts) > 0, kinds.stacks.lasting_locals)
+
+    def of(self, group, counts):
+        sites, locks = sites_of(group, counts)
+        races = self.kinds.gathered.races_of(group.names)
+        by = published(races, self.pairs, lambda event: self.kinds.stacks.free_of(event) is not None) if self.pairs else ()
+        return Found(group, counts, sites, fact_of(sites, locks, self.whole, by))
+
+
+def merged_groups(groups, counts, facts):
     """The groups, those of one object as one where the same threads race in it and the same is missing."""
     found = {}
     for number, group in enumerate(groups):
-        sites, thing = sites_of(group, counts[number]), object_of(group)
-        fact = fact_of(sites, "")
-        racing = frozenset((thread, thread in site.writers) for site in sites if site.partners for thread in site.threads)
-        key = (thing, fact.rank, fact.lock, racing) if thing else number
-        found.setdefault(key, []).append(Ranked(fact.rank, group, counts[number]))
-    return [parts[0] if len(parts) == 1 else merged(parts) for parts in found.values()]
+        one, thing = facts.of(group, counts[number]), object_of(group)
+        racing = frozenset((thread, thread in site.writers) for site in one.sites if site.partners for thread in site.threads)
+        uses = tuple((use.name, use.location) for use in one.fact.uses)
+        key = (thing, one.fact.form, one.fact.lock, uses, racing) if thing else number
+        found.setdefault(key, []).append(one)
+    return [parts[0] if len(parts) == 1 else facts.of(*merged(parts)) for parts in found.values()]
 
 
 def merged(parts):
-    """Several groups as one."""
-    group = Group(*(sum(fields, ()) for fields in zip(*(part.group for part in parts))))
-    counts = joined_counts([part.counts for part in parts])
-    return Ranked(fact_of(sites_of(group, counts), "").rank, group, counts)
+    """Several groups as one, and their counts."""
+    return Group(*(sum(fields, ()) for fields in zip(*(part.group for part in parts)))), joined_counts([part.counts for part in parts])
 
 
 def joined_counts(counts):
@@ -291,12 +304,11 @@ def joined_counts(counts):
     return found
 
 
-def make_section(group, counts, counting):
+def make_section(found, counting):
     """A group as it is shown, but for its window."""
-    sites, places, kinds = sites_of(group, counts), group.places(), counting.access_kinds
-    fact = fact_of(sites, "trace")
+    places, kinds = found.group.places(), counting.access_kinds
     seen = sorted((pair for pair in counting.seen if tuple(sorted(pair)) in places), key=lambda pair: list(map(by_numbers, pair)))
-    return Section(group, sites, fact, None, callers_of(group, counting), seen, publications(kinds.stacks, sites, fact))
+    return Section(found.group, found.sites, found.fact, None, callers_of(found.group, counting), seen)
 
 
 def callers_of(group, counting):

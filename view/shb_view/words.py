@@ -1,6 +1,8 @@
 """Words that the text and the page share. What is said is a list of parts: plain text, and names as `Code`. A place is a pair of lines
 that race, that of the first access and that of the second; a group is the places that share a variable."""
 
+import re
+
 from shb_common.words import counted
 from shb_view.held import read_lock
 from shb_view.names import by_numbers, short
@@ -15,6 +17,18 @@ NO_LOCK = "no lock held"
 
 class Code(bytes):
     """A name of the trace or a location, as bytes."""
+
+
+OF_BLOCK = re.compile(rb"( of .+)?#\*(?=$|\+)", re.S)  # what a lock in a block has behind its own name
+
+
+class Own(Code):
+    """The name of a lock of which each variable has its own."""
+
+
+def lock_name(lock):
+    """A lock, as parts."""
+    return ["its own lock ", Code(OF_BLOCK.sub(b"", lock))] if isinstance(lock, Own) else [Code(lock)]
 
 
 def operation_text(event, most):
@@ -57,23 +71,20 @@ def thread_parts(site):
     return listed([[Code(thread)] for thread in sorted(site.threads, key=lambda thread: (-site.threads[thread], thread))], MOST_THREADS)
 
 
-def lock_words(site, lock):
-    """What is said of the locks held at a line: pairs of `held`, `some` or `none`, and parts. `lock` is the one that the group's
-    fact is about, or None."""
+def lock_words(site):
+    """What is said of the locks held at a line: pairs of `held`, `some` or `none`, and parts."""
     total = site.total()
     holds = {(name, ""): count for name, count in site.locks.items()}
     holds.update({(name, " for reading"): count for name, count in site.reading.items()})
     names = sorted(holds, key=lambda hold: (-holds[hold], hold))
     always = [hold for hold in names if holds[hold] == total][:MOST_LOCKS]
     some = [hold for hold in names if holds[hold] < total][:MOST_SOME]
-    found = [("some" if how and site.wrong[name] else "held", ["holds ", Code(name), how]) for name, how in always]
-    found += [("some", ["holds ", Code(name), f"{how} at {holds[name, how]:,} of {total:,}"]) for name, how in some]
+    found = [("some" if how and site.wrong[name] else "held", ["holds ", *lock_name(name), how]) for name, how in always]
+    found += [("some", ["holds ", *lock_name(name), f"{how} at {holds[name, how]:,} of {total:,}"]) for name, how in some]
     if len(names) > len(always) + len(some):
         found.append(("some", [f"and {len(names) - len(always) - len(some):,} more"]))
     if site.bare:
         found.append(("none", [NO_LOCK]) if site.bare == total else ("some", [NO_LOCK, f" at {site.bare:,} of {total:,}"]))
-    if lock and site.bare < total and not site.locks[lock] and not site.reading[lock] and not site.unknown:
-        found.append(("none", ["doesn't hold ", Code(lock)]))
     if site.unknown:
         found.append(("some", [f"locks not counted at {site.unknown:,} of {total:,}"]))
     return found

@@ -1,0 +1,372 @@
+"""A second reader of the facts: it knows what docs/FORMATS.md says of each form, and looks through the whole trace for each word. It shares
+no code with the view."""
+
+import collections
+import itertools
+import re
+
+KNOWN = ("published", "freed", "plain", "uncounted", "read-lock", "without", "sometimes", "apart", "no-lock", "ordered")
+MOST_CHOICES = 4_096  # of a lock for each variable
+READER = re.compile(r"(.+)@reader\..+", re.S)
+STAND_IN = re.compile(r".+@[0-9]+(?:[<>].+)?", re.S)
+Use = collections.namedtuple("Use", "event name thread location kind order")
+# `count` is 1 of an event, and more where the file of uses has several alike, which have no number.
+Access = collections.namedtuple("Access", "number thread word name location held shared is_free is_atomic local count")
+Named = collections.namedtuple("Named", [*Access._fields, "variable"])
+
+
+class Reader:
+    def __init__(self, trace, stacks=None, uses=None):
+        """The bytes of a trace, those of its file of stacks, and those of the uses of the run that it is a part of."""
+        self.uses, self.frees, self.locals = [], [], collections.defaultdict(list)
+        events = [line.rstrip("\r") for line in trace.decode("latin-1").split("\n") if line.rstrip("\r")]
+        if stacks:
+            self.read_stacks(stacks[34 + 4 * int(stacks[13:33]):].decode("latin-1"))
+        lasting = {name: {local for _, local in found} for name, found in self.locals.items()}
+        lasting = {name: found.pop() for name, found in lasting.items() if len(found) == 1 and found != {""}}
+        held, self.traced = collections.defaultdict(lambda: collections.defaultdict(int)), []
+        for number, line in enumerate(events, 1):
+            thread, operation, location = (line.split("|", 2) + [""])[:3]
+            word, _, name = operation.partition("(")
+            name = name[:-1]
+            if word in ("acq", "rel"):
+                if not STAND_IN.fullmatch(name):
+                    held[thread][lock_of(name, lasting)] += 1 if word == "acq" else -1
+            elif word in ("r", "w"):
+                locks = {lock for lock, count in held[thread].items() if count > 0}
+                is_free = word == "w" and any(first <= number <= last for first, last in self.frees)
+                self.traced.append(Access(number, thread, word, name, location, *told_apart(locks), is_free,
+                                          word == "w" and name.endswith("!" + thread), self.local_of(name, number), 1))
+        self.counted = list(self.uses_of_run(uses.decode("latin-1"), lasting)) if uses is not None else self.traced
+
+    @staticmethod
+    def uses_of_run(text, lasting):
+        for line in text.split("\n"):
+            kind, *fields = line.split("\t")
+            if kind == "use":
+                count, word, name, local, thread, location, _, *locks = fields
+                yield Access(None, thread, "r" if word == "r" else "w", name, location, *told_apart({lock_of(lock, lasting) for lock in locks}),
+                             word == "f", word == "a", local if name.startswith("stack.") else lasting.get(name, ""), int(count))
+
+    def read_stacks(self, text):
+        for line in text.split("\n"):
+            kind, _, rest = line.partition(" ")
+            if kind == "use":
+                event, name, thread, location, how = rest.split("\t")
+                self.uses.append(Use(int(event), name, thread, location, *how.split(" ")))
+            elif kind == "free":
+                self.frees.append(tuple(map(int, rest.split(" "))))
+            elif kind == "local":
+                event, variable, name = rest.split("\t")
+                self.locals[variable].append((int(event), name))
+
+    def local_of(self, variable, number):
+        found = ""
+        for event, name in sorted(self.locals[variable], key=lambda it: it[0]):
+            if event <= number:
+                found = name
+        return found
+
+    def faults(self, groups):
+        """What is wrong in the facts of some groups: each a fact with the pairs of lines of its group."""
+        for fact, pairs in groups:
+            yield from (f"{fact['form']} of {fact['group'][:3]}: {fault}" for fault in Group(self, fact, pairs).faults())
+
+
+def lock_of(name, lasting):
+    """A lock as the program has it: one on a stack by the local that it is."""
+    base, sign, rest = name.partition("@")
+    return lasting.get(base, base) + sign + rest
+
+
+def told_apart(locks):
+    """Locks that are held, and those that are held for reading."""
+    shared = {lock for lock in locks if READER.fullmatch(lock)}
+    return frozenset(locks - shared), frozenset(READER.fullmatch(lock)[1] for lock in shared)
+
+
+class Group:
+    """A fact with its group. `traced` are the accesses of its variables that the trace has, `all` those that facts count. The name of what a
+    thread writes atomically is that of the atomic here."""
+
+    def __init__(self, reader, fact, pairs):
+        self.reader, self.fact, self.pairs = reader, fact, {frozenset(pair) for pair in pairs}
+        self.lines = set().union(*self.pairs)
+        self.atomics = {name.rpartition("!")[0] for name in fact["group"] if "!" in name}
+        self.traced, self.all = self.those(reader.traced), self.those(reader.counted)
+        self.variables = {access.variable for access in self.all if access.location in self.lines}
+
+    def those(self, accesses):
+        """A variable on a stack is a local where it is that one at all its races; else all accesses count."""
+        names, locals = {*self.fact["group"], *self.atomics}, self.fact.get("locals", {})
+        return [Named(*access, self.base(access.name)) for access in accesses
+                if access.name in names and (not locals.get(access.name) or access.local == locals[access.name])]
+
+    def base(self, name):
+        base = name.rpartition("!")[0]
+        return base if base and base in self.atomics else name
+
+    def is_atomic(self, access):
+        return access.is_atomic and (access.number is None or access.variable in self.atomics)
+
+    def at(self, line):
+        return [access for access in self.all if access.location == line]
+
+    def racing(self):
+        return [access for access in self.all if access.location in self.lines]
+
+    @staticmethod
+    def locks(access):
+        """Those that an access holds: a read holds one for reading too."""
+        return access.held | access.shared if access.word == "r" else access.held
+
+    def has(self, access, lock):
+        return lock is not None and lock in self.locks(access)
+
+    def faults(self):
+        form = self.fact["form"]
+        if form not in KNOWN:
+            yield "no such form"
+            return
+        yield from getattr(self, "check_" + form.replace("-", "_"))()
+        if "also" in self.fact:
+            self.fact = {**self.fact, **self.fact["also"]}
+            yield from self.check_without()
+            self.fact = {**self.fact, "form": form}
+        for earlier in KNOWN[:KNOWN.index(form)]:
+            applies = getattr(self, "has_" + earlier.replace("-", "_"), None)
+            if applies and applies():
+                yield f"{earlier} comes first, and holds"
+
+    # ---- published: between the two accesses of each race one and the same atomic was handed on, without an order ----
+    def order(self, at, event):
+        """The order of a load, as it is seen from an event of its thread: one before a fence with acquire is one with acquire."""
+        load, uses = self.reader.uses[at], self.reader.uses
+        is_fenced = any(use.kind == "fence" and use.thread == load.thread and use.event <= event for use in uses[at + 1:])
+        return {"relaxed": "acquire", "release": "both"}.get(load.order, load.order) if is_fenced else load.order
+
+    def reads(self, at, index):
+        """Whether the load at this place in the list reads what the store at that one left, or what updates made of it."""
+        uses = self.reader.uses
+        for k in range(at - 1, -1, -1):
+            if uses[k].name != uses[at].name or uses[k].kind not in ("store", "update"):
+                continue
+            if k == index:
+                return True
+            if uses[k].kind == "store":
+                return False
+        return False
+
+    def handed(self, first, second):
+        """All that was handed on between two accesses, as (name, line, line, kind, kind, order, order)."""
+        uses, found = self.reader.uses, set()
+        for k, store in enumerate(uses):
+            if store.kind in ("load", "fence") or store.thread != first.thread or store.event <= first.number:
+                continue
+            for m in range(k + 1, len(uses)):
+                load = uses[m]._replace(order=self.order(m, second.number))
+                if load.name == store.name and load.kind in ("load", "update") and load.thread == second.thread and load.event <= second.number \
+                        and self.reads(m, k) and self.misses(store, load) and (second.is_free or not store.kind == load.kind == "update") \
+                        and store.name != first.variable:
+                    found.add((store.name, store.location, load.location, store.kind, load.kind, store.order, load.order))
+        return found
+
+    @staticmethod
+    def misses(store, load):
+        return [order for order, has in (("release", store.order in ("release", "both")), ("acquire", load.order in ("acquire", "both"))) if not has]
+
+    def check_published(self):
+        by_number, places = {access.number: access for access in self.traced}, set()
+        for by in self.fact["by"]:
+            store, load = (Use(use["event"], by["atomic"], use["thread"], use["location"], use["kind"], use["order"]) for use in (by["store"], by["load"]))
+            if store not in self.reader.uses or load._replace(order="") not in [use._replace(order="") for use in self.reader.uses]:
+                yield "no such use"
+            if by["missing"] != self.misses(store, load) or not by["missing"]:
+                yield "missing is wrong"
+            for first, second in by["races"]:
+                first, second = by_number.get(first), by_number.get(second)
+                if not first or not second or first.thread == second.thread or "w" not in first.word + second.word:
+                    yield "no race"
+                elif (by["atomic"], store.location, load.location, store.kind, load.kind, store.order, load.order) not in self.handed(first, second):
+                    yield f"nothing is handed on between {first.number} and {second.number}"
+                else:
+                    places.add(frozenset((first.location, second.location)))
+        if places != self.pairs:
+            yield "not of each place"
+
+    def races_of_form(self):
+        return [tuple(race) for race in self.fact.get("all_races", ())]
+
+    def has_published(self):
+        by_number, common = {access.number: access for access in self.traced}, {}
+        for first, second in self.races_of_form():
+            one, other = by_number[first], by_number[second]
+            found = self.handed(one, other)
+            key = one.location, other.location
+            common[key] = common[key] & found if key in common else found
+        return bool(common) and all(common.values())
+
+    # ---- freed ----
+    def check_freed(self):
+        frees = set(self.fact["frees"])
+        for line in frees:
+            if not any(access.is_free for access in self.at(line)) or line not in self.lines:
+                yield f"no free at {line}"
+        if frees != {access.location for access in self.racing() if access.is_free}:
+            yield "not all frees"
+        if set(self.fact["uses"]) != {line for pair in self.pairs if pair & frees and len(pair) == 2 for line in pair
+                                      if any(other in frees for other in pair - {line})}:
+            yield "other uses"
+        for line in self.fact["after"]:
+            if not any(free.is_free and not use.is_free and free.number < use.number and free.thread != use.thread and free.variable == use.variable
+                       and frozenset((free.location, use.location)) in self.pairs for free in self.traced for use in self.traced if use.location == line):
+                yield f"no use at {line} after a free"
+
+    def has_freed(self):
+        return any(access.is_free for access in self.racing())
+
+    # ---- plain: some racing lines write atomically, others never ----
+    def check_plain(self):
+        atomic, plain = set(self.fact["atomic"]), set(self.fact["plain"])
+        if atomic != {access.location for access in self.racing() if self.is_atomic(access)}:
+            yield "other lines write atomically"
+        if atomic & plain or atomic | plain != self.lines or not plain:
+            yield "not the racing lines"
+
+    def has_plain(self):
+        atomic = {access.location for access in self.racing() if self.is_atomic(access)}
+        return bool(atomic) and atomic != self.lines
+
+    def check_uncounted(self):
+        return ()
+
+    # ---- locks: a free is no access here ----
+    def used(self, line=None):
+        return [access for access in self.all if not access.is_free and (line is None or access.location == line)]
+
+    def used_racing(self):
+        return [access for access in self.used() if access.location in self.lines]
+
+    def check_read_lock(self):
+        for line in self.fact["lines"]:
+            if not any(access.word == "w" and self.fact["locks"].get(access.variable) in access.shared for access in self.used(line)) or line not in self.lines:
+                yield f"no write under a read lock at {line}"
+
+    def has_read_lock(self):
+        return any(access.word == "w" and access.shared for access in self.used_racing())
+
+    def check_without(self):
+        fact, of = self.fact, self.fact["locks"]
+        lines, some, holding = set(fact["lines"]), set(fact["sometimes"]), set(fact["holding"])
+        holds = {access: self.has(access, of.get(access.variable)) for access in self.used()}
+        if not lines or not lines <= self.lines or not self.lines <= lines | holding or lines & holding or not holding or not some <= lines:
+            yield "not the lines"
+        is_bare = not any(access.held or access.shared for line in lines for access in self.used(line))
+        if not is_bare and not some and len(holding) <= len(lines):
+            yield "the lines hold other locks, and are not fewer"
+        if not any(access.word == "w" for line in holding for access in self.used(line)) and any(
+                access.word == "r" for line in lines for access in self.used(line)):
+            yield "readers alone hold it"
+        if len(set(of.values())) > 1 and len({re.sub(r"(#|\[)[0-9]+", r"\1", lock) for lock in of.values()}) > 1:
+            yield "locks of several kinds"
+        for variable in self.variables:
+            if not any(held for access, held in holds.items() if access.variable == variable):
+                yield f"no access of {variable} holds its lock"
+        for line in lines - some:
+            if any(held for access, held in holds.items() if access.location == line):
+                yield f"{line} holds it"
+        for line in some:
+            if len({held for access, held in holds.items() if access.location == line}) != 2:
+                yield f"{line} doesn't hold it at times"
+        for line in holding:
+            if not all(held for access, held in holds.items() if access.location == line) or not self.used(line):
+                yield f"{line} doesn't hold it always"
+        scope = fact["scope"]
+        said = {"writes": lambda access: access.word == "w", "reads": lambda access: access.word == "r",
+                "all": lambda access: access.location not in lines, "lines": lambda access: access.location in holding}[scope]
+        if not all(held for access, held in holds.items() if said(access)) or not any(said(access) for access in holds):
+            yield f"not all {scope} hold it"
+        if scope in ("writes", "reads") and any(said(access) for line in lines for access in self.used(line)):
+            yield f"the lines are no others than {scope}"
+        yield from self.check_held(fact["instead"], lines)
+
+    def check_held(self, held, lines):
+        """Locks that are held at each access of a line."""
+        for line, locks in held.items():
+            for of in locks:
+                if not self.used(line) or not all(self.has(access, of.get(access.variable)) for access in self.used(line)):
+                    yield f"{line} doesn't hold {of}"
+        for line in lines:
+            every = [self.locks(access) for access in self.used(line)]
+            if len(self.variables) == 1 and every and frozenset.intersection(*every) != {lock for of in held.get(line, ()) for lock in of.values()}:
+                yield f"{line} holds others"
+
+    def has_without(self):
+        """Whether locks of one kind, one for each variable, are held at each access of some lines, and all racing lines without them hold none,
+        or hold these at times, or are fewer."""
+        kinds = collections.defaultdict(lambda: collections.defaultdict(set))
+        for access in self.used():
+            for lock in access.held | access.shared:
+                kinds[re.sub(r"(#|\[)[0-9]+", r"\1", lock)][access.variable].add(lock)
+        return any(self.is_without(dict(zip(by, locks))) for by in kinds.values() if self.variables <= set(by)
+                   for locks in itertools.islice(itertools.product(*by.values()), MOST_CHOICES))
+
+    def is_without(self, of):
+        by_line = collections.defaultdict(list)
+        for access in self.used():
+            by_line[access.location].append(self.has(access, of.get(access.variable)))
+        holding = [line for line in by_line if all(by_line[line])]
+        lacking = [line for line in self.lines if not all(by_line[line])]
+        bare = all(not access.held and not access.shared for line in lacking for access in self.used(line))
+        words = lambda lines: {access.word for line in lines for access in self.used(line)}
+        holders = {access.variable for line in holding for access in self.used(line)}
+        return bool(holding and lacking) and self.variables <= holders and ("w" in words(holding) or "r" not in words(lacking)) and (
+            bare or any(any(by_line[line]) for line in lacking) or len(holding) > len(lacking))
+
+    def check_sometimes(self):
+        for line, (some, all) in self.fact["lines"].items():
+            holds = [(self.has(access, self.fact["locks"].get(access.variable)), access.count) for access in self.used(line)]
+            found = [sum(count for has, count in holds if has), sum(count for _, count in holds)]
+            if len({has for has, _ in holds}) != 2 or line not in self.lines or not self.atomics and not self.reader.frees and found != [some, all]:
+                yield f"{line} holds it at {found}"
+        if not self.fact["lines"]:
+            yield "no line"
+
+    def has_sometimes(self):
+        """Of one variable: a racing line that writes and holds some lock at some accesses."""
+        return len(self.variables) == 1 and any(
+            len({self.has(access, lock) for access in self.used(line)}) == 2 and any(access.word == "w" for access in self.used(line))
+            for line in self.lines for lock in set().union(*(access.held | access.shared for access in self.used(line))))
+
+    def check_apart(self):
+        if set(self.fact["lines"]) != self.lines:
+            yield "not the racing lines"
+        for variable in self.variables:
+            mine = [access for access in self.used_racing() if access.variable == variable]
+            if mine and frozenset.intersection(*map(self.locks, mine)):
+                yield f"{variable} has a lock in common"
+        if not any(access.held or access.shared for access in self.used()):
+            yield "no lock at all"
+        yield from self.check_held(self.fact["held"], self.lines)
+        if self.fact["all_hold"] != (set(self.fact["held"]) == self.lines):
+            yield "all_hold is wrong"
+
+    def check_no_lock(self):
+        if any(access.held or access.shared for access in self.used()):
+            yield "a lock is held"
+        if set(self.fact["writes"]) != {access.location for access in self.used_racing() if access.word == "w"}:
+            yield "other lines write"
+        if set(self.fact["writers"]) != {access.thread for access in self.used_racing() if access.word == "w"}:
+            yield "other threads write"
+
+    def check_ordered(self):
+        yield "a race isn't ordered"
+
+
+def groups_of(document):
+    """The facts of a file of places, each with the pairs of lines of its group."""
+    found = {}
+    for place in document["places"]:
+        if "group" in place:
+            found.setdefault(place["group"], []).append(tuple(access["in_trace"] for access in place["accesses"]))
+    return [(document["groups"][number - 1], pairs) for number, pairs in found.items()]

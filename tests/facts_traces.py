@@ -1,0 +1,249 @@
+"""Made traces for the facts: objects with a lock each, reader locks, atomics that hand something on, plain uses of atomics, and frees. Each has
+its file of stacks, as the recorder writes both."""
+
+import collections
+import random
+
+
+
+class Made:
+    def __init__(self, pick):
+        self.pick, self.lines, self.uses, self.frees = pick, [], [], []
+        self.threads = [b"T%d" % k for k in range(pick.randint(2, 4))]
+        self.held = {thread: [] for thread in self.threads}     # (lock, is shared)
+        self.stores, self.chains = collections.Counter(), {}
+        self.style, self.objects = pick.randrange(3), list(range(1, pick.randint(1, 3) + 1))
+        self.dead = set()
+        self.code = {thread: [] for thread in self.threads}
+        # how often a line uses a field, a global variable, an atomic in a way, all that is handed on, and frees
+        self.weights = pick.choice(((8, 3, 2, 2, 1, 1, 1, 1, 1), (1, 0, 1, 1, 3, 0, 1, 6, 6), (1, 0, 1, 1, 3, 0, 1, 6, 6), (8, 0, 0, 0, 0, 0, 1, 0, 0), (2, 0, 1, 1, 2, 3, 0, 1, 1),
+                                    (4, 0, 0, 0, 3, 0, 2, 2, 2)))
+        self.guards = pick.choice(((6, 2, 2, 1, 3, 1), (1, 0, 0, 0, 9, 0), (9, 0, 0, 0, 2, 1), (1, 0, 5, 3, 1, 0)))
+        self.is_short = self.weights[-1] >= 6    # long traces have few atomics that are handed on in each race
+        if self.is_short:
+            self.threads, self.objects = [b"T0", b"T1", b"T2"][:pick.choice((2, 3))], [1]
+            self.held = {thread: [] for thread in self.threads}
+            self.code = {thread: [] for thread in self.threads}
+        self.ways = [self.way(number) for number in range(1, pick.randint(2, 4 if self.is_short else 6) + 1)]
+
+    def field(self, thing, name):
+        return (b"o[%d].%c" % (thing, name), b"N.%c of f.c:3#%d" % (name, thing), b"f.c:3#%d+%d" % (thing, name))[self.style]
+
+    def lock_of(self, thing):
+        return (b"o[%d].l" % thing, b"N.l of f.c:3#%d" % thing, b"f.c:3#%d" % thing)[self.style]
+
+    def way(self, number):
+        """A line of code: what it does, and under which lock."""
+        pick = self.pick
+        kind = pick.choices(("use", "global", "store", "load", "update", "plain", "free", "hand", "taken"), self.weights)[0]
+        if self.is_short and number <= 2:
+            kind = ("hand", "taken")[number - 1]
+        elif self.is_short and number == 3 and pick.random() < 0.6:
+            kind = "update"
+        guards = (1, 1, 0, 0, 12, 0) if self.is_short else self.guards
+        lock = pick.choices(("own", "global", "read", "write", "none", "both"), guards)[0]
+        return (b"f.c:%d" % (10 * number), kind, lock, pick.choice((b"r", b"w", b"rw")), 97 if self.is_short else pick.choice((97, 98)),
+                pick.choice((b"relaxed", b"release", b"acquire", b"both")), pick.choice((b"B",) * 9 + (b"A",) if self.is_short else (b"A", b"B")),
+                pick.random() < 0.15)
+
+    def event(self, thread, word, name, line):
+        self.lines.append(b"%s|%s(%s)|%s" % (thread, word, name, line))
+
+    def steps(self, thread):
+        """What the thread does at one line, as calls."""
+        ways = self.ways
+        if self.is_short and self.pick.random() < 0.9:
+            has_given = any(giver == self.threads[0] for giver, _ in self.stores)
+            number = self.threads.index(thread)
+            ways = [ways[number]] if number < 2 and (number or not has_given) else ways[2:] or ways[1:]
+        line, kind, lock, words, name, order, atomic, sloppy = self.pick.choice(ways)
+        thing = self.pick.choice(self.objects)
+        locks = {"own": [(self.lock_of(thing), 0)], "global": [(b"m", 0)], "read": [(b"rw", 1)], "write": [(b"rw", 0)], "none": [],
+                 "both": [(b"m", 0), (self.lock_of(thing), 0)]}[lock]
+        if sloppy and self.pick.random() < 0.4:
+            locks = []
+        found = [("take", one) for one in locks]
+        if kind in ("use", "global"):
+            variable = self.field(thing, name) if kind == "use" else b"g"
+            found += [("access", word, variable, line) for word in ((b"r", b"w") if words == b"rw" else (words,))]
+        elif kind == "free":
+            found.append(("free", thing, line))
+        elif kind == "hand":
+            found += [("access", b"w", self.field(thing, name), line), ("store", atomic, order if order in (b"relaxed", b"release") else b"relaxed", line + b"1")]
+        elif kind == "taken":
+            found += [("load", atomic, order if order in (b"relaxed", b"acquire") else b"relaxed", line + b"1"), ("if-handed", atomic, self.field(thing, name), line)]
+        elif kind == "plain":
+            found.append(("plain", words[:1], line))
+        else:
+            order = {"store": order if order in (b"relaxed", b"release") else b"release", "load": b"acquire" if order == b"release" else
+                     b"relaxed" if order == b"both" else order, "update": order}[kind]
+            found.append((kind, atomic, order, line))
+        return found + [("drop", one) for one in reversed(locks)]
+
+    def can(self, thread, step):
+        if step[0] != "take":
+            return True
+        lock, shared = step[1]
+        return not any(other == lock and not (shared and its) for one in self.threads if one != thread for other, its in self.held[one]) \
+            and not any(other == lock for other, _ in self.held[thread])
+
+    def do(self, thread, step):
+        kind, *more = step
+        if kind in ("take", "drop"):
+            lock, shared = more[0]
+            name = b"%s@reader.%s" % (lock, thread) if shared else lock
+            if kind == "take":
+                if shared:
+                    self.event(thread, b"acq", lock + b"@1>" + thread, b"f.c:1")
+                    self.event(thread, b"rel", lock + b"@1>" + thread, b"f.c:1")
+                self.event(thread, b"acq", name, b"f.c:1")
+                self.held[thread].append(more[0])
+            else:
+                self.held[thread].remove(more[0])
+                if shared:  # what a later writer gets
+                    self.event(thread, b"rel", name, b"f.c:2")
+                    self.event(thread, b"acq", lock + b"@1<" + thread, b"f.c:2")
+                    self.event(thread, b"rel", lock + b"@1<" + thread, b"f.c:2")
+                else:
+                    if lock == b"rw":   # what later readers get
+                        for other in self.threads:
+                            if other != thread:
+                                self.event(thread, b"acq", lock + b"@1>" + other, b"f.c:2")
+                                self.event(thread, b"rel", lock + b"@1>" + other, b"f.c:2")
+                    self.event(thread, b"rel", name, b"f.c:2")
+            if kind == "take" and lock == b"rw" and not shared:
+                for other in self.threads:
+                    if other != thread:
+                        self.event(thread, b"acq", b"rw@1<" + other, b"f.c:1")
+                        self.event(thread, b"rel", b"rw@1<" + other, b"f.c:1")
+        elif kind == "access":
+            word, variable, line = more
+            self.event(thread, word, variable, line)
+        elif kind == "if-handed":
+            atomic, variable, line = more
+            if any(giver != thread for giver, _, _ in self.chains.get(atomic, ())):
+                self.event(thread, b"r", variable, line)
+        elif kind == "free":
+            thing, line = more
+            if thing in self.dead or len(self.objects) < 2 and self.pick.random() < 0.5:
+                return
+            self.dead.add(thing)
+            first = len(self.lines) + 1
+            for name in (97, 98):
+                self.event(thread, b"w", self.field(thing, name), line)
+            self.frees.append((first, len(self.lines)))
+        elif kind == "plain":
+            word, line = more
+            if word == b"w":
+                self.event(thread, b"w", b"A", line)
+            else:
+                self.event(thread, b"r", b"A", line)
+                for other in self.threads:
+                    if other != thread and self.stores[b"A", other]:
+                        self.event(thread, b"r", b"A!" + other, line)
+        else:
+            self.atomic(thread, kind, *more)
+
+    def atomic(self, thread, kind, name, order, line):
+        chain = self.chains.get(name, [])       # (thread, gives, number)
+        position = len(self.lines) + 1
+        self.uses.append(b"use %d\t%s\t%s\t%s\t%s %s" % (position, name, thread, line, kind.encode(), order))
+        if kind != "store" and order in (b"acquire", b"both"):
+            for giver, gives, number in chain:
+                if gives and giver != thread:
+                    self.event(thread, b"acq", b"%s@%d>%s" % (name, number, thread), line)
+                    self.event(thread, b"rel", b"%s@%d>%s" % (name, number, thread), line)
+        self.event(thread, b"r", name, line)
+        if kind == "load":
+            return
+        if self.pick.random() < 0.7 or name == b"A":
+            self.event(thread, b"w", name + b"!" + thread, line)
+        self.stores[name, thread] += 1
+        number, gives = len(self.uses), order in (b"release", b"both")
+        if gives:
+            for other in self.threads:
+                if other != thread:
+                    self.event(thread, b"acq", b"%s@%d>%s" % (name, number, other), line)
+                    self.event(thread, b"rel", b"%s@%d>%s" % (name, number, other), line)
+        kept = chain if kind == "update" else [it for it in chain if it[0] == thread] if not gives else []
+        self.chains[name] = [*kept, (thread, gives, number)]
+
+    def alone(self, word, line):
+        """What a thread does while it is alone, without locks."""
+        if self.pick.random() < 0.4:
+            for thing in self.objects:
+                self.event(b"T0", word, self.field(thing, 97), line)
+
+    def make(self):
+        has_forks = self.pick.random() < 0.5
+        if has_forks:
+            self.alone(b"w", b"f.c:5")
+            self.alone(b"r", b"f.c:6")
+            for thread in self.threads[1:]:
+                self.event(b"T0", b"fork", thread, b"f.c:7")
+        self.run()
+        if has_forks and not any(self.held.values()):
+            for thread in self.threads[1:]:
+                self.event(b"T0", b"join", thread, b"f.c:8")
+            self.alone(b"r", b"f.c:9")
+        tables = [*self.uses, *(b"free %d %d" % free for free in self.frees)]
+        head = b"shb-stacks 1 %020d\n" % len(self.lines) + bytes(4 * len(self.lines))
+        return b"\n".join(self.lines) + b"\n", head + b"".join(line + b"\n" for line in tables)
+
+    def run(self):
+        length = len(self.lines) + self.pick.randint(4, 16 if self.is_short else 40)
+        for _ in range(1_000):
+            if len(self.lines) >= length and not any(self.code.values()):
+                break
+            ready = [thread for thread in self.threads if self.code[thread] and self.can(thread, self.code[thread][0])]
+            idle = [thread for thread in self.threads if not self.code[thread]] if len(self.lines) < length else []
+            if not ready and not idle:
+                break
+            thread = self.pick.choice(ready + idle)
+            if not self.code[thread]:
+                self.code[thread] = self.steps(thread)
+            elif self.can(thread, self.code[thread][0]):
+                self.do(thread, self.code[thread].pop(0))
+
+
+def handed_on(second):
+    """Between two accesses an atomic is stored, used by a third thread in a way, and loaded."""
+    trace = b"T0|w(x)|f.c:1\nT0|r(B)|f.c:2\nT2|r(B)|f.c:3\nT1|r(B)|f.c:4\nT1|r(x)|f.c:5\n"
+    uses = b"use 2\tB\tT0\tf.c:2\tstore relaxed\nuse 3\tB\tT2\tf.c:3\t%s relaxed\nuse 4\tB\tT1\tf.c:4\tload relaxed\n" % second
+    return trace, b"shb-stacks 1 %020d\n" % 5 + bytes(20) + uses
+
+
+def counted():
+    """A counter that two threads update between their accesses, in a trace with a free."""
+    trace = b"T0|w(x)|f.c:1\nT0|r(B)|f.c:2\nT1|r(B)|f.c:2\nT1|r(x)|f.c:3\nT1|w(y)|f.c:4\n"
+    uses = b"use 2\tB\tT0\tf.c:2\tupdate relaxed\nuse 3\tB\tT1\tf.c:2\tupdate relaxed\nfree 5 5\n"
+    return trace, b"shb-stacks 1 %020d\n" % 5 + bytes(20) + uses
+
+
+def both_locks():
+    """Two objects with a lock each; one thread uses each under its own lock and, once, under both, another one without."""
+    lines = []
+    for one, other in ((1, 2), (2, 1)):
+        for locks in ([one], [one, other]):
+            lines += [b"T0|acq(o[%d].l)|f.c:1" % lock for lock in locks] + [b"T0|w(o[%d].a)|f.c:2" % one]
+            lines += [b"T0|rel(o[%d].l)|f.c:3" % lock for lock in locks]
+    lines += [b"T1|r(o[1].a)|f.c:4", b"T1|r(o[2].a)|f.c:4"]
+    return b"\n".join(lines) + b"\n", b"shb-stacks 1 %020d\n" % len(lines) + bytes(4 * len(lines))
+
+
+def nested():
+    """A lock that is taken twice."""
+    lines = [b"T0|%s|f.c:%d" % (word, line) for line, word in enumerate((b"acq(l)", b"acq(l)", b"w(x)", b"rel(l)", b"w(x)", b"rel(l)"), 1)]
+    lines.append(b"T1|w(x)|f.c:7")
+    return b"\n".join(lines) + b"\n", b"shb-stacks 1 %020d\n" % len(lines) + bytes(4 * len(lines))
+
+
+def made(how_many, seed):
+    """What is rare in made traces comes first."""
+    yield from map(handed_on, (b"update", b"store", b"load"))
+    yield counted()
+    yield both_locks()
+    yield nested()
+    pick = random.Random(seed)
+    for _ in range(how_many):
+        yield Made(pick).make()

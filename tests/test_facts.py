@@ -1,0 +1,63 @@
+"""The facts of the view, read again by facts_reader.py: of made traces, and of programs with a line to blame where the recorder is built."""
+
+import argparse
+import collections
+import os
+import re
+import sys
+import tempfile
+import types
+
+import facts_reader
+import facts_traces
+import program
+import shb
+from viewing import QUIET
+
+from shb_common.report import Counts
+from shb_common.result import text
+from shb_view import result, view
+from shb_view.analyser import Verdict
+from shb_view.groups import Gathered
+from shb_view.stacks import stacks_of
+from shb_view.trace import Trace
+
+MADE = int(os.environ.get("SHB_FACTS", 300))  # traces
+
+
+def facts_of(trace, stacks):
+    """The facts of a trace's groups, each with the pairs of lines of its group, as `places.json` has them."""
+    with tempfile.TemporaryFile() as file, tempfile.TemporaryFile() as report, tempfile.NamedTemporaryFile() as beside:
+        file.write(trace)
+        report.write(shb.report(trace, False))
+        beside.write(stacks)
+        for one in (file, report, beside):
+            one.flush()
+        report.seek(0)
+        given = view.Given("report", report, Verdict(None, ""), None)
+        counts, gathered = Counts(*shb.counts_of(shb.read_trace(trace)[0])), Gathered()
+        view.read_report(given, counts, gathered, QUIET)
+        its = stacks_of(beside.name, counts.events)
+        gathered.name_locals(its)
+        kinds, options = view.Kinds(gathered, its), argparse.Namespace(html=False, all=False)
+        shown = types.SimpleNamespace(kinds=kinds, gathered=gathered)
+        made = view.Subject(given, counts, 0, 0, "", counts.events, None)
+        for section in view.make_sections(options, kinds, made, Trace(file, QUIET), gathered.groups())[1]:
+            yield result.group_entry(shown, section), [tuple(map(text, pair.locations)) for pair in section.group.pairs]
+
+
+def read_again(traces):
+    """How many facts of each form were found, and the faults, each with its trace."""
+    forms, faults = collections.Counter(), []
+    for trace, stacks in traces:
+        found = list(facts_of(trace, stacks))
+        forms.update(fact["form"] for fact, _ in found)
+        faults += [(trace, fault) for fault in facts_reader.Reader(trace, stacks).faults(found)]
+    return forms, faults
+
+
+class Facts(program.Case):
+    def test_made_traces(self):
+        forms, faults = read_again(facts_traces.made(MADE, 1))
+        self.assertEqual(faults, [])
+        self.assertLessEqual(set(facts_reader.KNOWN) - {"uncounted", "ordered"}, set(forms))
