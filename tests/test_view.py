@@ -22,6 +22,7 @@ fork-join.std: 1 race at 1 place, in 1 group (7 events, 2 threads, 0 locks, 2 va
 
 1. count: start.c:6 and worker.c:3 write without a lock (1 race, 1 place)
    In this trace no lock is held at any access; 2 threads write, at start.c:6 and worker.c:3.
+   Remedy: hold one lock at start.c:6 and worker.c:3, or order them by a join, or by a release and an acquire.
    start.c:6: 1 write by main
      no lock held
      races with worker.c:3 (1 race)
@@ -41,6 +42,7 @@ FORK_JOIN_ALL = FORK_JOIN + """
      write by main at start.c:6 (event 5)
        no lock held
      In this trace no lock is held at any access; 2 threads write, at start.c:6 and worker.c:3.
+     Remedy: hold one lock at start.c:6 and worker.c:3, or order them by a join, or by a release and an acquire.
      `shb places` has a schedule of it, race 1: after its 3 events both accesses can execute next.
    Before the accesses:
      1  main    w(config)     start.c:4
@@ -54,6 +56,7 @@ unlocked-read.std: 3 races at 3 places, in 2 groups (18 events, 3 threads, 1 loc
 
 1. items: main.c:11 reads without lock (1 race, 1 place)
    In this trace every access at queue.c:22 and queue.c:31 holds lock, and main.c:11 reads without it.
+   Remedy: hold lock at main.c:11.
    main.c:11 read what queue.c:22 wrote. This racy read may hide other races: fix it and run again.
    queue.c:22: 1 write by producer
      holds lock
@@ -68,6 +71,7 @@ unlocked-read.std: 3 races at 3 places, in 2 groups (18 events, 3 threads, 1 loc
 
 2. closed: main.c:12 writes, queue.c:29 reads without a lock (2 races, 2 places)
    In this trace no lock is held at any access; one thread writes, at main.c:12.
+   Remedy: hold one lock at main.c:12 and queue.c:29, or order them by a join, or by a release and an acquire.
    queue.c:29 read what main.c:12 wrote. This racy read may hide other races: fix it and run again.
    main.c:12: 1 write by main
      no lock held
@@ -82,6 +86,7 @@ account.std: 1 race at 1 place, in 1 group (12 events, 2 threads, 1 lock, 1 vari
 
 1. balance: account.c:8 reads without door (1 race, 1 place)
    In this trace every write holds door, and account.c:8 reads without it.
+   Remedy: hold door at account.c:8.
    account.c:8 read what account.c:10 wrote. This racy read may hide other races: fix it and run again.
    account.c:10: 2 reads and 2 writes by T1.pay and main
      holds door
@@ -97,6 +102,7 @@ places.std: 6 races at 3 places, in 1 group (4 events, 4 threads, 0 locks, 1 var
 
 1. total: Counter.java:12 writes, Report.java:30 reads without a lock (6 races, 3 places)
    In this trace no lock is held at any access; 3 threads write, at Counter.java:12.
+   Remedy: hold one lock at Counter.java:12 and Report.java:30, or order them by a join, or by a release and an acquire.
    Report.java:30 read what Counter.java:12 wrote. This racy read may hide other races: fix it and run again.
    Counter.java:12: 3 writes by T1, T2 and T4
      no lock held
@@ -130,8 +136,9 @@ class Text(program.Case):
         words = [EXAMPLES / "fork-join.std", EXAMPLES / "fork-join.report"]
         self.expect(run(words), 0, noted(FORK_JOIN, "The report wasn't checked (--check does it).").encode())
         self.expect(run(["--check", *words]), 0, noted(FORK_JOIN, "shb check: ok 1").encode())
-        self.assertEqual(run(["--all", "--check", *words]).out.decode().splitlines()[-6:-4], [
+        self.assertEqual(run(["--all", "--check", *words]).out.decode().splitlines()[-7:-4], [
             "     In this trace no lock is held at any access; 2 threads write, at start.c:6 and worker.c:3.",
+            "     Remedy: hold one lock at start.c:6 and worker.c:3, or order them by a join, or by a release and an acquire.",
             "     `shb check` found the schedule of race 1 good: after its 3 events both accesses can execute next."])
         said = run(["--all", *words]).out.decode()
         self.assertIn("     No schedule of this race is at hand: events are shown in the order of the trace.\n", said)
@@ -312,12 +319,12 @@ class Sites(program.Case):
     def test_locks_held_not_held_and_sometimes(self):
         said = self.lines("A acq l 1", "A acq m 1", "A w x 2", "A rel m 3", "A rel l 3", "B r x 4", "B acq l 5", "B r x 4", "B acq n 6",
                           "B r x 7", "C acq n2 8", "C r x 9")
-        self.assertEqual(said[4:14], [
+        self.assertEqual(said[5:15], [
             "   f.c:2: 1 write by A", "     holds l; holds m", "     races with f.c:4 (1 race) and f.c:9 (1 race)",
             "   f.c:4: 2 reads by B", "     holds l at 1 of 2; no lock held at 1 of 2", "     races with f.c:2 (1 race)",
             "   f.c:9: 1 read by C", "     holds n2", "     races with f.c:2 (1 race)",
             "   f.c:7: 1 read by B"])
-        self.assertEqual(said[14:], ["     holds l; holds n"])
+        self.assertEqual(said[15:], ["     holds l; holds n"])
 
     def test_eight_locks_are_named(self):
         locks = [f"A acq l{k} 1" for k in range(9)]
@@ -357,7 +364,7 @@ class Sites(program.Case):
         for many, more in ((20, []), (21, ["   and 1 more line"]), (23, ["   and 3 more lines"])):
             said = self.lines("A w x 100", *(f"R{line} r x {line}" for line in range(201, 200 + many)))
             self.assertEqual(len([line for line in said if line.startswith("   f.c:")]), 20)
-            self.assertEqual(said[4 + 3 * 20:], more)
+            self.assertEqual(said[5 + 3 * 20:], more)
 
     def test_eight_partners_are_named(self):
         said = self.lines("A w x 10", *(f"R{line} r x {line}" for line in range(11, 20)))

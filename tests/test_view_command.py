@@ -52,7 +52,7 @@ exec REAL "$@"
         self.assertEqual((status, err), (0, ""))
         self.assertEqual(out.splitlines()[0],
                          "fork-join.std: 900,000,000 races at 1 place, in 1 group (7 events, 2 threads, 0 locks, 2 variables)")
-        self.assertIn("\n1. count: 2 threads write (900,000,000 races, 1 place)\n", out)
+        self.assertIn("\n1. count: start.c:6 and worker.c:3 write without a lock (900,000,000 races, 1 place)\n", out)
         self.assertIn("     races with worker.c:3 (900,000,000 races)", out)
 
     def test_notes_stand_below_the_title(self):
@@ -332,7 +332,7 @@ class Files(Fake):
         trace = self.file("A|w(größe…)\nB|w(größe…)\n".encode())
         answer = run([trace], env=settings(PYTHONIOENCODING="ascii"))
         self.assertEqual((answer.status, answer.err), (0, b""))
-        self.assertIn(rb"1. gr\xf6\xdfe\u2026: 2 threads write", answer.out)
+        self.assertIn(rb"1. gr\xf6\xdfe\u2026: (no location) writes without a lock", answer.out)
 
 
 class Statuses(Fake):

@@ -3,6 +3,7 @@
 import base64
 import hashlib
 import html.parser
+import json
 import re
 
 import program
@@ -47,9 +48,27 @@ class Page(html.parser.HTMLParser):
         return [(attributes, "".join(texts)) for name, attributes, texts in self.elements
                 if name == tag and (kind is None or kind in attributes.get("class", "").split())]
 
+    def data(self):
+        """What the script draws from."""
+        return json.loads(self.all("script")[0][1])
+
+    def group(self):
+        """What the first group is drawn from."""
+        return self.data()["groups"][0]
+
+    def stacks(self):
+        """The functions and lines of each stack as one text."""
+        data = self.data()
+        return ["".join(said(data["frames"][frame][0]) for frame in stack) for stack in data["stacks"]]
+
     def shape(self):
         """The elements with the names of their attributes."""
         return [(tag, sorted(attributes)) for tag, attributes, _ in self.elements]
+
+
+def said(parts):
+    """Parts as one text."""
+    return "".join(part if isinstance(part, str) else part[0] for part in parts)
 
 
 class Pages(program.Case):
@@ -63,81 +82,67 @@ class Pages(program.Case):
     def example(self, name):
         return (EXAMPLES / f"{name}.std").read_bytes()
 
-    def test_a_row_and_a_section_for_each_group(self):
+    def test_a_row_for_each_group(self):
         page = self.page(self.example("unlocked-read"))
-        self.assertEqual([text for _, text in page.all("li")], [
-            "1. items main.c:11 doesn't hold lock 1 race, 1 placeIn this trace lock is held at queue.c:22, and not at main.c:11.",
-            "2. closed one thread writes 2 races, 2 placesIn this trace only main writes, at main.c:12, and no lock is held at any access."])
-        self.assertEqual([attributes["id"] for attributes, _ in page.all("section")], ["g1", "g2"])
-        self.assertEqual([attributes["class"] for attributes, _ in page.all("li")], ["rank2", "rank4"])
-        self.assertEqual([text for _, text in page.all("h2")], ["1 items: main.c:11 doesn't hold lock", "2 closed: one thread writes"])
-        self.assertEqual([attributes["aria-label"] for attributes, _ in page.all("svg")[1:]],
-                         ["What comes before events 12 and 13", "What comes before events 15 and 16"])
+        self.assertEqual([text for _, text in page.all("summary")], ["1 items main.c:11 reads without lock main.c:11 1 race",
+                                                                     "2 closed main.c:12 writes, queue.c:29 reads without a lock main.c:12 2 races"])
+        self.assertEqual([(attributes["id"], attributes["class"]) for attributes, _ in page.all("details")],
+                         [("group-1", "group rank2"), ("group-2", "group rank4")])
 
     def test_every_line_by_hand(self):
-        page = self.page(self.example("account"))
-        self.assertEqual([text for _, text in page.all("th")][:5], ["Line", "Accesses", "Threads", "Locks", "Races with"])
-        self.assertEqual([text for _, text in page.all("td")][:10], [
-            "account.c:10", "2 reads and 2 writes", "T1.pay and main", "holds door", "account.c:8 (1 race)",
-            "account.c:8", "2 reads", "T1.pay and main", "no lock held", "account.c:10 (1 race)"])
-        self.assertEqual([attributes["data-head"] for attributes, _ in page.all("td")[:5]],
-                         ["Line", "Accesses", "Threads", "Locks", "Races with"])
-        self.assertEqual([(attributes["class"], text) for attributes, text in page.all("span") if attributes.get("class") in
-                          ("held", "some", "none")], [("held", "holds door"), ("none", "no lock held")])
+        [group] = self.page(self.example("account")).data()["groups"]
+        self.assertEqual(group["sites"], [
+            [[["account.c:10"]], "", "2 reads and 2 writes", [["T1.pay"], " and ", ["main"]], [["held", ["holds ", ["door"], ""]]],
+             [["account.c:8"], " (1 race)"], True],
+            [[["account.c:8"]], "", "2 reads", [["T1.pay"], " and ", ["main"]], [["none", ["no lock held"]]], [["account.c:10"], " (1 race)"], True]])
+        self.assertIn(["Remedy: ", "hold ", ["door"], " at ", ["account.c:8"], "."], group["about"])
 
-    def test_folded_parts_by_hand(self):
-        page = self.page(self.example("fork-join"))
-        self.assertEqual([text for _, text in page.all("summary")],
-                         ["What comes before one of the races (events 4 and 5)", "As text, for an issue", "Lines of the trace"])
-        [(_, issue)] = page.all("pre")
+    def test_the_text_of_a_group(self):
+        [(_, issue)] = self.page(self.example("fork-join")).all("pre")
         self.assertEqual(issue.splitlines()[:3], ["data race on count: worker.c:3 and start.c:6", "(one race in a recorded run)",
                                                   "  write by worker at worker.c:3 (event 4)"])
-        self.assertEqual([text for _, text in page.all("td") if _.get("data-head") is None], [
-            "1", "1", "main|w(config)|start.c:4", "2", "2", "main|fork(worker)|start.c:5", "3", "3", "worker|r(config)|worker.c:2",
-            "4", "4", "worker|w(count)|worker.c:3", "5", "5", "main|w(count)|start.c:6"])
-        self.assertEqual([attributes["id"] for attributes, _ in page.all("tr", "access")], ["g1e4", "g1e5"])
 
-    def test_numbers_of_lines_count_empty_lines(self):
-        page = self.page(b"\n\r\nA|w(x)\n\nB|w(x)\n")
-        self.assertEqual([text for attributes, text in page.all("td") if "data-head" not in attributes],
-                         ["1", "3", "A|w(x)", "2", "5", "B|w(x)"])
+    def test_events_by_hand(self):
+        """Each with its number, lane, words and place; and with its line and that line's number, for which empty lines count."""
+        [group] = self.page(self.example("fork-join")).data()["groups"]
+        self.assertEqual([event[:2] + event[4:] for event in group["picture"]["events"]][1:3], [
+            [2, 1, "starts worker", "start.c:5 · 2", "line 2: main|fork(worker)|start.c:5\nno lock held"],
+            [3, 0, "reads config", "worker.c:2 · 3", "line 3: worker|r(config)|worker.c:2\nno lock held"]])
+        [group] = self.page(b"\n\r\nA|w(x)\n\nB|w(x)\n").data()["groups"]
+        self.assertEqual([event[6].splitlines()[0] for event in group["picture"]["events"]], ["line 3: A|w(x)", "line 5: B|w(x)"])
+
+    def test_known_groups_are_folded_behind_the_others(self):
+        only = self.file(b"queue.c:22\tmain.c:11\titems\n", "only")
+        self.assertEqual([(attributes["class"], text) for attributes, text in self.page(self.example("unlocked-read"), "--only", only).all("span", "tag")],
+                         [("tag new", "new"), ("tag known", "known")])
+
+    def test_commands_that_run_it_again(self):
+        page = self.page(self.example("account"), "--turns", "out/a b.turns", "--command", "./account 7")
+        self.assertEqual(page.data()["groups"][0]["again"], [
+            "shb-record --replay 'out/a b.turns' ./account 7", "shb-record --replay 'out/a b.turns' gdb -ex 'break account.c:10' "
+            "-ex 'break account.c:8' -ex run --args ./account 7"])
 
     def test_nothing_comes_from_outside(self):
         page = self.page(self.example("unlocked-read"))
         ids = [attributes["id"] for _, attributes, _ in page.elements if "id" in attributes]
         self.assertEqual(len(ids), len(set(ids)))
-        links = [attributes["href"] for _, attributes, _ in page.elements if "href" in attributes]
-        self.assertGreater(len(links), 10)
-        self.assertLessEqual(set(links), {"#" + name for name in ids})
-        wanted = {"class", "id", "href", "lang", "charset", "name", "content", "scope", "http-equiv", "data-head"}
-        shapes = {"role", "aria-label", "aria-hidden",
-                  "width", "height", "viewbox", "x", "y", "x1", "x2", "y1", "y2", "cx", "cy", "r", "rx", "d", "refx", "refy",
-                  "markerwidth", "markerheight", "orient", "marker-end"}
-        self.assertLessEqual({name for _, attributes, _ in page.elements for name in attributes}, wanted | shapes)
-        [(_, style)], [(_, script)] = page.all("style"), page.all("script")
-        for text in (style, script):
-            self.assertNotRegex(text, r"url\(|@import|https?:|fetch|XMLHttp|innerHTML")
-
-    def test_every_number_leads_to_its_line(self):
-        page = self.page(self.example("unlocked-read"))
-        lines = {attributes["id"]: text for attributes, text in page.all("tr") if "id" in attributes}
-        links = [(attributes["href"][1:], text) for attributes, text in page.all("a") if attributes["href"].startswith("#g1e")]
-        self.assertEqual({int(text) for _, text in links}, {1, 2, 3, 7, 8, 10, 11, 12, 13})
-        for name, text in links:
-            self.assertTrue(lines[name].startswith(text))
+        self.assertLessEqual({name for _, attributes, _ in page.elements for name in attributes},
+                             {"class", "id", "lang", "charset", "name", "content", "http-equiv", "type"})
+        for text in (page.all("style")[0][1], page.all("script")[1][1]):
+            self.assertNotRegex(text.replace("http://www.w3.org/2000/svg", ""), r"url\(|@import|https?:|fetch|XMLHttp|innerHTML")
 
     def test_the_browser_may_run_its_own_style_and_script_alone(self):
         page = self.page(self.example("places"))
         metas = [attributes for attributes, _ in page.all("meta")]
         [policy] = [meta["content"] for meta in metas if meta.get("http-equiv") == "Content-Security-Policy"]
         self.assertTrue(policy.startswith("default-src 'none'; "))
+        self.assertEqual(len(page.all("script")), 2)
         for tag in ("style", "script"):
-            [(_, text)] = page.all(tag)
-            digest = base64.b64encode(hashlib.sha256(text.encode()).digest()).decode()
+            digest = base64.b64encode(hashlib.sha256(page.all(tag)[-1][1].encode()).digest()).decode()
             self.assertIn(f"{tag}-src 'sha256-{digest}'", policy)
 
     def test_names_stay_names(self):
-        """A page with other names has the same elements, and the names as its text."""
+        """A page with other names has the same elements, and the names as its text and in its data."""
         def trace(thread, lock, variable, location):
             lines = thread + b"|acq(" + lock + b")|", thread + b"|w(" + variable + b")|", b"B|w(" + variable + b")|"
             return b"".join(line + location + b"\n" for line in lines)
@@ -148,9 +153,10 @@ class Pages(program.Case):
                 hostile = trace(name, name, name, name) if len(name) < 900 else trace(b"A", b"l", name, b"p")
                 page = self.page(hostile)
                 self.assertEqual(page.shape(), shape)
-                self.assertIn(names.short(name, 80), page.all("h2")[0][1])
-                self.assertIn(names.short(name, 80), "".join(text for _, text in page.all("code")))
+                self.assertIn(names.short(name, 80), page.all("summary")[0][1])
                 self.assertIn(names.short(name, 120), page.all("pre")[0][1])
+                if len(name) < 900:
+                    self.assertEqual(page.data()["groups"][0]["sides"][0]["at"], [[names.short(name, 80)]])
 
     def test_blanks_in_names_are_kept(self):
         """In the text of the page, and by its style; in a browser, where there is one, test_view_browser looks at them."""
@@ -166,16 +172,16 @@ class Pages(program.Case):
         self.assertIn("v" * 40, whole)
 
     def test_the_longest_page(self):
-        """250 groups of 30 lines with names that are long in HTML: the list is whole, and the parts end after 3.5 MB."""
+        """250 groups of 30 lines with names that are long in HTML: the list is whole, and what is drawn ends after 2 MB."""
         quotes = '"' * 80
         events = [f"T{i}.{quotes}|{'w' if i % 10 == 0 else 'r'}({k}{quotes})|{k}.{i}{quotes}" for k in range(250) for i in range(30)]
         page = self.page("\n".join(events).encode())
         size = (self.folder / "page.html").stat().st_size
-        self.assertTrue(3_500_000 < size < 5_000_000, size)
-        self.assertEqual(len(page.all("li")), 201)
-        parts = len(page.all("section"))
-        self.assertIn(f"The page would be too long: the last {200 - parts} groups of the list have no part of their own.",
-                      [text for _, text in page.all("p")])
+        self.assertTrue(2_000_000 < size < 4_500_000, size)
+        groups = page.data()["groups"]
+        self.assertEqual((len(page.all("summary")), len(groups)), (200, 200))
+        drawn = sum(group is not None for group in groups)
+        self.assertTrue(10 < drawn < 200 and groups[drawn:] == [None] * (200 - drawn), drawn)
 
     def test_a_hostile_name_of_the_file(self):
         path = self.folder / "page.html"
@@ -200,9 +206,9 @@ class Pages(program.Case):
         self.assertNotIn("come next", "".join(text for _, text in unchecked.all("body")))
 
     def test_commands_in_sentences_are_code(self):
-        """And are between backticks in the text for an issue alone."""
+        """They are between backticks in the text for an issue and in the data alone."""
         page = self.page(self.example("places"))
-        self.assertIn("shb places", [text for _, text in page.all("code")])
+        self.assertIn("`shb places`", page.data()["groups"][0]["note"])
         self.assertEqual([text for _, text in page.all("p") if "`" in text], [])
 
     def test_a_bad_verdict_comes_first_and_is_red(self):
@@ -235,162 +241,99 @@ class Pages(program.Case):
 
 
 class Pictures(program.Case):
-    """Pictures of made traces."""
+    """What pictures of made traces are drawn from."""
 
     @classmethod
     def setUpClass(cls):
         cls.pictures = []
         for _, text, _ in made(MADE):
-            cls.pictures += [(window, Page(picture.picture(window, "e"))) for window in windows(text, shb.report(text, True))]
+            cls.pictures += [(window, drawn(window)) for window in windows(text, shb.report(text, True))]
 
-    def positions(self, page):
-        """Where each event's circle stands."""
-        places, last = {}, None
-        for tag, attributes, texts in page.elements:
-            if tag == "circle":
-                last = float(attributes["cx"]), float(attributes["cy"])
-            elif tag == "a":
-                places[int("".join(texts))] = last
-        return places
+    def test_events_and_lanes(self):
+        for window, found in self.pictures:
+            self.assertEqual([event[0] for event in found["events"]], [*window.before, *window.accesses])
+            threads = [window.events[event[0]].event.thread for event in found["events"]]
+            self.assertEqual([found["lanes"][event[1]] for event in found["events"]], [names.readable(thread) for thread in threads])
 
-    def test_events_edges_and_lanes(self):
-        arrows = 0
-        for window, page in self.pictures:
-            at = self.positions(page)
-            self.assertEqual(sorted(at), sorted([*window.before, *window.accesses]))
-            heights = [at[event][1] for event in window.before]
-            self.assertEqual(heights, sorted(set(heights)))
-            first, second = (at[access] for access in window.accesses)
-            self.assertEqual(first[1], second[1])
-            self.assertGreater(min(first[1], second[1]), max(heights, default=0))
-            for a in at:
-                for b in at:
-                    self.assertEqual(at[a][0] == at[b][0], window.events[a].event.thread == window.events[b].event.thread)
-            drawn = [self.ends(attributes["d"], at.values()) for attributes, _ in page.all("path", "edge")]
-            self.assertEqual(drawn, [at[source] + at[event] for source, event in window.edges])
-            arrows += len(drawn)
+    def test_edges_that_are_left_out_follow_from_others(self):
+        """By the order of each thread and the edges that are drawn, what all edges order is ordered."""
+        arrows = dropped = 0
+        for window, found in self.pictures:
+            events = [event[0] for event in found["events"]]
+            drawn_edges = set(picture.needed(window, events))
+            self.assertLessEqual(drawn_edges, set(window.edges))
+            self.assertEqual(len(found["edges"]), len(drawn_edges))
+            thread, arrows = {event: window.events[event].event.thread for event in events}, arrows + len(drawn_edges)
+            for source, event in set(window.edges) - drawn_edges:
+                dropped += 1
+                self.assertTrue(any(thread[one] == thread[source] and thread[other] == thread[event]
+                                    and events.index(source) <= events.index(one) and events.index(other) <= events.index(event)
+                                    for one, other in drawn_edges))
         self.assertGreater(arrows, 30)
-
-    def ends(self, path, places):
-        """Where an arrow starts, and where the next event in its last direction stands."""
-        numbers = list(map(float, re.findall(r"-?[\d.]+", path)))
-        turn, height, end = numbers[-3:]
-        ahead = [x for x, y in places if y == height and (x > end) == (end >= turn)]
-        return numbers[0], numbers[1], min(ahead, key=lambda x: abs(x - end)), height
 
     def test_bars_are_the_locks_held(self):
         bars = 0
-        for window, page in self.pictures:
-            at = self.positions(page)
-            lanes = sorted({x for x, _ in at.values()})
-            drawn = [([float(attributes[name]) for name in ("x", "y", "height")], text)
-                     for attributes, text in page.all("rect", "lock")]
-            for event, (x, y) in at.items():
-                here = [lock for (left, top, height), lock in drawn
-                        if top < y <= top + height and min(lane for lane in lanes if lane > left) == x]
-                held = [names.readable(lock) for lock, _ in window.events[event].locks]
-                self.assertEqual(sorted(here), sorted(held))
-            bars += len(drawn)
+        for window, found in self.pictures:
+            for event in found["events"]:
+                lane, y = event[1:3]
+                here = [lock for x, top, height, lock, _ in found["bars"] if lane_of(found, x) == lane and top <= y <= top + height]
+                held = [names.readable(lock) for lock, _ in window.events[event[0]].locks]
+                self.assertLessEqual(set(held[-picture.MOST_BARS:]), set(here))
+            bars += len(found["bars"])
         self.assertGreater(bars, 50)
 
-    def test_four_bars_at_an_event(self):
-        """Of the locks that were acquired last; the words on the event name all."""
-        trace = b"".join(b"A|acq(l%d)\n" % k for k in range(6)) + b"A|r(y)\n" * 6 + b"A|w(x)\nB|w(x)\n"
-        [window] = windows(trace, shb.report(trace, True))
-        window = window._replace(before=[event for event in window.before if event > 6], edges=[])
-        page = Page(picture.picture(window, "e"))
-        self.assertEqual([text for _, text in page.all("rect", "lock")], ["l2", "l3", "l4", "l5"])
-        self.assertLessEqual({"A|w(x)\nholds l0, l1, l2, l3, l4, l5", "B|w(x)\nno lock held"}, {text for _, text in page.all("title")})
-
-    def test_bars_begin_and_end_by_hand(self):
-        """The consumer's ends at its release, event 8; the producer's begins at its acquire, event 10, and goes on."""
-        window = windows(*((EXAMPLES / f"unlocked-read.{end}").read_bytes() for end in ("std", "report")))[0]
-        page = Page(picture.picture(window, "e"))
-        at = self.positions(page)
-        consumer, producer = sorted((float(bar["y"]), float(bar["y"]) + float(bar["height"])) for bar, _ in page.all("rect", "lock"))
-        self.assertEqual((consumer[1], producer[0]), (at[8][1], at[10][1]))
-        self.assertGreater(producer[1], at[12][1])
-
-    def test_texts_by_hand(self):
-        """Each event has its operation, and its location with its number."""
-        trace = b"A|r(y)|f.c:1\nA|w(x)|f.c:2\nB|w(x)\n"
-        page = Page(picture.picture(windows(trace, shb.report(trace, True))[0], "e"))
-        self.assertEqual([text for attributes, text in page.all("text") if attributes.get("class") != "number"], [
-            "A", "B", "r(y)", "f.c:1 · 1", "1  w(x)", "f.c:2 · 2", "2  w(x)", "(no location) · 3"])
-
-    def test_a_long_location_and_its_number_take_36_columns(self):
-        trace = b"A|r(y)\n" * 9 + b"A|w(x)|" + b"f" * 100 + b"\nB|w(x)\n"
-        page = Page(picture.picture(windows(trace, shb.report(trace, True))[0], "e"))
-        self.assertIn("f" * 15 + "…" + "f" * 15 + " · 10", [text for _, text in page.all("text", "at")])
-
-    def test_arrows_by_hand(self):
-        """From a fork to a first event that reads, and dashed from the write that a read sees."""
-        trace = b"main|w(y)\nmain|fork(A)\nA|r(y)\nA|w(x)\nmain|w(x)\n"
-        [window] = windows(trace, shb.report(trace, True))
-        self.assertEqual(window.edges, [(2, 3), (1, 3)])
-        page = Page(picture.picture(window, "e"))
-        self.assertEqual([attributes["class"] for attributes, _ in page.all("path")], ["edge", "edge seen"])
-        self.assertEqual([attributes["class"] for attributes, _ in page.all("line", "lane")], ["lane"] * 5)
-        [window, _] = windows(*((EXAMPLES / f"unlocked-read.{end}").read_bytes() for end in ("std", "report")))
-        page = Page(picture.picture(window, "e"))  # of a fork, a release and a write
-        self.assertEqual([attributes["class"] for attributes, _ in page.all("path")], ["edge", "edge", "edge seen"])
-
-    def test_a_lane_is_dashed_where_events_are_left_out(self):
-        trace = b"main|fork(A)\nmain|r(z)\nA|r(y)\n" + b"B|r(y)\n" * 8 + b"A|w(x)\nB|w(x)\n"
-        page = Page(picture.picture(windows(trace, shb.report(trace, True))[0], "e"))
-        self.assertEqual([attributes["class"] for attributes, _ in page.all("line", "lane")],
-                         ["lane"] * 2 + ["lane gap"] + ["lane"] * 6 + ["lane"])
-
-    def test_six_colours_of_locks(self):
-        """The seventh lock has the first one's colour again."""
-        def pairs(thread, locks):
-            return "".join(f"{thread}|acq({lock})\n{thread}|rel({lock})\n" for lock in locks)
-
-        trace = ("A|acq(g)\n" + pairs("A", "abc") + "A|w(x)\n" + pairs("B", "def") + "B|w(x)\n").encode()
-        page = Page(picture.picture(windows(trace, shb.report(trace, True))[0], "e"))
-        colours = {}
-        for attributes, lock in page.all("rect", "lock"):
-            colours.setdefault(lock, attributes["class"].split()[1])
-        self.assertEqual(sorted(colours), list("abcdefg"))
-        self.assertEqual(sorted(colours.values()), ["lock0", "lock0", "lock1", "lock2", "lock3", "lock4", "lock5"])
-
-    def test_the_width_holds_every_text(self):
-        for name in (b"x", b"a_rather_long_name_of_a_thread_here"):
-            trace = name + b"|w(v)\nB|w(v)\n"
-            page = Page(picture.picture(windows(trace, shb.report(trace, True))[0], "e"))
-            [(svg, _)] = page.all("svg")
-            right = max(float(attributes["x"]) + picture.COLUMN * names.columns(text) for attributes, text in page.all("text"))
-            self.assertGreater(float(svg["width"]), right)
-
     def test_no_line_crosses_a_text(self):
+        """All lines, bars and circles are left of the texts, but for what ends right before an event's own text; no two texts are in one line."""
         lines = 0
-        for window, page in self.pictures:
-            texts = [self.box(*text) for text in page.all("text") if text[0].get("class") != "number"]
-            for box in self.drawn(page):
-                lines += 1
-                for text in texts:
-                    self.assertFalse(self.overlap(box, text), (box, text, window))
-        self.assertGreater(lines, 1000)
+        for _, found in self.pictures:
+            texts = found["texts"]
+            self.assertGreater(texts - 4, max(found["x"]) + 8)
+            for path, x, *_ in found["edges"]:
+                numbers = [float(number) for number in re.findall(r"[HMQ](-?[\d.]+)", path)]
+                self.assertTrue(all(0 < number < texts - 4 for number in (*numbers, x)), path)
+            heights = [event[3] + 14 * line for at, event in enumerate(found["events"]) for line in range(3 if at >= len(found["events"]) - 2 else 2)]
+            self.assertTrue(all(lower - upper >= 14 for upper, lower in zip(heights, heights[1:])), heights)
+            self.assertLess(heights[-1], found["height"])
+            self.assertGreater(heights[0] - 12, 19 * len(found["lanes"]) - 6)
+            lines += len(found["edges"])
+        self.assertGreater(lines, 30)
 
-    def box(self, attributes, text):
-        x, y = float(attributes["x"]), float(attributes["y"])
-        return x, y - 10, x + picture.COLUMN * names.columns(text), y + 3
+    def test_bars_and_arrows_do_not_lie_on_each_other(self):
+        pairs = 0
+        for _, found in self.pictures:
+            boxes = [(x, top, x + 14, top + height) for x, top, height, _, _ in found["bars"]]
+            boxes += [(x - 8, 0, x + 8, found["height"]) for x in found["x"]]
+            downs = [re.search(r"Q([\d.]+) ([\d.]+) \S+ \S+V([\d.]+)", path) for path, *_ in found["edges"]]
+            boxes += [(x - 1, y, x + 1, max(y, end)) for x, y, end in (map(float, down.groups()) for down in downs)]
+            for at, one in enumerate(boxes):
+                for other in boxes[:at]:
+                    pairs += 1
+                    self.assertFalse(one[0] < other[2] and other[0] < one[2] and one[1] < other[3] and other[1] < one[3], (one, other))
+        self.assertGreater(pairs, 500)
 
-    def drawn(self, page):
-        """The boxes of straight lines, of the parts of arrows, and of bars."""
-        for attributes, _ in page.all("line"):
-            x1, y1, x2, y2 = (float(attributes[name]) for name in ("x1", "y1", "x2", "y2"))
-            yield min(x1, x2), min(y1, y2), max(x1, x2), max(y1, y2)
-        for attributes, _ in page.all("rect", "lock"):
-            x, y, width, height = (float(attributes[name]) for name in ("x", "y", "width", "height"))
-            yield x, y, x + width, y + height
-        for attributes, _ in page.all("path", "edge"):
-            x, y = map(float, re.match(r"M(\S+) (\S+?)H", attributes["d"]).groups())
-            for word, numbers in re.findall(r"([HVQ])([-\d. ]+)", attributes["d"]):
-                to = list(map(float, numbers.split()))
-                new = {"H": (to[0], y), "V": (x, to[0])}.get(word) or (to[2], to[3])
-                yield min(x, new[0]), min(y, new[1]), max(x, new[0]), max(y, new[1])
-                x, y = new
+    def test_a_name_of_a_bar_fits_along_it(self):
+        """Else it is cut, and the event at which the bar begins has it in its text."""
+        cut = 0
+        for _, found in self.pictures:
+            for _, _, height, name, shown in found["bars"]:
+                self.assertLessEqual(len(shown) * 6, height)
+                if shown != name:
+                    cut += 1
+                    self.assertTrue(shown == "" or name.startswith(shown[:-1]))
+        self.assertGreater(cut, 2)
 
-    def overlap(self, one, other):
-        return one[0] < other[2] and other[0] < one[2] and one[1] < other[3] and other[1] < one[3]
+
+def lane_of(found, x):
+    """The lane that a bar is left of."""
+    return min(lane for lane, at in enumerate(found["x"]) if at > x)
+
+
+def drawn(window):
+    return picture.picture(window, Words())
+
+
+class Words:
+    """Stands in for `counting.Kinds`: each word is what it says."""
+
+    def of(self, number, word, variable):
+        return word

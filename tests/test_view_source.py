@@ -3,7 +3,7 @@
 import os
 
 import program
-from test_view_page import Page
+from test_view_page import Page, said
 from viewing import run_here
 
 from shb_common import sources
@@ -188,8 +188,8 @@ class Shown(program.Case):
 
     def test_text_by_hand(self):
         self.assertEqual(self.shown().splitlines()[1:], [
-            "", "1. total: a.c:3 doesn't hold door (1 race, 1 place)",
-            "   In this trace every write holds door, and a.c:3 reads without it.",
+            "", "1. total: a.c:3 reads without door (1 race, 1 place)",
+            "   In this trace every write holds door, and a.c:3 reads without it.", "   Remedy: hold door at a.c:3.",
             "   a.c:3 read what a.c:8 wrote. This racy read may hide other races: fix it and run again.",
             "   a.c:8: 1 write by A", "     | total++;", "     holds door", "     races with a.c:3 (1 race)",
             "   a.c:3: 1 read by B", "     | static int total;", "     no lock held", "     races with a.c:8 (1 race)"])
@@ -198,16 +198,14 @@ class Shown(program.Case):
         path = self.folder / "page.html"
         self.shown("--html", path)
         page = Page(path.read_text(encoding="utf-8"))
-        self.assertEqual([text for _, text in page.all("figcaption")],
-                         ["1 a.c:8 writes, holding doorin void *run(void *unused)", "2 a.c:3 reads, no lock held"])
-        rows = [text for _, text in page.all("tr") if text.startswith(("5", "6", "7", "8", "9", "10"))]
-        self.assertEqual(rows[:6], ["5void *run(void *unused) {", "6    for (int k = 0; k < 3; k++) {", "7        lock(&door);",
-                                    "81        total++;", "9again:", "10        unlock(&door);"])
-        self.assertEqual([attributes["class"] for attributes, _ in page.all("td", "lock")],
-                         ["lock", "lock", "lock on", "lock on", "lock", "lock"] + ["lock"] * 5)
-        self.assertEqual([text for attributes, text in page.all("tr", "hit")], ["81        total++;", "32static int total;"])
-        self.assertEqual([text for attributes, text in page.all("td") if attributes.get("data-head") == "Code"],
-                         ["total++;", "static int total;"])
+        one, other = page.group()["sides"]
+        self.assertEqual([(said(side["at"]), side["verb"], said(side["locks"]), side["head"]) for side in (one, other)],
+                         [("a.c:8", "writes", "holding door", "void *run(void *unused)"), ("a.c:3", "reads", "no lock held", "")])
+        self.assertEqual((one["first"], one["hit"], one["held"]), (5, 8, [7, 8]))
+        self.assertEqual(one["lines"], ["void *run(void *unused) {", "    for (int k = 0; k < 3; k++) {", "        lock(&door);",
+                                        "        total++;", "again:", "        unlock(&door);"])
+        self.assertEqual((other["hit"], other["lines"][3 - other["first"]], other["held"]), (3, "static int total;", []))
+        self.assertEqual([site[1] for site in page.group()["sites"]], ["total++;", "static int total;"])
 
     def test_names_and_code_stay_text(self):
         code = b"void <u>f(void) {\n  lock(<u>);\n  </td><u>x;\n}\n"
@@ -217,10 +215,9 @@ class Shown(program.Case):
         self.assertEqual(run_here(["--html", path, "--source", self.folder, trace])[0], 0)
         page = Page(path.read_text(encoding="utf-8"))
         self.assertEqual(page.all("u"), [])
-        self.assertEqual([text for _, text in page.all("figcaption")], [
-            "1 <u>&.c:3 writes, holding <u>in void <u>f(void)",
-            "2 <u>&.c:9 writes, no lock heldthe file has 4 lines"])
-        self.assertEqual(page.all("tr", "hit")[0][1], "31  </td><u>x;")
+        one, other = page.group()["sides"]
+        self.assertEqual((said(one["at"]), said(one["locks"]), one["head"], one["lines"][2]), ("<u>&.c:3", "holding <u>", "void <u>f(void)", "  </td><u>x;"))
+        self.assertEqual((said(other["at"]), other["fault"], "lines" in other), ("<u>&.c:9", "the file has 4 lines", False))
 
     def test_a_fault_is_said_beside_the_code(self):
         self.shown()

@@ -5,7 +5,7 @@ import re
 import struct
 
 import program
-from test_view_page import Page
+from test_view_page import Page, said
 from viewing import run_here
 
 TRACE = b"""\
@@ -78,14 +78,14 @@ class Stacks(program.Case):
         self.shown(stacks(tables=tables), "--html", self.folder / "page.html")
         self.assertIn("std::each each.h:8get a.c:7libc.so.6+0x10std::each each.h:8sorter (no line is known: it called code without -fsanitize=thread)"
                       "std::each each.h:8libc.so.6+0x10main a.c:31libc.so.6+0x10std::each each.h:8",
-                      [text for _, text in Page((self.folder / "page.html").read_text()).all("ol", "stack")])
+                      Page((self.folder / "page.html").read_text()).stacks())
 
     def test_where_a_fiber_was_made(self):
         tables, path = TABLES.replace(b"sorter", b"__tsan_create_fiber"), self.folder / "page.html"
         _, out, err = self.shown(stacks(tables=tables), "--html", path)
         self.assertEqual(err, "")
         self.assertIn("get a.c:7libc.so.6+0x10__tsan_create_fiber (which made the fiber)main a.c:31",
-                      [text for _, text in Page(path.read_text()).all("ol", "stack")])
+                      Page(path.read_text()).stacks())
         self.assertIn("       from __tsan_create_fiber (which made the fiber)\n       from main a.c:31\n", self.shown(stacks(tables=tables))[1])
 
     def test_stacks_that_differ_in_what_is_not_shown_are_one(self):
@@ -100,8 +100,7 @@ class Stacks(program.Case):
         status, _, err = self.shown(stacks(), "--html", path)
         self.assertEqual((status, err), (0, ""))
         page = Page(path.read_text())
-        self.assertIn("3 call stacks of the racing lines", [text for _, text in page.all("summary")])
-        lists = [text for _, text in page.all("ol", "stack")]
+        lists = page.stacks()
         self.assertIn("add<> a.c:5std::each each.h:8run a.c:20", lists)
         self.assertIn("make a.c:9main a.c:31", lists)
 
@@ -115,25 +114,16 @@ class Stacks(program.Case):
         self.assertIn("       holds m, acquired at a.c:4 (event 2)\n         #0 make a.c:9\n         #1 main a.c:31\n", out)
         self.shown(content, "--html", path, trace=trace)
         page = Page(path.read_text())
-        self.assertIn("lock m, held at a.c:5, was taken at", [text for _, text in page.all("p")])
-        self.assertIn("make a.c:9main a.c:31", [text for _, text in page.all("ol", "stack")])
-
-    def test_the_caller_is_said_above_a_folded_stack(self):
-        """The next function of the program's own code, beside the line of code; a stack of one function has none."""
-        page, code = self.folder / "page.html", self.file(b"\n" * 9, "code")
-        tables = TABLES + b"source a.c\t%b\n" % bytes(code)
-        for nodes, words in (([1, 2, 5, 5, 7], ["called from run a.c:20", "called from main a.c:31"]), ([1, 1, 5, 5, 7], ["call stack"])):
-            self.shown(stacks(nodes, tables), "--recorded-source", "--html", page)
-            self.assertEqual([text for _, text in Page(page.read_text()).all("summary")][:len(words)], words)
+        self.assertIn("lock m, held at a.c:5, was taken", [said(parts) for parts, _ in page.group()["origins"]])
+        self.assertIn("make a.c:9main a.c:31", page.stacks())
 
     def test_the_function_of_a_code_box(self):
         """It is called by its first line; where that is another one's, as of a class, by its name in the stack."""
         page = self.folder / "page.html"
-        for head, words in ((b"class Sum {", "in add<>"), (b"int add(int n) {", "in int add(int n)"), (b"", None)):
+        for head, words in ((b"class Sum {", "add<>"), (b"int add(int n) {", "int add(int n)"), (b"", "")):
             code = self.file(head + b"\n" * 4 + b"  n++;\n" * 5, "code")
             self.shown(stacks(tables=TABLES + b"source a.c\t%b\n" % bytes(code)), "--recorded-source", "--html", page)
-            found = [text for _, text in Page(page.read_text()).all("span", "faint") if text.startswith("in ")]
-            self.assertEqual(found, [words] * 2 if words else [])
+            self.assertEqual([side["head"] for side in Page(page.read_text()).group()["sides"]], [words] * 2)
 
     def test_a_lock_that_both_accesses_hold_for_reading_was_taken_once(self):
         trace = b"main|fork(T1)|a.c:1\nT1|acq(m@reader.T1)|a.c:4\nT1|w(x)|a.c:5\nmain|acq(m@reader.main)|a.c:4\nmain|w(x)|a.c:5\n"
@@ -156,7 +146,7 @@ class Stacks(program.Case):
         self.assertIn("Variables: x.head of main and x.size of main", out)
         self.assertIn("data race on x.head of main: a.c:5 and a.c:7\n", out)
         self.shown(stacks(tables=tables), "--html", page, trace=trace)
-        self.assertTrue(any("x of main (2 variables)" in text for _, text in Page(page.read_text()).all("h2")))
+        self.assertTrue(any("x of main (2 variables)" in text for _, text in Page(page.read_text()).all("summary")))
         _, out, _ = self.shown(stacks(tables=tables.replace(b"x.head", b"<b>\x1b[31m")), trace=trace)
         self.assertIn(r"<b>\x1b[31m of main: ", out)
         status, _, err = self.shown(stacks(tables=TABLES + b"local 2\tx\n"), trace=trace)
@@ -188,9 +178,9 @@ class Stacks(program.Case):
             self.assertIn("   block a.c:9#2 was allocated in make a.c:9, from main a.c:31\n", out)
             self.assertNotIn("#2+40", out)
             self.shown(stacks([1, 9, 5, 7, 5], tables), "--html", page, "--json", json, trace=trace)
-            shown = Page(page.read_text())
-            self.assertIn(f"T1|w({member})|a.c:5", [text for _, text in shown.all("code")])
-            self.assertTrue(any(f"w({member})" in text for _, text in shown.all("text")))
+            events = Page(page.read_text()).group()["picture"]["events"]
+            self.assertIn(f"line 3: T1|w({member})|a.c:5", [event[6].splitlines()[0] for event in events])
+            self.assertIn(f"1  writes {member}", [event[4] for event in events])
             self.assertIn('"name": "Account.balance"', json.read_text())
 
     def test_members_of_two_blocks(self):
@@ -215,7 +205,8 @@ class Stacks(program.Case):
             self.assertIn(f"     holds {name}\n", out)
             self.assertIn(f"   lock {name}, held at a.c:5, was taken in make a.c:9", out)
             self.shown(stacks([1, 9, 5, 7, 5], tables), "--html", self.folder / "page.html", trace=trace)
-            self.assertIn(f"lock {name}, held at a.c:5, was taken at", [text for _, text in Page((self.folder / "page.html").read_text()).all("p")])
+            self.assertIn(f"lock {name}, held at a.c:5, was taken",
+                          [said(parts) for parts, _ in Page((self.folder / "page.html").read_text()).group()["origins"]])
         trace = b"main|fork(T1)|a.c:1\nmain|w(a.c:9#2)|a.c:5\nT1|r(a.c:9#2)|a.c:7\n"
         tables = (b"use 3\tstack.main-0x20\tmain\ta.c:6\tstore relaxed\nuse 3\tstack.main-0x20\tT1\ta.c:4\tload acquire\n"
                   b"local 3\tstack.main-0x20\tq.tail of main\n")
@@ -264,7 +255,7 @@ class Stacks(program.Case):
     def test_an_atomic_that_hands_on_without_order(self):
         """Between the two accesses one thread stores it and the other loads that store; the trace need not have it."""
         says = ("   main and T1 hand this on by the atomic slot: a.c:6 writes it {} after the first access, and a.c:4 reads it {} before the "
-                "second. With {} they would be ordered.\n")
+                "second. Without {} that orders nothing.\n")
         both = "relaxed", "relaxed", "release and acquire"
         for uses, words, headline in (
                 (("main store relaxed", "T1 load acquire"), ("relaxed", "with acquire", "release"), "a.c:6 writes slot without release"),
@@ -303,8 +294,7 @@ class Stacks(program.Case):
         tables = b"use 3\tslot\tmain\ta.c:6\tstore relaxed\nuse 3\tslot\tT1\ta.c:15\tload acquire\n"
         page = self.folder / "page.html"
         self.shown(stacks(tables=TABLES + tables), "--source", self.folder, "--html", page, trace=trace)
-        rows = [text for _, text in Page(page.read_text()).all("tr") if "\u2022" in text]
-        self.assertEqual(rows, ["6\u2022line 6"] * 2)
+        self.assertEqual([side["atomics"] for side in Page(page.read_text()).group()["sides"]], [[6]] * 2)
 
     def test_the_callers_that_hold_no_lock(self):
         """Of a line that holds one at other accesses: add, as `main` calls it here. Where all accesses hold none, nothing more is said."""
@@ -315,9 +305,7 @@ class Stacks(program.Case):
         self.assertIn("In this trace l is held at 1 of 2 accesses at a.c:5.", out)
         self.assertIn("     in add<> (1 of 2 accesses)\n       from std::each each.h:8\n", out)
         self.assertIn("     in add<> (1 of 2 accesses, no lock held)\n       from main a.c:31\n", out)
-        found = Page(page.read_text())
-        self.assertEqual([text for _, text in found.all("p", "faint") if "of 2 accesses" in text],
-                         ["1 of 2 accesses", "1 of 2 accesses, no lock held"])
+        self.assertEqual([said(side["locks"]) for side in Page(page.read_text()).group()["sides"]], ["holding l", "no lock held"])
         self.assertNotIn("accesses, no lock held", self.shown(stacks())[1])
 
     def test_sources_that_were_recorded(self):
@@ -357,5 +345,5 @@ class Stacks(program.Case):
         hostile = TABLES.replace(b"add<int>(int)", b"<script>\xff'\"&\\")
         path = self.folder / "page.html"
         self.assertEqual(self.shown(stacks(tables=hostile), "--html", path)[0], 0)
-        self.assertEqual(len(Page(path.read_text()).all("script")), 1)
+        self.assertEqual(len(Page(path.read_text()).all("script")), 2)
         self.assertTrue(re.search(r"\\xff", self.shown(stacks(tables=hostile))[1]))

@@ -28,6 +28,7 @@ BLOCK = re.compile(rb"(.+):[0-9]+#[0-9]+((?:\+[0-9]+)?)", re.S)
 STACK = re.compile(rb"stack\..+-0x[0-9a-f]+", re.S)
 INDEX = re.compile(rb"\[[0-9]+\]")
 ADDRESS = re.compile(rb"(.+)~(?:0x)?[0-9a-f]+((?:[.+\[].*)?)", re.S)
+RAW = re.compile(rb"0x[0-9a-f]+((?:\+[0-9]+)?)")    # memory without a name
 OFFSET = re.compile(rb"\+[0-9]+$")
 
 
@@ -106,6 +107,8 @@ def lasting(variable):
         return block[1] + b":*#*" + block[2]
     if STACK.fullmatch(name):
         return b"stack.*"
+    if RAW.fullmatch(name):
+        return b"0x*"
     address = ADDRESS.fullmatch(name)
     if address:
         name = address[1] + b"~*" + address[2]

@@ -2,6 +2,7 @@
 
 import json
 import os
+import shlex
 import sys
 
 from shb_common import known
@@ -149,6 +150,8 @@ class Look:
             return
         first = [note for note in looked.conversion.notes if note.startswith(CRASHED)] + looked.conversion.cuts
         notes = [f"{note[0].upper()}{note[1:]}." for note in [*first, *[process.replay] * bool(process.replay)]]
+        again = [f"--turns={self.results.folder / f'{process.base}.turns'}",
+                 f"--command={shlex.join([self.options.program, *self.options.arguments])}"] if process.record.with_suffix(".turns").exists() else []
         only, found = self.results.work / "new.places", self.results.work / "found.json"
         page = self.results.path(f"{process.base}.html")
         lines = b"".join(line for one in unknown for line in lines_of_new(one))
@@ -156,7 +159,7 @@ class Look:
         words = [f"--title={process.command} ({process.name}, {self.started})", *(f"--note={note}" for note in notes),
                  "--recorded-source", "--stacks", looked.stacks, "--scan", looked.scan, "--uses", looked.uses,
                  *(f"--about={line}" for line in self.meaning()), *(f"--source={folder}" for folder in self.options.source),
-                 "--text", "--only", only, "--json", found, "--html", page, looked.trace]
+                 *again, "--text", "--only", only, "--json", found, "--html", page, looked.trace]
         from shb_view.command import explain  # takes its time, and a run without a place does without
         if explain(list(map(os.fspath, words)), ANALYSER, sys.stderr, **APART):
             print(lines.decode(errors="backslashreplace"), end="", file=sys.stderr)

@@ -57,7 +57,7 @@ class Command(recorder.Case):
         self.assertEqual(self.names(), [*TABLES, "run1.N.html", "run1.N.scan", "run1.N.stacks", "run1.N.std", "run1.N.turns", "run1.N.uses",
                                         "unknown.places"])
         self.assertIn("     | shared = 1; /* RACE */\n", said)  # by the debug information
-        self.assertIn("<code>    shared = 1; /* RACE */</code>", text_of(page))
+        self.assertIn('"    shared = 1; /* RACE */"', text_of(page))
         self.assertEqual(text_of(self.folder / "status.shb" / "unknown.places"), UNKNOWN)
         self.assertRegex(text_of(self.folder / "status.shb" / "places.tsv"),  # main forks both, then each writes
                          r"\nstatus.c:9\tstatus.c:9\t1\tshared\tunknown\t\d+\t\d+\trun 1, process \d+\trun1\.\d+\.std\n$")
@@ -71,7 +71,7 @@ class Command(recorder.Case):
             status, _, said = self.record(*words, program)
             page, = (self.folder / "program.shb").glob("*.html")
             self.assertEqual((status, "     | void *a(void *x) { one = 2; return 0; }\n" in said,
-                              "<code>void *a(void *x) { one = 2; return 0; }</code>" in text_of(page)), (66, has_code, has_code), said)
+                              '"void *a(void *x) { one = 2; return 0; }"' in text_of(page)), (66, has_code, has_code), said)
 
     def test_one_word_for_one_thing(self):
         """Two lines that race are a place, places that share a variable a group; where nothing is locked that is said of the access."""
@@ -99,7 +99,7 @@ class Command(recorder.Case):
         _, _, said = self.record(self.program("thread_names.c"))
         page = text_of(next((self.folder / "thread_names.shb").glob("run1.*.html")))
         self.assertIn("T8.___<b>__1>_2&\"", said)
-        self.assertIn("T8.___&lt;b&gt;__1&gt;_2&amp;&quot;", page)
+        self.assertIn(r'T8.___\u003cb>__1>_2&\"', page)
         self.assertNotIn("<b>", page)
 
     def test_a_known_place_hides_no_place_of_another_file_of_that_name(self):

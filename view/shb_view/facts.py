@@ -77,12 +77,14 @@ class Site:
 
 class Fact(typing.NamedTuple):
     """`form` is one of the definitions, and `said` has what it is said of, by names that programs read. `tag` is a short form of the
-    sentences. `lock` is the one that it is about, or None. `uses` are lines of the code that it names besides the group's."""
+    sentences, and `remedy` what would order the accesses, or nothing. `lock` is the one that it is about, or None. `uses` are lines of the
+    code that it names besides the group's."""
 
     form: str
     said: dict
     tag: list
     sentences: list
+    remedy: list = []
     lock: typing.Optional[bytes] = None
     uses: tuple = ()
 
@@ -158,7 +160,9 @@ def publication(published):
     tag = [place(wrong.location), " reads " if wrong is load else " writes ", Code(published[0][0].name), f" without {order}", *both]
     said = [{"atomic": text(pair.store.name), "store": pair.store.said(), "load": pair.load.said(), "missing": pair.lacking(), "races": races}
             for pair, races in published]
-    return Fact("published", {"by": said}, tag, [handed_words(pair) for pair, _ in published], None,
+    mends = [[*verb, Code(published[0][0].name), f" with {order} at ", place(use.location)] for verb, order, use, has in (
+        (["write "], "release", store, store.gives()), (["read "], "acquire", load, load.takes())) if not has]
+    return Fact("published", {"by": said}, tag, [handed_words(pair) for pair, _ in published], [*listed(mends, len(mends)), "."], None,
                 tuple(use for pair, _ in published for use in (pair.store, pair.load)))
 
 
@@ -167,7 +171,7 @@ def handed_words(pair):
     store, load = pair.store, pair.load
     return [Code(store.thread), " and ", Code(load.thread), " hand this on by the atomic ", Code(pair.name), ": ", place(store.location), " ",
             *store.words(), " after the first access, and ", place(load.location), " ", *load.words(),
-            f" before the second. With {' and '.join(pair.lacking())} they would be ordered."]
+            f" before the second. Without {' and '.join(pair.lacking())} that orders nothing."]
 
 
 def freed(racing, whole):
@@ -183,10 +187,11 @@ def freed(racing, whole):
     found = set().union(*(site.later for site in frees if site.accesses[b"f"] == site.total()))
     after = [site for site in racing if site.location in found and not site.accesses[b"f"]]
     said = {"frees": names_of(frees), "uses": list(map(text, used)), "after": names_of(after)}
+    remedy = ["free it behind the last use, as after a join." if used else "free it once."]
     if not after:
-        return Fact("freed", said, ["freed at " if used else "freed twice at ", *lines_of(frees), " while in use" if used else ""], [sentence])
+        return Fact("freed", said, ["freed at " if used else "freed twice at ", *lines_of(frees), " while in use" if used else ""], [sentence], remedy)
     sentence += [" The use at ", *lines_of(after), " came after it here: a use after free."]
-    return Fact("freed", said, ["used at ", *lines_of(after), " after it was freed at ", *lines_of(frees)], [sentence])
+    return Fact("freed", said, ["used at ", *lines_of(after), " after it was freed at ", *lines_of(frees)], [sentence], remedy)
 
 
 def not_atomic(racing, whole):
@@ -196,7 +201,8 @@ def not_atomic(racing, whole):
         return None
     verb, write = "is" if len(plain) == 1 else "are", "writes" if len(atomic) == 1 else "write"
     sentence = [f"In this {whole} ", *lines_of(atomic), f" {write} atomically, and ", *lines_of(plain), f" {verb} not atomic."]
-    return Fact("plain", {"atomic": names_of(atomic), "plain": names_of(plain)}, [*lines_of(plain), f" {verb} not atomic"], [sentence])
+    return Fact("plain", {"atomic": names_of(atomic), "plain": names_of(plain)}, [*lines_of(plain), f" {verb} not atomic"], [sentence],
+                ["make the accesses at ", *lines_of(plain), " atomic too."])
 
 
 def uncounted(sites, whole):
@@ -227,7 +233,8 @@ def under_read_lock(sites, racing, lock, locks, whole):
     verb, name = "writes" if len(wrong) == 1 else "write", lock_name(lock)
     sentence = [f"In this {whole} ", *lines_of(wrong), f" {verb} while holding ", *name, " for reading, as other threads can at the same time."]
     said = {"lines": names_of(wrong), "name": text(lock), "locks": by_variable(locks, lock)}
-    return Fact("read-lock", said, [*lines_of(wrong), f" {verb} under the read lock of ", *name], [sentence], lock)
+    return Fact("read-lock", said, [*lines_of(wrong), f" {verb} under the read lock of ", *name], [sentence],
+                ["hold ", *name, " for writing at ", *lines_of(wrong), "."], lock)
 
 
 def without(sites, racing, lock, locks, whole):
@@ -260,7 +267,7 @@ def without(sites, racing, lock, locks, whole):
     said = {"lines": names_of(lacking), "sometimes": names_of(some), "scope": scope, "holding": names_of(holding), "name": text(lock),
             "locks": by_variable(locks, lock), "instead": held_of(lacking, locks)}
     tag = [*lines, f" {verb} without ", *name] if not some else [*lines, " doesn't always hold " if len(lacking) == 1 else " don't always hold ", *name]
-    return Fact("without", said, tag, [sentence], lock)
+    return Fact("without", said, tag, [sentence], ["hold ", *name, " at ", *lines, "."], lock)
 
 
 def sometimes(sites, racing, lock, locks, whole):
@@ -272,7 +279,8 @@ def sometimes(sites, racing, lock, locks, whole):
     said = {"lines": {text(site.location or b""): [site.guarded(lock), site.total()] for site in some}, "name": text(lock),
             "locks": by_variable(locks, lock)}
     tag = [*lines_of(some), " doesn't always hold " if len(some) == 1 else " don't always hold ", *lock_name(lock)]
-    return Fact("sometimes", said, tag, [[f"In this {whole} ", *lock_name(lock), " is held at ", *listed(counts, MOST_NAMED), "."]], lock)
+    return Fact("sometimes", said, tag, [[f"In this {whole} ", *lock_name(lock), " is held at ", *listed(counts, MOST_NAMED), "."]],
+                ["hold ", *lock_name(lock), " at each access."], lock)
 
 
 def apart(racing, locks, whole):
@@ -286,7 +294,8 @@ def apart(racing, locks, whole):
     all_hold = all(site.held() for site in racing)
     tag = [*lines_of(racing), " hold different locks" if all_hold else " have no lock in common"]
     return Fact("apart", {"lines": names_of(racing), "all_hold": all_hold, "held": held_of(racing, locks)}, tag,
-                [[f"In this {whole} ", *listed(holds, MOST_NAMED), ", and no lock is common to them."]])
+                [[f"In this {whole} ", *listed(holds, MOST_NAMED), ", and no lock is common to them."]],
+                ["hold one lock at ", *lines_of(racing), "."])
 
 
 def no_lock(racing, whole):
@@ -297,7 +306,7 @@ def no_lock(racing, whole):
     also = [", ", *lines_of(readers), " reads" if len(readers) == 1 else " read"] if readers else []
     sentence = [f"In this {whole} no lock is held at any access; {count} ", "writes, at " if len(writers) == 1 else "write, at ", *lines_of(writing), "."]
     return Fact("no-lock", {"writes": names_of(writing), "writers": sorted(map(text, writers))}, [*lines_of(writing), f" {verb}", *also, " without a lock"],
-                [sentence])
+                [sentence], ["hold one lock at ", *lines_of(racing), ", or order them by a join, or by a release and an acquire."])
 
 
 def by_variable(locks, lock):

@@ -3,7 +3,7 @@
 from shb_common.words import counted
 from shb_view.names import code_line, short
 from shb_view.stacks import caller_lines
-from shb_view.words import KINDS, NO_LOCK, Code, flat_in, lock_parts, place
+from shb_view.words import KINDS, NO_LOCK, Code, flat_in, lock_parts, place, told_of
 
 NAME = 120  # columns
 MOST_FRAMES = 16  # of a stack
@@ -26,7 +26,7 @@ def issue_lines(view, section):
     if allocated:
         yield "  the block was allocated at"
         yield from allocated
-    yield from (f"  {flat(parts)}" for parts in section.fact.sentences)
+    yield from (f"  {flat(parts)}" for parts in told_of(section))
     yield f"  {order_text(view, window)}"
 
 

@@ -1,199 +1,194 @@
-"""The picture of a race: a lane for each thread, time downwards, and both accesses side by side at the end.
-
-All lines are drawn left of the column of texts, so none crosses a text: a lane begins below its thread's name, and the names of
-later lanes stand to its right.
-"""
+"""What page.js draws a picture of a race from: a lane for each thread, a row for each event, and both accesses last. Where lines and texts
+stand is decided here; the script writes them, and cuts texts in a narrow window. All lines are left of the column of texts, so none crosses
+a text."""
 
 import typing
 
-from shb_view.markup import element, joined
-from shb_view.names import columns, short
-from shb_view.words import NO_LOCK, flat_in, lock_parts, operation_text
+from shb_view.names import short
+from shb_view.words import NO_LOCK, VERBS, flat_in, lock_parts
 
-ROW, HEAD, BAND = 36, 20, 76  # heights of an event, of a thread's name, of the last row
-LEFT, GAP, STEP = 14, 18, 7  # left edge, room beside a lane, room for a bar or an arrow more
-STUB = 14  # how far a bar goes on where its lock's acquire or release isn't shown
-ROUND = 5  # how far from an event an arrow ends, and the radius of its turns
-ACCESS = 8  # the radius of an access
-BARS = 6  # how far from a lane its bars begin
-TEXT = 36  # columns of a text, at most
-TIP = 240  # columns of what is shown where something is pointed at
-COLUMN = 7.3  # width of a column
+TEXT, TIP = 36, 240  # columns
 MOST_BARS = 4
-COLOURS = 6  # of bars
+STUB = 0.4  # rows that a bar goes on where its lock's acquire or release isn't shown
+WORDS = {**VERBS, b"acq": "acquires", b"rel": "releases", b"fork": "starts", b"join": "joins", b"begin": "begins", b"end": "ends"}
+# Pixels: of a row; of a thread's name; between a lane and what is right of it; between neighbours; of a bar and of a letter along it; the
+# bends of arrows; the circle of an access.
+ROW, HEAD, GAP, STEP, BAR, LETTER, ROUND, ACCESS = 38, 19, 16, 7, 16, 6.7, 5, 8
+BAND, LINE = 22 + ROW, 14  # from the band's top to the accesses; between lines of text
+
+
+def picture(window, kinds):
+    """`x` has the place of each lane and `texts` that of all texts, `band` is the top of the band with both accesses."""
+    events = [*window.before, *window.accesses]
+    names = dict.fromkeys(window.events[event].event.thread for event in [*window.accesses, *window.before])
+    lanes = {thread: lane for lane, thread in enumerate(names)}
+    edges = [Edge(events.index(source), events.index(event), is_seen(window, source, event)) for source, event in needed(window, events)]
+    drawn = Layout(len(lanes), [lanes[window.events[event].event.thread] for event in events], edges, bars_of(window, events, lanes))
+    return {"lanes": [short(thread, TEXT) for thread in lanes], "x": drawn.x, "texts": drawn.texts, "band": drawn.band, "height": drawn.band + 26 + 3 * ROW,
+            "events": [event_data(window, kinds, event, drawn, at) for at, event in enumerate(events)],
+            "gaps": gaps(window, events), "edges": [[drawn.path(it), *drawn.head(it), int(edge.is_seen)] for it, edge in enumerate(edges)],
+            "bars": [[*drawn.rectangle(it), bar.name, drawn.name(it)] for it, bar in enumerate(drawn.bars)]}
+
+
+class Edge(typing.NamedTuple):
+    """An arrow from an event to another one, by their places in the list of events. `is_seen`: the one reads what the other wrote."""
+
+    first: int
+    second: int
+    is_seen: bool
 
 
 class Bar(typing.NamedTuple):
-    """A lock that a thread holds from one height to another."""
+    """A lock that a lane's thread holds, from a row to a row."""
 
-    thread: int
-    lock: bytes
+    lane: int
+    name: str
     top: float
     bottom: float
 
 
-class Drawing:
-    """Where everything stands. Lanes are numbered from the left; the accesses' threads come first."""
+class Layout:
+    """Where all stands. `events` are their lanes, in the order of their rows; the last two stand in one row."""
 
-    def __init__(self, window):
-        self.window = window
-        self.events = [*window.before, *window.accesses]
-        threads = dict.fromkeys(map(self.thread, [*window.accesses, *window.before]))
-        self.lanes = {thread: lane for lane, thread in enumerate(threads)}
-        top = HEAD * len(self.lanes) + 6
-        self.y = {event: top + ROW * row + ROW // 2 for row, event in enumerate(window.before)}
-        self.band = top + ROW * len(window.before) + 4
-        self.y.update({access: self.band + BAND // 2 for access in window.accesses})
-        self.bars = self.place_bars()
-        self.bar_slots = self.slots([(bar.thread, bar.top, bar.bottom) for bar in self.bars])
-        self.edge_slots = self.slots([(self.gap_of(edge), *map(self.y.get, edge)) for edge in window.edges])
-        self.place_lanes()
+    def __init__(self, lanes, events, edges, bars):
+        self.events, self.edges, self.bars, self.last = events, edges, bars, len(events) - 2
+        self.top = HEAD * lanes + 4
+        self.band = self.top + ROW * self.last + 6
+        self.y = [self.height(min(at, self.last)) for at in range(len(events))]
+        self.spans = [(bar.lane, self.height(bar.top), self.height(bar.bottom) if bar.bottom <= self.last else self.band + BAND + GAP) for bar in bars]
+        self.bar_slots = slots(self.spans)
+        self.edge_slots = slots([(self.gap(edge), self.y[edge.first], self.y[edge.second]) for edge in edges])
+        self.x, right = [], 6
+        for lane in range(lanes):
+            self.x.append(right + BAR * most_slots(self.bar_slots, [bar.lane for bar in bars], lane) + 8)
+            right = self.x[lane] + GAP + STEP * most_slots(self.edge_slots, list(map(self.gap, edges)), lane)
+        self.texts = right + 4
 
-    def thread(self, event):
-        return self.window.events[event].event.thread
+    def height(self, row):
+        return self.band + BAND if row == self.last else self.top + ROW * row + ROW // 2
 
-    def lane(self, event):
-        return self.lanes[self.thread(event)]
+    def gap(self, edge):
+        """The lane right of which an arrow goes down: left of the lane where it ends, or right of it if it comes from there."""
+        first, second = self.events[edge.first], self.events[edge.second]
+        return second - 1 if first < second else second
 
-    def events_of(self, thread):
-        return [event for event in self.events if self.thread(event) == thread]
+    def text(self, at):
+        """The height of an event's first line of text."""
+        return self.y[at] - 2 if at < self.last else self.band + 38 + (ROW + LINE) * (at - self.last)
 
-    def place_bars(self):
-        """A bar for each lock held at a shown event, as far as the shown events tell."""
-        bars = {}
-        for thread in self.lanes:
-            for event in self.events_of(thread):
-                shown = self.window.events[event]
-                for lock, acquire in shown.locks[-MOST_BARS:]:
-                    top = bars[acquire].top if acquire in bars else self.y.get(acquire, self.y[event] - STUB)
-                    bottom = self.y[event] + (0 if shown.freed == lock else STUB)
-                    bars[acquire] = Bar(thread, lock, top, bottom)
-        return list(bars.values())
+    def rectangle(self, it):
+        """Left, top and height of a bar."""
+        lane, top, bottom = self.spans[it]
+        return self.x[lane] - 8 - BAR * (self.bar_slots[it] + 1) + 2, round(top, 1), round(bottom - top, 1)
 
-    def gap_of(self, edge):
-        """The room between two lanes in which an arrow goes down: beside the later event's lane. It has the number of the lane
-        to its left."""
-        source, target = map(self.lane, edge)
-        return target - 1 if source < target else target
+    def name(self, it):
+        """As much of a bar's name as there is room for along it."""
+        _, top, bottom = self.spans[it]
+        most = int((bottom - top - 6) / LETTER)
+        name = self.bars[it].name
+        return name if len(name) <= most else f"{name[:most - 1]}…" if most > 7 else ""
 
-    def slots(self, spans):
-        """For each span, a group with a top and a bottom, the first place in its group where it overlaps no other."""
-        taken, slots = {}, []
-        for group, top, bottom in spans:
-            slot = 0
-            while any(top < end + STEP and start < bottom + STEP for start, end in taken.get((group, slot), [])):
-                slot += 1
-            taken.setdefault((group, slot), []).append((top, bottom))
-            slots.append(slot)
-        return slots
+    def unnamed(self, at):
+        """The locks that begin to be held at an event, or are held there first, whose bars have no room for their names."""
+        return [bar.name for it, bar in enumerate(self.bars) if self.name(it) != bar.name and at == next(
+            event for event, lane in enumerate(self.events) if lane == bar.lane and min(event, self.last) >= bar.top)]
 
-    def place_lanes(self):
-        """How far right each lane stands, and where the texts begin."""
-        self.x, right = [], LEFT
-        for thread, lane in self.lanes.items():
-            bars = [slot for bar, slot in zip(self.bars, self.bar_slots) if bar.thread == thread]
-            arrows = [slot for edge, slot in zip(self.window.edges, self.edge_slots) if self.gap_of(edge) == lane]
-            self.x.append(right + (BARS + STEP * (max(bars) + 1) if bars else 0))
-            right = self.x[-1] + GAP + STEP * (max(arrows) + 1 if arrows else 0) + ROUND
-        self.texts = self.x[-1] + GAP
+    def down(self, it):
+        """Where an arrow goes down."""
+        return self.x[self.gap(self.edges[it])] + GAP + STEP * self.edge_slots[it] - 6
 
-    def width(self):
-        """Up to the right edge of the widest text."""
-        names = [self.x[lane] + COLUMN * columns(short(thread, TEXT)) for thread, lane in self.lanes.items()]
-        texts = [self.texts + COLUMN * max(columns(operation), columns(location) + len(f" · {event}"))
-                 for event in self.y for operation, location in [self.event_texts(event)]]
-        return int(max(names + texts)) + 12
+    def ends(self, it):
+        """Left and right, where an arrow begins and where its head is."""
+        edge = self.edges[it]
+        reach = ACCESS + 1 if edge.second >= self.last else ROUND
+        end = self.x[self.events[edge.second]]
+        return self.x[self.events[edge.first]], end - reach if self.down(it) < end else end + reach
 
-    def event_texts(self, number):
-        """An event's operation, and its location, after which its number stands."""
-        event, accesses = self.window.events[number].named, self.window.accesses
-        front = f"{accesses.index(number) + 1}  " if number in accesses else ""
-        location = short(event.location, TEXT - len(f" · {number}")) if event.location else "(no location)"
-        return front + operation_text(event, TEXT - len(front)), location
+    def path(self, it):
+        edge, down, (begin, end) = self.edges[it], self.down(it), self.ends(it)
+        first, second = self.y[edge.first], self.y[edge.second]
+        turn, back = ROUND if begin < down else -ROUND, ROUND if down < end else -ROUND
+        return (f"M{begin} {first}H{down - turn}Q{down} {first} {down} {first + ROUND}V{second - ROUND}"
+                f"Q{down} {second} {down + back} {second}H{end}")
+
+    def head(self, it):
+        """The tip of an arrow, and how far its back is from there."""
+        _, end = self.ends(it)
+        return end, self.y[self.edges[it].second], -7 if self.down(it) < end else 7
 
 
-def picture(window, anchor):
-    """The SVG of a race. The number of an event is a link to the anchor's text with the number after it."""
-    drawing = Drawing(window)
-    width, height = drawing.width(), drawing.band + BAND + 2
-    first, second = window.accesses
-    band = element("rect", class_="band", x=1, y=drawing.band, width=width - 2, height=BAND, rx=6)
-    parts = [part for draw in (lane_parts, bar_parts, edge_parts, event_parts, access_parts) for part in draw(drawing, anchor)]
-    return element("svg", joined([band, *parts], "\n"), viewBox=f"0 0 {width} {height}", width=width, height=height, role="img",
-                   aria_label=f"What comes before events {first} and {second}")
+def slots(spans):
+    """For each span, a group with a top and a bottom, the first place in its group where it overlaps no other."""
+    taken, found = {}, []
+    for group, top, bottom in spans:
+        slot = 0
+        while any(top < end + STEP and start < bottom + STEP for start, end in taken.get((group, slot), ())):
+            slot += 1
+        taken.setdefault((group, slot), []).append((top, bottom))
+        found.append(slot)
+    return found
 
 
-def lane_parts(drawing, anchor):
-    """A thread's name, and its line: dashed where events are left out."""
-    for thread, lane in drawing.lanes.items():
-        x, top = drawing.x[lane], HEAD * (lane + 1)
-        name = element("text", short(thread, TEXT), class_=f"thread lane{min(lane, 2)}", x=x - 4, y=top - 6)
-        yield element("g", element("title", short(thread, TIP)), name)
-        before = 0
-        for event in drawing.events_of(thread):
-            is_next = drawing.window.events[event].previous == before
-            yield element("line", class_="lane" if is_next else "lane gap", x1=x, y1=top, x2=x, y2=drawing.y[event])
-            before, top = event, drawing.y[event]
+def most_slots(found, groups, group):
+    return max((slot + 1 for slot, its in zip(found, groups) if its == group), default=0)
 
 
-def bar_parts(drawing, anchor):
-    """The locks held, left of each lane."""
-    locks = {}
-    for bar, slot in zip(drawing.bars, drawing.bar_slots):
-        colour = locks.setdefault(bar.lock, len(locks)) % COLOURS
-        x = drawing.x[drawing.lanes[bar.thread]] - BARS - STEP * (slot + 1)
-        yield element("rect", element("title", short(bar.lock, TIP)), class_=f"lock lock{colour}", x=x, y=bar.top, width=4,
-                      height=bar.bottom - bar.top, rx=2)
-
-
-def edge_parts(drawing, anchor):
-    """An arrow for each edge: along the row of the earlier event, down beside the lane of the later one, and to it."""
-    for edge, slot in zip(drawing.window.edges, drawing.edge_slots):
-        (x1, x2), (y1, y2) = (drawing.x[drawing.lane(event)] for event in edge), map(drawing.y.get, edge)
-        down = drawing.x[drawing.gap_of(edge)] + GAP + STEP * slot - 2
-        turn = ROUND if x1 < down else -ROUND
-        reach = ACCESS + 1 if edge[1] in drawing.window.accesses else ROUND
-        back, end = (ROUND, x2 - reach) if down < x2 else (-ROUND, x2 + reach)
-        later = drawing.window.events[edge[1]]
-        kind = "edge seen" if later.event.word == b"r" and later.source == edge[0] else "edge"
-        path = (f"M{x1} {y1}H{down - turn}Q{down} {y1} {down} {y1 + ROUND}"
-                f"V{y2 - ROUND}Q{down} {y2} {down + back} {y2}H{end}")
-        yield element("path", class_=kind, d=path, marker_end="url(#to)")
-
-
-def event_parts(drawing, anchor):
-    """The events before the accesses, one in a row."""
-    for event in drawing.window.before:
-        x, y = drawing.x[drawing.lane(event)], drawing.y[event]
-        yield element("line", class_="guide", x1=x + 7, y1=y, x2=drawing.texts - 6, y2=y)
-        circle = element("circle", class_=f"lane{min(drawing.lane(event), 2)}", cx=x, cy=y, r=4)
-        yield element("g", tip(drawing.window, event), circle, event_text(drawing, event, y, anchor), class_="event")
-
-
-def access_parts(drawing, anchor):
-    """The two accesses, which can execute next."""
-    xs = [drawing.x[drawing.lane(access)] for access in drawing.window.accesses]
-    y = drawing.band + BAND // 2
-    yield element("line", class_="next", x1=xs[0], y1=y, x2=xs[1], y2=y)
-    for number, (access, x) in enumerate(zip(drawing.window.accesses, xs), 1):
-        circle = element("circle", cx=x, cy=y, r=ACCESS)
-        mark = element("text", number, class_="number", x=x, y=y + 4)
-        texts = event_text(drawing, access, drawing.band + 2 + ROW * number - ROW // 2, anchor)
-        yield element("g", tip(drawing.window, access), circle, mark, texts, class_="access")
-
-
-def tip(window, event):
-    """What a browser says of an event that is pointed at."""
+def event_data(window, kinds, event, drawn, at):
+    """An event with its lane, its height and that of its texts, what these are, and its tip."""
     shown = window.events[event]
+    word = kinds.of(event, shown.event.word, shown.event.name)
+    location = short(shown.event.location, TEXT) if shown.event.location else "(no location)"
+    name = short(shown.named.name, TEXT - 9) if shown.named.name else ""
+    others = [lock for lock in drawn.unnamed(at) if lock != name] if at < drawn.last else []
+    number = f"{at - drawn.last + 1}  " if at >= drawn.last else ""
+    return [event, drawn.events[at], drawn.y[at], drawn.text(at), f"{number}{WORDS.get(word, readable_word(word))} {name}".rstrip(),
+            f"{location} · {event}" + (f" · holds {', '.join(others)}" if others else ""), tip(shown)]
+
+
+def gaps(window, events):
+    """For each event whether events of its thread before it are left out."""
+    last, found = {}, []
+    for event in events:
+        shown = window.events[event]
+        found.append(int(shown.previous != last.get(shown.event.thread, 0)))
+        last[shown.event.thread] = event
+    return found
+
+
+def bars_of(window, events, lanes):
+    rows = {event: min(row, len(window.before)) for row, event in enumerate(events)}
+    bars = {}
+    for event in events:
+        shown = window.events[event]
+        for lock, acquire in shown.locks[-MOST_BARS:]:
+            top = bars[acquire].top if acquire in bars else rows.get(acquire, rows[event] - STUB)
+            bars[acquire] = Bar(lanes[shown.event.thread], short(lock, TEXT), top, rows[event] + (0 if shown.freed == lock else STUB))
+    return list(bars.values())
+
+
+def readable_word(word):
+    return word.decode("ascii", "backslashreplace")
+
+
+def needed(window, events):
+    """The edges but for those that an earlier one from the same thread to the same thread makes needless."""
+    latest, found = {}, []
+    for source, event in sorted(window.edges, key=lambda edge: (events.index(edge[1]), -events.index(edge[0]))):
+        threads = window.events[source].event.thread, window.events[event].event.thread
+        if events.index(source) > latest.get(threads, -1):
+            latest[threads] = events.index(source)
+            found.append((source, event))
+    return found
+
+
+def is_seen(window, source, event):
+    """Whether the later event reads what the earlier one wrote."""
+    later = window.events[event]
+    return later.event.word == b"r" and later.source == source
+
+
+def tip(shown):
+    """The line of an event and its number in the file, and the locks that its thread holds."""
     names = [flat_in(TEXT)(lock_parts(lock)) for lock, _ in shown.locks]
     more = [f"{shown.held - len(names):,} more"] if shown.held > len(names) else []
-    held = f"holds {', '.join(names + more)}" if names or more else NO_LOCK
-    return element("title", f"{short(shown.line, TIP)}\n{held}")
-
-
-def event_text(drawing, number, y, anchor):
-    """The two texts of an event, its number as a link."""
-    operation, location = drawing.event_texts(number)
-    link = element("a", number, href=f"#{anchor}{number}")
-    return joined([element("text", operation, x=drawing.texts, y=y - 2),
-                   element("text", element("tspan", location), " · ", link, class_="at", x=drawing.texts, y=y + 12)])
+    return f"line {shown.row}: {short(shown.line, TIP)}\n" + (f"holds {', '.join(names + more)}" if names or more else NO_LOCK)

@@ -4,7 +4,7 @@ from shb_common import result
 from shb_common.programs import naming
 from shb_view.handed import MOST_RACES
 from shb_view.issue import flat
-from shb_view.words import KINDS, notes_of
+from shb_view.words import KINDS, notes_of, told_of
 
 MOST_STACKS, MOST_FRAMES = 8, 40    # of an access
 
@@ -34,7 +34,7 @@ def entry(view, section, pair, origin, names):
         found["stacks"] = [stack_entry(frames, count) for (frames, _), count in section.callers.get(location, ())[:MOST_STACKS] if frames]
         accesses.append(found)
     return {"places": len(pair.orders), "accesses": accesses, "variables": view.variables(pair), **({} if view.of_scan else {"races": pair.races}),
-            "headline": flat(section.fact.tag), "facts": [flat(parts) for parts in section.fact.sentences]}
+            "headline": flat(section.fact.tag), "facts": [flat(parts) for parts in told_of(section)]}
 
 
 def group_entry(view, section):

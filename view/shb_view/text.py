@@ -11,7 +11,7 @@ from shb_view.issue import issue_lines
 from shb_view.names import code_line, columns, padded, short
 from shb_view.stacks import caller_lines, origins
 from shb_view.words import (MOST_SITES, MOST_VARIABLES, Code, accesses_text, flat_in, listed, lock_words, notes_of, operation_text,
-                            partner_parts, place, races_text, seen_parts, share, summary, thread_parts)
+                            partner_parts, place, races_text, seen_parts, share, summary, thread_parts, told_of)
 
 NAME = 80  # columns of a name or a location
 LINE = 100  # columns of a line of code
@@ -82,7 +82,7 @@ def is_asked_for(only, origin, names, pair, group):
 def section_lines(view, number, section, colours):
     name = flat(group_name(view, section.group))
     yield colours.bold(f"{number}. {name}: {flat(section.fact.tag)}") + f" ({races_text(section.group)})"
-    yield from (f"   {flat(parts)}" for parts in [*section.fact.sentences, *seen_parts(section)])
+    yield from (f"   {flat(parts)}" for parts in [*told_of(section), *seen_parts(section)])
     if len(section.group.variables) > 1:
         yield f"   Variables: {flat(listed([[Code(name)] for name in section.group.variables], MOST_VARIABLES))}"
     for site in section.sites[:MOST_SITES]:

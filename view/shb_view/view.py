@@ -74,6 +74,8 @@ class View(typing.NamedTuple):
     kinds: Kinds
     gathered: Gathered
     only: typing.Optional[known.Known]
+    turns: str
+    command: str
 
     def variables(self, pair):
         """The variables that race at two lines, each with how many races it has where they are counted."""
@@ -128,7 +130,8 @@ def make_view(options, progress):
         source = Source(options.source, os.fstat(file.fileno()).st_mtime, stacks.sources if options.recorded_source else {})
         notes, about = ([readable(os.fsencode(line)) for line in lines] for lines in (options.note, options.about))
         return View(title, made.counts, made.races, made.listed, pairs, count, sections, made.given.verdict, made.is_sample, bool(options.scan),
-                    source, [*notes, *warnings(options.trace)], about, stacks, kinds, gathered, places_of(options.only) if options.only else None)
+                    source, [*notes, *warnings(options.trace)], about, stacks, kinds, gathered, places_of(options.only) if options.only else None,
+                    readable(os.fsencode(options.turns)) if options.turns else "", readable(os.fsencode(options.command)))
 
 
 def analysed(options, file, gathered, progress, stack):

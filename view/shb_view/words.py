@@ -145,6 +145,11 @@ def seen_parts(section):
         yield [place(reader), " read what ", *listed(writers, MOST_SOME), f" {verb}. This racy read may hide other races: fix it and run again."]
 
 
+def told_of(section):
+    """What is said of a group's fact, each as parts: its sentences, and what would order the accesses."""
+    return [*section.fact.sentences, *[["Remedy: ", *section.fact.remedy]] * bool(section.fact.remedy)]
+
+
 def races_text(group):
     """How many races a group has, where that is known, at how many places."""
     races = group.races()
