@@ -117,7 +117,7 @@ class KnownPlaces(side_by_side.Case):
     def test_names_of_variables_that_last(self):
         """What differs from run to run is a star."""
         for name, wanted in ((b"hits", b"hits"), (b"heap.cpp:13#7+40", b"heap.cpp:*#*+40"), (b"heap.cpp:13#7", b"heap.cpp:*#*"),
-                             (b"stack.T1.work-0x20", b"stack.*"), (b"grid[3][40].x", b"grid[*][*].x"), (b"x~4a10.next", b"x~*.next"), (b"lib.so:x+8", b"lib.so:x+8"),
+                             (b"stack.T1.work-0x20", b"stack.*"), (b"0x55c58caa8f68", b"0x*"), (b"0x7f00+8", b"0x*"), (b"0xg", b"0xg"), (b"grid[3][40].x", b"grid[*][*].x"), (b"x~4a10.next", b"x~*.next"), (b"lib.so:x+8", b"lib.so:x+8"),
                              (b"queue.head of main", b"queue.head of main"), (b"a*b", b"a\\*b"), (b"fd5.data", b"fd5.data")):
             self.assertEqual(lasting(name), wanted)
             self.assertTrue(Known(b"a\tb\t" + wanted).has(sides(b"a", b"b"), name))
