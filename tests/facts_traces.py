@@ -213,6 +213,20 @@ def handed_on(second):
     return trace, b"shb-stacks 1 %020d\n" % 5 + bytes(20) + uses
 
 
+def fenced(store, before):
+    """An atomic is stored in an order, and loaded relaxed; a fence with acquire comes before this event."""
+    trace = b"T0|w(x)|f.c:1\nT0|r(B)|f.c:2\nT1|r(B)|f.c:4\nT1|r(x)|f.c:5\nT1|r(y)|f.c:6\n"
+    uses = b"use 2\tB\tT0\tf.c:2\tstore %b\nuse 3\tB\tT1\tf.c:4\tload relaxed\nuse %d\t\tT1\tf.c:7\tfence acquire\n" % (store, before)
+    return trace, b"shb-stacks 1 %020d\n" % 5 + bytes(20) + uses
+
+
+def handed_itself():
+    """An atomic is initialized plainly, then stored, then loaded, then read plainly."""
+    trace = b"T0|w(B)|f.c:1\nT0|r(y)|f.c:2\nT1|r(y)|f.c:3\nT1|r(B)|f.c:4\n"
+    uses = b"use 2\tB\tT0\tf.c:2\tstore relaxed\nuse 3\tB\tT1\tf.c:3\tload relaxed\n"
+    return trace, b"shb-stacks 1 %020d\n" % 4 + bytes(16) + uses
+
+
 def counted():
     """A counter that two threads update between their accesses, in a trace with a free."""
     trace = b"T0|w(x)|f.c:1\nT0|r(B)|f.c:2\nT1|r(B)|f.c:2\nT1|r(x)|f.c:3\nT1|w(y)|f.c:4\n"
@@ -241,6 +255,8 @@ def nested():
 def made(how_many, seed):
     """What is rare in made traces comes first."""
     yield from map(handed_on, (b"update", b"store", b"load"))
+    yield from (fenced(b"relaxed", 4), fenced(b"relaxed", 5), fenced(b"release", 5))
+    yield handed_itself()
     yield counted()
     yield both_locks()
     yield nested()

@@ -20,10 +20,11 @@ class Row(typing.NamedTuple):
     traces: int         # how many have it
     example: typing.Any     # the trace that is named
     race: typing.Any        # what is known of the race that was seen first
+    is_behind: bool = False     # whether all unknown variables were found behind known races alone
     report: str = ""    # of the farm: the example's report with schedules, below the folder of the outcomes, or why there is none
 
     def state(self):
-        return "known" if self.is_known else "unknown"
+        return "known" if self.is_known else "behind" if self.is_behind else "unknown"
 
     def unknown(self):
         """The variables that aren't known."""
@@ -36,6 +37,7 @@ class Seen:
 
     def __init__(self):
         self.traces, self.variables, self.has_more, self.orders = {}, {}, False, set()
+        self.behind = set()     # variables that were found behind known races alone
 
 
 class Places:
@@ -73,7 +75,8 @@ class Places:
         variables = tuple((name, self.given.has(sides, name)) for name in sorted(seen.variables))
         return Row(both, tuple(known.written(self.names.name(location)) for location in both),
                    tuple(seen.traces[example][location] for location in both), sides, len(seen.orders), variables, seen.has_more,
-                   self.is_known(key), len(seen.traces), example, next(iter(seen.variables.values()), None))
+                   self.is_known(key), len(seen.traces), example, next(iter(seen.variables.values()), None),
+                   bool(seen.behind) and all(is_known or name in seen.behind for name, is_known in variables))
 
 
 def in_order(rows):

@@ -2,6 +2,7 @@
 
 import argparse
 import ctypes
+import itertools
 import os
 import pathlib
 import shlex
@@ -12,6 +13,7 @@ from shb_common import known
 from shb_common.commands import Parser, number
 from shb_common.faults import Refused
 from shb_common.limits import MOST_EVENTS
+from shb_common.printable import printable
 from shb_common.standard import words_of
 from shb_common.stops import Stops
 from shb_common.words import counted
@@ -23,6 +25,7 @@ from shb_record.results import Results
 from shb_record.running import REPLAYED, Run
 from shb_record.tables import tables_of
 
+MOST_PASSED = 8  # known races that are named
 RACES, CUT, FAILED, CANNOT_RUN, NOT_THERE = 66, 124, 125, 126, 127
 BECOME_PARENT_OF_ORPHANS = 36  # of prctl
 USAGE = "shb-record [OPTION].. [--] PROGRAM [ARGUMENT].."
@@ -168,10 +171,13 @@ def conclude(look, own):
     """Says what was found, and what that means."""
     rows = look.places.rows()
     unknown = count(row for row in rows if not row.is_known)
-    passed_over = count(rows) - unknown
+    passed_over, behind = count(rows) - unknown, count(row for row in rows if row.state() == "behind")
     for words in known.words_of_stale(look.stale(), look.places.names):
         say(f"{look.options.known_path}, {words}")
+    for first, second in itertools.islice(look.passed_over, MOST_PASSED):
+        say(f"{printable(second)} read what {printable(first)} wrote, in a known race: a second look passed over both")
     say(counted(unknown, "unknown place" if look.options.known_path else "place") + " with races"
+        + (f" ({'' if behind == unknown else f'{behind:,} of them '}behind known races: real if these are harmless)" if behind else "")
         + (f", {counted(passed_over, 'known one')} passed over" if passed_over else "")
         + ("; not the whole of the run was seen" if look.is_cut or look.is_killed else "")
         + ("; not all could be looked at" if look.has_failed else "")

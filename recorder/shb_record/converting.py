@@ -84,8 +84,10 @@ class Conversion:
         self.process = process
         self.trace, self.uses, self.stacks = (process.record.with_suffix(suffix) for suffix in (".std", ".uses", ".stacks"))
         strip = ["--strip", options.strip] if options.strip else []
-        self.words = [CONVERTER, "--scan", "--only", "/dev/stdin", "--page", self.trace, "--uses", self.uses, "--stacks", self.stacks, *strip,
-                      "-n", str(options.window), process.record]
+        self.scan_words = [CONVERTER, "--scan", *strip, process.record]
+        self.page_words = [*strip, "-n", str(options.window), process.record]
+        self.words = [CONVERTER, "--scan", "--only", "/dev/stdin", "--page", self.trace, "--uses", self.uses, "--stacks", self.stacks,
+                      *self.page_words]
         self.size, self.notes, self.cuts = "", [], []  # known at the end: how much there is, what is said of it, what makes it a part
         self.numbers = {}
 
@@ -128,6 +130,14 @@ class Conversion:
         if wanted:
             raise Contradiction(f"{self.process.name}: the page's trace lacks {counted(len(wanted), 'event')} of `shb scan`")
         return numbers
+
+    def write_page(self, places, trace, uses, stacks):
+        """Writes the trace of a page anew, around the races of these places."""
+        with tempfile.TemporaryFile() as said, open(trace, "wb") as out:
+            words = [CONVERTER, "--only", "/dev/stdin", "--uses", uses, "--stacks", stacks, *self.page_words]
+            self.end(subprocess.run(words, input=b"".join(lines_of(places)), stdout=out, stderr=said, **APART).returncode, said)
+        self.trace, self.uses, self.stacks = trace, uses, stacks
+        self.numbers = self.numbers_of(places)
 
     def end(self, status, file):
         file.seek(0)

@@ -19,6 +19,7 @@ from shb_record.parts import ANALYSER, now, say
 from shb_record.places import Places
 from shb_record.running import cause
 from shb_record.scanning import Contradiction, scanning
+from shb_record.second import Second, add_races, besides
 
 
 KINDS = {b"r": "read", b"w": "written"}
@@ -29,7 +30,8 @@ class Looked:
 
     def __init__(self, process, options):
         self.process, self.conversion = process, Conversion(process, options)
-        self.places, self.new, self.events = [], [], 0
+        self.places, self.new, self.named, self.events = [], [], [], 0
+        self.behind = []  # what a second look found behind known races
         self.trace = self.scan = self.uses = self.stacks = None
 
 
@@ -39,7 +41,7 @@ class Look:
         self.places, self.pages, self.found = Places(options.known), [], {}
         self.runs = []  # of each run: the order of each process
         self.has_replayed, self.again = False, None  # did a process follow the list? the list of the first with an unknown place
-        self.modules = Modules()
+        self.modules, self.passed_over = Modules(), {}  # known races whose second access reads what the first wrote
         self.is_cut = self.is_killed = self.has_failed = self.is_contradicted = self.has_threads = False
 
     def run(self, number):
@@ -50,6 +52,8 @@ class Look:
         self.runs.append([])
         looked = [self.tried(self.analyse, process, Looked(process, self.options)) for process in found]
         # Only when the source files of all programs are known it is known which names they share.
+        if self.options.known_path:
+            looked = [one and self.tried(self.look_again, one.process, one) for one in looked]
         has_events = [one is None or bool(one.events) for one in [one and self.tried(self.show, one.process, one) for one in looked]]
         for process in found:
             if process.record.exists():
@@ -109,7 +113,24 @@ class Look:
                 scan.copy(looked.scan)
                 origin = Origin(tables_in(looked.stacks), process.program)
                 origin.add_modules(process.modules)
-        looked.new = self.places.add_new(process, looked.trace, origin, looked.places, conversion.numbers)
+        looked.new, looked.named = self.places.add_new(process, looked.trace, origin, looked.places, conversion.numbers)
+
+    def look_again(self, process, looked):
+        """Looks behind the known races of a process."""
+        accesses, races = self.places.known_in(looked.named)
+        if not accesses:
+            return
+        second = Second(accesses, races)
+        looked.behind = besides(looked.places, second.places(looked.conversion, self.results.work))
+        self.passed_over.update(dict.fromkeys((one.location, other.location) for one, other in second.seen))
+        if looked.behind:
+            looked.places = [*looked.places, *looked.behind]
+            looked.conversion.write_page(looked.places, looked.trace, looked.uses, looked.stacks)
+            add_races(looked.scan, looked.behind)
+            origin = Origin(tables_in(looked.stacks), process.program)
+            origin.add_modules(process.modules)
+            new, _ = self.places.add_new(process, looked.trace, origin, looked.behind, looked.conversion.numbers, True)
+            looked.new = [*looked.new, *new]
 
     def show(self, process, looked):
         """Shows a process, and says how much it has."""
@@ -152,14 +173,15 @@ class Look:
         notes = [f"{note[0].upper()}{note[1:]}." for note in [*first, *[process.replay] * bool(process.replay)]]
         again = [f"--turns={self.results.folder / f'{process.base}.turns'}",
                  f"--command={shlex.join([self.options.program, *self.options.arguments])}"] if process.record.with_suffix(".turns").exists() else []
-        only, found = self.results.work / "new.places", self.results.work / "found.json"
+        only, behind, found = (self.results.work / name for name in ("new.places", "behind.places", "found.json"))
         page = self.results.path(f"{process.base}.html")
         lines = b"".join(line for one in unknown for line in lines_of_new(one))
         only.write_bytes(lines)
+        behind.write_bytes(b"".join(line for one in unknown if one.place in looked.behind for line in lines_of_new(one)))
         words = [f"--title={process.command} ({process.name}, {self.started})", *(f"--note={note}" for note in notes),
                  "--recorded-source", "--stacks", looked.stacks, "--scan", looked.scan, "--uses", looked.uses,
                  *(f"--about={line}" for line in self.meaning()), *(f"--source={folder}" for folder in self.options.source),
-                 *again, "--text", "--only", only, "--json", found, "--html", page, looked.trace]
+                 *again, "--text", "--only", only, "--behind", behind, "--json", found, "--html", page, looked.trace]
         from shb_view.command import explain  # takes its time, and a run without a place does without
         if explain(list(map(os.fspath, words)), ANALYSER, sys.stderr, **APART):
             print(lines.decode(errors="backslashreplace"), end="", file=sys.stderr)

@@ -25,13 +25,29 @@ class Places(places.Places):
         super().__init__(given)
         self.known_before = set()
 
-    def add_new(self, process, trace, origin, found, numbers):
-        """Takes the places of a process, and gives those that are new, or have a new variable. `numbers` has the events that the page's
-        trace has, whose locals are known."""
+    def add_new(self, process, trace, origin, found, numbers, is_behind=False):
+        """Takes the places of a process, and gives those that are new, or have a new variable; and all, each with its key and the names
+        of its variables in the trace and on the page. `numbers` has the events that the page's trace has, whose locals are known;
+        `is_behind` says that they were found behind known races."""
         in_run = [named(place, origin.tables, numbers) for place in found]
+        before = {key: set(seen.variables) - seen.behind for key, seen in self.seen.items()}
         keys = self.add((process.name, trace), origin, [place for place, _ in in_run])
+        for key, (place, _) in zip(keys, in_run):
+            behind = self.seen[key].behind
+            behind.update(place.variables.keys() - before.get(key, set())) if is_behind else behind.difference_update(place.variables)
         new = [New(key, place, self.new_variables(key, names)) for key, place, (_, names) in zip(keys, found, in_run)]
-        return [one for one in new if one.variables]
+        return [one for one in new if one.variables], [(key, place, names) for key, place, (_, names) in zip(keys, found, in_run)]
+
+    def known_in(self, named):
+        """Of places as `add_new` gives them all: the accesses at known places, each a location and a variable of the trace; and the known
+        races."""
+        accesses, races = set(), []
+        for key, place, names in named:
+            sides = tuple(map(self.names.side, key))
+            for raw in [raw for raw, name in names.items() if self.given.has(sides, name)]:
+                accesses |= {(place.first, raw), (place.second, raw)}
+                races.append((place.variables[raw].events, place.variables[raw].accesses))
+        return accesses, races
 
     def new_variables(self, key, names):
         """Of names in a trace and on the page those that are new on the page, and both of them."""

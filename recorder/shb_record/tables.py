@@ -21,7 +21,8 @@ def tables_of(look, status):
 def document(look, rows, entries, groups, status):
     """All places with what is known of them, as `result.document` has them."""
     stale, unknown = look.stale(), count(row for row in rows if not row.is_known)
-    summary = {"places": count(rows), "unknown": unknown, "known": count(rows) - unknown, "stale": len(stale),
+    summary = {"places": count(rows), "unknown": unknown, "behind": count(row for row in rows if row.state() == "behind"),
+               "known": count(rows) - unknown, "stale": len(stale),
                "status": status, "runs": len(look.runs)}
     return result.document("shb-record", summary, [entry(row, entries) for row in rows], stale=result.stale_of(stale), notes=list(look.meaning()), groups=groups)
 

@@ -41,6 +41,7 @@ def arguments(words, program):
                         help="a note on the trace, shown below the title; may be given again")
     parser.add_argument("--about", metavar="TEXT", action="append", default=[],
                         help="a fact on the trace, as that a library wasn't recorded; may be given again")
+    parser.add_argument("--behind", metavar="FILE", help="those of these places that were found behind known races")
     parser.add_argument("--turns", metavar="FILE", help="the list of turns that `shb-record --replay` runs the trace's interleaving again with")
     parser.add_argument("--command", metavar="WORDS", default="", help="the program of --turns and its arguments, as a shell takes them")
     parser.add_argument("--json", metavar="FILE", help="write the places to this file, for programs (docs/FORMATS.md has the form)")

@@ -2,9 +2,6 @@
 
 import collections
 
-from shb_common import known
-from shb_common.programs import naming
-from shb_common.variables import without_block
 from shb_common.words import counted
 from shb_view.groups import group_name
 from shb_view.issue import issue_lines
@@ -64,19 +61,8 @@ def text_lines(view, colours, is_whole):
 
 def chosen_sections(view):
     """The groups that have a place which is asked for, with their numbers."""
-    numbered = list(enumerate(view.sections, 1))
-    if view.only is None:
-        return numbered
-    origin, names = naming(view.stacks, set().union(*(section.group.locations() for section in view.sections)))
-    return [(number, section) for number, section in numbered if any(is_asked_for(view.only, origin, names, pair, section.group)
-                                                                     for pair in section.group.places())]
-
-
-def is_asked_for(only, origin, names, pair, group):
-    """Whether two lines with one of the group's variables are among these places."""
-    sides = [names.side(origin.location(location)) for location in pair]
-    sides = [side._replace(names=(*side.names, known.written(location))) for side, location in zip(sides, pair)]
-    return any([only.has(sides, name) for name in {*map(without_block, group.variables), *group.names}])
+    chosen = set(range(len(view.sections))) if view.only is None else view.groups_at(view.only)
+    return [(number + 1, section) for number, section in enumerate(view.sections) if number in chosen]
 
 
 def section_lines(view, number, section, colours):

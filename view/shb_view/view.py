@@ -12,6 +12,7 @@ from shb_common import known
 from shb_common.faults import Refused
 from shb_common.limits import MOST_TEXT
 from shb_common.report import BadReport, Counts, Report, in_order
+from shb_common.programs import naming
 from shb_common.result import text
 from shb_common.standard import faults_of
 from shb_common.stacks import Stacks
@@ -48,6 +49,7 @@ class Section(typing.NamedTuple):
     window: typing.Optional[Window]
     callers: dict  # by racing line: the stacks of its racing accesses, as `callers_of` gives them, each with how many have it
     seen: typing.List[typing.Tuple[bytes, bytes]]  # lines of races where the second reads what the first wrote
+    is_behind: bool = False  # found behind known races
 
 
 class View(typing.NamedTuple):
@@ -55,7 +57,8 @@ class View(typing.NamedTuple):
     how many there are, `sections` those that are shown. of a sample (`is_sample`) one race of each variable at each place
     is known. `of_scan` says that the races are one of each variable at each place of a run,
     which aren't counted, and `counts` those of the run. `notes` are what the caller said of the trace, `about` what it said of the
-    recorder; `only` are the places whose groups the text has, or None for all."""
+    recorder; `only` are the places whose groups the text has, or None for all, and
+    `behind` those that were found behind known races."""
 
     title: str
     counts: Counts
@@ -74,6 +77,7 @@ class View(typing.NamedTuple):
     kinds: Kinds
     gathered: Gathered
     only: typing.Optional[known.Known]
+    behind: typing.Optional[known.Known]
     turns: str
     command: str
 
@@ -85,6 +89,20 @@ class View(typing.NamedTuple):
                 name = text(without_block(self.kinds.name(name)))
                 found[name] = found.get(name, 0) + races
         return [{"name": name, **({} if self.of_scan or self.is_sample else {"races": races})} for name, races in sorted(found.items())]
+
+
+    def groups_at(self, places):
+        """The numbers, from 0, of the groups that are shown and have a place of a file of known places."""
+        origin, names = naming(self.stacks, set().union(*(section.group.locations() for section in self.sections)))
+        return {number for number, section in enumerate(self.sections)
+                if any(is_at(places, origin, names, pair, section.group) for pair in section.group.places())}
+
+
+def is_at(places, origin, names, pair, group):
+    """Whether two lines with one of the group's variables are among some places."""
+    sides = [names.side(origin.location(location)) for location in pair]
+    sides = [side._replace(names=(*side.names, known.written(location))) for side, location in zip(sides, pair)]
+    return any([places.has(sides, name) for name in {*map(without_block, group.variables), *group.names}])
 
 
 class Given(typing.NamedTuple):
@@ -129,9 +147,11 @@ def make_view(options, progress):
         pairs = sum(group.count() for group in groups)
         source = Source(options.source, os.fstat(file.fileno()).st_mtime, stacks.sources if options.recorded_source else {})
         notes, about = ([readable(os.fsencode(line)) for line in lines] for lines in (options.note, options.about))
-        return View(title, made.counts, made.races, made.listed, pairs, count, sections, made.given.verdict, made.is_sample, bool(options.scan),
-                    source, [*notes, *warnings(options.trace)], about, stacks, kinds, gathered, places_of(options.only) if options.only else None,
+        found = View(title, made.counts, made.races, made.listed, pairs, count, sections, made.given.verdict, made.is_sample, bool(options.scan),
+                    source, [*notes, *warnings(options.trace)], about, stacks, kinds, gathered, *(places_of(path) if path else None for path in (options.only, options.behind)),
                     readable(os.fsencode(options.turns)) if options.turns else "", readable(os.fsencode(options.command)))
+        behind = found.groups_at(found.behind) if options.behind else ()
+        return found._replace(sections=[section._replace(is_behind=number in behind) for number, section in enumerate(sections)])
 
 
 def analysed(options, file, gathered, progress, stack):

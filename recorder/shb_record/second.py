@@ -1,0 +1,95 @@
+"""A second look at a process with known races. What follows a racy read in its thread counts as ordered behind the write that it saw, so a
+known race may hide others. The scan runs once more over the run's trace, without the accesses that stand at known places; what it finds
+besides is real if the known races are harmless."""
+
+import array
+import bisect
+import contextlib
+import subprocess
+
+from shb_common.analyser import Place
+from shb_common.stops import APART
+from shb_record.scanning import scanning
+
+
+class Second:
+    """`accesses` are those at known places: pairs of a location and a variable, as the trace has them; `races` the known ones, each with its
+    two events and their accesses. `seen` gets those of these whose second access reads what the first wrote."""
+
+    def __init__(self, accesses, races):
+        self.accesses, self.seen = accesses, []
+        self.kept_before = array.array("Q")     # of each access that is left out: how many events before it aren't
+        self.watched = {word + name + b")": name for _, name in accesses for word in (b"r(", b"w(")}
+        self.reads = {second: (first, accesses) for (first, second), accesses in races if accesses[1].word == b"r"}
+        self.writes = {}    # by variable: its last one
+
+    def places(self, conversion, room):
+        """The places of the trace without these accesses, with the events' numbers in the whole trace."""
+        with scanning(room) as scan, subprocess.Popen(conversion.scan_words, stdout=subprocess.PIPE, stderr=subprocess.DEVNULL, **APART) as ran:
+            try:
+                with contextlib.suppress(BrokenPipeError), open(scan.descriptor, "wb", closefd=False) as out:  # the scan's status says how it ended
+                    self.write_rest(ran.stdout, out)
+                scan.begun()
+                return [place._replace(variables={name: found._replace(events=tuple(map(self.number, found.events)))
+                                                  for name, found in place.variables.items()}) for place in scan.places()]
+            finally:
+                ran.kill()
+
+    def write_rest(self, lines, out):
+        kept = 0
+        for number, line in enumerate(lines, 1):
+            _, operation, location = line.split(b"|", 2)
+            name = self.watched.get(operation)
+            if name is not None:
+                self.look(number, operation, name)
+                if (location[:-1], name) in self.accesses:
+                    self.kept_before.append(kept)
+                    continue
+            out.write(line)
+            kept += 1
+
+    def look(self, number, operation, name):
+        if operation.startswith(b"w"):
+            self.writes[name] = number
+        elif number in self.reads and self.reads[number][0] == self.writes.get(name):
+            self.seen.append(self.reads[number][1])
+
+    def number(self, kept):
+        """The number in the whole trace of an event that isn't left out."""
+        return kept + bisect.bisect_left(self.kept_before, kept)
+
+
+def besides(first, second):
+    """What a second look found that the first hadn't: places with the variables that have no race there in either order."""
+    known = {(frozenset((place.first, place.second)), name) for place in first for name in place.variables}
+    found = []
+    for place in second:
+        its = {name: race for name, race in place.variables.items() if (frozenset((place.first, place.second)), name) not in known}
+        if its:
+            found.append(Place(place.first, place.second, its, place.has_more))
+    return found
+
+
+def add_races(path, places):
+    """Adds the races of some places to a list report in a file."""
+    lines = path.read_bytes().split(b"\n")
+    at = next(number for number, line in enumerate(lines) if line.startswith(b"races "))
+    start = next((number for number, line in enumerate(lines) if line.startswith(b"race ")), len(lines) - 2)
+    races, count = lines[start:-2], int(lines[at + 1][len(b"places "):])
+    number = int(lines[at][len(b"races "):])
+    listed = {tuple(lines[k + 1:k + 3]): k for k in range(at + 2, start, 3)}
+    for place in places:
+        names = b"at " + place.first, b"and " + place.second
+        if names in listed:
+            k = listed[names]
+            head, _, many = lines[k].partition(b": ")
+            lines[k] = b"%b: %d" % (head, int(many) + len(place.variables))
+        else:
+            count += 1
+            lines[start:start] = [b"place %d: %d" % (count, len(place.variables)), *names]
+            start += 3
+        for race in place.variables.values():
+            number += 1
+            texts = [b"%b %b|%b(%b)|%b" % (word, *access) for word, access in zip((b"first", b"second"), race.accesses)]
+            races += [b"race %d: %d %d" % (number, *race.events), *texts]
+    path.write_bytes(b"\n".join([*lines[:at], b"races %d" % number, b"places %d" % count, *lines[at + 2:start], *races, b"end", b""]))
