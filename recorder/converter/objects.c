@@ -315,7 +315,6 @@ static void note_for_uses(const object *o, which w, u32 t, const char *operation
 }
 
 static void write_hold(u32 t, const hold *h, const char *operation, u64 caller, u32 stack) {
-    note_for_uses(&objects[h->object], h->lock, t, operation);
     if (for_page && is_behind_page()) return;
     char tail[LOCK_TAIL_BYTES];
     part name = name_of_lock(&objects[h->object], h->lock, t, tail);
@@ -336,6 +335,7 @@ static void take_hold(object *o, u32 t, which w, u64 caller) {
     held[t].list[held[t].count++] = (hold){own_place(t, caller), o - objects, stack_at(t, caller), w, 0};
     held[t].unwritten++;
     held[t].sum += sum_of_lock(o, w);
+    note_for_uses(o, w, t, "acq");     /* also where nothing is written under it */
 }
 
 /* Gives whether there was one; *written: whether its acquire is in the trace. */
@@ -348,6 +348,7 @@ static int end_hold(object *o, u32 t, which w, int *written) {
         held[t].count--;
         memmove(&held[t].list[k], &held[t].list[k + 1], (held[t].count - k) * sizeof h);
         held[t].sum -= sum_of_lock(o, w);
+        note_for_uses(o, w, t, "rel");
         return 1;
     }
     return 0;
