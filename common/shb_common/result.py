@@ -34,7 +34,7 @@ def entry(row, found, reads=((), ()), **more):
                 for name, location, in_trace, read in zip(row.names, row.key, row.texts, reads)]
     variables = [{"name": text(name), "state": "known" if is_known else "unknown", **races.get(text(name), {})} for name, is_known in row.variables]
     return {"state": row.state(), "places": row.places, "accesses": accesses, "variables": variables, "has_more_variables": row.has_more,
-            **{name: found[name] for name in ("races", "headline", "facts") if name in found}, **more}
+            **{name: found[name] for name in ("races", "headline", "remedy", "facts") if name in found}, **more}
 
 
 def entries_of(trace, places):

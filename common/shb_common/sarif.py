@@ -3,6 +3,7 @@
 import collections
 import hashlib
 import json
+import os
 import posixpath
 import re
 import typing
@@ -12,6 +13,7 @@ from shb_common import known, version
 from shb_common.locations import line_of, parts_of
 from shb_common.places import Row
 from shb_common.printable import printable
+from shb_common.sources import read_lines
 from shb_common.stacks import bare
 
 SCHEMA = "https://docs.oasis-open.org/sarif/sarif/v2.1.0/errata01/os/schemas/sarif-schema-2.1.0.json"
@@ -23,8 +25,7 @@ RULE = {
                                 "schedulable happens-before doesn't order them: after a correct reordering of earlier events both can "
                                 "execute next."},
     "help": {"text": "Make both accesses under one lock, or order them: by a join, by a release and an acquire, or by making the "
-                     "variable atomic. The full report of the trace that the message names has a schedule that shows the race; "
-                     "shb-view explains it."},
+                     "variable atomic. The page of the run explains the race; of a trace shb-view makes one."},
     "defaultConfiguration": {"level": "error"},
 }
 BASE = "SRCROOT"        # the folder that relative file names in the traces start from
@@ -67,6 +68,22 @@ class NoSources:
 
     def find(self, path, compiled=b""):
         return None
+
+
+class Here:
+    """The files of the repository that the working folder is in; without one, those below that folder."""
+
+    def __init__(self, folder):
+        folders = [folder, *folder.parents]
+        self.top = os.fsencode(next((one for one in folders if (one / ".git").exists()), folder)) + b"/"
+
+    def find(self, path, compiled=b""):
+        """The path from the top of a file that was compiled from this one; None of one elsewhere."""
+        return compiled[len(self.top):] if compiled.startswith(self.top) else None
+
+    def line(self, source, number):
+        lines, _, _ = read_lines(self.top + source)
+        return lines[number - 1].strip() if number <= len(lines) else None
 
 
 class Place(typing.NamedTuple):
@@ -157,8 +174,9 @@ def thread_flow(access, sources):
 
 def message_of(alert, first, second):
     """The variables, the two locations, the locks, and where the place was seen."""
-    names = [f"`{printable(name)}`" for name in alert.variables()[:MOST_NAMED]]
-    more = len(alert.variables()) - len(names)
+    variables = list(map(printable, variables_of(alert)))
+    names = [f"`{name}`" for name in variables[:MOST_NAMED]]
+    more = len(variables) - len(names)
     on = " and ".join([", ".join(names), *([f"{more} more"] if more > 0 else [])]) if names else "a variable"
     text = f"Data race on {plain(on)} between {plain(named(first))} and [{plain(named(second))}](1)"
     return ". ".join([text, *(plain(part.rstrip(".")) for part in (alert.facts, alert.seen) if part)]) + "."
@@ -196,7 +214,7 @@ def log(alerts, sources, notifications, is_whole, status):
     """A log as bytes. `notifications` are pairs of a level and a sentence; `is_whole` says that the command did all that it should."""
     seen, installed = collections.Counter(), version.installed()
     run = {
-        "tool": {"driver": {"name": "shb", **({"version": installed} if installed else {}), "rules": [RULE]}},
+        "tool": {"driver": {"name": "shb", "version": installed or "checkout", "rules": [RULE]}},
         "originalUriBaseIds": {name: {"description": {"text": text}} for name, text in BASES.items()},
         "invocations": [{"executionSuccessful": is_whole, "exitCode": status, "toolExecutionNotifications":
                          [{"level": level, "message": {"text": text}} for level, text in notifications]}],

@@ -32,7 +32,7 @@ thread T1\t2
 block 7 2
 free 1 2
 local 1\tstack.main-0x20\tq of main
-atomic x\tT1\ta.c:5\tstore release
+use 2\tx\tT1\ta.c:5\tstore release
 source a.c\t/x/a.c
 line a.c:5\t0123456789abcdef
 """
@@ -83,7 +83,7 @@ def read_stacks(text):
             for event in range(-1, 6):
                 found.of_event(event), found.free_of(event), found.local_of(b"stack.main-0x20", event)
             found.of_thread(b"T1"), found.of_variable(b"a.c:1#7+8"), found.of_variable(b"#" + b"9" * 30), found.functions
-            for use in found.stores:
+            for use in found.uses:
                 use.gives(), use.takes()
         except BadStacks as fault:
             assert "\n" not in str(fault)
@@ -207,7 +207,7 @@ class Readers(side_by_side.Case):
     def test_words_name_the_line(self):
         for number, line in enumerate(LINES.splitlines(True), 2):
             path = self.folder / "a.stacks"
-            path.write_bytes(STACKS.replace(line, line[:-1] + b"\tx y z\n" if line.startswith((b"stack", b"block", b"free", b"atomic")) else line.replace(b"\t", b" ")))
+            path.write_bytes(STACKS.replace(line, line[:-1] + b"\tx y z\n" if line.startswith((b"stack", b"block", b"free", b"use")) else line.replace(b"\t", b" ")))
             for read in (lambda: Stacks(path, 0, 3), lambda: Tables(path)):
                 with self.assertRaises(BadStacks) as refused:
                     read()

@@ -1,6 +1,7 @@
 """The words of the command, its runs and its statuses."""
 
 import argparse
+import contextlib
 import ctypes
 import itertools
 import os
@@ -26,7 +27,7 @@ from shb_record.running import REPLAYED, Run
 from shb_record.tables import tables_of
 
 MOST_PASSED = 8  # known races that are named
-RACES, CUT, FAILED, CANNOT_RUN, NOT_THERE = 66, 124, 125, 126, 127
+RACES, STALE, CUT, FAILED, CANNOT_RUN, NOT_THERE = 66, 67, 124, 125, 126, 127
 BECOME_PARENT_OF_ORPHANS = 36  # of prctl
 USAGE = "shb-record [OPTION].. [--] PROGRAM [ARGUMENT].."
 ABOUT = f"""\
@@ -45,7 +46,8 @@ SIGINT and SIGTERM end the program, are passed on to it unless the terminal did 
 was recorded is shown. Another one ends that at once, and records that weren't shown are kept.
 
 Exit status: 125 if a check failed, whatever else was found; 66 if there is a race of a variable that isn't known at its place,
-whatever the program's own status was; 125 if nothing can be said or something failed, with the reason; 124 if not the whole run was recorded and
+whatever the program's own status was; 67 with --fail-on-stale if there is none, and a line of known places matched nothing;
+125 if nothing can be said or something failed, with the reason; 124 if not the whole run was recorded and
 there is no such race (where the program was killed, and its own status says so, that one); 126 or 127 if
 the program can't be run or isn't there; else the program's own, 128 + N if signal N ended it. What is said
 at the end has the program's own status and the path of the page."""
@@ -71,7 +73,7 @@ def parser_of_words():
                         help="places to pass over, as unknown.places has them: on a line two locations, FILE:LINE, or functions, "
                         "FILE:FUNCTION(), in either order, and the variable, with tabs between; * stands for any text; a line that begins with "
                         "# is a comment. A line with two fields is of every variable. Lines that match nothing are reported")
-    parser.add_argument("--fail-on-stale", action="store_true", help="such lines end with status 66 too")
+    parser.add_argument("--fail-on-stale", action="store_true", help="where no race is unknown, such lines end with status 67. A race that is in few runs needs --runs")
     parser.add_argument("--source", metavar="DIR", action="append", default=[],
                         help="look for source files below this folder too; may be given again. Those of the debug information are found without it")
     parser.add_argument("--strip", metavar="DIR", help="name files below this folder by their paths from it (shb-std --help)")
@@ -80,6 +82,7 @@ def parser_of_words():
     parser.add_argument("--wait", metavar="N", type=number(0), default=10,
                         help="wait up to N seconds for processes that outlive the program (%(default)s), and for those that SIGINT or SIGTERM "
                         "is passed on to, before they are killed")
+    parser.add_argument("--log", metavar="FILE", help="write to this file what else goes to standard error, which then is the program's alone")
     parser.add_argument("--keep", action="store_true", help="keep the records (16 bytes an access)")
     parser.add_argument("words", metavar="PROGRAM", nargs=argparse.REMAINDER, help="the program, and the words that it is given")
     return parser
@@ -152,22 +155,23 @@ def record(options):
         for name, text in tables_of(look, status).items():
             results.tables[name].write_bytes(text)
         results.close()
-    conclude(look, own)
+    conclude(look, own, status)
     return status
 
 
 def status_of(look, own):
     if look.is_contradicted:
         return FAILED
-    unknown = look.places.unknown()
-    if unknown or look.options.fail_on_stale and look.stale():
+    if look.places.unknown():
         return RACES
+    if look.options.fail_on_stale and look.stale():
+        return STALE
     if look.has_failed:
         return FAILED
     return CUT if look.is_cut or look.is_killed and not own else own
 
 
-def conclude(look, own):
+def conclude(look, own, status):
     """Says what was found, and what that means."""
     rows = look.places.rows()
     unknown = count(row for row in rows if not row.is_known)
@@ -182,7 +186,7 @@ def conclude(look, own):
         + ("; not the whole of the run was seen" if look.is_cut or look.is_killed else "")
         + ("; not all could be looked at" if look.has_failed else "")
         + f"; the program's own status: {own}; files in {look.results.folder}")
-    for line in look.meaning():
+    for line in dict.fromkeys([*look.notes, *look.meaning()]):
         say(line)
     if len(look.runs) > 1:
         say(f"{counted(len(look.runs), 'run')} gave {counted(look.interleavings(), 'different interleaving')}")
@@ -192,6 +196,17 @@ def conclude(look, own):
     if look.pages:
         more = f" and {len(look.pages) - 1:,} more" if len(look.pages) > 1 else ""
         say(f"{'pages' if more else 'page'}: {look.pages[0]}{more}")
+    if status == STALE:
+        say(f"status {STALE}: {counted(len(look.stale()), 'line')} of {look.options.known_path} matched no race of "
+            f"{'this run' if len(look.runs) == 1 else 'these runs'}; --runs N with a greater N may find one")
+
+
+def logged(path):
+    """What redirects what this command says to a file, if one is named."""
+    found = contextlib.ExitStack()
+    if path:
+        found.enter_context(contextlib.redirect_stderr(found.enter_context(open(path, "w", encoding="utf-8", errors="backslashreplace"))))
+    return found
 
 
 def main(words):
@@ -202,7 +217,8 @@ def main(words):
             say(f"{options.program}: " + ("can't be run" if there else "not found"))
             return CANNOT_RUN if there else NOT_THERE
         check_parts()
-        return record(options)
+        with logged(options.log):
+            return record(options)
     except (Refused, OSError) as fault:
         say(words_of(fault))
     except KeyboardInterrupt:

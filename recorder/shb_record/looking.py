@@ -41,6 +41,7 @@ class Look:
         self.places, self.pages, self.found = Places(options.known), [], {}
         self.runs = []  # of each run: the order of each process
         self.has_replayed, self.again = False, None  # did a process follow the list? the list of the first with an unknown place
+        self.sources, self.notes = {}, {}  # by process and trace: the paths of source files; what is to know of pages
         self.modules, self.passed_over = Modules(), {}  # known races whose second access reads what the first wrote
         self.is_cut = self.is_killed = self.has_failed = self.is_contradicted = self.has_threads = False
 
@@ -181,13 +182,15 @@ class Look:
         words = [f"--title={process.command} ({process.name}, {self.started})", *(f"--note={note}" for note in notes),
                  "--recorded-source", "--stacks", looked.stacks, "--scan", looked.scan, "--uses", looked.uses,
                  *(f"--about={line}" for line in self.meaning()), *(f"--source={folder}" for folder in self.options.source),
-                 *again, "--text", "--only", only, "--behind", behind, "--json", found, "--html", page, looked.trace]
+                 *again, "--text", "--no-notes", "--only", only, "--behind", behind, "--json", found, "--html", page, looked.trace]
         from shb_view.command import explain  # takes its time, and a run without a place does without
         if explain(list(map(os.fspath, words)), ANALYSER, sys.stderr, **APART):
             print(lines.decode(errors="backslashreplace"), end="", file=sys.stderr)
             return
         self.pages.append(page)
-        self.found[process.name, looked.trace] = json.loads(found.read_text(encoding="ascii"))
+        self.found[process.name, looked.trace] = document = json.loads(found.read_text(encoding="ascii"))
+        self.sources[process.name, looked.trace] = tables_in(looked.stacks).sources
+        self.notes.update(dict.fromkeys(note for note in document["notes"] if note not in notes))
 
 
 def show_apart(unknown):

@@ -14,9 +14,9 @@ from shb_record.parts import now, say
 
 LIST = "made-by-shb-record.txt"
 LIST_BEGIN = "# What shb-record made in this folder"
-TABLES = "unknown.places", "places.tsv", "places.json", "places.sarif"
+TABLES = "unknown.places", "places.tsv", "places.json", "places.sarif", "index.html"
 OURS = re.compile(r"run\d+\.\d[\d-]*\.(rec|turns|std|scan|uses|stacks|report|html|windows(/(window-\d+\.(std|report|html)|windows\.tsv))?)"
-                  r"|work-\w+|places\.(tsv|json|sarif)|unknown\.places")
+                  r"|work-\w+|places\.(tsv|json|sarif)|unknown\.places|index\.html")
 
 
 class Results:

@@ -1,9 +1,16 @@
 """The tables of the results: places as tab-separated values, for programs, for code review, and as a file of known places."""
 
+import html
 import os
+import pathlib
+import re
+import shlex
+import urllib.parse
 
 from shb_common import result, sarif
 from shb_common.places import unknown_places
+from shb_common.stacks import Frame
+from shb_common.words import counted
 from shb_record.places import count, table
 
 
@@ -15,7 +22,8 @@ def tables_of(look, status):
         entries.update(result.entries_of((process, trace), places))
         groups += [{**group, "process": process, "trace": trace.name} for group in found["groups"]]
     return {"unknown.places": unknown_places(rows), "places.tsv": b"".join(table(rows)),
-            "places.json": document(look, rows, entries, groups, status), "places.sarif": log(look, rows, entries, status)}
+            "places.json": document(look, rows, entries, groups, status), "places.sarif": log(look, rows, entries, status),
+            "index.html": index(look, rows)}
 
 
 def document(look, rows, entries, groups, status):
@@ -42,7 +50,31 @@ def log(look, rows, entries, status):
     alerts = []
     for row in rows:
         process, trace = row.example
-        facts = " ".join(result.entry_of(entries, row).get("facts", ()))
-        alerts.append(sarif.Alert(row, facts, f"Seen in {process}, {trace.name}", os.fsencode(trace.relative_to(look.results.folder)), (), {}))
+        found = result.entry_of(entries, row)
+        accesses = tuple(access_of(one, look.sources[row.example]) for one in entry(row, entries)["accesses"] if one.get("stacks")) if found else ()
+        alerts.append(sarif.Alert(row, without_numbers(found), "", os.fsencode(trace.relative_to(look.results.folder)), accesses, {"process": process}))
     notes = [("note", line) for line in look.meaning()]
-    return sarif.log(alerts, sarif.NoSources(), notes, not look.has_failed and not look.is_cut, status)
+    return sarif.log(alerts, sarif.Here(pathlib.Path.cwd()), notes, not look.has_failed and not look.is_cut, status)
+
+
+def without_numbers(found):
+    """What is said of a place in each run alike: its headline and its remedy, without the numbers of blocks."""
+    return re.sub(r"#\d+", "", ". ".join(part for part in (found.get("headline", ""), f"Remedy: {found['remedy']}" if found.get("remedy") else "") if part))
+
+
+def access_of(one, sources):
+    """An access of an entry, with one of its stacks."""
+    frames = [Frame(*(frame[name].encode() for name in ("function", "location")), frame.get("in_system", False)) for frame in one["stacks"][0]["frames"]]
+    return sarif.Access(f"{one['thread']}|{one['operation']}|".encode(), frames, sources)
+
+
+def index(look, rows):
+    """A page with a name that stays: each process with its page and its groups."""
+    text = ["<!doctype html>", '<html lang="en"><meta charset="utf-8"><title>Data races</title>',
+            f"<h1>{html.escape(shlex.join([look.options.program, *look.options.arguments]))}</h1>",
+            f"<p>{counted(count(row for row in rows if not row.is_known), 'unknown place')} with races</p>"]
+    for (process, trace), found in look.found.items():
+        text.append(f'<h2><a href="{urllib.parse.quote(trace.with_suffix(".html").name)}">{html.escape(process)}</a></h2><ul>')
+        heads = dict.fromkeys(f"{place['variables'][0]['name']}: {place['headline']}" for place in found["places"] if place["variables"])
+        text += [f"<li>{html.escape(head)}</li>" for head in heads] + ["</ul>"]
+    return "\n".join([*text, "</html>", ""]).encode(errors="backslashreplace")

@@ -41,6 +41,7 @@ def arguments(words, program):
                         help="a note on the trace, shown below the title; may be given again")
     parser.add_argument("--about", metavar="TEXT", action="append", default=[],
                         help="a fact on the trace, as that a library wasn't recorded; may be given again")
+    parser.add_argument("--no-notes", action="store_true", help="leave out of the text what is to know of the trace; --json has it as `notes`")
     parser.add_argument("--behind", metavar="FILE", help="those of these places that were found behind known races")
     parser.add_argument("--turns", metavar="FILE", help="the list of turns that `shb-record --replay` runs the trace's interleaving again with")
     parser.add_argument("--command", metavar="WORDS", default="", help="the program of --turns and its arguments, as a shell takes them")
@@ -77,7 +78,7 @@ def show(options, progress, out):
             file.write(result.document(view))
     progress.clear()
     if wants_text:
-        write_texts((f"{line}\n" for line in text.text_lines(view, text.Colours(is_coloured(out)), options.all)), out)
+        write_texts((f"{line}\n" for line in text.text_lines(view, text.Colours(is_coloured(out)), options.all, not options.no_notes)), out)
     return 1 if view.verdict.is_good is False else 0
 
 

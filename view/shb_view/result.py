@@ -34,7 +34,8 @@ def entry(view, section, pair, origin, names):
         found["stacks"] = [stack_entry(frames, count) for (frames, _), count in section.callers.get(location, ())[:MOST_STACKS] if frames]
         accesses.append(found)
     return {"places": len(pair.orders), "accesses": accesses, "variables": view.variables(pair), **({} if view.of_scan else {"races": pair.races}),
-            "headline": flat(section.fact.tag), "facts": [flat(parts) for parts in told_of(section)]}
+            "headline": flat(section.fact.tag), "remedy": flat(section.fact.remedy),
+            "facts": [flat(parts) for parts in told_of(section)]}
 
 
 def group_entry(view, section):
@@ -55,5 +56,6 @@ def site_entry(site):
 
 
 def stack_entry(frames, count):
-    return {"accesses": count, "frames": [{"function": result.text(frame.function), "location": result.text(frame.location)}
+    return {"accesses": count, "frames": [{"function": result.text(frame.function), "location": result.text(frame.location),
+                                            **({"in_system": True} if frame.in_system else {})}
                                           for frame in frames[:MOST_FRAMES]]}

@@ -8,7 +8,7 @@ from shb_common.words import counted
 from shb_view.names import readable
 from shb_view.words import Code, listed, lock_parts, place
 
-MOST_THREADS = 3  # that are named of those with one stack
+MOST_NAMED = 3  # threads or blocks with one stack
 MAKES_FIBER, HANDLER = b"__tsan_create_fiber", b"signal handler"
 WITHOUT_LINE = {MAKES_FIBER: " (which made the fiber)", HANDLER: ""}
 
@@ -27,15 +27,12 @@ def stacks_of(path, events):
 
 def origins(view, section):
     """Where the threads of a group's racing lines were created, where the blocks of its variables were allocated, and where the locks
-    that are held at its shown race were taken: what it is, as parts, with a stack. Threads that were created by the same calls are
+    that are held at its shown race were taken: what it is, as parts, with a stack. Threads, and blocks, whose stacks are told alike are
     told together, and neighbours in one block once."""
-    created, blocks = {}, {}
-    for thread in sorted({thread for site in section.sites if site.partners for thread in site.threads}):
-        created.setdefault(view.stacks.of_thread(thread), []).append(thread)
-    found = [(created_parts(threads), frames) for frames, threads in created.items()]
-    for name in map(view.kinds.in_trace, section.group.names):
-        blocks.setdefault(OFFSET.sub(b"", name), view.stacks.of_variable(name))
-    found += [(["block ", Code(name), " was allocated"], frames) for name, frames in blocks.items()]
+    threads = sorted({thread for site in section.sites if site.partners for thread in site.threads})
+    found = told_together("thread", "created", [(thread, view.stacks.of_thread(thread)) for thread in threads])
+    blocks = {OFFSET.sub(b"", name): view.stacks.of_variable(name) for name in map(view.kinds.in_trace, section.group.names)}
+    found += told_together("block", "allocated", blocks.items())
     window = section.window
     for shown in [window.events[access] for access in window.accesses] if window else []:
         found += [(["lock ", *lock_parts(lock), ", held at ", place(shown.event.location), ", was taken"], view.stacks.of_event(acquire))
@@ -43,17 +40,24 @@ def origins(view, section):
     return [(list(parts), frames) for parts, frames in dict.fromkeys((tuple(parts), frames) for parts, frames in found if frames)]
 
 
-def created_parts(threads):
-    if len(threads) == 1:
-        return ["thread ", Code(threads[0]), " was created"]
-    return ["threads ", *listed(([Code(thread)] for thread in threads), MOST_THREADS), " were created"]
+def told_together(kind, verb, its):
+    """What is said of named things with stacks, where these are told alike once."""
+    found = {}
+    for name, frames in its:
+        key = tuple(map(tuple, caller_lines(frames, len(frames))))
+        found.setdefault(key, ([], frames))[0].append([Code(name)])
+    return [([f"{kind}{'s' * (len(names) > 1)} ", *listed(names, MOST_NAMED), f" {'was' if len(names) == 1 else 'were'} {verb}"], frames)
+            for names, frames in found.values()]
 
 
 def caller_lines(frames, most):
     """What is said of a stack, the innermost frame first, each line as parts. Of frames in the system's headers and libraries the
     innermost are left out, since the access is named by the line that called them, and the outermost, which started the thread;
-    several others are one line."""
-    own = [number for number, frame in enumerate(frames) if not frame.in_system] or [0]
+    several others are one line. Where all are of the system the innermost stands for them."""
+    own = [number for number, frame in enumerate(frames) if not frame.in_system]
+    if not own:
+        more = [[f"({counted(len(frames) - 1, 'more function')} of the system's headers or libraries)"]] * (len(frames) > 1)
+        return [*map(frame_parts, frames[:1]), *more]
     found, hidden = [], []
     for frame in frames[own[0]:own[-1] + 1]:
         if frame.in_system:

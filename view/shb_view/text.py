@@ -35,15 +35,14 @@ class Colours:
 flat = flat_in(NAME)
 
 
-def text_lines(view, colours, is_whole):
-    """The lines of the whole text. `is_whole` adds the report for an issue and the events before the accesses."""
+def text_lines(view, colours, is_whole, has_notes=True):
+    """The lines of the whole text, with its notes behind the groups. `is_whole` adds the report for an issue and the events before the
+    accesses."""
     if view.verdict.is_good is False:
         yield colours.red(f"`shb check` finds the report bad: {view.verdict.words}. What follows rests on this report alone.")
     races, size = summary(view)
     yield f"{colours.bold(f'{view.title}: {races}')} ({size})"
     yield from map(colours.red, view.notes)
-    yield from notes_of(view)
-    yield from view.about
     chosen = chosen_sections(view)
     if len(chosen) < len(view.sections):
         yield f"Of {counted(len(view.sections), 'group')} {len(chosen):,} are shown, those with a place that is asked for."
@@ -57,6 +56,8 @@ def text_lines(view, colours, is_whole):
     if view.groups > len(view.sections):
         yield ""
         yield f"and {counted(view.groups - len(view.sections), 'more group')}"
+    notes = [*notes_of(view), *view.about] if has_notes else []
+    yield from ["", *notes] if notes and view.sections else notes
 
 
 def chosen_sections(view):

@@ -125,7 +125,7 @@ def notes_of(view):
     if not view.races:
         yield "Any two conflicting accesses are ordered in this trace. A run with another interleaving may have races."
     if view.sections and view.stacks.numbers:
-        yield "Counts are those of the trace. The recorder omits repeats: a loop may count as two accesses."
+        yield f"Counts are those of the {'whole run' if view.of_scan else 'trace'}. The recorder omits repeats: a loop may count as two accesses."
     if view.listed < view.races:
         yield "The report doesn't list all races of the trace; the counts are the report's."
     if view.is_sample:

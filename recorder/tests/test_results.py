@@ -1,0 +1,116 @@
+"""What stands around the races: names that stay, messages that stay, and where all is written."""
+
+import json
+import os
+import re
+import shutil
+
+import recorder
+
+RACE = "#include <pthread.h>\n#include <unistd.h>\nstatic long hits;\nstatic void *work(void *u) {\n    hits++;\n    return u;\n}\nint main(void) {\n    pthread_t a, b;\n" \
+       "    pthread_create(&a, 0, work, 0);\n    pthread_create(&b, 0, work, 0);\n    pthread_join(a, 0);\n    return pthread_join(b, 0);\n}\n"
+# As a daemon reads its configuration and forks: the block was allocated before.
+DAEMON = """#include <pthread.h>
+#include <stdlib.h>
+#include <sys/wait.h>
+#include <unistd.h>
+struct config { long a, level; } *config;
+static void *reader(void *u) { return config->level == 9 ? u : 0; }
+int main(void) {
+    config = calloc(1, sizeof *config);
+    if (fork() == 0) {
+        pthread_t t;
+        pthread_create(&t, 0, reader, 0);
+        config->level = 3;
+        pthread_join(t, 0);
+        _exit(0);
+    }
+    wait(0);
+    return 0;
+}
+"""
+# Own allocators map as much.
+MAPPED = """#include <pthread.h>
+#include <sys/mman.h>
+struct page { char flags[4096]; } *page;
+static void *work(void *u) { page[5].flags[7]++; return u; }
+int main(void) {
+    pthread_t a, b;
+    page = mmap(0, 5ul << 30, PROT_READ | PROT_WRITE, MAP_PRIVATE | MAP_ANONYMOUS | MAP_NORESERVE, -1, 0);
+    pthread_create(&a, 0, work, 0);
+    pthread_create(&b, 0, work, 0);
+    pthread_join(a, 0);
+    return pthread_join(b, 0);
+}
+"""
+
+
+class Results(recorder.Case):
+    def build(self, text, name="app", folder="."):
+        source = self.folder / folder / f"{name}.c"
+        source.parent.mkdir(parents=True, exist_ok=True)
+        source.write_text(text)
+        recorder.must(recorder.call("gcc", "-w", "-g", "-O1", "-fsanitize=thread", "-pthread", source, "-o", self.folder / name))
+        return self.folder / name
+
+    def record(self, *words, folder=None):
+        how = {**os.environ, "SHB": str(recorder.SHB)}
+        ran = recorder.call(recorder.BUILT / "shb-record", *words, env=how, cwd=folder or self.folder)
+        return ran.returncode, ran.stderr.decode()
+
+    def test_memory_without_a_name_is_known_in_the_next_run(self):
+        for name, text in (("daemon", DAEMON), ("mapped", MAPPED)):
+            with self.subTest(name):
+                program = self.build(text, name)
+                self.assertEqual(self.record("-o", "first", program)[0], 66)
+                known = self.folder / f"{name}.known"
+                shutil.copy(self.folder / "first" / "unknown.places", known)
+                status, said = self.record("-o", "second", "--known", known, program)
+                self.assertEqual(status, 0, said)
+                self.assertNotIn("no race matched", said)
+
+    def test_a_log(self):
+        program = self.build(RACE.replace("return pthread_join(b, 0);", 'write(2, "own", 3); return pthread_join(b, 0);'))
+        log = self.folder / "log"
+        self.assertEqual(self.record("--log", log, program), (66, "own"))
+        self.assertIn("\n1. hits: app.c:5 writes without a lock (1 place)\n", log.read_text())
+        self.assertIn("shb-record: 1 place with races; ", log.read_text())
+
+    def test_notes_are_said_once_behind_the_races(self):
+        said = self.record("--runs", "2", self.build(RACE))[1]
+        for note in ("Counts are those of the whole run.", "Call stacks are those of one race of each variable at each place."):
+            self.assertEqual(said.count(note), 1)
+            self.assertLess(said.index("1. hits: "), said.index(note))
+
+    def test_an_index_has_a_name_that_stays(self):
+        self.record("-o", "out", self.build(RACE))
+        text, [page] = (self.folder / "out" / "index.html").read_text(), (self.folder / "out").glob("run*.html")
+        self.assertIn(f'<a href="{page.name}">run 1, process ', text)
+        self.assertIn("<li>hits: app.c:5 writes without a lock</li>", text)
+
+    def test_a_stale_line_has_its_own_status_and_last_line(self):
+        program, known = self.build(RACE), self.folder / "known"
+        for text, words, wanted in (("a.c:1\ta.c:1\t*\n*\t*\thits\n", [], 0), ("a.c:1\ta.c:1\t*\n*\t*\thits\n", ["--fail-on-stale"], 67),
+                                    ("a.c:1\ta.c:1\t*\n", ["--fail-on-stale"], 66), ("*\t*\thits\n", ["--fail-on-stale"], 0)):
+            known.write_text(text)
+            status, said = self.record("--known", known, *words, program)
+            self.assertEqual(status, wanted, said)
+            self.assertEqual(said.splitlines()[-1] == f"shb-record: status 67: 1 line of {known} matched no race of this run; --runs N with a greater N may "
+                             "find one", wanted == 67, said)
+
+    def test_code_review_has_paths_calls_and_messages_that_stay(self):
+        program = self.build(RACE, folder="source/lib")
+        (self.folder / ".git").mkdir()
+        texts = []
+        for name, folder in (("one", self.folder), ("two", self.folder / "source")):
+            self.record("-o", self.folder / name, program, folder=folder)
+            [run] = json.loads((self.folder / name / "places.sarif").read_text())["runs"]
+            [result] = run["results"]
+            self.assertEqual(result["locations"][0]["physicalLocation"]["artifactLocation"], {"uri": "source/lib/app.c", "uriBaseId": "SRCROOT"})
+            self.assertEqual(result["message"]["text"], "Data race on `hits` between app.c:5 and [app.c:5](1). app.c:5 writes without a "
+                             "lock. Remedy: hold one lock at app.c:5, or order them by a join, or by a release and an acquire.")
+            flows = result["codeFlows"][0]["threadFlows"]
+            self.assertEqual([step["location"]["physicalLocation"]["region"]["startLine"] for flow in flows for step in flow["locations"]], [5, 5])
+            self.assertTrue(run["tool"]["driver"]["version"])
+            texts.append(re.sub(r"process \d+", "", json.dumps([result["message"], result["partialFingerprints"]])))
+        self.assertEqual(*texts)
