@@ -160,6 +160,8 @@ class Group:
     def handed(self, first, second):
         """All that was handed on between two accesses, as (name, line, line, kind, kind, order, order)."""
         uses, found = self.reader.uses, set()
+        if first.is_free:
+            return found
         for k, store in enumerate(uses):
             if store.kind in ("load", "fence") or store.thread != first.thread or store.event <= first.number:
                 continue

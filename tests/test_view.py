@@ -114,9 +114,8 @@ places.std: 6 races at 3 places, in 1 group (4 events, 4 threads, 0 locks, 1 var
 
 
 def noted(text, note):
-    """A text with a note below its first line."""
-    first, rest = text.split("\n", 1)
-    return f"{first}\n{note}\n{rest}"
+    """A text with a note behind its groups."""
+    return f"{text}\n{note}\n"
 
 
 class Text(program.Case):
@@ -496,7 +495,8 @@ class Groups(program.Case):
                                    "Call stacks are those of one race of each variable at each place.\n")):
             events = [f"{thread} w {variable} {line}" for thread, line in (("A", 1), ("B", 2)) for _ in range(many) for variable in "xy"]
             out = run_here([self.file(trace_of(*events))])[1]
-            self.assertIn(f"\n{note}\n1. x and 1 more: f.c:1 and f.c:2 write without a lock ({2 * many * many:,} races, 1 place)\n", out)
+            self.assertIn(f"\n\n1. x and 1 more: f.c:1 and f.c:2 write without a lock ({2 * many * many:,} races, 1 place)\n", out)
+            self.assertTrue(out.endswith(f"races)\n\n{note}" if note else "races)\n"), out)
             found = self.folder / "found.json"
             self.assertEqual(run_here(["--json", found, self.file(trace_of(*events))])[0], 0)
             [place] = json.loads(found.read_text())["places"]
@@ -525,7 +525,7 @@ class Groups(program.Case):
             report.write(program_said)
         said = run_here([EXAMPLES / "places.std", self.folder / "t.report"])[1].splitlines()
         self.assertEqual(said[0], "places.std: 3 of 6 races at 3 places, in 1 group (4 events, 4 threads, 0 locks, 1 variable)")
-        self.assertEqual(said[2:5], ["The report doesn't list all races of the trace; the counts are the report's.", "",
+        self.assertEqual([*said[-2:], said[3]], ["", "The report doesn't list all races of the trace; the counts are the report's.",
                                      "1. total: Counter.java:12 writes, Report.java:30 reads without a lock (3 races, 3 places)"])
 
     def test_two_hundred_groups_are_shown(self):

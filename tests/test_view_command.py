@@ -76,7 +76,7 @@ exec REAL "$@"
         status, out, err = run_here(["--all", "--shb", self.fake(script), trace])
         self.assertEqual((status, err), (0, ""))
         self.assertEqual(log.read_text().splitlines(), ["races --list", "places --list"])
-        self.assertEqual(out.splitlines()[1], "No schedules were made, since they would take over 100 MB.")
+        self.assertEqual(out.splitlines()[-1], "No schedules were made, since they would take over 100 MB.")
         self.assertIn("No schedule of this race is at hand: events are shown in the order of the trace.", out)
         self.assertNotIn("come next", out)
 
@@ -265,7 +265,7 @@ class Files(Fake):
         writer.start()
         status, out, _ = run_here(["--check", TRACE, pipe])
         writer.join()
-        self.assertEqual((status, out.splitlines()[1]), (0, "shb check: ok 1"))
+        self.assertEqual((status, out.splitlines()[-1]), (0, "shb check: ok 1"))
 
     def test_what_has_no_end_is_no_report(self):
         said = self.said([TRACE, "/dev/zero"], 1)

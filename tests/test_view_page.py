@@ -87,7 +87,7 @@ class Pages(program.Case):
         self.assertEqual([text for _, text in page.all("summary")], ["1 items main.c:11 reads without lock main.c:11 1 race",
                                                                      "2 closed main.c:12 writes, queue.c:29 reads without a lock main.c:12 2 races"])
         self.assertEqual([(attributes["id"], attributes["class"]) for attributes, _ in page.all("details")],
-                         [("group-1", "group rank2"), ("group-2", "group rank4")])
+                         [("group-1", "group rank1"), ("group-2", "group rank3")])
 
     def test_every_line_by_hand(self):
         [group] = self.page(self.example("account")).data()["groups"]

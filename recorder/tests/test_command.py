@@ -13,7 +13,7 @@ import recorder
 
 PLACE = ("status.c:9", "status.c:9")
 UNKNOWN = "# status.c:9\tstatus.c:9\nstatus.c:work()\tstatus.c:work()\tshared\n"
-TABLES = ["places.json", "places.sarif", "places.tsv"]
+TABLES = ["index.html", "places.json", "places.sarif", "places.tsv"]
 ONE = "shb-record: One interleaving of many was seen; --runs N tries others, --until-found N stops at the first with a race."
 LIST = "made-by-shb-record.txt"
 
@@ -50,7 +50,7 @@ class Command(recorder.Case):
         self.assertEqual((status, out), (66, "said by the program\n"))
         self.assertRegex(said, r"(?m)^shb-record: run 1, process \d+ \(\S+/status 0 race\): .*; 1 place with races$")
         self.assertIn("status.c:9", said)
-        page, = (self.folder / "status.shb").glob("*.html")
+        page, = (self.folder / "status.shb").glob("run*.html")
         self.assertEqual(said.splitlines()[-3:], ["shb-record: 1 place with races; the program's own status: 0; files in "
                                                   f"{self.folder}/status.shb", ONE, f"shb-record: page: {page}"])
         self.assertRegex(text_of(page), r"<title>\S+/status 0 race \(run 1, process \d+, \d{4}-\d\d-\d\d \d\d:\d\d\): 1 place with races, ")
@@ -69,14 +69,14 @@ class Command(recorder.Case):
         sources.rename(self.folder / "moved")
         for words, has_code in (((), False), (("--source", self.folder / "moved"), True)):
             status, _, said = self.record(*words, program)
-            page, = (self.folder / "program.shb").glob("*.html")
+            page, = (self.folder / "program.shb").glob("run*.html")
             self.assertEqual((status, "     | void *a(void *x) { one = 2; return 0; }\n" in said,
                               '"void *a(void *x) { one = 2; return 0; }"' in text_of(page)), (66, has_code, has_code), said)
 
     def test_one_word_for_one_thing(self):
         """Two lines that race are a place, places that share a variable a group; where nothing is locked that is said of the access."""
         _, _, said = self.record(self.program(), "0", "race")
-        page, = (self.folder / "status.shb").glob("*.html")
+        page, = (self.folder / "status.shb").glob("run*.html")
         for shown in said, text_of(page):
             self.assertIn("1 place with races, in 1 group", shown)
             self.assertIn("no lock held", shown)
@@ -170,13 +170,13 @@ class Command(recorder.Case):
         """The trace doesn't have the atomic, which orders nothing; the text names it."""
         status, _, said = self.record(self.program("publication.c"))
         self.assertEqual(status, 66, said)
-        self.assertIn("T2.produce and T1.consume use the atomic slot: publication.c:10 writes it relaxed, publication.c:15 reads it with "
-                      "acquire.", said)
+        self.assertIn("T2.produce and T1.consume hand this on by the atomic slot: publication.c:10 writes it relaxed after the first access, and publication.c:15 "
+                      "reads it with acquire before the second. Without release that orders nothing.\n", said)
 
     def test_an_early_free(self):
         status, _, said = self.record(self.program("early_free.c"))
         self.assertEqual(status, 66, said)
-        self.assertRegex(said, r"In this trace main frees the block at early_free.c:20, and nothing orders the free and the use at early_free.c:10\.\n")
+        self.assertRegex(said, r"(?m)^1\. .*: early_free.c:11 writes used without release, and early_free.c:19 reads it without acquire \(")
         self.assertIn("   early_free.c:20: 1 free by main\n", said)
 
     def test_a_late_use(self):
@@ -270,7 +270,7 @@ class Command(recorder.Case):
     def test_stale_lines_of_known_places(self):
         program = self.build_stats("one", True)
         known = self.known("stats.c:serve()\tstats.c:serve()\thits\nstats.c:9999\tstats.c:8888\t*\n")
-        for words, wanted in ((), 0), (("--fail-on-stale",), 66):
+        for words, wanted in ((), 0), (("--fail-on-stale",), 67):
             status, _, said = self.record(*words, "--known", known, program)
             self.assertEqual((status, f"shb-record: {known}, line 2: no race matched `stats.c:9999\\tstats.c:8888\\t*`\n" in said), (wanted, True), said)
             self.assertNotIn("line 1: no race", said)
@@ -323,8 +323,8 @@ class Command(recorder.Case):
         self.assertEqual([one["state"] for one in by_state["known"]["variables"]], ["known"])
         results = log["runs"][0]["results"]
         self.assertEqual([bool(result["suppressions"]) for result in results], [True, False])
-        self.assertTrue(results[1]["message"]["text"].startswith("Data race on `balance` between stats.c:6 and [stats.c:6](1). In this trace 2 threads write, "
-                                                                 "and no lock is held at any access. Seen in run 1, process "), results[1])
+        self.assertTrue(results[1]["message"]["text"].startswith("Data race on `balance` between stats.c:6 and [stats.c:6](1). stats.c:6 writes without a lock. "
+                                                                 "Remedy: hold one lock at stats.c:6, "), results[1])
 
     def test_what_a_quiet_run_means(self):
         """Code without hooks, code without debug information, and that one interleaving was seen."""
@@ -337,7 +337,8 @@ class Command(recorder.Case):
             recorder.must(recorder.call("gcc", *words, cwd=self.folder))
         status, _, said = self.record("./app")
         self.assertEqual(status, 0, said)
-        self.assertEqual(said.splitlines()[-3:], ["shb-record: Accesses by code without -fsanitize=thread aren't seen: libbare.so.",
+        self.assertEqual(said.splitlines()[-3:], ["shb-record: Code without -fsanitize=thread isn't seen: libbare.so. Nor are its locks and queues: races of "
+                                                  "what these order are false. Build it with the flag.",
                                                   "shb-record: Without debug information (-g) locations are addresses: libnameless.so.", ONE])
         status, _, said = self.record("--runs", "2", "./app")
         self.assertNotIn(ONE, said)
@@ -345,8 +346,8 @@ class Command(recorder.Case):
         (self.folder / "main.c").write_text(text_of(self.folder / "main.c").replace("return pthread", "x = 1; return pthread"))
         recorder.must(recorder.call("gcc", "-g", "-fsanitize=thread", "-pthread", "main.c", "-o", "app", "./libbare.so", "./libnameless.so", cwd=self.folder))
         self.assertEqual(self.record("./app")[0], 66)
-        page, = (self.folder / "app.shb").glob("*.html")
-        for line in ("Accesses by code without -fsanitize=thread aren&#x27;t seen: libbare.so.", "Without debug information (-g) locations are addresses: libnameless.so.",
+        page, = (self.folder / "app.shb").glob("run*.html")
+        for line in ("Code without -fsanitize=thread isn&#x27;t seen: libbare.so. Nor are its locks and queues: ", "Without debug information (-g) locations are addresses: libnameless.so.",
                      "One interleaving of many was seen; --runs N tries others, --until-found N stops at the first with a race."):
             self.assertIn(line, text_of(page))
 
@@ -550,11 +551,11 @@ class Command(recorder.Case):
         self.assertEqual(status, 66, said)
         self.assertIn("shb-record: 1 place with races; not the whole", said)
         self.assertRegex(said, rf"(?m)^.*run 1, .*: .* with races, in .*\n{re.escape(why)}$")  # below the view's first line
-        page, = (self.folder / "long_race.shb").glob("*.html")
+        page, = (self.folder / "long_race.shb").glob("run*.html")
         self.assertRegex(text_of(page), rf"<h1>[^<]*</h1><p class=\"verdict bad\">{re.escape(why)}</p>")
         _, _, said = self.record(program)
         self.assertNotIn("not the whole run", said)
-        page, = (self.folder / "long_race.shb").glob("*.html")
+        page, = (self.folder / "long_race.shb").glob("run*.html")
         self.assertNotIn("not the whole run", text_of(page))
 
     def test_a_run_of_which_nothing_was_recorded(self):

@@ -81,6 +81,8 @@ def published(races, pairs, frees):
     for its in races.values():
         common = None
         for race in its[:MOST_RACES]:
+            if frees(race.first):  # in whatever order, what follows uses what was freed
+                return []
             new = between(pairs.get((race.giver, race.taker), ()), race, frees(race.second))
             common = new if common is None else {key: pair for key, pair in common.items() if key in new}
             if not common:
