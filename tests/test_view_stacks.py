@@ -80,6 +80,29 @@ class Stacks(program.Case):
                       "std::each each.h:8libc.so.6+0x10main a.c:31libc.so.6+0x10std::each each.h:8",
                       Page((self.folder / "page.html").read_text()).stacks())
 
+    def test_a_stack_of_functions_of_the_system_alone(self):
+        """As of a thread that a header of the standard library starts: the innermost stands for them, so nothing is blank."""
+        for stack, said in ((b"stack 1 0 3 8 3", "in std::each each.h:8, from (2 more functions of the system's headers or libraries)\n"),
+                            (b"stack 1 0 8", "in libc.so.6+0x10\n")):
+            out = self.shown(stacks(tables=TABLES.replace(b"stack 1 0 1", stack)))[1]
+            self.assertIn(f"   thread T1 was created {said}", out)
+            self.assertNotIn(" in \n", out)
+
+    def test_what_is_told_alike_is_told_once(self):
+        """Threads, and blocks, whose stacks differ in what isn't shown."""
+        trace = b"main|fork(T1)|a.c:30\nmain|fork(T2)|a.c:30\n" + b"".join(b"%b|w(a.c:9#%d)|a.c:5\n" % (thread, block) for block in (2, 3) for thread in (b"T1", b"T2"))
+        tables = TABLES + b"stack 10 0 1 8\nstack 11 6 8 7\nthread T2\t10\nblock 3 11\n"
+        out = self.shown(stacks([1, 1, 2, 2, 2, 2], tables), trace=trace)[1]
+        self.assertIn("   threads T1 and T2 were created in main a.c:30\n", out)
+        self.assertIn("   blocks a.c:9#2 and a.c:9#3 were allocated in make a.c:9, from main a.c:31\n", out)
+
+    def test_groups_behind_known_races_are_told(self):
+        trace = b"A|w(x)|a.c:1\nB|w(x)|a.c:2\nA|w(y)|a.c:3\nB|w(y)|a.c:4\n"
+        behind = self.file(b"a.c:3\ta.c:4\ty\n", "behind")
+        out = run_here(["--behind", behind, self.file(trace)])[1]
+        said = "   Found behind known races, which were passed over: real if these are harmless.\n"
+        self.assertEqual((out.count(said), out.index("2. y: ") < out.index(said)), (1, True), out)
+
     def test_where_a_fiber_was_made(self):
         tables, path = TABLES.replace(b"sorter", b"__tsan_create_fiber"), self.folder / "page.html"
         _, out, err = self.shown(stacks(tables=tables), "--html", path)
