@@ -73,7 +73,8 @@ def parser_of_words():
                         help="places to pass over, as unknown.places has them: on a line two locations, FILE:LINE, or functions, "
                         "FILE:FUNCTION(), in either order, and the variable, with tabs between; * stands for any text; a line that begins with "
                         "# is a comment. A line with two fields is of every variable. Lines that match nothing are reported")
-    parser.add_argument("--fail-on-stale", action="store_true", help="where no race is unknown, such lines end with status 67. A race that is in few runs needs --runs")
+    parser.add_argument("--fail-on-stale", action="store_true", help="where no race is unknown, such lines end with status 67. A race that is in few runs "
+                        "needs --runs")
     parser.add_argument("--source", metavar="DIR", action="append", default=[],
                         help="look for source files below this folder too; may be given again. Those of the debug information are found without it")
     parser.add_argument("--strip", metavar="DIR", help="name files below this folder by their paths from it (shb-std --help)")

@@ -32,7 +32,8 @@ def document(look, rows, entries, groups, status):
     summary = {"places": count(rows), "unknown": unknown, "behind": count(row for row in rows if row.state() == "behind"),
                "known": count(rows) - unknown, "stale": len(stale),
                "status": status, "runs": len(look.runs)}
-    return result.document("shb-record", summary, [entry(row, entries) for row in rows], stale=result.stale_of(stale), notes=list(look.meaning()), groups=groups)
+    return result.document("shb-record", summary, [entry(row, entries) for row in rows], stale=result.stale_of(stale),
+                           notes=list(look.meaning()), groups=groups)
 
 
 def entry(row, entries):

@@ -241,24 +241,13 @@ def without(sites, racing, lock, locks, whole):
     """Racing lines that don't hold a lock which all others, or all others that race, hold at each access. Where they hold other locks,
     that more lines have this one says that it is theirs too."""
     lacking, holding = [site for site in racing if site.lacks(lock)], [site for site in sites if not site.lacks(lock)]
-    of, variables = locks.of(lock), set().union(*(site.variables for site in racing))
-    holders = set().union(*(site.variables for site in holding))
-    if not lacking or not holding or not variables <= holders or not variables <= set(of):
+    if not is_rule(lacking, holding, set().union(*(site.variables for site in racing)), lock, locks):
         return None
-    if not any(site.writes() for site in holding) and any(site.reads() for site in lacking):
-        return None  # what some readers alone hold is no rule
-    is_bare = all(site.bare == site.total() for site in lacking)
-    if not is_bare and not any(site.guarded(lock) for site in lacking) and len(holding) <= len(lacking):
-        return None
-    others, name, lines = [site for site in sites if site.lacks(lock) and not site.partners], lock_name(lock), lines_of(lacking)
-    writes = not any(site.writes() for site in others) and not any(site.writes() for site in lacking) and any(site.writes() for site in holding)
-    reads = not any(site.reads() for site in others) and not any(site.reads() for site in lacking) and any(site.reads() for site in holding)
-    scope = "writes" if writes else "reads" if reads else "all" if not others else "lines"
+    scope = scope_of([site for site in sites if site.lacks(lock) and not site.partners], lacking, holding)
     who = {"writes": ["every write"], "reads": ["every read"], "all": ["every other access"],
            "lines": ["every access at ", *lines_of(holding)]}[scope]
-    some = [site for site in lacking if site.guarded(lock)]
-    does = "reads" if not any(site.writes() for site in lacking) else "writes" if not any(site.reads() for site in lacking) else "uses it"
-    verb = does if len(lacking) == 1 else {"reads": "read", "writes": "write", "uses it": "use it"}[does]
+    some, name, lines = [site for site in lacking if site.guarded(lock)], lock_name(lock), lines_of(lacking)
+    verb = verb_of(lacking)
     at = f" at {sum(site.total() - site.guarded(lock) for site in lacking):,} of {sum(site.total() for site in lacking):,} accesses" if some else ""
     sentence = [f"In this {whole} ", *who, " holds ", *name, ", and ", *lines, f" {verb} without it{at}."]
     instead = [[place(site.location), " holds ", *listed([lock_name(other) for other in site.held()], MOST_NAMED)] for site in lacking if site.held()]
@@ -268,6 +257,33 @@ def without(sites, racing, lock, locks, whole):
             "locks": by_variable(locks, lock), "instead": held_of(lacking, locks)}
     tag = [*lines, f" {verb} without ", *name] if not some else [*lines, " doesn't always hold " if len(lacking) == 1 else " don't always hold ", *name]
     return Fact("without", said, tag, [sentence], ["hold ", *name, " at ", *lines, "."], lock)
+
+
+def is_rule(lacking, holding, variables, lock, locks):
+    """Whether lines that hold a lock say of those that lack it that they should: each variable has the lock somewhere, what some readers
+    alone hold is no rule, and the others hold no lock, or hold this one at times, or are fewer."""
+    holders = set().union(*(site.variables for site in holding))
+    if not lacking or not holding or not variables <= holders or not variables <= set(locks.of(lock)):
+        return False
+    if not any(site.writes() for site in holding) and any(site.reads() for site in lacking):
+        return False
+    is_bare = all(site.bare == site.total() for site in lacking)
+    return is_bare or any(site.guarded(lock) for site in lacking) or len(holding) > len(lacking)
+
+
+def scope_of(others, lacking, holding):
+    """What holds the lock: every write, every read, all accesses at other lines, or those at the lines that hold it. `others` lack it
+    too, and don't race."""
+    for scope, does in (("writes", Site.writes), ("reads", Site.reads)):
+        if not any(map(does, [*others, *lacking])) and any(map(does, holding)):
+            return scope
+    return "lines" if others else "all"
+
+
+def verb_of(sites):
+    """What these lines do with the variable."""
+    does = "read" if not any(site.writes() for site in sites) else "write" if not any(site.reads() for site in sites) else "use"
+    return does + "s" * (len(sites) == 1) + " it" * (does == "use")
 
 
 def sometimes(sites, racing, lock, locks, whole):

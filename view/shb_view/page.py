@@ -80,7 +80,7 @@ def group_row(view, number, section, tag):
     """A group's row, and its text."""
     tag = element("span", tag, class_=f"tag {tag}") if tag else ""
     cells = {"no": number, "var": marked(group_name(view, section.group), NAME), "fact": joined([marked(section.fact.tag, NAME), tag]),
-             "at": marked([place(blamed(section))], NAME), "races": counted(section.group.races(), "race") if section.group.races() else counted(section.group.count(), "place")}
+             "at": marked([place(blamed(section))], NAME), "races": counted(section.group.races() or section.group.count(), "race" if section.group.races() else "place")}
     cells = [element("span", cell, class_=name) for name, cell in cells.items()]
     return element("details", element("summary", joined(cells, " ")), element("pre", "\n".join(issue_lines(view, section))),
                    class_=f"group rank{RANKS[section.fact.form]}", id=f"group-{number}")

@@ -148,7 +148,8 @@ def make_view(options, progress):
         source = Source(options.source, os.fstat(file.fileno()).st_mtime, stacks.sources if options.recorded_source else {})
         notes, about = ([readable(os.fsencode(line)) for line in lines] for lines in (options.note, options.about))
         found = View(title, made.counts, made.races, made.listed, pairs, count, sections, made.given.verdict, made.is_sample, bool(options.scan),
-                    source, [*notes, *warnings(options.trace)], about, stacks, kinds, gathered, *(places_of(path) if path else None for path in (options.only, options.behind)),
+                    source, [*notes, *warnings(options.trace)], about, stacks, kinds, gathered,
+                     *(places_of(path) if path else None for path in (options.only, options.behind)),
                     readable(os.fsencode(options.turns)) if options.turns else "", readable(os.fsencode(options.command)))
         behind = found.groups_at(found.behind) if options.behind else ()
         return found._replace(sections=[section._replace(is_behind=number in behind) for number, section in enumerate(sections)])

@@ -147,7 +147,8 @@ def seen_parts(section):
 
 def told_of(section):
     """What is said of a group's fact, each as parts: its sentences, and what would order the accesses."""
-    return [*[["Found behind known races, which were passed over: real if these are harmless."]] * section.is_behind, *section.fact.sentences, *[["Remedy: ", *section.fact.remedy]] * bool(section.fact.remedy)]
+    behind = [["Found behind known races, which were passed over: real if these are harmless."]] * section.is_behind
+    return [*behind, *section.fact.sentences, *[["Remedy: ", *section.fact.remedy]] * bool(section.fact.remedy)]
 
 
 def races_text(group):
