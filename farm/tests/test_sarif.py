@@ -135,7 +135,7 @@ class Log(Base):
 
     def test_the_version_of_what_is_installed(self):
         self.trace("clean.std", farm.CLEAN)
-        self.assertNotIn("version", self.log()["tool"]["driver"])
+        self.assertEqual(self.log()["tool"]["driver"]["version"], "checkout")
         self.run_alone()
         (self.folder / "alone" / "common" / "VERSION").write_text("2026.11.25-abc\n")
         self.assertEqual(self.log()["tool"]["driver"]["version"], "2026.11.25-abc")
@@ -143,8 +143,9 @@ class Log(Base):
     def test_a_place(self):
         self.trace("race.std", RACE)
         result = self.log()["results"][0]
-        self.assertEqual(result["message"], {"text": "Data race on `x` between a.c:1 and [b.c:2](1). In this trace 2 threads write, and no lock is "
-                                                       "held at any access. 1 of 1 traces has it, for example race.std."})
+        self.assertEqual(result["message"], {"text": "Data race on `x` between a.c:1 and [b.c:2](1). In this trace no lock is held at any access; 2 threads "
+                                                       "write, at a.c:1 and b.c:2. Remedy: hold one lock at a.c:1 and b.c:2, or order them by a join, or by "
+                                                       "a release and an acquire. 1 of 1 traces has it, for example race.std."})
         place = lambda uri, line: {"artifactLocation": {"uri": uri, "uriBaseId": "SRCROOT"}, "region": {"startLine": line}}
         self.assertEqual(result["locations"], [{"physicalLocation": place("a.c", 1)}])
         self.assertEqual(result["relatedLocations"], [{"id": 1, "message": {"text": "The other access."}, "physicalLocation": place("b.c", 2)}])
