@@ -47,15 +47,21 @@ class Behind(recorder.Case):
         return ran.returncode, ran.stderr.decode(), json.loads((self.folder / "out" / "places.json").read_text())
 
     def test_a_race_behind_a_known_one(self):
+        states = set()
         for seed in range(1, 6):
             status, said, found = self.record("pay", " && ++tries", seed)
             self.assertEqual(status, 66, said)
-            self.assertEqual({(place["state"], place["variables"][0]["name"]) for place in found["places"]}, {("known", "balance"), ("behind", "tries")})
+            [state] = {place["state"] for place in found["places"] if place["variables"][0]["name"] == "tries"}
+            states.add(state)
+            if state == "unknown":     # no read of this run hides it
+                continue
+            self.assertEqual({place["state"] for place in found["places"]}, {"known", "behind"})
             self.assertEqual(found["summary"]["behind"], found["summary"]["unknown"])
             self.assertIn("   Found behind known races, which were passed over: real if these are harmless.\n", said)
             self.assertIn("(behind known races: real if these are harmless), 1 known one passed over;", said)
             self.assertIn("\ttries\n", (self.folder / "out" / "unknown.places").read_text())
             self.assertIn(": pay.c:5 read what pay.c:7 wrote, in a known race: a second look passed over both\n", said)
+        self.assertIn("behind", states)
 
     def test_nothing_behind_a_known_one(self):
         status, said, found = self.record("alone", "", 1)
