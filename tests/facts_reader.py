@@ -206,6 +206,9 @@ class Group:
             found = self.handed(one, other)
             key = one.location, other.location
             common[key] = common[key] & found if key in common else found
+        if self.fact["form"] == "without":  # beside a lock an update hands nothing on
+            common = {key: found for key, found in common.items() if all(kind == "store" for _, _, _, kind, *_ in found)} if all(common.values()) else {}
+            return len(common) == len({(by_number[first].location, by_number[second].location) for first, second in self.races_of_form()})
         return bool(common) and all(common.values())
 
     # ---- freed ----

@@ -143,6 +143,8 @@ def fact_of(sites, locks, whole, published=()):
     racing = [site for site in sites if site.partners]
     used = [site for site in sites if site.accesses[b"f"] < site.total()]  # a line that frees alone says nothing of locks
     of_locks = uncounted(used, whole) if any(site.unknown for site in used) else lock_fact(used, racing, locks, whole)
+    if of_locks and of_locks.form == "without" and any(pair.store.kind == b"update" for pair, _ in published):
+        published = ()  # beside a lock what is updated is a counter
     found = publication(published) or freed(racing, whole) or not_atomic(racing, whole) or of_locks or no_lock(racing, whole)
     if found.form != "published" or not of_locks or of_locks.form != "without":
         return found
