@@ -10,6 +10,7 @@ import contextlib
 import os
 import pathlib
 import shutil
+import stat
 import typing
 
 from shb_common.faults import Refused
@@ -32,15 +33,38 @@ NOTHING = Listed(frozenset(), frozenset())
 
 
 def read_list(place):
-    """What is installed below a prefix; nothing where there is no list."""
+    """What is installed below a prefix; nothing if there is no list. Whoever can write the list says what is deleted, so it is
+    refused if it isn't a file of the caller's, or names what no installation has."""
     try:
-        lines = (place / LISTED).read_text().splitlines()
+        with os.fdopen(os.open(place / LISTED, os.O_RDONLY | os.O_NONBLOCK)) as file:     # which waits for nobody at a pipe
+            state = os.fstat(file.fileno())
+            if not stat.S_ISREG(state.st_mode) or state.st_uid != os.geteuid():
+                raise Refused(f"{place / LISTED} isn't a file of yours: whoever installed can uninstall")
+            lines = file.read().splitlines()
     except FileNotFoundError:
         return NOTHING
-    files = frozenset(line for line in lines if not line.endswith(FOLDER))
-    if any(os.path.isabs(name) or ".." in pathlib.PurePath(name).parts for name in files):
-        raise Refused(f"{place / LISTED} names a file outside of {place}; it isn't the list of an installation")
-    return Listed(files, frozenset(line[:-1] for line in lines if line.endswith(FOLDER)))
+    listed = Listed(frozenset(line for line in lines if not line.endswith(FOLDER)),
+                    frozenset(line[:-1] for line in lines if line.endswith(FOLDER)))
+    for name in sorted(listed.files | listed.folders):
+        parts = pathlib.PurePath(name).parts
+        is_above = name in listed.folders and not set(parts) - {".."}
+        if os.path.isabs(name) or (".." in parts and not is_above):
+            raise Refused(f"{place / LISTED} names {name!r}, outside of {place}; it isn't the list of an installation")
+        refuse_elsewhere(place, name)
+    return listed
+
+
+def is_root():
+    return os.geteuid() == 0
+
+
+def refuse_elsewhere(place, name):
+    """For root a link may not lead out of the prefix: who made it could say what is replaced and deleted there. Others may have
+    folders elsewhere, and touch only what is theirs."""
+    inside, real = os.path.realpath(place), os.path.realpath((place / name).parent)
+    is_above = not set(pathlib.PurePath(name).parts) - {".."}
+    if is_root() and not is_above and os.path.commonpath([inside, real]) != inside:
+        raise Refused(f"{place / name} is in {real}, outside of {place}, by a link: as root nothing is installed or deleted there")
 
 
 def write_list(place, listed):
@@ -57,6 +81,8 @@ def install(tree, place):
     """Puts the files and links of a tree below `place`, and takes away what an older version had besides. A failure before all
     new files are there undoes it; then only names change. It refuses where a file that isn't ours is in the way."""
     old, names = read_list(place), files_in(tree)
+    for name in names:
+        refuse_elsewhere(place, name)
     refuse_strangers(place, [*names, LISTED], old)
     folders = old.folders | missing_folders(place, [*names, LISTED])
     try:

@@ -56,13 +56,19 @@ class Tree(installing.Case):
                 self.assertTrue(call(self.prefix / "bin" / command, "--help").endswith(f"\n\nshb {version}"), command)
                 self.assertEqual(call(self.prefix / "bin" / command, "--version"), f"{command} {version}")
 
+    def not_as_root(self, *words):
+        """Calls the command as if it weren't root's, who may not follow a link out of the prefix."""
+        code = ("import sys; sys.path[:0] = sys.argv[1:3]; from shb_install import command, placing; placing.is_root = lambda: False; "
+                "sys.exit(command.main(sys.argv[3:]))")
+        call(sys.executable, "-B", "-c", code, TOP / "install", TOP / "common", *words)
+
     def test_a_bin_that_is_a_link_to_a_folder_elsewhere(self):
         """Each command finds its parts by both paths, as where ~/.local/bin leads to ~/bin."""
         prefix = self.folder / ".local"
         prefix.mkdir()
         (self.folder / "bin").mkdir()
         (prefix / "bin").symlink_to("../bin")
-        call("make", "-s", "-C", TOP, "install", f"SHB={installing.SHB}", f"PREFIX={prefix}")
+        self.not_as_root("--shb", installing.SHB, "--prefix", prefix, "install")
         trace = self.folder / "traces" / "race.std"
         trace.parent.mkdir()
         trace.write_text(RACE)
@@ -74,7 +80,7 @@ class Tree(installing.Case):
         program = self.folder / "account"
         call("gcc", "-fsanitize=thread", "-g", TOP / "examples" / "account.c", "-o", program)
         call(self.folder / "bin/shb-record", "-o", self.folder / "results", program, status=66)
-        call("make", "-s", "-C", TOP, "uninstall", f"PREFIX={prefix}")
+        self.not_as_root("--prefix", prefix, "uninstall")
         self.assertEqual((list(prefix.iterdir()), list((self.folder / "bin").iterdir())), ([prefix / "bin"], []))
 
     def links(self):

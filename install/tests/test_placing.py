@@ -96,6 +96,7 @@ class Placing(Base):
         self.expect(SECOND)
         self.assertEqual(stranger.read_text(), "precious")
 
+    @mock.patch.object(placing, "is_root", lambda: False)
     def test_folders_that_are_links_lead_to_the_same_files(self):
         (self.folder / "elsewhere/deep").mkdir(parents=True)
         self.place.mkdir()
@@ -106,14 +107,44 @@ class Placing(Base):
         placing.uninstall(self.place)
         self.assertEqual((list(self.place.iterdir()), contents(self.place)), ([self.place / "bin"], {"bin": str(self.folder / "elsewhere/deep")}))
 
+    @mock.patch.object(placing, "is_root", lambda: True)
+    def test_root_follows_no_link_out_of_the_prefix(self):
+        """Neither installing nor uninstalling: the link may be another's."""
+        elsewhere = self.folder / "elsewhere"
+        elsewhere.mkdir()
+        self.place.mkdir()
+        (self.place / "share").symlink_to(elsewhere)
+        with self.assertRaisesRegex(Refused, "share/gone/page is in .*elsewhere/gone, outside of .*prefix, by a link"):
+            placing.install(self.tree(FIRST), self.place)
+        self.assertEqual((list(self.place.iterdir()), list(elsewhere.iterdir())), ([self.place / "share"], []))
+        (self.place / "share").unlink()
+        placing.install(self.tree(SECOND, "second"), self.place)
+        (self.place / "share").rename(elsewhere / "share")
+        (self.place / "share").symlink_to(elsewhere / "share")
+        with self.assertRaisesRegex(Refused, "share/more is in"):
+            placing.uninstall(self.place)
+        self.assertEqual((elsewhere / "share/more/page").read_text(), "page")
+
+    def test_a_list_of_another_or_that_is_no_file_is_refused_at_once(self):
+        (self.place / "lib/shb").mkdir(parents=True)
+        os.mkfifo(self.place / placing.LISTED)
+        with self.assertRaisesRegex(Refused, "isn't a file of yours"):
+            placing.uninstall(self.place)
+        (self.place / placing.LISTED).unlink()
+        (self.place / placing.LISTED).write_text(placing.LISTED + "\n")
+        with mock.patch.object(os, "geteuid", return_value=os.geteuid() + 1), self.assertRaisesRegex(Refused, "isn't a file of yours"):
+            placing.uninstall(self.place)
+        self.assertTrue((self.place / placing.LISTED).exists())
+
     def test_a_list_that_names_files_elsewhere_is_refused(self):
         (self.place / "lib/shb").mkdir(parents=True)
         (self.folder / "theirs").write_text("theirs")
-        for name in ("../theirs", str(self.folder / "theirs"), "lib/../../theirs"):
+        (self.folder / "empty").mkdir()
+        for name in ("../theirs", str(self.folder / "theirs"), "lib/../../theirs", "../empty/", f"{self.folder}/empty/", "lib/../../empty/"):
             (self.place / placing.LISTED).write_text(f"{placing.LISTED}\n{name}\n")
             with self.assertRaises(Refused):
                 placing.uninstall(self.place)
-        self.assertTrue((self.folder / "theirs").exists())
+        self.assertTrue((self.folder / "theirs").exists() and (self.folder / "empty").exists())
 
 
 class Broken(Base):
