@@ -71,6 +71,10 @@ Environment:
 """
 
 
+HOME = pathlib.Path(__file__).resolve().parents[1]
+ANALYSERS = "../bin/shb", "../../bin/shb"       # in a checkout, and installed
+
+
 def arguments(words):
     parser = Parser("shb-farm", ABOUT, NOTES)
     parser.add_argument("--known", metavar="FILE", help="places to pass over")
@@ -127,16 +131,16 @@ def command_of(variable, *places):
         if not found:
             raise Refused(f"{os.environ[variable]}: no such program")
         return os.path.realpath(found)
-    home = pathlib.Path(__file__).resolve().parents[1]
-    found = [home / place for place in places if (home / place).is_file()]
+    found = [HOME / place for place in places if (HOME / place).is_file()]
     return os.path.realpath(found[0]) if found else None
 
 
 def pass_of(options, room):
     """What all passes of this farm share."""
-    shb = command_of("SHB", "../bin/shb", "../../bin/shb")
+    shb = command_of("SHB", *ANALYSERS)
     if not shb:
-        raise Refused("there is no shb where this command was installed; SHB can name it")
+        there = os.path.normpath(HOME / ANALYSERS[0])
+        raise Refused(f"there is no analyser at {there}; in a checkout `make build` makes it, and SHB=PROGRAM names another")
     with open(shb, "rb") as program:
         checksum = outcomes.checksum_of_file(program)
     traces, out = os.path.realpath(options.traces), os.path.realpath(options.out)

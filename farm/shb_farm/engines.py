@@ -1,7 +1,7 @@
 """What runs the jobs of a pass: xargs on this machine, or Slurm on a cluster.
 
 An engine may lose a job, run it twice, or end early: what has no outcome is stated as missing, and the next pass or the
-next run of the farm takes it up. So nothing hangs on an engine's own status.
+next run of the farm takes it up. So nothing hangs on an engine's own status, but that it takes jobs at all.
 """
 
 import os
@@ -52,8 +52,7 @@ def run_slurm(work, path, options):
              *options.sbatch, "--wrap", f"exec {job}"]
     status, said, why = call(words)
     if status:
-        say(f"sbatch ended with status {status}: {why.strip()}")
-        return
+        raise Refused(f"sbatch ended with status {status}: {' '.join(why.split())}")
     array = said.split(";")[0].strip()
     say(f"{counted(count, 'trace')} with {work.memory} MiB each, in {counted(tasks, 'task')} of job {array}")
     try:

@@ -25,14 +25,16 @@ def ending_of(work, name, outside=()):
     """How a trace ended, as far as its outcome under the limits of this pass says. `outside` are links that aren't followed."""
     if name in outside:
         return Ending("refused", traces.LEADS_OUT, [], None)
+    path = pathlib.Path(work.traces) / name
     try:
-        state = os.stat(pathlib.Path(work.traces) / name)
+        state = os.stat(path)
     except OSError as fault:
-        return Ending("missing", fault.strerror, [], None)
+        kind = "refused" if os.path.islink(path) else "missing"     # nobody will find what a link doesn't lead to
+        return Ending(kind, fault.strerror, [], None)
     if not stat.S_ISREG(state.st_mode):
-        return Ending("missing", "not a regular file", [], None)
-    if not os.access(pathlib.Path(work.traces) / name, os.R_OK):
-        return Ending("missing", "Permission denied", [], None)
+        return Ending("refused", "not a regular file", [], None)
+    if not os.access(path, os.R_OK):
+        return Ending("refused", "Permission denied", [], None)
     outcome = outcomes.read(passes.outcome_path(work.out, work.form, name), name)
     size = state.st_size
     if outcome is None:

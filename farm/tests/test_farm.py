@@ -11,11 +11,12 @@ from unittest import mock
 
 import farm
 from farm import BAD, BAD_WORDS, CLEAN, OTHER_ORDER, RACE
-from shb_farm import merging
+from shb_common.faults import Refused
+from shb_farm import command, merging
 from shb_farm.passes import Pass, key_of
 
 FULL_TEXT = f"""\
-traces 5 reports 3 refused 1 missing 1
+traces 5 reports 3 refused 2 missing 0
 places 3 unknown 2 known 1
 
 traces  state    first  second  variables  example
@@ -23,7 +24,7 @@ traces  state    first  second  variables  example
 1       known    k.c:1  k.c:2   y          three.std
 
 refused  bad.std   {BAD_WORDS}
-missing  gone.std  No such file or directory
+refused  gone.std  No such file or directory
 """
 FULL_PLACES = f"""\
 traces	state	first	second	example	report	places	variables	since
@@ -33,7 +34,7 @@ traces	state	first	second	example	report	places	variables	since
 FULL_TRACES = f"""\
 trace	outcome	places	words	seconds	MiB
 bad.std	refused		{BAD_WORDS}	S	M
-gone.std	missing		No such file or directory		
+gone.std	refused		No such file or directory		
 one.std	report	1	events 2 threads 2 locks 0 variables 1	S	M
 three.std	report	2	events 4 threads 2 locks 0 variables 2	S	M
 two.std	report	0	events 2 threads 1 locks 0 variables 1	S	M
@@ -63,7 +64,7 @@ class Tables(farm.Case):
         self.trace("no-trace.txt", BAD)
         (self.traces / "gone.std").symlink_to("nowhere")
         answer = self.farm("--known", self.known(b"k.c:1\tk.c:2\n"))
-        self.assertEqual((answer.status, answer.out), (2, FULL_TEXT))
+        self.assertEqual((answer.status, answer.out), (1, FULL_TEXT))
         for name, wanted in (("places.txt", FULL_TEXT), ("places.tsv", FULL_PLACES), ("traces.tsv", FULL_TRACES),
                              ("unknown.places", "a.c:1\tb.c:2\tx\n")):
             self.assertEqual(re.sub(r"\t\d+\.\d\d\t\d+\n", "\tS\tM\n", (self.out / name).read_text()), wanted)
@@ -77,7 +78,7 @@ class Tables(farm.Case):
                                               "NAME.std.gz or NAME.std.xz)\n"))
         (self.traces / "nightly").symlink_to("not mounted")
         answer = self.farm()
-        self.assertEqual((answer.status, self.ends()), (2, {"nightly": ("missing", "No such file or directory")}))
+        self.assertEqual((answer.status, self.ends()), (5, {"nightly": ("refused", "No such file or directory")}))
 
     def test_a_program_that_writes_no_whole_report(self):
         self.trace("race.std", RACE)
@@ -115,8 +116,9 @@ class Tables(farm.Case):
         self.assertEqual(self.farm().status, 1)
         self.assertEqual(self.farm("--known", known).status, 5)
         (self.traces / "gone.std").symlink_to("nowhere")
-        self.assertEqual(self.farm("--known", known).status, 2)
-        self.assertEqual(self.farm().status, 2)
+        self.assertEqual(self.farm("--known", known).status, 5)
+        self.assertEqual(self.farm().status, 1)
+        self.assertEqual(self.farm(shb=self.script("killed", "kill -9 $$\n")).status, 2)
 
     def test_what_cannot_run_has_a_status_of_its_own(self):
         self.trace("race.std", RACE)
@@ -160,6 +162,11 @@ class Tables(farm.Case):
         self.traces.rmdir()
         self.assertEqual(self.farm(), (4, "", f"shb-farm: {self.traces}: No such file or directory\n"))
 
+    def test_a_program_that_is_not_there(self):
+        with mock.patch.object(command, "HOME", self.folder / "farm"), self.assertRaisesRegex(Refused, rf"^there is no analyser at {self.folder}/bin/shb; "
+                                                                                              r".* `make build` makes it, and SHB=PROGRAM names another$"):
+            command.pass_of(command.arguments([str(self.traces), str(self.out)]), "room")
+
     def test_an_engine_that_is_not_there(self):
         self.trace("race.std", RACE)
         answer = self.farm("--engine", "slurm", PATH=self.folder)
@@ -201,8 +208,8 @@ class Names(farm.Case):
         (self.traces / "folder.std").mkdir()
         self.trace("folder.std/inner.std", CLEAN)
         os.mkfifo(self.traces / "pipe.std")
-        self.assertEqual(self.farm().status, 2)
-        self.assertEqual({name: end[1] for name, end in self.ends().items() if end[0] == "missing"}, {"pipe.std": "not a regular file"})
+        self.assertEqual(self.farm().status, 5)
+        self.assertEqual({name: end[1] for name, end in self.ends().items() if end[0] == "refused"}, {"pipe.std": "not a regular file"})
         self.assertIn("folder.std/inner.std", self.ends())
 
     def test_links_to_folders_are_followed(self):
@@ -263,13 +270,13 @@ class Names(farm.Case):
     def size(self, name):
         return (self.traces / name).stat().st_size
 
-    def test_a_trace_that_cannot_be_read_is_missing_and_not_tried(self):
+    def test_a_trace_that_cannot_be_read_is_refused_and_not_tried(self):
         """It has no size then. (Root reads all files, so the answer of the system is a stand-in.)"""
         self.trace("race.std", RACE)
         work = Pass("", "", str(self.traces), str(self.out), "")
         self.assertEqual(merging.ending_of(work, "race.std").size, len(RACE))
         with mock.patch.object(merging.os, "access", lambda path, mode: not str(path).endswith("race.std")):
-            self.assertEqual(merging.ending_of(work, "race.std"), merging.Ending("missing", "Permission denied", [], None))
+            self.assertEqual(merging.ending_of(work, "race.std"), merging.Ending("refused", "Permission denied", [], None))
 
     def test_names_that_are_long_or_lie_in_one_another(self):
         """Each has an outcome and a report of its own."""

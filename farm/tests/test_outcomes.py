@@ -283,10 +283,10 @@ exit 1
     def test_an_array_that_is_forgotten_has_ended(self):
         self.assertEqual(self.slurm("echo 'slurm_load_jobs error: Invalid job id specified' >&2; exit 1\n", LOST=3).status, 1)
 
-    def test_a_refusal_is_said_and_the_traces_are_missing(self):
-        answer = self.slurm("exit 0\n", "echo 'no such partition' >&2; exit 1\n")
-        self.assertEqual(answer.status, 2)
-        self.assertIn("shb-farm: sbatch ended with status 1: no such partition\n", answer.err)
+    def test_a_refusal_ends_the_farm_at_once(self):
+        answer = self.slurm("exit 0\n", f"echo >> {self.folder}/asked; echo 'no such partition' >&2; exit 1\n")
+        self.assertEqual((answer.status, answer.out, answer.err), (4, "", "shb-farm: sbatch ended with status 1: no such partition\n"))
+        self.assertEqual((self.folder / "asked").read_text(), "\n")
 
 
 class Killed(farm.Case):

@@ -162,8 +162,8 @@ class Log(Base):
             {"level": "warning", "message": {"text": "bad.std: " + farm.BAD_WORDS}}]}])
         (self.traces / "gone.std").symlink_to("nowhere")
         invocation = self.log()["invocations"][0]
-        self.assertEqual((invocation["executionSuccessful"], invocation["exitCode"]), (False, 2))
-        self.assertEqual(invocation["toolExecutionNotifications"][1], {"level": "error", "message": {"text": "gone.std: No such file or directory"}})
+        self.assertEqual((invocation["executionSuccessful"], invocation["exitCode"]), (True, 5))
+        self.assertEqual(invocation["toolExecutionNotifications"][1], {"level": "warning", "message": {"text": "gone.std: No such file or directory"}})
 
     def test_locations_of_all_kinds(self):
         """Each races with a write at a location that sorts last."""
