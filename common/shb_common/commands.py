@@ -5,7 +5,15 @@ import os
 import sys
 
 from shb_common.printable import printable
-from shb_common.version import installed
+from shb_common.version import installed, version
+
+
+class Version(argparse.Action):
+    """Prints the version and ends."""
+
+    def __call__(self, parser, *_):
+        print(parser.prog, version())
+        parser.exit()
 
 
 class Parser(argparse.ArgumentParser):
@@ -14,7 +22,8 @@ class Parser(argparse.ArgumentParser):
 
     def __init__(self, command, about, notes, status=3, **more):
         notes = f"{notes.rstrip()}\n\nshb {installed()}\n" if installed() else notes
-        super().__init__(prog=command, description=about, epilog=notes, formatter_class=argparse.RawDescriptionHelpFormatter, **more)
+        super().__init__(prog=command, description=about, epilog=notes, formatter_class=argparse.RawDescriptionHelpFormatter,
+                         allow_abbrev=False, **more)      # what is short for one option today may be for another tomorrow
         self.status = status
 
     def error(self, message):
@@ -23,7 +32,7 @@ class Parser(argparse.ArgumentParser):
 
     def parsed(self, words):
         """The options of these words."""
-        self.add_argument("--version", action="version", version=f"{self.prog} {installed() or 'of a checkout'}", help="say of which package this is")
+        self.add_argument("--version", action=Version, nargs=0, help="print the version and exit")
         if any("\0" in word for word in words):
             self.error("a word has a NUL")
         return self.parse_args(words)

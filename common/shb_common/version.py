@@ -1,8 +1,12 @@
-"""Which package a command is of."""
+"""Which version a command is of."""
 
+import os
 import pathlib
+import subprocess
 
-FILE = pathlib.Path(__file__).resolve().parents[1] / "VERSION"     # the installation puts it there
+HERE = pathlib.Path(__file__).resolve()
+FILE = HERE.parents[1] / "VERSION"      # the installation puts it there
+DAY_AND_COMMIT = "--abbrev=12", "--date=format-local:%Y.%m.%d", "--format=%cd-%h"      # as the installation writes them
 
 
 def installed():
@@ -11,3 +15,23 @@ def installed():
         return FILE.read_text().strip()
     except FileNotFoundError:
         return None
+
+
+def version():
+    """The day and the commit of what is installed, or of the checkout as far as git knows it, with a word if files were changed since."""
+    if installed():
+        return installed()
+    last = of_git("log", "-1", *DAY_AND_COMMIT)
+    if not last or of_git("rev-parse", "--show-prefix"):     # a copy in a checkout of something else
+        return "of a checkout"
+    return last + ("-changed" if of_git("status", "--porcelain", "--untracked-files=no") else "")
+
+
+def of_git(*words):
+    """What git says of the checkout; nothing if it doesn't know it."""
+    try:
+        ran = subprocess.run(["git", "--no-optional-locks", "-C", HERE.parents[2], *words], env={**os.environ, "TZ": "UTC"},
+                             stdin=subprocess.DEVNULL, stdout=subprocess.PIPE, stderr=subprocess.DEVNULL)
+    except OSError:
+        return ""
+    return ran.stdout.decode(errors="replace").strip() if ran.returncode == 0 else ""

@@ -3,6 +3,7 @@
 import argparse
 import contextlib
 import ctypes
+import errno
 import itertools
 import os
 import pathlib
@@ -23,7 +24,7 @@ from shb_record.looking import Look
 from shb_record.parts import LIBRARY, check_parts, say
 from shb_record.places import count
 from shb_record.results import Results
-from shb_record.running import REPLAYED, Run
+from shb_record.running import REPLAYED, CannotRun, Run
 from shb_record.tables import tables_of
 
 MOST_PASSED = 8  # known races that are named
@@ -146,6 +147,8 @@ def record(options):
                 break
         if options.replay and not look.has_replayed:
             look.fail(Refused(f"{options.replay} is of `{options.turns.command}`, and no recorded process was that: nothing was replayed"))
+    except CannotRun:
+        raise
     except (Refused, OSError) as fault:
         look.fail(fault)
     except KeyboardInterrupt:
@@ -153,10 +156,15 @@ def record(options):
         results.keep_records()
     finally:
         status = status_of(look, own)
-        for name, text in tables_of(look, status).items():
-            results.tables[name].write_bytes(text)
-        results.close()
-    conclude(look, own, status)
+        is_recorded = bool(look.runs) or results.has_more()
+        if is_recorded:
+            for name, text in tables_of(look, status).items():
+                results.tables[name].write_bytes(text)
+        results.close(is_recorded)
+    if is_recorded:
+        conclude(look, own, status)
+    else:
+        say(f"nothing was recorded; the program's own status: {own}")
     return status
 
 
@@ -214,12 +222,17 @@ def main(words):
     try:
         options = completed(arguments(words))
         if not shutil.which(options.program):
-            there = os.path.exists(options.program)
-            say(f"{options.program}: " + ("can't be run" if there else "not found"))
-            return CANNOT_RUN if there else NOT_THERE
+            if not os.path.exists(options.program):
+                say(f"{options.program}: not found")
+                return NOT_THERE
+            why = errno.EISDIR if os.path.isdir(options.program) else errno.EACCES
+            raise CannotRun(f"{options.program}: can't be run: {os.strerror(why)}")
         check_parts()
         with logged(options.log):
             return record(options)
+    except CannotRun as fault:
+        say(fault)
+        return CANNOT_RUN
     except (Refused, OSError) as fault:
         say(words_of(fault))
     except KeyboardInterrupt:

@@ -7,6 +7,7 @@ import sys
 import time
 
 from shb_common.faults import Refused
+from shb_common.printable import printable
 
 HERE = pathlib.Path(__file__).resolve().parents[1]
 
@@ -32,7 +33,9 @@ def check_parts():
 
 
 def say(line=""):
-    print(f"shb-record: {line}" if line else "", file=sys.stderr, flush=True)
+    """Prints a line on standard error. What doesn't print in it, as an escape of a path, is escaped."""
+    shown = printable(str(line).encode("utf-8", "surrogateescape"))
+    print(f"shb-record: {shown}" if line else "", file=sys.stderr, flush=True)
 
 
 def now():

@@ -25,6 +25,7 @@ class Results:
 
     def __init__(self, folder, command, spared=None):
         self.folder, self.list = unused_folder(folder)
+        self.names = []     # of what is made
         spared = self.remove_earlier(spared)
         self.list.truncate(0)
         self.list.write(f"{LIST_BEGIN} on {now()}, for: {command}\n")
@@ -33,6 +34,8 @@ class Results:
         self.tables = {name: self.path(name) for name in TABLES}
         self.work = pathlib.Path(tempfile.mkdtemp(prefix="work-", dir=self.folder))  # records, and windows before they are looked at
         self.path(self.work.name, is_there=True)
+        (self.work / LIST).touch()      # shows a later call that it is one of ours
+        self.first = [] if spared else list(self.names)     # which say nothing if they are all
 
     def remove_earlier(self, spared):
         """Deletes what the list of an earlier call names but a file that is still needed, and says so. Gives the name of that."""
@@ -53,6 +56,7 @@ class Results:
             raise Refused(f"{path} is there, and shb-record didn't make it; -o names another folder")
         self.list.write(f"{name}\n")
         self.list.flush()
+        self.names.append(name)
         return path
 
     def keep(self, path, name):
@@ -66,9 +70,17 @@ class Results:
         for record in sorted(self.work.glob("*.rec")):
             say(f"the record is kept: {self.keep(record, record.name)}")
 
-    def close(self):
-        """Deletes the folder of work, and lets other calls use the folder."""
+    def has_more(self):
+        """Whether something was made besides the tables and the folder of work."""
+        return self.names != self.first
+
+    def close(self, is_recorded):
+        """Deletes the folder of work, and all of the results if nothing was recorded, and lets other calls use the folder."""
         shutil.rmtree(self.work, ignore_errors=True)
+        if not is_recorded:
+            (self.folder / LIST).unlink()
+            with contextlib.suppress(OSError):
+                self.folder.rmdir()     # which may have others' files
         self.list.close()
 
 
@@ -93,11 +105,12 @@ def is_same(path, other):
 
 
 def remove(path):
-    """Deletes a file or folder of ours. Of a folder for windows only what was listed goes. Gives whether a file was there."""
+    """Deletes a file or folder of ours. Of a folder for windows only what was listed goes, and a folder of work that isn't
+    marked as ours stays, since anybody could have listed it. Gives whether a file was there."""
     if path.is_symlink() or path.is_file():
         path.unlink()
         return True
-    if path.name.startswith("work-"):
+    if path.name.startswith("work-") and (path / LIST).is_file():
         shutil.rmtree(path, ignore_errors=True)
     elif path.is_dir():
         with contextlib.suppress(OSError):

@@ -9,6 +9,7 @@ import signal
 import subprocess
 import time
 
+from shb_common.faults import Refused
 from shb_common.stops import STOPS
 from shb_common.words import counted
 from shb_record.parts import LIBRARY, say
@@ -24,6 +25,18 @@ def environment(options, number, folder):
                 LD_LIBRARY_PATH=":".join(paths), **replay)
 
 
+class CannotRun(Refused):
+    """The system can't start the program."""
+
+
+def started(words, variables, blocked):
+    """The program as it begins, with its environment and the signals that are blocked in it."""
+    try:
+        return subprocess.Popen(words, env=variables, preexec_fn=lambda: signal.pthread_sigmask(signal.SIG_SETMASK, blocked))
+    except OSError as fault:
+        raise CannotRun(f"{words[0]}: can't be run: {fault.strerror}") from None
+
+
 class Run:
     """A run of the program. A signal that would end this command is passed on to the program and to what it leaves behind; what they
     did is shown all the same."""
@@ -33,8 +46,7 @@ class Run:
         watched = STOPS | {signal.SIGCHLD}
         before = signal.pthread_sigmask(signal.SIG_BLOCK, watched)
         try:
-            self.program = subprocess.Popen([options.program] + options.arguments, env=environment(options, number, folder),
-                                            preexec_fn=lambda: signal.pthread_sigmask(signal.SIG_SETMASK, before))
+            self.program = started([options.program] + options.arguments, environment(options, number, folder), before)
             while self.program.poll() is None:
                 self.take_signal(watched, None if self.end is None else self.end - time.monotonic())
             self.wait_for_orphans()

@@ -210,12 +210,45 @@ class Command(recorder.Case):
 
     def test_what_cannot_be_run(self):
         (self.folder / "text").write_text("no program")
-        for words, wanted, reason in (((self.folder / "none",), 127, "not found"), ((self.folder / "text",), 126, "can't be run"),
+        for words, wanted, reason in (((self.folder / "none",), 127, "not found"), ((self.folder / "text",), 126, "can't be run: Permission denied"),
                                       ((), 125, "no program is named"), (("--runs", "0", "true"), 125, "--runs: it takes a number from 1"),
                                       (("--no",), 125, "unrecognized arguments: --no"),
                                       (("--known", "none", "true"), 125, "none: No such file or directory")):
             status, _, said = self.record(*words)
             self.assertEqual((status, reason in said), (wanted, True), said)
+
+    def test_what_the_system_cannot_start_leaves_no_results(self):
+        text = self.folder / "text"
+        text.write_text("no program")
+        text.chmod(0o755)
+        for path, why in ((text, "Exec format error"), (self.folder, "Is a directory")):
+            self.assertEqual(self.record(path), (126, "", f"shb-record: {path}: can't be run: {why}\n"))
+        self.assertEqual(list(self.folder.iterdir()), [text])
+
+    def test_what_leaves_no_record_leaves_no_results(self):
+        """Files of others in the folder stay."""
+        others = self.folder / "r" / "others"
+        others.parent.mkdir()
+        others.touch()
+        status, _, said = self.record("-o", "r", shutil.which("true"))
+        self.assertEqual((status, said.splitlines()[-1]), (125, "shb-record: nothing was recorded; the program's own status: 0"))
+        self.assertEqual((list(self.folder.iterdir()), list(others.parent.iterdir())), ([others.parent], [others]))
+
+    def test_a_list_that_somebody_prepared_deletes_no_folder(self):
+        mine = self.folder / "r" / "work-mine" / "mine"
+        mine.parent.mkdir(parents=True)
+        mine.touch()
+        (self.folder / "r" / LIST).write_text("# What shb-record made in this folder on 2026-01-02 03:04:05, for: true\nwork-mine\n")
+        self.assertEqual(self.record("-o", "r", self.program(), "0", "race")[0], 66)
+        self.assertTrue(mine.exists())
+
+    def test_an_escape_of_a_path_is_escaped(self):
+        folder = self.folder / "red\033[31m"
+        folder.mkdir()
+        program = self.program(sanitized=("-fsanitize=thread", "-g0"))
+        program.rename(folder / "a")
+        status, _, said = self.record("-o", "r", folder / "a", "0", "race")
+        self.assertEqual((status, "\033" in said, "red\\x1b[31m/a" in said), (66, False, True), said)
 
     def test_words_of_the_program_are_its_own(self):
         status, out, _ = self.record("-o", "r", "--", shutil.which("echo"), "--runs", "--", "-h")
@@ -582,7 +615,8 @@ class Command(recorder.Case):
         for command in (recorder.BUILT / "shb-record", top / "view" / "shb-view", top / "farm" / "shb-farm", top / "fix" / "shb-fix",
                         recorder.BUILT / "shb-std"):
             answer = recorder.call(command, "--version", cwd=self.folder)
-            self.assertEqual((answer.returncode, answer.stdout.decode(), answer.stderr), (0, f"{command.name} of a checkout\n", b""))
+            self.assertEqual((answer.returncode, answer.stderr), (0, b""))
+            self.assertRegex(answer.stdout.decode(), rf"^{command.name} (of a checkout|\d{{4}}\.\d\d\.\d\d-[0-9a-f]{{12}}(-changed)?)\n$")
 
     def test_an_analyser_that_fails(self):
         status, _, said = self.record(self.program(), "0", "race", SHB=shutil.which("false"))

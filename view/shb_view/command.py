@@ -55,7 +55,7 @@ def arguments(words, program):
     parser.add_argument("--shb", metavar="PROGRAM", default=os.environ.get("SHB") or program, help="the `shb` to run")
     parser.add_argument("trace", metavar="TRACE", help="a trace, as `shb` reads it")
     parser.add_argument("report", metavar="REPORT", nargs="?",
-                        help="a report of it (- is standard input), if `shb` isn't to make one")
+                        help="a report of it (- is standard input) to explain, in place of one that `shb` makes")
     found = parser.parsed(words)
     if bool(found.scan) != bool(found.uses) or found.scan and found.report:
         parser.error("--scan and --uses go together, and without a REPORT")
