@@ -66,7 +66,9 @@ def why(ending):
 
 def note_of(ending):
     """What a reader must know of a trace that has a report; nothing mostly."""
-    return ending.words.partition("; ")[2] if ending.kind == "report" else ""
+    if ending.kind != "report":
+        return ""
+    return "it has no events" if ending.words.startswith("events 0 ") else ending.words.partition("; ")[2]
 
 
 def aligned(lines):

@@ -72,6 +72,12 @@ class Tables(farm.Case):
         self.assertEqual((self.out / "reports" / f"{key_of('one.std')}.report").read_bytes(), ONE_REPORT)
         self.assertEqual(list((self.out / "tmp").iterdir()), [])
 
+    def test_a_trace_without_an_event_is_named(self):
+        """What wrote it may have died."""
+        self.trace("empty.std", b"")
+        answer = self.farm()
+        self.assertEqual((answer.status, answer.out.splitlines()[-1]), (0, "report  empty.std  it has no events"))
+
     def test_no_trace(self):
         self.trace("trace.txt", RACE)
         self.assertEqual(self.farm(), (4, "", f"shb-farm: {self.traces}: there is no trace in this folder and below (NAME.std, "

@@ -50,6 +50,8 @@ def install(options):
         made = pathlib.Path(room)
         tree.make(made, options.shb, prefix, f"{prefix}/lib/shb/libtsan.so", sources.listed(), name, sources.day(seconds))
         placing.install(made, place)
+    if not options.destdir:     # else whoever makes a package of it does that
+        placing.compile_modules(place)
     print(f"installed in {place}")
 
 
@@ -59,14 +61,15 @@ def uninstall(options):
     print(f"uninstalled from {place}" if was_there else f"nothing is installed in {place}: there is no {place / placing.LISTED}")
 
 
-def packaged(options, made, prefix, library):
-    """Makes the tree of a package in an empty folder, of the commit alone. Its version, and the commit's time."""
+def packaged(options, made, prefix, library, strip=lambda made: None):
+    """Makes the tree of a package in an empty folder, of the commit alone, stripped or not. Its version, and the commit's time."""
     files, changed = sources.listed(), sources.changed()
     if changed:
         raise Refused(f"a package is made of a commit, and these files are changed since: {', '.join(changed)}")
     machine.check(options.shb)
     name, commit, seconds = sources.version()
     tree.make(made, options.shb, prefix, library, files, name, sources.day(seconds))
+    strip(made)
     (made / "share/doc/shb/PROVED.md").write_text(package.proved_text(made, name, commit, seconds))
     return name, seconds
 
@@ -85,7 +88,7 @@ def deb(options):
     with tempfile.TemporaryDirectory() as room:
         made = pathlib.Path(room, "tree", "usr")
         made.mkdir(parents=True)
-        name, seconds = packaged(options, made, "/usr", "/usr/lib/shb/libtsan.so")
+        name, seconds = packaged(options, made, "/usr", "/usr/lib/shb/libtsan.so", package.strip)
         version = package.debian_version(name)
         write_package(options.out / f"shb_{version}_amd64.deb", package.debian(made, version, sources.author(), seconds))
 

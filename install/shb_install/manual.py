@@ -13,16 +13,16 @@ def page(help_, version, date, others):
     """The page of a command; `others` are the names of the pages that it points to."""
     name = name_of(help_.command)
     lines = [f'.TH {name.upper()} 1 "{date}" "shb {version}" "shb"', ".SH NAME", rf"{roff(name)} \- {roff(help_.about)}",
-             ".SH SYNOPSIS", ".nh", roff(help_.usage).replace("\\-", "-").replace("-", "\\-"), ".hy", ".SH DESCRIPTION"]
+             ".SH SYNOPSIS", ".nh", roff(help_.usage).replace("\\-", "-").replace("-", "\\-"), ".ad l", ".SH DESCRIPTION"]
     free = [paragraph for head, body in help_.parts if not head for paragraph in paragraphs(body)]
-    lines += [line for paragraph in free if not paragraph[0].startswith(EXIT_STATUS) for line in [*as_it_is(paragraph), ".PP"]]
+    lines += [line for paragraph in free if not paragraph[0].startswith(EXIT_STATUS) for line in [*as_text(paragraph), ".PP"]]
     for head, body in help_.parts:
         if head.lower() in OPTIONS:
             lines += [".SH OPTIONS", *options(help_)]
         elif head:
             lines += [".SH " + roff("ARGUMENTS" if head == ARGUMENTS else head.upper()), *as_it_is(body)]
     for first, *rest in (paragraph for paragraph in free if paragraph[0].startswith(EXIT_STATUS)):
-        lines += [".SH EXIT STATUS", *as_it_is([first[len(EXIT_STATUS):].strip(), *rest])]
+        lines += [".SH EXIT STATUS", *as_text([first[len(EXIT_STATUS):].strip(), *rest])]
     if others:
         lines += [".SH SEE ALSO", ",\n".join(f".BR {roff(other)} (1)" for other in others)]
     return "\n".join(lines) + "\n"
@@ -35,6 +35,11 @@ def paragraphs(body):
 
 def name_of(command):
     return command.replace(" ", "-")
+
+
+def as_text(lines):
+    """A paragraph, which fills the page; one with lines that stand further to the right as it is."""
+    return as_it_is(lines) if any(line.startswith(" ") for line in lines) else [roff(line) for line in lines if line]
 
 
 def as_it_is(lines):

@@ -1,5 +1,7 @@
 """The packages for machines without the kit: an archive and a package of Debian, whose bytes follow from the commit."""
 
+import email.utils
+import gzip
 import hashlib
 import io
 import os
@@ -43,6 +45,35 @@ Description: data races of a recorded run of a concurrent program
  shb-farm analyses many traces.
 """
 
+COPYRIGHT = """\
+Copyright {year} the authors of shb's commits.
+
+No licence has been chosen yet: that is for the maintainers to decide. Until then nobody else may copy, change or
+distribute this package.
+"""
+
+CHANGES = """\
+shb ({version}) unstable; urgency=medium
+
+  * The package of a commit; CHANGELOG.md lists what changed.
+
+ -- {author}  {date}
+"""
+
+# Python compiles what it loads where it may write, so that root would leave files that dpkg doesn't know.
+AFTER_INSTALLING = """\
+#!/bin/sh
+set -e
+if [ "$1" = configure ] && command -v python3 > /dev/null; then
+    python3 -m compileall -q "$DPKG_ROOT/usr/lib/shb" || true
+fi
+"""
+BEFORE_REMOVING = """\
+#!/bin/sh
+set -e
+find "$DPKG_ROOT/usr/lib/shb" -type d -name __pycache__ -exec rm -rf {} +
+"""
+
 
 def proved_text(tree, name, commit, seconds):
     """By which commit and kit the program was proved, and what the commands need."""
@@ -83,12 +114,40 @@ def debian_version(name):
 def debian(made, version, author, seconds):
     """The tree of /usr as a package of Debian, with one time for all files."""
     top = made.parent
-    (top / "DEBIAN").mkdir()
-    glibc = machine.glibc_of([made / name for name in files_in(made)])
-    (top / "DEBIAN/control").write_text(CONTROL.format(version=version, author=author, glibc=glibc))
+    for page in (made / "share/man").rglob("*.1"):
+        page.with_name(f"{page.name}.gz").write_bytes(packed(page.read_text()))
+        page.unlink()
+    date = email.utils.formatdate(seconds).replace("-0000", "+0000")
+    changes = CHANGES.format(version=version, author=author, date=date)
+    (made / "share/doc/shb/changelog.gz").write_bytes(packed(changes))
+    (made / "share/doc/shb/copyright").write_text(COPYRIGHT.format(year=date.split()[3]))
+    (made / "lib/shb/libtsan.so").chmod(0o644)
+    put_control(top / "DEBIAN", made, version, author)
     for path in [top, *top.rglob("*")]:
         os.utime(path, (seconds, seconds), follow_symlinks=False)
     package = top.with_suffix(".deb")
     environment = {**os.environ, "SOURCE_DATE_EPOCH": str(seconds)}
     subprocess.run(["dpkg-deb", "--root-owner-group", "-Zxz", "--build", top, package], env=environment, stdout=subprocess.DEVNULL, check=True)
     return package.read_bytes()
+
+
+def put_control(folder, made, version, author):
+    """What dpkg asks for beside the files."""
+    folder.mkdir()
+    glibc = machine.glibc_of([made / name for name in files_in(made)])
+    (folder / "control").write_text(CONTROL.format(version=version, author=author, glibc=glibc))
+    for name, script in (("postinst", AFTER_INSTALLING), ("prerm", BEFORE_REMOVING)):
+        (folder / name).write_text(script)
+        (folder / name).chmod(0o755)
+
+
+def packed(text):
+    """A text packed by gzip, without its time."""
+    return gzip.compress(text.encode(), 9, mtime=0)
+
+
+def strip(made):
+    """Takes out of the programs and the library what only debuggers read."""
+    for name in ("bin/shb", "lib/shb/shb-std", "lib/shb/shb-windows", "lib/shb/libtsan.so"):
+        if (made / name).exists():
+            subprocess.run(["strip", "--strip-unneeded", made / name], check=True)

@@ -6,6 +6,7 @@ the new one, and each new file stands as NAME.shb-new beside its place until all
 the list names all that is ours: installing again goes on, and uninstalling leaves nothing.
 """
 
+import compileall
 import contextlib
 import os
 import pathlib
@@ -98,6 +99,13 @@ def install(tree, place):
     remove_files(place, old.files - {*names, LISTED})
     remove_compiled(place, old.files | set(names))
     write_list(place, Listed(frozenset([*names, LISTED]), remove_folders(place, folders)))
+
+
+def compile_modules(place):
+    """Compiles the Python once, as else each call of a user who may not write there would."""
+    for name in sorted(read_list(place).files):
+        if name.endswith(".py"):
+            compileall.compile_file(place / name, quiet=2)
 
 
 def uninstall(place):

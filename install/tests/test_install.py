@@ -56,6 +56,12 @@ class Tree(installing.Case):
                 self.assertTrue(call(self.prefix / "bin" / command, "--help").endswith(f"\n\nshb {version}"), command)
                 self.assertEqual(call(self.prefix / "bin" / command, "--version"), f"{command} {version}")
 
+    def test_modules_are_compiled(self):
+        modules = list((self.prefix / "lib/shb").rglob("*.py"))
+        self.assertGreater(len(modules), 40)
+        for module in modules:
+            self.assertEqual(len(list(module.parent.glob(f"__pycache__/{module.stem}.*.pyc"))), 1, module)
+
     def not_as_root(self, *words):
         """Calls the command as if it weren't root's, who may not follow a link out of the prefix."""
         code = ("import sys; sys.path[:0] = sys.argv[1:3]; from shb_install import command, placing; placing.is_root = lambda: False; "

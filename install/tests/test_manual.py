@@ -112,8 +112,13 @@ class Parts(installing.Case):
     def test_the_exit_status_has_a_section(self):
         for text, lines in ((WITHOUT_HEADINGS, "66 if there is a race;\n125 if not."), (CLAP, "0\ndone")):
             page = manual.page(helptext.parse("shb-r", text), "1", "today", [])
-            self.assertEqual(page.partition(".SH EXIT STATUS\n.nf\n")[2].partition("\n.fi\n")[0], lines)
+            self.assertIn(f".SH EXIT STATUS\n{lines}\n", page.replace(".nf\n", "").replace(".fi\n", ""))
             self.assertNotIn("Exit status:", page)
+
+    def test_paragraphs_fill_the_page(self):
+        """But those with lines that stand further to the right, as examples do."""
+        page = manual.page(helptext.parse("x", "Does it.\n\nOne line\nand more.\n\nLike so\n  $ x\n\nUsage: x\n"), "1", "today", [])
+        self.assertIn("\n.PP\nOne line\nand more.\n.PP\n.nf\nLike so\n  $ x\n.fi\n", page)
 
     def test_commands(self):
         self.assertEqual(helptext.parse("shb", COMMANDS).commands, {"races": "Writes 'it': [all]"})

@@ -71,6 +71,30 @@ class Package(installing.Case):
         self.assertIn("race 1: 4 5\n", said)
         self.assertIn(f"{COMMIT_DAY}-{commit[:12]}", call(tree / "usr/bin/shb-view", "--version"))
 
+    def test_a_distribution_takes_the_package(self):
+        """As lintian judges it, if it is installed."""
+        self.need("dpkg-deb")
+        self.need("lintian")
+        ran = installing.subprocess.run(["lintian", "--allow-root", self.debian("one")], stdout=installing.subprocess.PIPE, timeout=installing.SECONDS)
+        self.assertEqual([line for line in ran.stdout.decode().splitlines() if line.startswith("E:")], [])
+
+    def test_dpkg_leaves_nothing(self):
+        """Installed by dpkg the commands run, with modules that are compiled once; removed, nothing is left."""
+        self.need("dpkg")
+        root = self.folder / "root"
+        for folder in ("updates", "info"):
+            (root / "var/lib/dpkg" / folder).mkdir(parents=True)
+        (root / "var/lib/dpkg/status").touch()
+        dpkg = ["dpkg", f"--root={root}", f"--log={self.folder}/log", "--force-script-chrootless", "--force-depends", "--force-not-root", "--force-bad-path"]
+        call(*dpkg, "--install", self.debian("one"))
+        compiled = {path: path.read_bytes() for path in (root / "usr/lib/shb").rglob("*.pyc")}
+        self.assertEqual(len(compiled), len(list((root / "usr/lib/shb").rglob("*.py"))))
+        self.assertIn("Usage: shb ", call(root / "usr/bin/shb", "--help"))
+        self.assertRegex(call(root / "usr/bin/shb-view", "--version"), "^shb-view 2026.01.02-")
+        self.assertEqual({path: path.read_bytes() for path in (root / "usr/lib/shb").rglob("*.pyc")}, compiled)
+        call(*dpkg, "--remove", "shb")
+        self.assertFalse((root / "usr").exists())
+
     def test_the_glibc_is_the_highest_that_a_file_asks_for(self):
         unpacked = installing.packaged()[2]
         said = re.search(r"glibc ([0-9.]+) or later", (unpacked / "share/doc/shb/PROVED.md").read_text())[1]
