@@ -24,7 +24,10 @@ class Results:
     takes another's files, and none deletes what it didn't make."""
 
     def __init__(self, folder, command, spared=None):
-        self.folder, self.list = unused_folder(folder)
+        try:
+            self.folder, self.list = unused_folder(folder)
+        except OSError as fault:
+            raise Refused(f"the results can't be put into {folder} ({fault.strerror}): -o names another folder") from None
         self.names = []     # of what is made
         spared = self.remove_earlier(spared)
         self.list.truncate(0)

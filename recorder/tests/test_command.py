@@ -225,6 +225,11 @@ class Command(recorder.Case):
             self.assertEqual(self.record(path), (126, "", f"shb-record: {path}: can't be run: {why}\n"))
         self.assertEqual(list(self.folder.iterdir()), [text])
 
+    def test_results_that_cannot_be_put_anywhere(self):
+        (self.folder / "file").touch()
+        said = f"shb-record: the results can't be put into {self.folder}/file (File exists): -o names another folder\n"
+        self.assertEqual(self.record("-o", "file", "true"), (125, "", said))
+
     def test_what_leaves_no_record_leaves_no_results(self):
         """Files of others in the folder stay."""
         others = self.folder / "r" / "others"
