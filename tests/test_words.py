@@ -31,8 +31,12 @@ or the memory failed, 5 report rejected
 """
 
 HINT = b"\nFor more information, try '--help'.\n"
-NOT_IN_RANGE = b"error: invalid value '65' for '--workers <N>': 65 is not in 1..=64\n" + HINT
-NO_TRACE = b"error: the following required arguments were not provided:\n  <TRACE>\n\nUsage: shb check <TRACE>\n" + HINT
+WORKERS = b"--workers takes a number from 1 to 64.\n"
+NOT_IN_RANGE = b"error: invalid value '65' for '--workers <N>': 65 is not in 1..=64\n" + HINT + WORKERS
+NO_NUMBER = b"error: invalid value 'x' for '--workers <N>': invalid digit found in string\n" + HINT + WORKERS
+CHECK = b"\nUsage: shb check <TRACE> < REPORT\n" + HINT
+NO_TRACE = b"error: the following required arguments were not provided:\n  <TRACE>\n" + CHECK
+REPORT_AS_A_WORD = b"error: unexpected argument 'R' found\n" + CHECK
 
 
 class Words(program.Case):
@@ -41,7 +45,9 @@ class Words(program.Case):
 
     def test_whole_refusals(self):
         self.expect(program.run(["races", "--workers", "65"]), 3, b"", NOT_IN_RANGE)
+        self.expect(program.run(["places", "--workers", "x"]), 3, b"", NO_NUMBER)
         self.expect(program.run(["check"]), 3, b"", NO_TRACE)
+        self.expect(program.run(["check", "T", "R"]), 3, b"", REPORT_AS_A_WORD)
 
     def test_help(self):
         for words in (["--help"], ["help"], ["-h"]):
@@ -75,7 +81,7 @@ class Words(program.Case):
     def test_help_of_check(self):
         self.expect(program.run(["check", "--help"]), 0, program.run(["help", "check"]).out)
         text = program.run(["help", "check"]).out.decode()
-        for wanted in ("Usage: shb check <TRACE>", "ok R", "bad line N", "bad counts", "bad race K", "bad places"):
+        for wanted in ("Usage: shb check <TRACE> < REPORT\n", "ok R", "bad line N", "bad counts", "bad race K", "bad places"):
             self.assertIn(wanted, text)
         self.assertIn("Not judged: whether races of the trace are left out", text)
         self.assertLessEqual(max(map(len, text.splitlines())), 80)

@@ -4,7 +4,8 @@ use shb_fan::Workers;
 /// How a run is made.
 #[derive(Clone, Copy, Debug, PartialEq, Eq)]
 pub struct Settings {
-    /// How many workers look for races and make schedules. The report is the same for every number of them.
+    /// How many workers make the schedules and the text of the races. The search for races isn't shared among them. The
+    /// report is the same for every number of them.
     pub workers: Workers,
     /// Whether each race is shown with its schedule.
     pub schedules: bool,

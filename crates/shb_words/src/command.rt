@@ -9,7 +9,7 @@ fn workers_argument<'a>(alloc: Global) -> Arg<'a> {
     Arg::new(alloc, "workers")
         .long("workers")
         .value_name("N")
-        .help("How many workers share the work, 1 to 64 [default: 4]")
+        .help("Workers that make schedules and lines, 1 to 64 [default: 4]")
         .value_parser(value_parser!(u32).range(1..=64))
 }
 
@@ -70,6 +70,7 @@ fn check_command<'a>(alloc: Global) -> Result<Command<'a>, NoMemory> {
         .required(true);
     let command = Command::new(alloc, "check")
         .about("Checks the report on standard input against its trace")
+        .override_usage("shb check <TRACE> < REPORT")
         .after_help(ABOUT_CHECKS)
         .arg(trace)?;
     Ok(command)

@@ -16,7 +16,7 @@ or the memory failed, 5 report rejected
 
 /// Under the options of `races`: what a trace and a report look like, and what they cost.
 pub const ABOUT_TRACES: &str = "The trace:
-  One event a line, in the order in which they happened:
+  One event per line, in the order in which they happened:
   THREAD|OPERATION|LOCATION. The location may be left out. Names are of one byte
   or more, any but '|'. Empty lines are skipped. The operations:
 
@@ -45,8 +45,8 @@ Costs:
   numbers as races times events. --list leaves the schedules out. A variable
   that two threads write N times without a lock has N times N races: 'shb
   places' lists one of each place, and is for the first look. --workers changes
-  the time alone, never the report: the search for races and the schedules are
-  shared out; reading the trace, ordering its events and writing aren't.
+  the time alone, never the report: workers share the schedules and the lines of
+  the races; reading the trace, the search for races and writing aren't shared.
 
 Exit status:
   0  the report was written, or the help that was asked for

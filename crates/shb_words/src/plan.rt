@@ -62,6 +62,9 @@ impl From<NoMemory> for WordsFault {
     }
 }
 
+/// What a user is told whose number of workers is none.
+const ABOUT_WORKERS: &str = "--workers takes a number from 1 to 64.\n";
+
 /// A text of these characters.
 fn text_of(alloc: Global, characters: &str) -> Result<String, NoMemory> {
     Ok(characters.to_string(alloc)?)
@@ -132,15 +135,19 @@ fn refused(alloc: Global, reason: &str) -> Result<Plan, WordsFault> {
     })
 }
 
-/// What stands for an error of the command line: help that was asked for is no error.
+/// What stands for an error of the command line: help that was asked for is no error. The one value that can be wrong
+/// is the number of workers.
 fn plan_of_error(alloc: Global, error: Error) -> Result<Plan, WordsFault> {
     let kind = error.kind();
     if matches!(kind, ErrorKind::OutOfMemory) {
         return Err(WordsFault::Unread(error));
     }
-    let text = error.to_string(alloc).map_err(NoMemory::from)?;
+    let mut text = error.to_string(alloc).map_err(NoMemory::from)?;
     if matches!(kind, ErrorKind::DisplayHelp) {
         return Ok(Plan::Help { text });
+    }
+    if matches!(kind, ErrorKind::ValueValidation) {
+        text.push_str(ABOUT_WORKERS).map_err(NoMemory::from)?;
     }
     Err(WordsFault::Refused { text })
 }
