@@ -25,7 +25,7 @@ COMMENT = re.compile(r"//.*")
 WAITS = "shb_fan/src/streaming.rt"
 SLEEPS = "shb_fan/src/ring.rt"
 STARTS = "shb_fan/src/sides.rt"
-PROGRAM = ("shb/src/main.rt", "shb/src/reports.rt", "shb/src/scans.rt", "shb/src/checks.rt")
+PROGRAM = ("shb/src/main.rt", "shb/src/traces.rt", "shb/src/checks.rt")
 
 # What stands in no file but these, and how often.
 ANY_NUMBER = None

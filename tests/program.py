@@ -58,3 +58,7 @@ class Case(side_by_side.Case):
 
     def expect(self, answer, status, out=b"", err=b""):
         self.assertEqual(answer, Answer(status, out, err))
+
+    def expect_refused(self, answer, first):
+        """The trace is refused: nothing was written, and this is the first line that is said. What follows it tells of the line."""
+        self.assertEqual((answer.status, answer.out, answer.err.split(b"\n")[0]), (2, b"", first))

@@ -32,12 +32,14 @@ class ByteOrderMarks(program.Case):
         self.expect(program.run(["check", self.file(TRACE)], MARK), 5, b"bad line 1\n")     # the report's beginning is another matter
 
     def test_a_refused_trace(self):
-        """The fault comes first."""
+        """The fault comes first, and what the line has comes last."""
         for text, fault in ((MARK + b"# a comment\n", b"line 1: the line has no operation field\n"), (MARK, b"line 1: the line has no operation field\n"),
                             (MARKED + b"T0|x\n", b"line 3: the operation is not known\n")):
             with self.subTest(text):
-                self.expect(program.run(["races", self.file(text)]), 2, b"", fault + SAID)
-                self.expect(program.run(["check", self.file(text)]), 2, b"", fault + SAID)
+                self.expect(program.run(["races"], text), 2, b"", fault + SAID)
+                for words in (["races"], ["check"]):
+                    answer = program.run([*words, self.file(text)])
+                    self.assertEqual((answer.status, answer.err.startswith(fault + SAID + b"the line is `")), (2, True))
 
     def test_other_beginnings(self):
         """Also those that are a part of a mark, or have it later."""
@@ -45,7 +47,7 @@ class ByteOrderMarks(program.Case):
             with self.subTest(text):
                 answer = program.run(["races", "--list", self.file(text)])
                 self.assertEqual((answer.status, answer.err), (0, b""))
-        self.expect(program.run(["races", self.file(MARK[:2])]), 2, b"", b"line 1: the line has no operation field\n")
+        self.expect(program.run(["races"], MARK[:2]), 2, b"", b"line 1: the line has no operation field\n")
 
     def test_bytes_that_come_one_by_one(self):
         with subprocess.Popen([program.PATH, "races", "--list"], stdin=subprocess.PIPE, stdout=subprocess.PIPE, stderr=subprocess.PIPE, bufsize=0) as ran:

@@ -23,9 +23,9 @@ class LongTexts(program.Case):
         with subprocess.Popen(text, shell=True, stdout=subprocess.PIPE) as written:
             self.expect(program.run_over(["races"], written.stdout), *wanted)
 
-    def expect_refused(self, path, said):
+    def expect_both_refuse(self, path, said):
         for command in ("races", "check"):
-            self.expect(program.run([command, path]), 2, b"", said + b"\n")
+            self.expect_refused(program.run([command, path]), said)
 
     def test_an_event_after_line_feeds(self):
         report = EMPTY.replace(b"events 0 threads 0", b"events 1 threads 1") + b"end\n"
@@ -36,11 +36,11 @@ class LongTexts(program.Case):
         self.expect_after_line_feeds(LIMIT - 9, "T|rel(l)", 2, b"", said)
 
     def test_one_line(self):
-        self.expect_refused(self.zeros(b"", LIMIT), b"line 1: the line is longer than 4096 bytes")
-        self.expect_refused(self.zeros(b"", LIMIT + 1), b"line 1: the text is longer than %d bytes" % LIMIT)
+        self.expect_both_refuse(self.zeros(b"", LIMIT), b"line 1: the line is longer than 4096 bytes")
+        self.expect_both_refuse(self.zeros(b"", LIMIT + 1), b"line 1: the text is longer than %d bytes" % LIMIT)
 
     def test_an_earlier_fault_wins(self):
-        self.expect_refused(self.zeros(b"oops\n", LIMIT + 1), b"line 1: the line has no operation field")
+        self.expect_both_refuse(self.zeros(b"oops\n", LIMIT + 1), b"line 1: the line has no operation field")
 
     def test_a_report(self):
         trace = self.file(b"")

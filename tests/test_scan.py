@@ -187,7 +187,11 @@ def written(pieces, words=("scan",), **how):
 class Scan(program.Case):
     def expect_both(self, text, status, out=b"", err=b""):
         self.expect(program.run(["scan"], text), status, out, err)
-        self.expect(program.run(["scan", self.file(text)]), status, out, err)
+        of_file = program.run(["scan", self.file(text)])
+        if status == 2:
+            self.expect_refused(of_file, err.rstrip(b"\n"))
+        else:
+            self.expect(of_file, status, out, err)
 
     def test_worked_rows(self):
         for text, wanted in ROWS:

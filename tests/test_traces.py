@@ -51,8 +51,8 @@ class Traces(program.Case):
                 self.expect(program.run([], text), 2, b"", error)
                 trace = self.file(text)
                 for words in (["races"], ["races", "--list"], ["races", "--workers", "1"]):
-                    self.expect(program.run([*words, trace]), 2, b"", error)
-                self.expect(program.run(["check", trace], b"not a report"), 2, b"", error)
+                    self.expect_refused(program.run([*words, trace]), said.encode())
+                self.expect_refused(program.run(["check", trace], b"not a report"), said.encode())
                 self.assertRaisesRegex(shb.Refused, f"^{said}$", shb.read_trace, text)
 
     def test_accepted_at_the_limits(self):

@@ -1,4 +1,5 @@
-//! Whether a trace begins with a byte order mark, whose bytes are part of its first name.
+//! What there is to say of a trace that isn't refused for it: that it begins with a byte order mark, whose bytes are
+//! part of its first name, and that it has no events.
 ghost use Rattle.std.specs.Prelude.{◌≡◌, ◌-◌, ◌^◌, ◌<◌, ◌≤◌, ◌↔◌, ◌++◌, ◌∷◌, [], length, take, IfOk, IsTrue};
 ghost use Rattle.std.specs.Io.KnownBytes.{ReadConsumes};
 ghost use Rattle.shb_io.specs.Devices.{IsCounted, IsGivenCounted};
@@ -11,8 +12,11 @@ use std::io::Write;
 const MARK: [u8; 3] = [0xEF, 0xBB, 0xBF];
 
 /// What a user is told of a trace that begins with one.
-const WORDS: &str =
+const HAS_MARK: &str =
     "the trace begins with a byte order mark, which is a part of the first thread's name";
+
+/// What a user is told of a trace of empty lines alone, or of no line.
+const IS_EMPTY: &str = "the trace has no events";
 
 /// The first three bytes of a text that comes in pieces; all of it while it is shorter.
 #[derive(Drop)]
@@ -47,11 +51,18 @@ impl Front {
     }
 }
 
+/// Whether some bytes are ends of lines alone.
+fn are_ends(bytes: &[u8]) -> bool {
+    bytes.iter().all(|byte| matches!(byte, b'\n' | b'\r'))
+}
+
 /// A source that knows how what it gave begins, and else is the source inside.
 #[derive(Drop)]
 pub(crate) struct Begun<S> {
     source: S,
     front: Front,
+    /// Whether all that it gave are ends of lines.
+    is_empty: bool,
 }
 
 impl<S: Source> Begun<S> {
@@ -62,14 +73,18 @@ impl<S: Source> Begun<S> {
         Begun {
             source,
             front: Front::new(),
+            is_empty: true,
         }
     }
 
-    /// Says on standard error where the text that was given begins with a byte order mark. A failure of
-    /// standard error is passed over.
-    pub(crate) fn tell_mark<R: Eprint>(&self, rt: &R) {
+    /// Says on standard error where the text that was given begins with a byte order mark, and, where that is to be told
+    /// of a trace that was accepted, where it has no events. A failure of standard error is passed over.
+    pub(crate) fn tell_notes<R: Eprint>(&self, rt: &R, tells_empty: bool) {
         if self.front.is_mark() {
-            let _ = rt.eprintln(WORDS);
+            let _ = rt.eprintln(HAS_MARK);
+        }
+        if tells_empty && self.is_empty {
+            let _ = rt.eprintln(IS_EMPTY);
         }
     }
 }
@@ -94,6 +109,7 @@ impl<S: Source> Source for Begun<S> {
     {
         let count = self.source.read(buf)?;
         self.front.add(&buf[..count]);
+        self.is_empty = self.is_empty && are_ends(&buf[..count]);
         Ok(count)
     }
 

@@ -2,62 +2,87 @@
 ghost use Rattle.std.specs.Prelude.{◌≡◌};
 
 use crate::beginning::Begun;
-use crate::complaints::{FAILED, complain};
+use crate::complaints::{Reasoned, STANDARD_INPUT, cannot};
 use crate::output::flushed;
+use crate::refusals::{Ending, explain};
+use crate::tail::Tailed;
 use shb_io::{FromRead, Source, ToWrite};
 use shb_lines::MOST_BYTES;
-use shb_run::{check, end_of_check};
+use shb_run::{RunError, Verdict, check, status_of_check};
 use std::fs::File;
-use std::io::{Read, Take, writer};
+use std::io::{Error, Read, Take, writer};
 use std::random::RandomSource;
 use std::rt::Files;
 
-/// Whether standard input is open. A file that is opened while it isn't takes its number, and would be read in its place.
-fn has_standard_input<R: Input>(rt: &R) -> bool {
+/// Why standard input can't be read, where it is closed. A file that is opened while it is takes its number, and would
+/// be read in its place.
+fn closed<R: Input>(rt: &R) -> Option<Error> {
     let mut reader = rt.reader();
-    reader.read(&mut []).is_ok()
-}
-
-/// Says of a report that is longer than a check reads why its verdict is a bad line.
-fn tell_length<R: Eprint, Q: Read>(rt: &R, given: &Take<Q>) {
-    if given.limit() == 0 {
-        let _ = eprintln!(rt; "the report is longer than {MOST_BYTES} bytes");
+    match reader.read(&mut []) {
+        Ok(_) => None,
+        Err(reason) => Some(reason),
     }
 }
 
-/// Judges the report on standard input against a trace, writes the verdict to standard output, and gives the program's
-/// status. Of a report that is longer than a check reads, standard error says so beside the verdict.
+/// Says of a report that is longer than a check reads, and to a user who watches of one that is cut off, why its verdict
+/// is a bad line.
+fn tell_end<R: Eprint, Q: Read>(rt: &R, report: &Tailed<Take<Q>>, is_watched: bool) {
+    if report.reader().limit() == 0 {
+        let _ = eprintln!(rt; "the report is longer than {MOST_BYTES} bytes");
+    } else if is_watched && !report.has_end() {
+        let _ = rt.eprintln("the report doesn't end with the line 'end': it is cut off");
+    }
+}
+
+/// Judges the report on standard input against a trace, writes the verdict to standard output, and gives how that ended.
+/// Of a report that is longer than a check reads standard error says so beside the verdict, and to a user who watches of
+/// one that is cut off.
 fn check_against<R: Print + Eprint + Input + AllocGlobal + RandomSource, S: Source>(
     rt: &R,
     trace: &mut S,
-) -> u8
+    is_watched: bool,
+) -> Ending
     requires { S.failure_count trace.old ≡ 0 }
 {
     // One byte more than a report may have.
-    let mut given = rt.reader().take(MOST_BYTES + 1);
-    let mut report = FromRead::new(&mut given);
+    let mut given = Tailed::new(rt.reader().take(MOST_BYTES + 1));
+    let mut reasoned = Reasoned::new(&mut given);
+    let mut report = FromRead::new(&mut reasoned);
     let mut sink = ToWrite::new(writer(rt));
-    let answer = flushed(check(rt, rt.alloc(), trace, &mut report, &mut sink), sink);
-    if answer.is_ok() {
-        tell_length(rt, &given);
+    let answer = check(rt, rt.alloc(), trace, &mut report, &mut sink);
+    let answer = flushed(answer, sink, RunError::Sink);
+    let ending = match &answer {
+        Ok(_) => Ending::well(status_of_check(&answer)),
+        Err(error) => Ending::of_run(rt, error),
+    };
+    reasoned.tell_failure(rt, STANDARD_INPUT);
+    if matches!(answer, Ok(Verdict::BadLine { .. })) {
+        tell_end(rt, &given, is_watched);
     }
-    end_of_check(rt, &answer)
+    ending
 }
 
 /// Judges the report on standard input against the trace of a file, writes the verdict to standard output, and gives
-/// the program's status. Where standard input is closed nothing is opened.
+/// the program's status. Where standard input is closed nothing is opened. A user may watch standard error.
 pub(crate) fn follow_check<R: Print + Eprint + Input + AllocGlobal + Files + RandomSource>(
     rt: &R,
-    trace: &str,
+    path: &str,
+    is_watched: bool,
 ) -> u8 {
-    if !has_standard_input(rt) {
-        return complain(rt, "cannot read", FAILED);
+    if let Some(reason) = closed(rt) {
+        return cannot(rt, "cannot read", STANDARD_INPUT, reason);
     }
-    let Ok(file) = File::open(rt, trace) else {
-        return complain(rt, "cannot open", FAILED);
+    let mut file = match File::open(rt, path) {
+        Ok(file) => file,
+        Err(reason) => return cannot(rt, "cannot open", path, reason),
     };
-    let mut trace = Begun::new(FromRead::new(file));
-    let status = check_against(rt, &mut trace);
-    trace.tell_mark(rt);
-    status
+    let mut reader = Reasoned::new(&mut file);
+    let mut trace = Begun::new(FromRead::new(&mut reader));
+    let ending = check_against(rt, &mut trace, is_watched);
+    trace.tell_notes(rt, is_watched && matches!(ending.status, 0 | 5));
+    reader.tell_failure(rt, path);
+    if let Some(refusal) = ending.refusal {
+        explain(rt, &mut file, refusal);
+    }
+    ending.status
 }

@@ -6,26 +6,54 @@ mod beginning;
 mod checks;
 mod complaints;
 mod output;
-mod reports;
-mod scans;
+mod refusals;
+mod tail;
+mod traces;
 
 use crate::checks::follow_check;
 use crate::complaints::{FAILED, WORDS_REFUSED, complain};
-use crate::reports::follow_report;
-use crate::scans::follow_scan;
+use crate::traces::{Task, follow_task};
 use shb_run::Settings;
+use shb_words::Listing;
 pub use shb_words::{Plan, WordsFault, plan_of};
 use std::env;
-use std::io::ErrorKind;
+use std::io::{ErrorKind, IsTerminal};
 use std::process::ExitCode;
 use std::random::RandomSource;
 use std::rt::{Env, Files};
 use std::sync::Wait;
 use std::thread::Threads;
 
+/// Which of the standard files are terminals.
+#[derive(Clone, Copy)]
+struct Terminals {
+    /// Standard input: a user may not know that it is read.
+    input: bool,
+    /// Standard error: a user watches.
+    errors: bool,
+}
+
+/// Says on standard error what is read from standard input, where that is awaited of a user.
+fn tell_waiting<R: Eprint>(rt: &R, is_awaited: bool, words: &str) {
+    if is_awaited {
+        let _ = rt.eprintln(words);
+    }
+}
+
+/// Does a task over the trace that is named, and gives the program's status.
+fn follow_trace<
+    R: Print + Eprint + Input + AllocGlobal + Files + RandomSource + Threads + Wait + Sync,
+>(rt: &R, terminals: Terminals, trace: Option<String>, task: Task) -> u8 {
+    let path = trace.as_ref().map(|path| path.as_str());
+    let is_awaited = terminals.input && path.is_none();
+    tell_waiting(rt, is_awaited, "reading the trace from standard input");
+    follow_task(rt, path, task, terminals.errors)
+}
+
 /// Does what the words ask for.
 fn follow<R: Print + Eprint + Input + AllocGlobal + Files + RandomSource + Threads + Wait + Sync>(
     rt: &R,
+    terminals: Terminals,
     words: &[String],
 ) -> u8 {
     match plan_of(rt.alloc(), words) {
@@ -41,14 +69,23 @@ fn follow<R: Print + Eprint + Input + AllocGlobal + Files + RandomSource + Threa
                 workers,
                 schedules: !list,
             };
-            let path = trace.as_ref().map(|path| path.as_str());
-            follow_report(rt, path, listing, settings)
+            let task = match listing {
+                Listing::Races => Task::Races(settings),
+                Listing::Places => Task::Places(settings),
+            };
+            follow_trace(rt, terminals, trace, task)
         }
         Ok(Plan::Scan { by_variable, trace }) => {
-            let path = trace.as_ref().map(|path| path.as_str());
-            follow_scan(rt, by_variable, path)
+            follow_trace(rt, terminals, trace, Task::Scan { by_variable })
         }
-        Ok(Plan::Check { trace }) => follow_check(rt, trace.as_str()),
+        Ok(Plan::Check { trace }) => {
+            tell_waiting(
+                rt,
+                terminals.input,
+                "reading the report from standard input",
+            );
+            follow_check(rt, trace.as_str(), terminals.errors)
+        }
         Ok(Plan::Help { text }) => match rt.print(text.as_str()) {
             Ok(()) => 0,
             Err(_) => complain(rt, "cannot write", FAILED),
@@ -64,7 +101,7 @@ fn follow<R: Print + Eprint + Input + AllocGlobal + Files + RandomSource + Threa
 /// Reads the words, and does what they ask for.
 fn launch<
     R: Print + Eprint + Input + AllocGlobal + Files + Env + RandomSource + Threads + Wait + Sync,
->(rt: &R) -> u8 {
+>(rt: &R, terminals: Terminals) -> u8 {
     let words: Vec<String> = match env::args(rt) {
         Ok(words) => match words.skip(1).collect(rt.alloc()) {
             Ok(words) => words,
@@ -75,9 +112,13 @@ fn launch<
         }
         Err(_) => return complain(rt, "error: a word is not UTF-8", WORDS_REFUSED),
     };
-    follow(rt, &words)
+    follow(rt, terminals, &words)
 }
 
 fn main(rt: HostRuntime) -> ExitCode {
-    ExitCode::from(launch(&rt))
+    let terminals = Terminals {
+        input: rt.stdin().is_terminal(),
+        errors: rt.stderr().is_terminal(),
+    };
+    ExitCode::from(launch(&rt, terminals))
 }

@@ -14,5 +14,5 @@ mod verdicts;
 pub use errors::RunError;
 pub use judging::{judge, read_trace};
 pub use shb_judging::{RaceFault, Verdict};
-pub use statuses::{end_of_check, exit_status, fault_line, status_of_check, tell_error};
+pub use statuses::{exit_status, fault_line, status_of_check};
 pub use verdicts::check;

@@ -45,22 +45,3 @@ pub fn fault_line(alloc: Global, error: &RunError) -> Result<String, NoMemory>
     };
     Ok(line)
 }
-
-/// Says on standard error why there is no answer, by `fault_line`. Where there is no memory
-/// for the text nothing is said, and a failure of standard error is passed over.
-pub fn tell_error<R: Eprint + AllocGlobal>(rt: &R, error: &RunError) {
-    if let Ok(line) = fault_line(rt.alloc(), error) {
-        let _ = rt.eprintln(line.as_str());
-    }
-}
-
-/// Says on standard error why there is no verdict, where that is so, and gives the status with which
-/// a program ends that checked a report: that of `status_of_check`.
-pub fn end_of_check<R: Eprint + AllocGlobal>(rt: &R, answer: &Result<Verdict, RunError>) -> u8
-    ensures { result ≡ check_status_of answer.now }
-{
-    if let Err(error) = answer {
-        tell_error(rt, error);
-    }
-    status_of_check(answer)
-}

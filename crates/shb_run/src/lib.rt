@@ -21,8 +21,8 @@ pub use pipeline::{run, run_gated};
 pub use places::run_places;
 pub use settings::{Settings, Summary};
 pub use shb_check::{
-    RaceFault, RunError, Verdict, check, end_of_check, exit_status, fault_line, status_of_check,
+    RaceFault, RunError, Verdict, check, exit_status, fault_line, status_of_check,
 };
 pub use shb_fan::{FreeGate, Gate, Workers};
-pub use shb_scan::{ScanError, end_of_scan, run_scan, status_of_scan};
-pub use statuses::{end_of_run, status_of_run};
+pub use shb_scan::{ScanError, run_scan, scan_line, status_of_scan};
+pub use statuses::status_of_run;

@@ -48,17 +48,3 @@ pub fn scan_line(alloc: Global, error: &ScanError) -> Result<String, NoMemory>
     };
     Ok(line)
 }
-
-/// Says on standard error why no scan was written, where that is so, and gives the status with which a program
-/// ends that scanned a trace: that of `status_of_scan`. Where there is no memory for the text nothing is said, and
-/// a failure of standard error is passed over.
-pub fn end_of_scan<R: Eprint + AllocGlobal>(rt: &R, answer: &Result<(), ScanError>) -> u8
-    ensures { result ≡ scan_status_of answer.now }
-{
-    if let Err(error) = answer {
-        if let Ok(line) = scan_line(rt.alloc(), error) {
-            let _ = rt.eprintln(line.as_str());
-        }
-    }
-    status_of_scan(answer)
-}
