@@ -1,8 +1,19 @@
 /* What `gcc -fsanitize=thread` calls: a hook before each access of memory, and the atomic operations themselves. */
-#include "runtime.h"
+#include "hold.h"
 
 /* ---- accesses ---- */
-static uint64_t read_at(const volatile void *p, uint64_t caller) { return caller ^ (uint64_t)p << 20; }
+/* What a thread's last hook was. Its operation stands where a record has it. */
+static uint64_t read_at(const volatile void *p, uint64_t caller) {
+    return ((caller ^ (uint64_t)p << 20) & ~(63ull << 48)) | (uint64_t)OP_READ << 48;
+}
+static uint64_t size_in_last(uint64_t size) {
+    return size <= 16 && !(size & (size - 1)) ? (uint64_t)__builtin_ctzl(size) : IS_RANGE | size % IS_RANGE;
+}
+static uint64_t write_at(uint64_t size, uint64_t caller) { return caller | (uint64_t)OP_WRITE << 48 | size_in_last(size) << 54; }
+static int is_write_of(uint64_t last, uint64_t size) {
+    uint64_t inside = last >> 54;      /* of a quick hook with the depth */
+    return is_write(last) && (inside & IS_RANGE ? inside : inside % (1 << LOGARITHM_BITS)) == size_in_last(size);
+}
 
 /* gcc puts two hooks before one copy of a structure (of the write, then of the read), and between them the turn must not
    be given up.  They are of one size, and the second stands soon after the first in the code: up to 86 bytes were seen,
@@ -10,13 +21,12 @@ static uint64_t read_at(const volatile void *p, uint64_t caller) { return caller
 enum { COPY_BYTES = 128 };
 
 static int ends_copy(const thread *t, uint64_t size, uint64_t caller) {
-    return t->written == size && caller - t->write_caller <= COPY_BYTES;
+    return is_write_of(t->last, size) && caller - (t->last & LOW_48_BITS) <= COPY_BYTES;
 }
 
 static void note_read(const void *p, uint64_t size, uint64_t caller) {
     thread *t = self;
     if (!others || !size || !t || !enter_access(ends_copy(t, size, caller) ? NEVER_YIELD : MAY_YIELD)) return;
-    t->written = 0;
     put(t, OP_READ, p, size, caller);
     note_spin(t, read_at(p, caller));
     leave(t);
@@ -25,16 +35,31 @@ static void note_read(const void *p, uint64_t size, uint64_t caller) {
 static void note_write(void *p, uint64_t size, uint64_t caller) {
     thread *t = others && size ? enter_access(MAY_YIELD) : 0;
     if (!t) return;
-    t->written = size;
-    t->write_caller = caller;
-    t->last_read = 0;
+    t->last = write_at(size, caller);
     put(t, OP_WRITE, p, size, caller);
     leave(t);
 }
 
+void note_access(enum operation operation, uint64_t address, uint64_t size, uint64_t caller) {
+    if (operation == OP_READ) note_read((void *)address, size, caller);
+    else note_write((void *)address, size, caller);
+}
+
+/* The rest of a quick hook of a cell with a table of keys, or with several readers. */
+void hold_elsewhere(thread *t, cell *c, uint64_t what, uint64_t address) {
+    int is_readers = c->owner == READERS && operation_of(what) == OP_READ;
+    uint64_t reader = is_readers ? reader_of(t->serial, t->number) : 0, use = slot_of_use(what, reader);
+    int is_known = (is_readers || c->owner == t->serial) && cell_uses[use].what == what && cell_uses[use].before == reader;
+    uint64_t *key = is_known ? find_key(c, use) : 0;
+    int is_held = key && hold_quickly(t, key, what);
+    end_quick_hook(t);
+    if (t->deferred) deliver_deferred(t);
+    if (!is_held) note_access(operation_of(what), address, 1 << (what >> 54) % (1 << LOGARITHM_BITS), what & LOW_48_BITS);
+}
+
 #define ACCESSES(kind, n) \
-    PUBLIC void __tsan_##kind##read##n(void *p) { note_read(p, n, CALLER); } \
-    PUBLIC void __tsan_##kind##write##n(void *p) { note_write(p, n, CALLER); }
+    PUBLIC void __tsan_##kind##read##n(void *p) { hook(OP_READ, (uint64_t)p, n, CALLER); } \
+    PUBLIC void __tsan_##kind##write##n(void *p) { hook(OP_WRITE, (uint64_t)p, n, CALLER); }
 #define ACCESSES_AT(n) \
     PUBLIC void __tsan_read##n##_pc(void *p, void *at) { note_read(p, n, (uint64_t)at); } \
     PUBLIC void __tsan_write##n##_pc(void *p, void *at) { note_write(p, n, (uint64_t)at); }
@@ -81,9 +106,8 @@ static uint64_t size_and_order(int size, int order) { return size | (order & 7) 
 static thread *before_atomic(enum operation operation, const volatile void *p, uint64_t size_and_order, uint64_t caller) {
     thread *t = enter(MAY_YIELD);
     if (!t) return 0;
-    t->written = 0;
     if (others) put(t, operation, p, size_and_order, caller);
-    if (operation == OP_ATOMIC_STORE) t->last_read = 0;
+    if (operation == OP_ATOMIC_STORE) t->last = 0;
     else note_spin(t, read_at(p, caller));
     return t;
 }
@@ -99,9 +123,8 @@ static thread *before_exchange(void) {
 
 static void after_exchange(thread *t, int done, const volatile void *p, uint64_t size_and_order, uint64_t caller) {
     if (!t) return;
-    t->written = 0;
     if (others) put(t, done ? OP_ATOMIC_UPDATE : OP_ATOMIC_LOAD, p, size_and_order, caller);
-    if (done) t->last_read = 0;
+    if (done) t->last = 0;
     else note_spin(t, read_at(p, caller));
     leave(t);
 }
@@ -217,7 +240,7 @@ UPDATE(128, uint128_t, fetch_nand, fetch_nand_16)
 PUBLIC void __tsan_atomic_thread_fence(int order) {
     thread *t = others ? enter(MAY_YIELD) : 0;
     if (t) {
-        t->written = 0;
+        end_copy(t);
         put(t, OP_FENCE, 0, order & 7, CALLER);
         leave(t);
     }

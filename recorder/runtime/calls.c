@@ -87,7 +87,7 @@ static __attribute__((noinline)) void set_frame(thread *t, uint32_t depth, uint6
 PUBLIC void __tsan_func_entry(void *caller) {
     thread *t = self;
     if (!t) return note_stranger();
-    t->written = 0;
+    end_copy(t);
     if (!records_calls) return;
     uint32_t depth = t->depth;
     if (depth < MOST_FRAMES) {
@@ -105,7 +105,7 @@ PUBLIC void __tsan_func_entry(void *caller) {
 PUBLIC void __tsan_func_exit(void) {
     thread *t = self;
     if (!t) return;
-    t->written = 0;
+    end_copy(t);
     if (t->depth) t->depth--;
 }
 

@@ -1,10 +1,13 @@
 /* Cells: what is known of each 8 bytes of memory, so that accesses which bring no race needn't be recorded.
 
-   A cell has the thread that alone used its bytes lately, the *owner*, and its latest uses of up to seven kinds. An
-   access that repeats a use of the owner is *held back*: its position is kept, and that of the one before is forgotten.
-   When another thread comes, or another kind needs the room, the last of each use goes to the record with its position
-   (OP_LATE), and the converter puts it there. For example, of x = 0; while (n--) x++; by a thread, and then x = 1 by
-   another, the record gets four accesses: x = 0, the last read and the last write of x++, and x = 1.
+   A cell has the thread that alone used its bytes lately, the *owner*, and its latest uses of some kinds. An access that
+   repeats a use of the owner is *held back*: its position is kept, and that of the one before is forgotten. When another
+   thread comes, or another kind needs the room, the last of each use goes to the record with its position (OP_LATE), and
+   the converter puts it there. For example, of x = 0; while (n--) x++; by a thread, and then x = 1 by another, the record
+   gets four accesses: x = 0, the last read and the last write of x++, and x = 1.
+
+   While nobody writes, other threads that read the cell don't end the phase: then its owner is READERS, and each use is
+   one of a certain thread's. A write, an atomic access, an access of several cells or a free ends that phase.
 
    What is lost? Nothing that a race or its place needs:
      - of accesses that are the same (thread, kind, place, bytes) and have no conflicting one of another thread between
@@ -12,7 +15,7 @@
      - in the first phase of a variable, when no other thread had used it yet, the last alone does: each race of an
        earlier one with what comes behind has the same place as one of the last;
      - a variable that one thread alone uses has no race.
-   A cell has no phase of several readers: each change of the owner ends a phase, so what conflicts stands between two.
+   Accesses of several threads in one phase are reads, so what conflicts stands between two phases.
 
    More is recorded than needed where a cell has no free key, where an access covers several cells and isn't in the first
    phase of each, and where memory for cells ends. */
@@ -23,25 +26,23 @@
 #include <unistd.h>
 #include "cells.h"
 
-#define POSITIONS ((1ull << POSITION_BITS) - 1)
 #define USED_BY_ALL (~0u)              /* an owner that no thread is */
 #define MAX_BLOCK (1ull << 32)         /* a longer one is no new variables, as the converter has it */
-enum { IS_FIRST = 1 << KEYS };         /* in `held`: no thread used it before this owner */
-enum { HELD_KEYS = IS_FIRST - 1 };
 enum { OVERFLOWS = 8 };                /* after so many an older use makes room */
-enum { MOST_USES = USE_SLOTS / 4 * 3 };
-enum { CHUNK_BYTES = 4 << 20, CHUNKS = 1 << 14 };            /* memory is asked for in chunks of cells */
-enum { REGION_BYTES = PAGES_OF_REGION * sizeof(cell_page), PAGE_BYTES = CELLS_OF_PAGE * sizeof(cell) };
-enum { REGIONS_BYTES = REGIONS * sizeof(cell_page *), USES_BYTES = USE_SLOTS * sizeof(cell_use) };
-/* Where an access of several cells lies: the byte in its first one, and above it how many come before this one. */
-enum { GRAINS_BEFORE = 3, MOST_RANGE = 63 * GRAIN };
+enum { MOST_USES = USE_SLOTS / 4 * 3, MOST_OF_READERS = MOST_USES / 2 };     /* each thread brings new ones of readers */
+enum { CHUNK_BYTES = 4 << 20, CHUNKS = 1 << 14 };            /* memory is asked for in chunks */
+enum { REGION_BYTES = sizeof(cell_region), PAGE_BYTES = CELLS_OF_PAGE * sizeof(cell) };
+enum { REGIONS_BYTES = REGIONS * sizeof(cell_region *), USES_BYTES = USE_SLOTS * sizeof(cell_use) };
+enum { MOST_RANGE = ((1 << GRAINS_BEFORE) - 1) * GRAIN };
 
 int has_cells;
-cell_page **cell_regions;
+cell_region **cell_regions;
 cell_use *cell_uses;
-static uint64_t use_count, memory_left;
+static uint64_t use_count, readers_count, memory_left, memory_of_keys;         /* how many uses there are, and how many of readers */
 static char *chunks[CHUNKS];
-static uint64_t chunk_count, chunk_left;
+static uint64_t chunk_count;
+static struct pool { char *chunk; uint64_t left; } cell_pool, key_pool;        /* a chunk, and how much of it is left */
+static uint64_t *free_tables[MOST_LOG + 1];                  /* of keys, by the logarithm of their number; each leads to another one */
 
 /* ---- memory ---- */
 static void *new_memory(uint64_t bytes) {
@@ -51,6 +52,7 @@ static void *new_memory(uint64_t bytes) {
 
 void begin_cells(uint64_t most_bytes) {
     memory_left = most_bytes;
+    memory_of_keys = most_bytes / 2;
     cell_regions = most_bytes ? new_memory(REGIONS_BYTES + USES_BYTES) : 0;
     cell_uses = (cell_use *)(cell_regions + REGIONS);
     has_cells = cell_regions != 0;
@@ -71,43 +73,101 @@ void unlock_cells(void) { if (has_cells) for_all_memory(unlock); }
 void end_cells(void) {
     if (has_cells) for_all_memory(munmap);
     has_cells = 0;
-    use_count = chunk_count = chunk_left = 0;
+    use_count = readers_count = chunk_count = 0;
+    cell_pool = key_pool = (struct pool){0};
+    memset(free_tables, 0, sizeof free_tables);
+}
+
+static void *memory_from(struct pool *pool, uint64_t bytes) {
+    if (pool->left < bytes) {
+        char *chunk = memory_left >= CHUNK_BYTES && chunk_count < CHUNKS ? new_memory(CHUNK_BYTES) : 0;
+        if (!chunk) return 0;
+        memory_left -= CHUNK_BYTES;
+        pool->chunk = chunks[chunk_count++] = chunk;
+        pool->left = CHUNK_BYTES;
+    }
+    pool->left -= bytes;
+    return pool->chunk + pool->left;
 }
 
 /* Once there is no memory there never is again: a page whose first accesses were met without cells must not get any later. */
-static cell *out_of_memory(void) {
-    memory_left = chunk_left = 0;
+static void *out_of_memory(void) {
+    memory_left = cell_pool.left = 0;
     return 0;
 }
 
-static cell *cells_of_new_page(void) {
-    if (chunk_left < PAGE_BYTES) {
-        char *chunk = memory_left >= CHUNK_BYTES && chunk_count < CHUNKS ? new_memory(CHUNK_BYTES) : 0;
-        if (!chunk) return out_of_memory();
-        memory_left -= CHUNK_BYTES;
-        chunks[chunk_count++] = chunk;
-        chunk_left = CHUNK_BYTES;
+/* ---- keys ---- */
+static uint64_t *keys_of(cell *c) { return c->log_keys ? (uint64_t *)c->keys[0] : c->keys; }
+static int key_count(const cell *c) { return c->log_keys ? 1 << c->log_keys : KEYS; }
+
+static uint64_t *new_table(int log) {
+    uint64_t bytes = sizeof(uint64_t) << log, *keys = free_tables[log];
+    if (keys) {
+        free_tables[log] = (uint64_t *)keys[0];
+        memset(keys, 0, bytes);
+        return keys;
     }
-    chunk_left -= PAGE_BYTES;
-    return (cell *)(chunks[chunk_count - 1] + chunk_left);
+    keys = memory_of_keys >= bytes ? memory_from(&key_pool, bytes) : 0;
+    if (keys) memory_of_keys -= bytes;
+    return keys;
+}
+
+static void free_table(cell *c) {
+    if (!c->log_keys) return;
+    uint64_t *keys = keys_of(c);
+    keys[0] = (uint64_t)free_tables[c->log_keys];
+    free_tables[c->log_keys] = keys;
+    c->log_keys = 0;
+}
+
+static void insert_in_table(uint64_t *keys, int log, uint64_t key) {
+    uint64_t mask = (1 << log) - 1, k = key >> POSITION_BITS & mask;
+    while (keys[k]) k = (k + 1) & mask;
+    keys[k] = key;
+}
+
+/* Gives the cell a table, or one of twice the size. */
+static int grow_keys(cell *c) {
+    int log = c->log_keys ? c->log_keys + 1 : LEAST_LOG;
+    uint64_t *table = log <= MOST_LOG ? new_table(log) : 0, *keys = keys_of(c);
+    if (!table) return 0;
+    for (int k = 0, count = key_count(c); k < count; k++)
+        if (keys[k]) insert_in_table(table, log, keys[k]);
+    free_table(c);
+    memset(c->keys, 0, sizeof c->keys);
+    c->keys[0] = (uint64_t)table;
+    c->log_keys = log;
+    return 1;
+}
+
+/* Is there one? A quarter of a table stays free. */
+static int has_free_key(cell *c) { return c->used < (c->log_keys ? 3 << (c->log_keys - 2) : KEYS) || grow_keys(c); }
+
+static void insert_key(cell *c, uint64_t key) {
+    if (c->log_keys) insert_in_table(keys_of(c), c->log_keys, key);
+    else c->keys[c->used] = key;
+    c->used++;
 }
 
 /* ---- pages ---- */
 /* Null where nothing of it is known; with `make` where there is no memory. */
 static inline cell_page *page_at(uint64_t address, int make) {
-    cell_page **region = &cell_regions[address >> REGION_BITS];
+    cell_region **region = &cell_regions[address >> REGION_BITS];
     if (!*region && make) *region = memory_left ? new_memory(REGION_BYTES) : 0;
     if (!*region && make) out_of_memory();
-    return *region ? &(*region)[address / CELL_PAGE % PAGES_OF_REGION] : 0;
+    return *region ? &(*region)->pages[address / CELL_PAGE % PAGES_OF_REGION] : 0;
 }
 
-/* Its cells; or null. */
-static cell *make_cells(cell_page *page) {
-    cell *cells = cells_of_new_page();
-    for (int k = 0; cells && page->is_whole && k < CELLS_OF_PAGE; k++)
-        cells[k] = (cell){.owner = page->owner, .number = page->number, .held = page->is_first ? IS_FIRST : 0};
-    if (cells && page->is_whole) memset(page->used, -1, sizeof page->used);
-    return page->cells = cells;
+/* The cells of a page that is known; or null. */
+static cell **cells_at(uint64_t address) { return &cell_regions[address >> REGION_BITS]->cells[address / CELL_PAGE % PAGES_OF_REGION]; }
+
+static cell *make_cells(cell_page *page, uint64_t address) {
+    cell *cells = memory_from(&cell_pool, PAGE_BYTES);
+    if (!cells) return out_of_memory();
+    for (int k = 0; page->is_whole && k < CELLS_OF_PAGE; k++)
+        cells[k] = (cell){.owner = page->owner, .number = page->number, .is_first = page->is_first};
+    if (page->is_whole) memset(page->used, -1, sizeof page->used);
+    return *cells_at(address) = cells;
 }
 
 static unsigned number_in_page(uint64_t address) { return address / GRAIN % CELLS_OF_PAGE; }
@@ -115,7 +175,7 @@ static uint64_t address_in_page(uint64_t address, unsigned k) { return address /
 
 /* Its cell in a page that may be null; or null. */
 static cell *cell_in(cell_page *page, uint64_t address) {
-    cell *cells = page ? page->cells ? page->cells : make_cells(page) : 0;
+    cell *cells = page ? *cells_at(address) ? *cells_at(address) : make_cells(page, address) : 0;
     return cells ? &cells[number_in_page(address)] : 0;
 }
 
@@ -135,59 +195,97 @@ static int has_freed(const cell_page *page) {
     return all != 0;
 }
 
-/* ---- phases ---- */
-static void put_held(const cell *c, int k, uint64_t address) {
-    const cell_use *use = &cell_uses[(c->keys[k] >> POSITION_BITS) - 1];
-    uint64_t first = address / GRAIN * GRAIN - (use->where >> GRAINS_BEFORE) * GRAIN + use->where % GRAIN;
-    put_late((struct record){first | (uint64_t)c->number << 48, use->what}, c->keys[k] & POSITIONS);
+/* ---- uses ---- */
+/* The number of a use, which gets one; or 0. */
+static uint64_t number_of_use(uint64_t what, uint64_t before) {
+    uint64_t slot = slot_of_use(what, before);
+    int is_readers = before >> GRAINS_BEFORE != 0;
+    while (slot < FIRST_USE || (cell_uses[slot].what && (cell_uses[slot].what != what || cell_uses[slot].before != before)))
+        slot = (slot + 1) % USE_SLOTS;
+    if (cell_uses[slot].what) return slot;
+    if (use_count == MOST_USES || (is_readers && readers_count == MOST_OF_READERS)) return 0;
+    use_count++;
+    readers_count += is_readers;
+    cell_uses[slot] = (cell_use){what, before};
+    return slot;
 }
 
-static void put_all_held(const cell *c, uint64_t address) {
-    for (int k = 0; k < KEYS; k++)
-        if (c->held >> k & 1) put_held(c, k, address);
+/* ---- phases ---- */
+static void put_held(const cell *c, uint64_t key, uint64_t address) {
+    const cell_use *use = &cell_uses[key >> POSITION_BITS];
+    uint64_t byte = use->what >> FIRST_BYTE & (GRAIN - 1), before = use->before % (1 << GRAINS_BEFORE);
+    uint64_t first = (address / GRAIN - before) * GRAIN + byte;
+    uint16_t number = c->owner == READERS ? use->before >> GRAINS_BEFORE : c->number;
+    put_late((struct record){first | (uint64_t)number << 48, use->what ^ byte << FIRST_BYTE}, key & POSITIONS);
+}
+
+static void put_all_held(cell *c, uint64_t address) {
+    const uint64_t *keys = keys_of(c);
+    for (int k = 0, count = key_count(c); k < count; k++)
+        if (keys[k] & POSITIONS) put_held(c, keys[k], address);
 }
 
 static void begin_phase(cell_page *page, cell *c, uint64_t address, uint32_t serial, uint16_t number) {
-    if (c->held & HELD_KEYS) put_all_held(c, address);
+    put_all_held(c, address);
+    free_table(c);
     int is_first = !c->owner && !is_freed(page, address);
-    *c = (cell){.owner = serial, .number = number, .held = is_first ? IS_FIRST : 0};
+    *c = (cell){.owner = serial, .number = number, .is_first = is_first};
     page->used[number_in_page(address) / 64] |= bit_of(address);
     page->is_whole = 0;
 }
 
-static int free_key(const cell *c) {
-    int k = 0;
-    while (k < KEYS && c->keys[k]) k++;
-    return k;
+/* Now and then it takes the place of an older one. Does it? */
+static int replace_key(cell *c, uint64_t address, uint64_t key) {
+    static unsigned overflows;
+    if (++overflows % OVERFLOWS) return 0;
+    uint64_t *old = &keys_of(c)[c->log_keys ? key >> POSITION_BITS & (key_count(c) - 1) : overflows / OVERFLOWS % KEYS];
+    if (!*old) return 0;
+    if (*old & POSITIONS) put_held(c, *old, address);
+    *old = key;
+    return 1;
 }
 
-/* The owner's first use of this kind, in this phase or since it was forgotten. Where no key is free it is recorded, and now and
-   then takes the place of another one. */
+/* The owner's first use of this kind, in this phase or since it was forgotten. Is it held back? */
 static int hold_new(cell *c, uint64_t address, uint64_t use, uint64_t position) {
-    int k = free_key(c), is_held = c->held & IS_FIRST && position;
-    if (k == KEYS) {
-        if (++c->overflows % OVERFLOWS) return 0;
-        k = c->overflows / OVERFLOWS % KEYS;
-        if (c->held >> k & 1) put_held(c, k, address);
+    uint64_t key = use << POSITION_BITS | (c->is_first ? position : 0);
+    if (!has_free_key(c)) return replace_key(c, address, key) && c->is_first;
+    insert_key(c, key);
+    return c->is_first;
+}
+
+static int is_read(uint64_t what) { return (what >> 48 & 3) == OP_READ; }
+
+/* Of the cell's owner, or of one of its readers. Is it held back? At most one comes late. */
+static int hold_in_cell(cell *c, uint64_t address, cell_use use, uint64_t position) {
+    if (!is_read(use.what)) c->is_only_read = 0;
+    uint64_t number = position ? number_of_use(use.what, use.before) : 0, *key = number ? find_key(c, number) : 0;
+    if (key) *key = number << POSITION_BITS | position;
+    return key || (number && hold_new(c, address, number, position));
+}
+
+/* ---- phases of several readers ---- */
+/* The uses of its one reader get that reader; or it is 0, where there is no room for them. */
+static int give_to_readers(cell *c) {
+    uint64_t *keys = keys_of(c), reader = reader_of(c->owner, c->number), old[MOST_KEYS];
+    if (c->owner == READERS) return 1;
+    int count = key_count(c), used = 0;
+    for (int k = 0; k < count; k++) {
+        const cell_use *use = &cell_uses[keys[k] >> POSITION_BITS];
+        if (!keys[k]) continue;
+        uint64_t number = use->before ? 0 : number_of_use(use->what, reader);
+        if (!number) return 0;
+        old[used++] = number << POSITION_BITS | (keys[k] & POSITIONS);
     }
-    c->keys[k] = use << POSITION_BITS | position;
-    c->held = (c->held & ~(1 << k)) | is_held << k;
-    return is_held;
+    memset(keys, 0, count * sizeof *keys);
+    c->used = 0;
+    for (int k = 0; k < used; k++) insert_key(c, old[k]);
+    c->owner = READERS;
+    return 1;
 }
 
-/* The number of a use, which gets one; or 0. */
-static uint64_t number_of_use(uint64_t what, uint64_t where) {
-    uint64_t number = find_use(what, where);
-    if (cell_uses[number - 1].what) return number;
-    if (use_count == MOST_USES) return 0;
-    use_count++;
-    cell_uses[number - 1] = (cell_use){what, where};
-    return number;
-}
-
-int hold_in_cell(cell *c, uint64_t address, uint64_t what, uint64_t where, uint64_t position) {
-    uint64_t use = position ? number_of_use(what, where) : 0;
-    return use && (hold_again(c, use, position) || hold_new(c, address, use, position));
+/* May another thread read it in this phase? */
+static int is_for_readers(cell *c, uint32_t serial, cell_use use) {
+    return c->owner && c->owner != serial && c->is_only_read && is_read(use.what) && number_of_use(use.what, use.before) && give_to_readers(c);
 }
 
 /* ---- accesses ---- */
@@ -195,16 +293,28 @@ static int hold_in_one(uint32_t serial, struct record r, uint64_t address, uint6
     cell_page *page = page_at(address, 1);
     cell *c = cell_in(page, address);
     if (!c) return 0;
-    if (c->owner != serial) begin_phase(page, c, address, serial, r.where >> 48);
-    return hold_in_cell(c, address, r.what, address % GRAIN, position);
+    cell_use use = {what_of_use(r.what, address), reader_of(serial, r.where >> 48)};
+    if (is_for_readers(c, serial, use)) return hold_in_cell(c, address, use, position);
+    if (c->owner != serial) {
+        begin_phase(page, c, address, serial, r.where >> 48);
+        c->is_only_read = 1;
+    }
+    use.before = 0;
+    return hold_in_cell(c, address, use, position);
+}
+
+/* By an access of several, or a free: after it others aren't its readers alone. */
+static void use_cell(cell_page *page, cell *c, uint64_t address, uint32_t serial, uint16_t number) {
+    if (c->owner != serial) begin_phase(page, c, address, serial, number);
+    c->is_only_read = 0;
 }
 
 /* Without cells it needs none. */
 static void use_whole_page(cell_page *page, uint32_t serial, uint16_t number, uint64_t address) {
+    cell *cells = *cells_at(address);
     if (page->is_whole && page->owner == serial) return;
-    page->is_first = !page->cells && !page->is_whole && !has_freed(page);
-    for (unsigned k = 0; page->cells && k < CELLS_OF_PAGE; k++)
-        if (page->cells[k].owner != serial) begin_phase(page, &page->cells[k], address_in_page(address, k), serial, number);
+    page->is_first = !cells && !page->is_whole && !has_freed(page);
+    for (unsigned k = 0; cells && k < CELLS_OF_PAGE; k++) use_cell(page, &cells[k], address_in_page(address, k), serial, number);
     page->owner = serial;
     page->number = number;
     page->is_whole = 1;
@@ -213,8 +323,7 @@ static void use_whole_page(cell_page *page, uint32_t serial, uint16_t number, ui
 static void use_part_of_page(uint32_t serial, uint16_t number, uint64_t address, uint64_t end) {
     cell_page *page = page_at(address, 1);
     cell *c = cell_in(page, address);
-    for (uint64_t at = address / GRAIN * GRAIN; c && at < end; at += GRAIN, c++)
-        if (c->owner != serial) begin_phase(page, c, at, serial, number);
+    for (uint64_t at = address / GRAIN * GRAIN; c && at < end; at += GRAIN, c++) use_cell(page, c, at, serial, number);
 }
 
 static uint64_t end_in_page(uint64_t address, uint64_t end) {
@@ -231,41 +340,41 @@ static void use_range(uint32_t serial, uint16_t number, uint64_t address, uint64
     }
 }
 
-static uint64_t where_in(uint64_t address, uint64_t at) {
-    return (at / GRAIN - address / GRAIN) << GRAINS_BEFORE | address % GRAIN;
+static cell_use use_at(struct record r, uint64_t address, uint64_t at) {
+    return (cell_use){what_of_use(r.what, address), at / GRAIN - address / GRAIN};
 }
 
 /* Is the cell there in its first phase, of this thread, with a key for this? */
-static int may_hold(uint64_t address, uint32_t serial, uint64_t use) {
+static int may_hold(uint64_t address, uint32_t serial, cell_use use) {
     cell_page *page = page_at(address, 1);
-    const cell *c = cell_in(page, address);
-    if (!c || !use) return 0;
-    if (c->owner ? c->owner != serial || !(c->held & IS_FIRST) : is_freed(page, address)) return 0;
-    int k = 0;
-    while (k < KEYS && c->keys[k] && c->keys[k] >> POSITION_BITS != use) k++;
-    return k < KEYS;
+    cell *c = cell_in(page, address);
+    uint64_t number = number_of_use(use.what, use.before);
+    if (!c || !number) return 0;
+    if (c->owner ? c->owner != serial || !c->is_first : is_freed(page, address)) return 0;
+    return find_key(c, number) || has_free_key(c);
 }
 
 /* It is held back where each of its cells can: so it is whole when one of them puts it. */
 static int hold_in_several(uint32_t serial, struct record r, uint64_t address, uint64_t end, uint64_t position) {
     int is_held = position && end - address / GRAIN * GRAIN <= MOST_RANGE;
     for (uint64_t at = address; at < end && is_held; at = at / GRAIN * GRAIN + GRAIN)
-        is_held = may_hold(at, serial, number_of_use(r.what, where_in(address, at)));
+        is_held = may_hold(at, serial, use_at(r, address, at));
     use_range(serial, r.where >> 48, address, end);
     for (uint64_t at = address; at < end && is_held; at = at / GRAIN * GRAIN + GRAIN)
-        hold_in_cell(find_cell(at), at, r.what, where_in(address, at), position);
+        hold_in_cell(find_cell(at), at, use_at(r, address, at), position);
     return is_held;
 }
 
 /* Those that are zeros stay so: most blocks are new again before another thread comes. */
 static void free_cells(cell_page *page, uint32_t serial, uint16_t number, uint64_t address, uint64_t end) {
     unsigned first = number_in_page(address), last = number_in_page(end - 1);
+    cell *cells = *cells_at(address);
     for (unsigned w = first / 64; w <= last / 64; w++) {
         uint64_t bits = bits_between(w, first, last);
         page->freed[w] |= bits & ~page->used[w];
         for (uint64_t used = bits & page->used[w]; used; used &= used - 1) {
             unsigned k = 64 * w + __builtin_ctzll(used);
-            if (page->cells[k].owner != serial) begin_phase(page, &page->cells[k], address_in_page(address, k), serial, number);
+            use_cell(page, &cells[k], address_in_page(address, k), serial, number);
         }
     }
 }
@@ -275,17 +384,22 @@ static void free_range(uint32_t serial, uint16_t number, uint64_t address, uint6
         stop = end_in_page(address, end);
         cell_page *page = page_at(address, 1);
         if (!page || (page->is_whole && page->owner == serial)) continue;
-        if (!page->is_whole || page->cells || make_cells(page)) free_cells(page, serial, number, address, stop);
+        if (!page->is_whole || *cells_at(address) || make_cells(page, address)) free_cells(page, serial, number, address, stop);
     }
 }
 
 /* Where nothing is known nothing is written: it may be much. */
 static void clear_cells(cell_page *page, uint64_t address, uint64_t end) {
     unsigned first = number_in_page(address), last = number_in_page(end - 1);
+    cell *cells = *cells_at(address);
     for (unsigned w = first / 64; w <= last / 64; w++) {
         uint64_t bits = bits_between(w, first, last);
         if (!((page->used[w] | page->freed[w]) & bits)) continue;
-        for (uint64_t used = bits & page->used[w]; used; used &= used - 1) page->cells[64 * w + __builtin_ctzll(used)] = (cell){0};
+        for (uint64_t used = bits & page->used[w]; used; used &= used - 1) {
+            cell *c = &cells[64 * w + __builtin_ctzll(used)];
+            free_table(c);
+            *c = (cell){0};
+        }
         page->used[w] &= ~bits;
         page->freed[w] &= ~bits;
     }
@@ -299,7 +413,7 @@ static void renew(uint64_t address, uint64_t end) {
         stop = end_in_page(at, end);
         cell_page *page = page_at(at, 0);
         if (!page) continue;
-        if (page->is_whole && !page->cells && stop - at < CELL_PAGE && !make_cells(page)) continue;
+        if (page->is_whole && !*cells_at(at) && stop - at < CELL_PAGE && !make_cells(page, at)) continue;
         clear_cells(page, at, stop);
         if (page->is_whole) page->is_whole = 0;
     }
@@ -318,11 +432,12 @@ static int is_used_by_all(enum operation operation) {
 /* In a part of a page: what a use of it puts. */
 static uint64_t count_held(const cell_page *page, uint32_t serial, uint64_t address, uint64_t end) {
     uint64_t count = 0;
+    cell *cells = *cells_at(address);
     unsigned first = number_in_page(address), last = number_in_page(end - 1);
     for (unsigned w = first / 64; w <= last / 64; w++)
         for (uint64_t used = bits_between(w, first, last) & page->used[w]; used; used &= used - 1) {
-            const cell *c = &page->cells[64 * w + __builtin_ctzll(used)];
-            if (c->owner != serial) count += __builtin_popcount(c->held & HELD_KEYS);
+            cell *c = &cells[64 * w + __builtin_ctzll(used)];
+            for (int k = 0, most = c->owner != serial ? key_count(c) : 0; k < most; k++) count += (keys_of(c)[k] & POSITIONS) != 0;
         }
     return count;
 }
@@ -335,7 +450,7 @@ uint64_t count_late(uint32_t serial, struct record r, uint64_t bytes) {
     for (uint64_t at = address, stop; at < end; at = stop) {
         stop = end_in_page(at, end);
         const cell_page *page = page_at(at, 0);
-        if (page && page->cells && !(page->is_whole && page->owner == serial)) count += count_held(page, serial, at, stop);
+        if (page && *cells_at(at) && !(page->is_whole && page->owner == serial)) count += count_held(page, serial, at, stop);
     }
     return count;
 }

@@ -2,38 +2,59 @@
 #include <stdint.h>
 #include "../record.h"
 
+#pragma GCC visibility push(hidden)
+
 enum { KEYS = 7 };                     /* with these a cell is a line of the processor's cache */
 
-/* What is known of 8 bytes of memory. A key is a use (above) and the position at which the owner made it last (POSITION_BITS). */
+/* What is known of 8 bytes of memory. A key is a use (below), and the position at which the owner made it last (POSITION_BITS), or 0
+   where that one is recorded. */
 typedef struct {
-    uint32_t owner;                    /* the serial number of the thread that alone used it lately, or 0 */
+    uint32_t owner;                    /* the serial number of the thread that alone used it lately, or 0, or READERS */
     uint16_t number;                   /* of that thread in the record */
-    uint8_t held;                      /* a bit for each key whose last use isn't recorded, and IS_FIRST */
-    uint8_t overflows;                 /* uses that met no free key */
+    uint8_t is_first : 1;              /* no thread used it before this phase */
+    uint8_t is_only_read : 1;          /* in this phase */
+    uint8_t log_keys : 6;              /* not 0: it has a table of so many keys (the logarithm), to which the first word here leads */
+    uint8_t used;                      /* how many keys it has */
     uint64_t keys[KEYS];
 } cell;
+enum { LEAST_LOG = 4, MOST_LOG = 8, MOST_KEYS = 1 << MOST_LOG };
+#define POSITIONS ((1ull << POSITION_BITS) - 1)
 
 enum { GRAIN = 8, CELL_PAGE = 4096, CELLS_OF_PAGE = CELL_PAGE / GRAIN, ADDRESS_BITS = 47, REGION_BITS = 30 };
 enum { REGIONS = 1 << (ADDRESS_BITS - REGION_BITS), PAGES_OF_REGION = (1 << REGION_BITS) / CELL_PAGE };
 #define CELL_ADDRESSES (1ull << ADDRESS_BITS)
 
-/* A use is an access of a kind, at a place, of certain bytes of the cell's; it is known by its slot in a table. */
-typedef struct { uint64_t what, where; } cell_use;
-enum { USE_SLOTS = 1 << 18 };
+/* An owner that stands for all threads that read the cell in a phase without a write: then each use has its reader. */
+#define READERS (~0u - 1)
+
+/* A use is an access of a kind, at a place, of certain bytes of the cell's. It is known by its slot in a table, which is above what a
+   pointer to keys has in the place of a use.
+   `what` is that of the record, and the byte in the first cell stands in bits of the operation, of which an access needs two.
+   `before` is how many cells come before this one (GRAINS_BEFORE bits), and the reader or 0. */
+typedef struct { uint64_t what, before; } cell_use;
+enum { FIRST_BYTE = 50, GRAINS_BEFORE = 6 };
+enum { USE_SLOTS = 1 << 18, FIRST_USE = 1 << (ADDRESS_BITS - POSITION_BITS) };
+
+static inline uint64_t reader_of(uint32_t serial, uint16_t number) { return ((uint64_t)serial << 16 | number) << GRAINS_BEFORE; }
+static inline uint64_t what_of_use(uint64_t what, uint64_t address) { return what | address % GRAIN << FIRST_BYTE; }
 
 /* What is known of a page of memory. Of a page that is whole all is in a phase of one owner, with cells or without. A cell has a bit
    in `used` where it isn't zeros. One of zeros has a bit in `freed` where it was freed since it was new: no phase of it is a first one. */
 enum { MARKS = CELLS_OF_PAGE / 64 };
 typedef struct {
-    cell *cells;                       /* or null */
     uint32_t owner;
     uint16_t number;
-    uint8_t is_whole, is_first;        /* is_first: of one without cells, as IS_FIRST of a cell */
+    uint8_t is_whole, is_first;        /* is_first: of one without cells, as of a cell */
     uint64_t used[MARKS], freed[MARKS];
 } cell_page;
 
+typedef struct {
+    cell *cells[PAGES_OF_REGION];      /* of each page, or null */
+    cell_page pages[PAGES_OF_REGION];
+} cell_region;
+
 extern int has_cells;
-extern cell_page **cell_regions;       /* of each its pages, or null */
+extern cell_region **cell_regions;     /* or null */
 extern cell_use *cell_uses;
 
 /* Makes the tables, of at most so many bytes for cells; with 0, or where there is no memory, every access is recorded. */
@@ -52,28 +73,25 @@ void put_late(struct record r, uint64_t position);
 #define NO_POSITION 0
 
 static inline cell *find_cell(uint64_t address) {
-    cell_page *region = cell_regions[address >> REGION_BITS];
-    cell *cells = region ? region[address / CELL_PAGE % PAGES_OF_REGION].cells : 0;
+    const cell_region *region = cell_regions[address >> REGION_BITS];
+    cell *cells = region ? region->cells[address / CELL_PAGE % PAGES_OF_REGION] : 0;
     return cells ? &cells[address / GRAIN % CELLS_OF_PAGE] : 0;
 }
 
-/* The number of a use from 1, or of the free slot for it. */
-static inline uint64_t find_use(uint64_t what, uint64_t where) {
-    uint64_t slot = (what ^ what >> 40 ^ where << 30) * 0x9E3779B97F4A7C15u >> 46;
-    while (cell_uses[slot].what && (cell_uses[slot].what != what || cell_uses[slot].where != where)) slot = (slot + 1) % USE_SLOTS;
-    return slot + 1;
+/* Where the search for a use begins; most stand there. */
+static inline uint64_t slot_of_use(uint64_t what, uint64_t before) {
+    return (what + before * 0xD6E8FEB86659FD93u) * 0x9E3779B97F4A7C15u >> 46;
 }
 
-/* Has the cell this use? Then it is held back now. */
-static inline int hold_again(cell *c, uint64_t use, uint64_t position) {
+/* The key of a use, or null. A table has keys that are 0. */
+static inline uint64_t *find_key(cell *c, uint64_t use) {
+    if (c->log_keys) {
+        uint64_t *keys = (uint64_t *)c->keys[0], mask = (1 << c->log_keys) - 1, k = use & mask;
+        while (keys[k] && keys[k] >> POSITION_BITS != use) k = (k + 1) & mask;
+        return keys[k] ? &keys[k] : 0;
+    }
     for (int k = 0; k < KEYS; k++)
-        if (c->keys[k] >> POSITION_BITS == use) {
-            c->keys[k] = use << POSITION_BITS | position;
-            c->held |= 1 << k;
-            return 1;
-        }
+        if (c->keys[k] >> POSITION_BITS == use) return &c->keys[k];
     return 0;
 }
-
-/* Of the cell's owner: the access of a use that is new in this phase, or was forgotten. Is it held back? At most one comes late. */
-int hold_in_cell(cell *c, uint64_t address, uint64_t what, uint64_t where, uint64_t position);
+#pragma GCC visibility pop

@@ -107,7 +107,7 @@ static void note_descriptor(enum operation operation, void *what, uint64_t calle
     int saved = errno;
     thread *t = enter(MAY_YIELD);
     if (t) {
-        t->written = 0;
+        end_copy(t);
         put(t, operation, what, 0, caller);
         give_turn(t);
         leave(t);

@@ -26,7 +26,7 @@ uint64_t begin_call(uint64_t caller) {
     int saved = errno;
     thread *t = enter(MAY_YIELD);
     if (t) {
-        t->written = 0;
+        end_copy(t);
         leave(t);
     }
     errno = saved;

@@ -128,7 +128,7 @@ static void note_copy(void *to, const void *from, size_t n, uint64_t caller) {
     make_room_of_copy(t, to, from, n); /* nobody comes between the two */
     if (from) put(t, OP_READ, from, n, caller);
     put(t, OP_WRITE, to, n, caller);
-    t->written = 0;
+    end_copy(t);
     leave(t);
 }
 

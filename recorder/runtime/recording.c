@@ -21,10 +21,10 @@ int stall_seconds;
 static char *header;
 static struct record *records;
 static uint64_t written, most_records;
-static uint64_t changes = 1;           /* records so far of anything but reads */
+uint64_t changes = 1;
 static _Atomic uint64_t room;          /* records that the file has disk space for */
 static int in_memory;                  /* it has no file yet */
-static uint64_t held_at, held_there;   /* how many accesses were held back since there were so many records */
+static uint64_t last_position;         /* that of the last access that was held back, or of the first where there are more records since */
 static uint64_t most_cells;
 static char command[COMMAND_BYTES];    /* its line of the header */
 
@@ -137,7 +137,7 @@ static uint64_t inside_of(thread *t, enum operation operation, uint64_t size) {
     return size < SIZE_FOLLOWS ? size : SIZE_FOLLOWS;
 }
 
-enum { ROOM_OF_LATE = 1024 };          /* of a copy's read */
+enum { ROOM_OF_LATE = 1 << 15 };       /* of a copy's read */
 
 /* With the turn. */
 static int has_room(uint64_t count, uint64_t more) {
@@ -186,13 +186,29 @@ void put_late(struct record r, uint64_t position) {
     records[written++] = r;
 }
 
+/* How many accesses can be held back before the next record. */
+static uint64_t positions_left(void) {
+    if (written >> (POSITION_BITS - ORDER_BITS)) return 0;
+    if (last_position >> ORDER_BITS != written) last_position = written << ORDER_BITS;
+    return (1 << ORDER_BITS) - 1 - last_position % (1 << ORDER_BITS);
+}
+
 /* That of an access that is made now. */
-static uint64_t position_now(void) {
-    enum { MOST_HELD = (1 << ORDER_BITS) - 1 };
-    if (held_at != written) held_there = 0;
-    held_at = written;
-    if (held_there == MOST_HELD || written >> (POSITION_BITS - ORDER_BITS)) return NO_POSITION;
-    return written << ORDER_BITS | (held_there + 1);
+static uint64_t position_now(void) { return positions_left() ? last_position + 1 : NO_POSITION; }
+
+/* A quick hook puts nothing, but behind one of a write may be that of the copy's read. Each of its steps is a position, and so is the
+   step of the hook behind them. */
+uint64_t begin_quick(thread *t) {
+    uint64_t left = others && has_cells && has_room(ROOM_OF_COPY, ROOM_OF_LATE) ? positions_left() : 0;
+    t->base = last_position - t->steps;
+    return left ? left - 1 : 0;
+}
+
+void end_quick(thread *t) {
+    if (!t->limit) return;
+    last_position = t->base + t->steps;
+    t->kept = t->steps;
+    t->limit = 0;
 }
 
 /* What the cells have to know of a record: how many bytes it accesses, or are new. */
@@ -209,7 +225,7 @@ static int has_bytes(enum operation operation) { return operation != OP_ALLOC &&
 
 /* What is late takes at most so much room; and exactly so much, for which all cells are looked at. */
 static uint64_t most_room_of_late(enum operation operation, uint64_t bytes) {
-    return has_cells && has_bytes(operation) ? 2 * (KEYS * (bytes / GRAIN + 2) + 1) : 0;
+    return has_cells && has_bytes(operation) ? 2 * (MOST_KEYS * (bytes / GRAIN + 2) + 1) : 0;
 }
 
 static uint64_t room_of_late(const thread *t, enum operation operation, const volatile void *address, uint64_t bytes) {
@@ -238,31 +254,13 @@ void make_room_of_copy(thread *t, const void *to, const void *from, uint64_t siz
 
 static int is_held_back(thread *t, enum operation operation, struct record r, uint64_t bytes) {
     if (!has_cells || !hold_back(t->serial, r, bytes, is_plain(operation) ? position_now() : NO_POSITION)) return 0;
-    held_there++;
+    last_position++;
     return 1;
 }
 
-/* The same for most accesses, and quick: of some of the bytes of one cell, which the thread alone used lately. It gives 1 where the
-   access is held back or recorded. */
-static int put_in_own_cell(thread *t, enum operation operation, uint64_t address, uint64_t size, uint64_t caller) {
-    if (size > GRAIN || size & (size - 1) || address % GRAIN + size > GRAIN || address >= CELL_ADDRESSES) return 0;
-    uint32_t depth = t->depth;
-    cell *c = has_cells && t->first_new >= depth && depth < DEPTH_BEFORE ? find_cell(address) : 0;
-    if (!c || c->owner != t->serial) return 0;
-    uint64_t position = position_now();
-    struct record r = record_of(t, operation, address, __builtin_ctzl(size) | depth << LOGARITHM_BITS, caller);
-    if (!has_room(ROOM_OF_COPY, ROOM_OF_LATE)) return 0;
-    int is_held = position && hold_again(c, find_use(r.what, address % GRAIN), position);
-    if (!is_held) is_held = hold_in_cell(c, address, r.what, address % GRAIN, position);
-    held_there += is_held;
-    changes += is_held && operation == OP_WRITE;
-    if (!is_held && !is_repeated(t, operation, r)) records[written++] = r;
-    return 1;
-}
-
-/* All that isn't quick. Not inlined, for then the quick way would save registers for it. */
-static __attribute__((noinline))
-void put_any(thread *t, enum operation operation, const volatile void *address, uint64_t size, uint64_t caller) {
+void put(thread *t, enum operation operation, const volatile void *address, uint64_t size, uint64_t caller) {
+    if (!keep_turn(t)) take_turn(t);
+    if (!recording) return;
     uint64_t bytes = bytes_of(operation, address, size);
     if (!make_room_for(t, operation, address, bytes)) return;
     uint64_t inside = inside_of(t, operation, size);
@@ -276,12 +274,6 @@ void put_any(thread *t, enum operation operation, const volatile void *address, 
     if (way) add(t, OP_WAY, 0, 0, way);
     records[written++] = r;
     if (inside == SIZE_FOLLOWS) records[written++] = (struct record){size, (uint64_t)OP_SIZE << 48};
-}
-
-void put(thread *t, enum operation operation, const volatile void *address, uint64_t size, uint64_t caller) {
-    if (!keep_turn(t)) take_turn(t);
-    if (!recording || (is_plain(operation) && put_in_own_cell(t, operation, (uint64_t)address, size, caller))) return;
-    put_any(t, operation, address, size, caller);
 }
 
 /* The system keeps no more of a thread's name than MOST_NAME bytes. */

@@ -6,6 +6,7 @@
 #include <sys/types.h>
 #include "../record.h"
 
+#pragma GCC visibility push(hidden)
 #define PUBLIC __attribute__((visibility("default")))
 #define CALLER ((uint64_t)__builtin_return_address(0))
 
@@ -19,22 +20,27 @@ typedef struct {
 enum { RECENT_READS = 4 };             /* a loop that waits reads no more */
 
 typedef struct thread {
+    /* What a quick hook uses is in one line of the processor's cache. */
     uint32_t number;                   /* in the order of creation, from 0; or that of one that was joined */
     uint32_t serial;                   /* no other's ever, from 1 */
+    uint64_t steps;                    /* replay.c: so far */
+    uint64_t limit;                    /* hooks may be quick (hold.h) until it made so many steps; or 0 */
+    uint64_t base;                     /* then its steps and this are the position of the last access that was held back */
+    uint64_t last;                     /* its last hook: a read as read_at, a write as write_at, or 0 */
+    uint32_t depth, first_new;         /* how many functions it is in; no frame below this one is NOT_RECORDED */
+    volatile char inside;              /* the recorder: hooks met now are not recorded */
+    volatile char deferred;            /* a signal came meanwhile and waits for the end of the hook */
+    uint64_t kept;                     /* its steps when it was last seen to have the turn */
+    uint64_t quick_from;               /* since so many steps its hooks may be quick */
     pid_t system_id;
     pthread_t handle;
     _Atomic int wakes;                 /* futex: raised to make the thread look at the turn again */
     _Atomic char began;                /* it was at its first hook */
     char may_be_held;                  /* there */
     int quantum;                       /* hooks until it gives the turn to a waiter */
-    uint64_t steps, kept;              /* replay.c: so far, and when it was last seen to have the turn */
-    uint64_t last_read;                /* which read was its last, to see that it spins */
-    int spins;                         /* how often in a row it made that one */
+    int spins;                         /* how often in a row it made its last read */
     struct read { uint64_t where, what, changes; } recent[RECENT_READS];    /* its last ones in the record */
     unsigned next_recent;
-    volatile char inside;              /* the recorder: hooks met now are not recorded */
-    volatile char deferred;            /* a signal came meanwhile and waits for the end of the hook */
-    uint64_t written, write_caller;    /* if its last hook was of a write: the size, and who called it; else size 0 */
     char joined;
     char idles;                        /* in a replay: it waits for what others are to do, so it is in no hurry */
     struct thread *next_ended;
@@ -46,10 +52,13 @@ typedef struct thread {
     void *stack;
     size_t stack_size;
     sigset_t mask;                     /* before a signal was deferred */
-    uint32_t depth, recorded_depth;    /* how many functions it is in, the outermost first in `frames`; as the record has it */
-    uint32_t first_new;                /* no frame below this one is NOT_RECORDED */
-    frame *frames, own_frames[];       /* MOST_FRAMES; the second for all but fibers */
+    uint32_t recorded_depth;           /* how many functions it is in, as the record has it */
+    frame *frames, own_frames[];       /* MOST_FRAMES, the outermost first; the second for all but fibers */
 } thread;
+
+/* Only right behind a write's hook may come that of the read of the same copy. */
+static inline int is_write(uint64_t last) { return (last >> 48 & 3) == OP_WRITE; }
+static inline void end_copy(thread *t) { if (is_write(t->last)) t->last = 0; }
 
 /* turn.c: who runs.  Each hook is enter .. leave; enter gives no thread where nothing is to be recorded. */
 enum yields { NEVER_YIELD, MAY_YIELD };
@@ -66,6 +75,7 @@ thread *thread_of(pthread_t handle);
 thread *enter(enum yields yields);
 thread *enter_access(enum yields yields);                    /* to put one record, and nothing before */
 void leave(thread *t);
+void deliver_deferred(thread *t);      /* the signals that came in its hook */
 void give_turn(thread *t);
 void take_turn(thread *t);
 int keep_turn(thread *t);
@@ -74,6 +84,8 @@ int note_unusual(thread *t);           /* with the turn: what was asked for wasn
 int was_unusual(thread *t);            /* with the turn, in a replay: it was so at this step; else 0 */
 int waits_for_list(thread *t);         /* in a replay, in the place of a call that waits; 0 where the call has to */
 void note_spin(thread *t, uint64_t read);
+extern thread *volatile quick_holder;  /* who has the turn, where no waiter doubts that it needs it still; else NOBODY_IS_QUICK */
+#define NOBODY_IS_QUICK ((thread *)1)
 
 /* replay.c: the order of turns.  Under the guard, where nothing else is said. */
 extern volatile int is_replaying;      /* there is a list that says who gets the turn */
@@ -150,12 +162,15 @@ const char *own_command(void);         /* that line of the header */
 void unlock_record(void);
 void give_back_room(void);
 /* Records of one access, its depth and its way, with sizes; of an atomic one, with those that are late; of a copy's read and write. */
-enum { ROOM = 5, ROOM_OF_ATOMIC = 40, ROOM_OF_COPY = 10 };
+enum { ROOM = 5, ROOM_OF_ATOMIC = 2000, ROOM_OF_COPY = 10 };
+extern uint64_t changes;               /* records so far of anything but reads, and writes that were held back */
 int make_room(thread *t, uint64_t count);
 void make_room_of_copy(thread *t, const void *to, const void *from, uint64_t size);
 void put(thread *t, enum operation operation, const volatile void *address, uint64_t size, uint64_t caller);
 void note(enum operation operation, const volatile void *object, uint64_t caller);
 void put_name(thread *t, const thread *named, const char *name);
+uint64_t begin_quick(thread *t);       /* with the turn, at the end of a hook: so many of its hooks may be quick now */
+void end_quick(thread *t);             /* with the turn; or under the guard, by the one who took it over */
 
 /* modules.c */
 struct module { uint64_t low, high; };
@@ -188,3 +203,4 @@ void let_others_run(void);             /* gives the turn up before a call that m
 /* threads.c */
 extern volatile int others;            /* threads that were created and not joined */
 void note_name(pthread_t handle, const char *name);          /* the program gives a thread this name */
+#pragma GCC visibility pop

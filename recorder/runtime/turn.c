@@ -14,10 +14,17 @@
    its last, put in and taken out by itself.  To be given the turn is no more than to be named in the word: until the
    waiter has accepted, by a swap like the one above, another may take the turn over, and then it just waits on.
    In a replay the list of replay.c says to whom the turn is given, and who alone may take it over.
+
+   To raise the count takes longer than all else in a hook, and is of use only while a waiter looks. So no hook raises it while
+   `quick_holder` names its thread: from when that has accepted the turn until it gives it or a waiter *doubts*.  A waiter doubts
+   before it looks: it takes the name away, and has all threads that run pass a barrier (membarrier).  After that each hook
+   raises the count, but for one that had begun; and only then the waiter reads the word.  It doubts as long as the word
+   is the same.
    tests/model.py searches all interleavings of this. */
 #define _GNU_SOURCE
 #include <errno.h>
 #include <linux/futex.h>
+#include <linux/membarrier.h>
 #include <stdlib.h>
 #include <string.h>
 #include <sys/mman.h>
@@ -47,6 +54,7 @@
 #define SLICES_OF_A_SCALE 64           /* are twice as long after so many, and end with */
 #define LEAST_LAST_SLICE 100           /* 100, 200 or 400: to hand the turn over costs some 50 hooks */
 #define LAST_SLICES 3
+#define QUICK_HOOKS 16                 /* so many take as much of a long slice as another one: no other thread has use of them */
 #define MOST_STARTS 64                 /* the first threads with which they begin anew */
 #define SLICES_HELD 4                  /* on average */
 
@@ -63,6 +71,10 @@ static uint32_t joined_numbers[THREAD_NUMBERS], joined_count;          /* to be 
 static uint64_t random_state = 88172645463325252ull;
 static int slice, last_slice, slices, given_slice;
 static thread *held;                   /* one of the waiters, or nobody; under the guard */
+thread *volatile quick_holder = NOBODY_IS_QUICK;             /* changed under the guard */
+static thread *holder;                 /* who has accepted the turn, and has neither given nor lost it; under the guard */
+static int doubters;                   /* under the guard */
+static int has_barrier;                /* of the system, for all threads; else no hook is quick */
 
 static uint64_t draw(void) {           /* xorshift; with the turn or the guard */
     random_state ^= random_state << 13;
@@ -94,12 +106,33 @@ static void wake(thread *t) {
     syscall(SYS_futex, &t->wakes, FUTEX_WAKE_PRIVATE, 1, 0, 0, 0);
 }
 
-/* Has t the turn still?  Raises the count, so that no waiter that looked before this takes the turn over. */
+/* Has t the turn still?  Raises the count where somebody doubts it, so that no waiter that looked before this takes the turn over. */
 int keep_turn(thread *t) {
     uint64_t word = atomic_load_explicit(&turn, memory_order_relaxed);
-    if (HOLDER(word) != NAME(t) || !swap_in(t, word)) return 0;
+    if (t != quick_holder && (HOLDER(word) != NAME(t) || !swap_in(t, word))) return 0;
+    end_quick(t);
     t->kept = t->steps;
     return 1;
+}
+
+/* Under the guard. */
+static void name_quick_holder(void) { quick_holder = holder && recording && !doubters && has_barrier ? holder : NOBODY_IS_QUICK; }
+
+static int ask_for_barrier(int command) { return !syscall(SYS_membarrier, command, 0, 0); }
+
+static void doubt(void) {
+    lock_guard();
+    doubters++;
+    name_quick_holder();
+    unlock_guard();
+    if (has_barrier) has_barrier = ask_for_barrier(MEMBARRIER_CMD_PRIVATE_EXPEDITED);
+}
+
+static void end_doubt(void) {
+    lock_guard();
+    doubters--;
+    name_quick_holder();
+    unlock_guard();
 }
 
 static int are_slices_short(void) { return slice < last_slice; }
@@ -137,13 +170,18 @@ static void hand_over(thread *t, int is_slice_end) {
     lock_guard();
     uint64_t word = atomic_load(&turn);
     if (HOLDER(word) == NAME(t)) {
+        end_quick(t);
         end_turn(t);
         if (held && draw() % SLICES_HELD == 0) held = 0;
         next = draw_waiter();
         if (is_slice_end && next && next == held && !is_replaying) {
             next = 0;
             t->quantum = draw_slice();
-        } else atomic_store(&turn, next_word(next, word));
+        } else {
+            holder = 0;
+            name_quick_holder();
+            atomic_store(&turn, next_word(next, word));
+        }
     }
     unlock_guard();
     TEST_YIELD();
@@ -167,7 +205,10 @@ static thread *holder_of(uint64_t word) { return HOLDER(word) == NOBODY ? 0 : th
 /* Under the guard: takes the turn that others have given, or lost. */
 static int get_turn(thread *t, uint64_t seen) {
     if (!may_get_turn(t, holder_of(seen)) || !swap_in(t, seen)) return 0;
+    if (holder) end_quick(holder);     /* it is past its access, and in no hook */
     begin_turn(t);
+    holder = t;
+    name_quick_holder();
     return 1;
 }
 
@@ -197,12 +238,16 @@ void wait_for_start(const thread *child) {
     }
 }
 
-/* The waiter's last step: takes the turn if its word is still the one seen; also where the recording has ended. */
-static int accept(thread *t, uint64_t seen) {
+/* The waiter's last step, and the end of its doubt: takes the turn if its word is still the one seen; also where the recording has ended. */
+static int accept(thread *t, uint64_t seen, int doubts) {
     TEST_YIELD();
     lock_guard();
     int done = !recording || get_turn(t, seen);
-    if (done) stop_waiting(t);
+    if (done) {
+        stop_waiting(t);
+        doubters -= doubts;
+        name_quick_holder();
+    }
     unlock_guard();
     return done;
 }
@@ -238,15 +283,31 @@ static int gone_or_asleep(pid_t system_id, long *ticks) {
     return text[0] >= '0' && text[0] <= '9';
 }
 
-struct watch { uint64_t word; long ticks; time_t since; };   /* the turn when it was last seen to change */
+/* While a waiter doubts: the turn's word, and when it was first seen the holder's time and this. */
+struct watch { int doubts; uint64_t word; long ticks; time_t since; };
+
+/* The word, which is doubted if it may be looked at the holder. */
+static uint64_t doubted_word(struct watch *watch) {
+    uint64_t word = atomic_load(&turn);
+    if (watch->doubts && word == watch->word) return word;
+    if (watch->doubts) end_doubt();
+    else doubt();
+    *watch = (struct watch){.doubts = !watch->doubts, .word = atomic_load(&turn), .ticks = -1};
+    return watch->word;
+}
 
 /* May the turn, whose word was read before this look at the holder, be taken over? */
 static int past_its_access(uint64_t word, struct watch *watch) {
     struct timespec now;
     clock_gettime(CLOCK_MONOTONIC, &now);
     long ticks = watch->ticks;
-    if (HOLDER(word) == NOBODY || gone_or_asleep(holder_of(word)->system_id, &ticks)) return 1;
-    if (word != watch->word) *watch = (struct watch){word, ticks, now.tv_sec};
+    if (HOLDER(word) == NOBODY) return 1;
+    if (!watch->doubts) return 0;
+    if (gone_or_asleep(holder_of(word)->system_id, &ticks)) return 1;
+    if (watch->ticks < 0) {
+        watch->ticks = ticks;
+        watch->since = now.tv_sec;
+    }
     if (now.tv_sec - watch->since > stall_seconds)
         stop_recording("one thread neither slept, computed nor came to a hook for SHB_STALL seconds");
     return ticks >= watch->ticks + COMPUTES_TICKS;
@@ -290,16 +351,16 @@ static void leave_late_replay(const thread *t, uint64_t word, struct lateness *l
 }
 
 void take_turn(thread *t) {
-    struct watch watch = {0, 0, 0};
+    struct watch watch = {0};
     struct timespec patience = {0, waiters ? 10 * PATIENCE_NS : PATIENCE_NS};
     struct lateness late = {0, 0};
     int look = 0, saved = errno;
     extend_list();
     if (!take_free(t)) for (;;) {
         int wakes = atomic_load(&t->wakes);                  /* before the turn: a later wake changes it */
-        uint64_t word = atomic_load(&turn);
+        uint64_t word = look ? doubted_word(&watch) : atomic_load(&turn);
         if (!recording || HOLDER(word) == NAME(t) || (look && !IS_PATIENT && may_take_over(t, word, &watch)))
-            if (accept(t, word)) break;
+            if (accept(t, word, watch.doubts)) break;
         if (look && is_replaying) leave_late_replay(t, word, &late);
         look = syscall(SYS_futex, &t->wakes, FUTEX_WAIT_PRIVATE, wakes, &patience, 0, 0) && errno == ETIMEDOUT;
     }
@@ -344,12 +405,30 @@ int waits_for_list(thread *t) {
 }
 
 /* ---- hooks ---- */
+/* How many quick ones take as much of the slice as another one. */
+static int quick_share(void) { return is_replaying || given_slice || are_slices_short() ? 1 : QUICK_HOOKS; }
+
+static void count_quick(thread *t) {
+    t->quantum -= (t->steps - t->quick_from) / quick_share();
+    t->quick_from = t->steps;
+}
+
+/* At the end of a hook: the next ones may be quick until the slice ends, or where nobody waits, for a while. */
+static void let_be_quick(thread *t) {
+    uint64_t most = begin_quick(t), left = t->quantum > 1 ? (uint64_t)(t->quantum - 1) * quick_share() : 0;
+    if (!left && !waiters && !is_replaying) left = LEAST_LAST_SLICE;
+    if (left > most) left = most;
+    t->limit = left ? t->steps + left : 0;
+}
+
 /* Without the turn: put asks for it. */
 thread *enter_access(enum yields yields) {
     thread *t = self;
     if (!t) note_stranger();
+    if (t && !t->inside && t->deferred) deliver_deferred(t); /* it came in a hook that began as a quick one */
     if (!t || !recording || t->inside) return 0;
     t->inside = 1;
+    count_quick(t);
     if (--t->quantum <= 0 && yields && (waiters || is_replaying)) hand_over(t, 1);
     else t->steps++;
     return t;
@@ -361,19 +440,23 @@ thread *enter(enum yields yields) {
     return t;
 }
 
+void deliver_deferred(thread *t) {     /* it is pending: it comes when the mask lets it */
+    t->deferred = 0;
+    pthread_sigmask(SIG_SETMASK, &t->mask, 0);
+}
+
 void leave(thread *t) {
     TEST_YIELD();
+    if (t == quick_holder) let_be_quick(t);
+    t->quick_from = t->steps;
     t->inside = 0;
-    if (t->deferred) {                                       /* the signal is pending: it comes when the mask lets it */
-        t->deferred = 0;
-        pthread_sigmask(SIG_SETMASK, &t->mask, 0);
-    }
+    if (t->deferred) deliver_deferred(t);
 }
 
 /* A loop that makes one read again and again waits for another thread: that one shall run. */
 void note_spin(thread *t, uint64_t read) {
-    if (t->last_read != read) {
-        t->last_read = read;
+    if (t->last != read) {
+        t->last = read;
         t->spins = 0;
     } else if (++t->spins > 3) {
         t->spins = 0;
@@ -388,11 +471,12 @@ void begin_turns(int slice_, uint64_t seed) {
     if (!random_state) random_state = 1;
     for (int i = 0; i < 8; i++) draw();
     begin_slices();
+    has_barrier = ask_for_barrier(MEMBARRIER_CMD_REGISTER_PRIVATE_EXPEDITED);
     recording = 1;
 }
 
 void restart_turns(thread *t) {
-    waiters = 0;
+    waiters = doubters = 0;
     held = 0;
     thread_count = joined_count = 0;
     leave_list(t);
@@ -401,13 +485,18 @@ void restart_turns(thread *t) {
     t->quantum = 1;
     atomic_store(&turn, next_word(t, atomic_load(&turn)));
     atomic_store(&guard, 0);
+    has_barrier = ask_for_barrier(MEMBARRIER_CMD_REGISTER_PRIVATE_EXPEDITED);
     recording = 1;
+    holder = t;
+    name_quick_holder();
 }
 
 int end_turns(void) {
     lock_guard();
     int was = recording;
     recording = 0;
+    name_quick_holder();
+    if (holder) end_quick(holder);
     for (int i = 0; i < waiters; i++) wake(waiting[i]);
     if (was) close_list();
     unlock_guard();

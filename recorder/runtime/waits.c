@@ -20,7 +20,7 @@ typedef const struct timespec *deadline;
 void let_others_run(void) {
     thread *t = self;
     if (!t || !recording || t->inside) return;
-    t->written = 0;
+    end_copy(t);
     t->inside = 1;
     give_turn(t);
     leave(t);

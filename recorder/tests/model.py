@@ -11,11 +11,15 @@ Properties, in every state:
             some thread is on its way to wake it: no hand-over needs a timeout
   listed    a thread stands among the waiters once from its first step in take_turn to its last, else never
   due       while a list of turns is followed nobody has the turn but the thread of its next entry
+  quick     nobody is named as the quick holder but who has the turn
   end       from every state the end of all threads can be reached
 The steps are those at which threads meet: each load, store and swap of the turn and of a thread's wakes, the guard's
 lock, the futex calls, the look at the holder. The count in the turn's word is not stored: a thread's view of the word
 is fresh until the word changes and never again, for counts don't return; likewise its view of its wakes. A look may
 say yes wherever the holder isn't between the swap in put (or take_turn) and its access: more often than turn.c says it.
+
+A hook of the quick holder raises no count. A waiter doubts in two steps: it takes the name away, which that thread may see at
+once or not; and makes a barrier, after which it does. At a later look it goes on doubting or ends it: at more looks than turn.c.
 
 A replay has a list of turns too: pairs of a thread and the number of steps (hooks, and calls that may block) after which it
 loses the turn. A waiter may leave it at each of its looks: sooner than turn.c does.
@@ -39,11 +43,20 @@ TAKES_BLINDLY = "a waiter takes the turn over though its word has changed"
 WORD_FIRST = "a waiter reads the word before its wakes"
 UNLISTED = "the giver takes the next holder off the waiters"
 NAMED_RUNS = "a thread runs when it is named, without accepting"
+NO_DOUBT = "a waiter looks without a doubt"
+NO_BARRIER = "a waiter that doubts makes no barrier"
+NO_GUARD = "a waiter doubts without the guard"
+ENDS_EARLY = "a waiter ends its doubt before it takes the turn over"
+ONE_DOUBTER = "the end of a doubt names the holder while another waiter doubts"
+STAYS_NAMED = "who gives the turn stays the quick holder"
+LEAVES_HOLDER = "who takes the turn over leaves the holder as it was"
 NOT_DUE = "a waiter that isn't due takes a turn that nobody has"
 LEAVES_IT_TO_NOBODY = "who leaves the list gives nobody the turn that nobody has"
 BUGS_OF_REPLAYS = {NOT_DUE, LEAVES_IT_TO_NOBODY}
 BUGS = {PUT_DOES_NOT_ASK: "window", PUT_SKIPS: "record", NO_COUNT: "window", TAKES_BLINDLY: "window",
-        WORD_FIRST: "wake", UNLISTED: "wake", NAMED_RUNS: "record", NOT_DUE: "due", LEAVES_IT_TO_NOBODY: "wake"}
+        WORD_FIRST: "wake", UNLISTED: "wake", NAMED_RUNS: "record", NOT_DUE: "due", LEAVES_IT_TO_NOBODY: "wake",
+        NO_DOUBT: "window", NO_BARRIER: "window", NO_GUARD: "window", ENDS_EARLY: "window", ONE_DOUBTER: "window",
+        STAYS_NAMED: "quick", LEAVES_HOLDER: "quick"}
 
 
 class Thread(typing.NamedTuple):
@@ -55,6 +68,8 @@ class Thread(typing.NamedTuple):
     look: bool = False  # its sleep ended by the timeout: it looks at the holder
     target: int = 0  # whom it wakes
     steps: int = 0  # in a replay, so far
+    doubts: bool = False
+    sees_name: bool = False  # it may see itself as the quick holder, though the name was taken away
 
 
 class State(typing.NamedTuple):
@@ -64,6 +79,9 @@ class State(typing.NamedTuple):
     waiting: frozenset = frozenset()
     on: bool = True  # is the recording on?
     window: int = NONE  # who is between its record and its access
+    accepted: int = NONE  # who has accepted the turn, and has neither given nor lost it
+    quick: int = NONE  # the quick holder
+    doubters: int = 0
     turns: tuple = ()  # the turns to come, and the one that has begun, while they are followed
 
 
@@ -71,7 +89,8 @@ class Broken(Exception):
     """A property that doesn't hold, and where."""
 
 
-WAITING_STEPS = {"read_wakes", "read_word", "look_at_holder", "accept", "swap_in", "leave", "leaving", "wait", "sleep"}
+WAITING_STEPS = {"read_wakes", "read_word", "doubt", "take_name", "count_doubt", "barrier", "end_doubt", "name_again", "look_at_holder",
+                 "accept", "swap_in", "leave", "leaving", "wait", "sleep"}
 IN_ITS_ACCESS = {"check", "record", "access"}
 
 
@@ -98,6 +117,15 @@ class Step:
 
     def has_turn(self):
         return self.state.holder == self.number
+
+    def name(self, accepted, doubters, on=True):
+        """What name_quick_holder changes."""
+        return {"accepted": accepted, "doubters": doubters, "quick": NONE if doubters or not on else accepted}
+
+    def got(self):
+        """The turn, by this thread."""
+        leaves = self.bug == LEAVES_HOLDER and self.state.accepted != NONE
+        return self.without_doubt(self.state.accepted if leaves else self.number)
 
     # the list of turns
     def has_ended(self, number):
@@ -159,7 +187,11 @@ class Step:
             yield from self.ask("check")
 
     def ask(self, after):
-        yield self.to("raise_count", after=after, word=True) if self.has_turn() else self.to("take", after=after)
+        is_quick = self.state.quick == self.number
+        if is_quick or self.thread.sees_name:
+            yield self.to(after, after="")
+        if not is_quick:
+            yield self.to("raise_count", after=after, word=True) if self.has_turn() else self.to("take", after=after)
 
     def raise_count(self):
         if self.thread.word:
@@ -204,12 +236,13 @@ class Step:
             return
         turns = self.given()
         candidates = waiting & {turns[0][0]} if turns else waiting
+        given = {"guard": NONE, "turns": turns, **({} if self.bug == STAYS_NAMED else self.name(NONE, self.state.doubters))}
         if not candidates:
-            yield self.to(after, after="", changed=True, shared={"guard": NONE, "holder": NONE, "turns": turns}, steps=steps)
+            yield self.to(after, after="", changed=True, shared={**given, "holder": NONE}, steps=steps, sees_name=False)
         for next in candidates:
             left = waiting - {next} if self.bug in (UNLISTED, NAMED_RUNS) else waiting
-            yield self.to("raise_wakes", changed=True, target=next, steps=steps,
-                          shared={"guard": NONE, "holder": next, "waiting": left, "turns": turns})
+            yield self.to("raise_wakes", changed=True, target=next, steps=steps, sees_name=False,
+                          shared={**given, "holder": next, "waiting": left})
 
     def raise_wakes(self):
         threads = list(self.state.threads)
@@ -233,13 +266,18 @@ class Step:
 
     def done(self, changed=False, **shared):
         return self.to(self.thread.after, changed=changed, shared={"guard": NONE, **shared},
-                       after="", word=False, wakes=False, look=False)
+                       after="", word=False, wakes=False, look=False, doubts=False)
+
+    def without_doubt(self, accepted, on=True):
+        """What is left where this thread doubts no more, if it did."""
+        left = self.state.doubters - self.thread.doubts
+        return {**self.name(accepted, 0 if self.bug == ONE_DOUBTER else left, on), "doubters": left}
 
     def take_free(self):
         if not self.state.on:
             yield self.done()
         elif self.state.holder == NONE and self.may_get():
-            yield self.done(changed=True, holder=self.number, turns=self.begun())
+            yield self.done(changed=True, holder=self.number, turns=self.begun(), **self.got())
         else:
             waiting = self.state.waiting | {self.number}
             yield self.to(self.first_of_wait, shared={"guard": NONE, "waiting": waiting})
@@ -250,10 +288,40 @@ class Step:
     def read_word(self):
         if not self.state.on or self.has_turn():
             yield self.to("accept", word=True)
-        elif self.thread.look:
-            yield self.to("look_at_holder", word=True)
-        else:
+        elif not self.thread.look:
             yield self.to(self.before_sleep(), word=True)
+        elif self.thread.doubts or self.state.holder == NONE or self.bug == NO_DOUBT:
+            yield self.to("look_at_holder", word=True)
+            if self.thread.doubts:
+                yield self.to("end_doubt", word=True)
+        else:
+            yield self.to("take_name" if self.bug == NO_GUARD else "doubt")
+
+    def doubt(self):
+        yield from self.locked("take_name")
+
+    def take_name(self):
+        threads = list(self.state.threads)
+        if self.state.quick != NONE:
+            threads[self.state.quick] = threads[self.state.quick]._replace(sees_name=True)
+        if self.bug == NO_GUARD:
+            yield self.to("count_doubt", threads, shared={"quick": NONE})
+        else:
+            yield self.to("barrier", threads, doubts=True, shared={"guard": NONE, "quick": NONE, "doubters": self.state.doubters + 1})
+
+    def count_doubt(self):  # where it is a step of its own
+        yield self.to("barrier", doubts=True, shared={"doubters": self.state.doubters + 1})
+
+    def barrier(self):
+        threads = self.state.threads if self.bug == NO_BARRIER else [thread._replace(sees_name=False) for thread in self.state.threads]
+        yield self.to("look_at_holder", threads, word=True)
+
+    def end_doubt(self):
+        yield from self.locked("name_again")
+
+    def name_again(self):
+        after = "accept" if self.bug == ENDS_EARLY else self.before_sleep()
+        yield self.to(after, doubts=False, shared={"guard": NONE, **self.without_doubt(self.state.accepted, self.state.on)})
 
     def before_sleep(self):
         return "read_wakes" if self.bug == WORD_FIRST else "wait"
@@ -264,7 +332,7 @@ class Step:
             yield self.to("leave")
         holder = self.state.holder
         if not self.thread.word or holder == NONE or self.state.threads[holder].step not in IN_ITS_ACCESS:
-            yield self.to("accept")
+            yield self.to("end_doubt" if self.bug == ENDS_EARLY and self.thread.doubts else "accept")
 
     def accept(self):
         yield from self.locked("swap_in")
@@ -272,9 +340,9 @@ class Step:
     def swap_in(self):
         waiting = self.state.waiting - {self.number}
         if not self.state.on:
-            yield self.done(waiting=waiting)
+            yield self.done(waiting=waiting, **self.without_doubt(self.state.accepted, False))
         elif (self.thread.word or self.bug == TAKES_BLINDLY) and self.may_get():
-            yield self.done(changed=True, waiting=waiting, holder=self.number, turns=self.begun())
+            yield self.done(changed=True, waiting=waiting, holder=self.number, turns=self.begun(), **self.got())
         else:
             yield self.to(self.before_sleep(), shared={"guard": NONE})
 
@@ -312,7 +380,8 @@ class Step:
         yield from self.locked("stopping")
 
     def stopping(self):
-        yield self.to("next", self.with_woken(*self.state.waiting), at=self.thread.at + 1, shared={"guard": NONE, "on": False})
+        yield self.to("next", self.with_woken(*self.state.waiting), at=self.thread.at + 1,
+                      shared={"guard": NONE, "on": False, "quick": NONE})
 
     def gone(self):
         return ()
@@ -321,6 +390,8 @@ class Step:
 def check(state, bug):
     """Raises Broken where a property of single states doesn't hold."""
     waking = {thread.target for thread in state.threads if thread.step in ("raise_wakes", "wake")}
+    if state.quick not in (NONE, state.holder):
+        raise Broken(f"quick: thread {state.quick} is named, thread {state.holder} has the turn")
     if state.turns and state.holder not in (NONE, state.turns[0][0]):
         raise Broken(f"due: thread {state.holder} has the turn of thread {state.turns[0][0]}")
     for number, thread in enumerate(state.threads):

@@ -31,7 +31,22 @@ CASES = {  # what a record has behind FORKS, and what is left of it
     "a later phase": (
         [write(1, 0x201), *[write(2, 0x204)] * 4, read(1, 0x205)],
         [late(2, 1, write(1, 0x201)), write(2, 0x204), late(5, 3, write(2, 0x204)), read(1, 0x205)]),
-    "a use once in a phase": ([read(1, 0x201), read(2, 0x204), read(1, 0x201)], [late(2, 1, read(1, 0x201)), read(2, 0x204), read(1, 0x201)]),
+    "a use once in a phase": (
+        [write(1, 0x201), read(2, 0x204), write(1, 0x201)], [late(2, 1, write(1, 0x201)), read(2, 0x204), write(1, 0x201)]),
+    "a reader that wrote": (
+        [read(1, 0x201), write(1, 0x205), read(2, 0x204)], [late(2, 1, read(1, 0x201)), late(2, 2, write(1, 0x205)), read(2, 0x204)]),
+    "readers alone": ([read(1, 0x201), read(2, 0x204), read(1, 0x201)], []),
+    "readers, and then a write": (
+        [read(1, 0x201), read(2, 0x204), read(1, 0x201), read(2, 0x204), write(1, 0x205)],
+        [late(2, 3, read(1, 0x201)), late(2, 4, read(2, 0x204)), write(1, 0x205)]),
+    "readers behind a write": (
+        [write(1, 0x205), read(2, 0x204), *[read(1, 0x201), read(2, 0x204)] * 2, write(1, 0x206)],
+        [late(2, 1, write(1, 0x205)), read(2, 0x204), read(1, 0x201), late(6, 3, read(2, 0x204)), late(6, 2, read(1, 0x201)), write(1, 0x206)]),
+    "a reader behind a free": (
+        [entry(1, "ALLOC", BLOCK, 0x201, 32), read(1, 0x202, BLOCK + 8), entry(1, "FREE", BLOCK, 0x203), *[read(2, 0x204, BLOCK + 8)] * 3,
+         write(1, 0x205, BLOCK + 8)],
+        [entry(1, "ALLOC", BLOCK, 0x201, 32), entry(1, "FREE", BLOCK, 0x203), late(3, 1, read(1, 0x202, BLOCK + 8)),
+         read(2, 0x204, BLOCK + 8), late(7, 2, read(2, 0x204, BLOCK + 8)), write(1, 0x205, BLOCK + 8)]),
     "parts of a cell": (
         [write(1, 0x201), write(1, 0x201, X + 4), read(2, 0x204, X + 6, 1)],
         [late(2, 1, write(1, 0x201)), late(2, 2, write(1, 0x201, X + 4)), read(2, 0x204, X + 6, 1)]),
@@ -107,32 +122,36 @@ WORDS = ["RW", "RWL", "RWA", "AR", "RAL", "RWLS", "RWLX", "RWLLLL", "RLLL", "WL"
 FOUND_IN_DRAWN = 5  # of these faults so many are found in a few drawn records too, each of the others in a case
 FAULTS = {  # to plant: the file, what stands there, and what in its place
     "each phase counts as the first": ("cells.c", "int is_first = !c->owner && !is_freed(page, address);", "int is_first = 1;"),
-    "the last use of a phase isn't recorded": ("cells.c", "if (c->held & HELD_KEYS) put_all_held(c, address);", ""),
-    "the position is that of the first use": ("cells.h", "c->keys[k] = use << POSITION_BITS | position;", "c->keys[k] |= 0;"),
+    "the last use of a phase isn't recorded": ("cells.c", "    put_all_held(c, address);\n    free_table(c);\n", "    free_table(c);\n"),
+    "the position is that of the first use": ("cells.c", "    if (key) *key = number << POSITION_BITS | position;\n", ""),
     "the position is where it is recorded": ("hold_back.c", "{position, (uint64_t)OP_LATE", "{written << ORDER_BITS | 1, (uint64_t)OP_LATE"),
     "bytes of a cell are one use": (
-        "cells.c", "hold_in_cell(c, address, r.what, address % GRAIN, position)", "hold_in_cell(c, address, r.what, 0, position)"),
-    "a use that makes room isn't recorded": ("cells.c", "        if (c->held >> k & 1) put_held(c, k, address);\n    }", "    }"),
+        "cells.c", "cell_use use = {what_of_use(r.what, address),", "cell_use use = {r.what,"),
+    "a use that makes room isn't recorded": ("cells.c", "    if (*old & POSITIONS) put_held(c, *old, address);\n", ""),
     "atomic accesses end no phase": ("cells.c", "(operation >= OP_ATOMIC_LOAD && operation <= OP_ATOMIC_UPDATE)", "0"),
     "a free ends no phase": ("cells.c", "if (operation == OP_FREE) free_range", "if (0) free_range"),
     "each page begins with a first phase": (
-        "cells.c", "page->is_first = !page->cells && !page->is_whole && !has_freed(page);", "page->is_first = 1;"),
+        "cells.c", "page->is_first = !cells && !page->is_whole && !has_freed(page);", "page->is_first = 1;"),
     "a page that was freed begins with a first phase": ("cells.c", " && !has_freed(page)", ""),
     "a cell that was freed begins with a first phase": ("cells.c", "!c->owner && !is_freed(page, address)", "!c->owner"),
     "a range is held back where it was freed": ("cells.c", ": is_freed(page, address)) return 0", ": 0) return 0"),
     "a free leaves what nobody used": ("cells.c", "        page->freed[w] |= bits & ~page->used[w];\n", ""),
     "a free is of what nobody used alone": (
-        "cells.c", "used = bits & page->used[w]; used; used &= used - 1) {", "used = 0; used; used &= used - 1) {"),
+        "cells.c", "used = bits & page->used[w]; used; used &= used - 1) {\n            unsigned", "used = 0; used; used &= used - 1) {\n            unsigned"),
     "a new block stays freed": ("cells.c", "        page->freed[w] &= ~bits;\n", ""),
-    "a page's cells aren't known as used": ("cells.c", "    if (cells && page->is_whole) memset(page->used, -1, sizeof page->used);\n", ""),
+    "a page's cells aren't known as used": ("cells.c", "    if (page->is_whole) memset(page->used, -1, sizeof page->used);\n", ""),
     "a cell isn't known as used": ("cells.c", "    page->used[number_in_page(address) / 64] |= bit_of(address);\n", ""),
     "marks begin with a word": ("cells.c", "word == first / 64 ? ~0ull << first % 64 : ~0ull", "~0ull"),
     "marks end with a word": ("cells.c", "word == last / 64 ? bits & ~0ull >> (63 - last % 64) : bits", "bits"),
     "a page forgets whose it is": ("cells.c", "if (page->is_whole && page->owner == serial) return;", "if (page->is_whole) return;"),
-    "a page is whole for ever": ("cells.c", "    page->is_whole = 0;\n}\n\nstatic int free_key", "}\n\nstatic int free_key"),
+    "a page is whole for ever": ("cells.c", "    page->is_whole = 0;\n}\n\n/* Now", "}\n\n/* Now"),
     "a new block leaves its page whole": ("cells.c", "        if (page->is_whole) page->is_whole = 0;\n", ""),
     "a thread with the number of a joined one is the same": ("hold_back.c", "serials[address] = ++last_serial", "last_serial++"),
-    "a range is held back in a later phase": ("cells.c", "c->owner != serial || !(c->held & IS_FIRST) :", "c->owner != serial :"),
+    "a range is held back in a later phase": ("cells.c", "c->owner != serial || !c->is_first :", "c->owner != serial :"),
+    "readers are one": ("cells.c", "reader_of(serial, r.where >> 48)};", "reader_of(1, 1)};"),
+    "a write leaves a phase of reads": ("cells.c", "    if (!is_read(use.what)) c->is_only_read = 0;\n", ""),
+    "a free or a range leaves a phase of reads": ("cells.c", "    c->is_only_read = 0;\n}", "}"),
+    "a table grows without its keys": ("cells.c", "        if (keys[k]) insert_in_table(table, log, keys[k]);\n", "        ;\n"),
     "a long block is new variables": ("cells.c", "    if (end - address >= MAX_BLOCK) return;\n", ""),
 }
 
@@ -175,14 +194,15 @@ class Drawn(test_open.Drawn):
 
 
 class Cells(recorder.Case):
-    def program(self, folder, keys, plant=("", "", "")):
-        """The program that leaves of a record what cells of so many keys leave."""
+    def program(self, folder, keys, plant=("", "", ""), has_tables=False):
+        """The program that leaves of a record what cells of so many keys leave, and tables of more."""
         folder.mkdir()
         for path in (RUNTIME / "cells.c", RUNTIME / "cells.h", recorder.HERE / "hold_back.c"):
             text = path.read_text().replace("../record.h", str(recorder.SOURCES / "record.h"))
             if path.name == plant[0]:
                 self.assertEqual(text.count(plant[1]), 1)
                 text = text.replace(plant[1], plant[2])
+            text = text if has_tables else text.replace("log <= MOST_LOG ? new_table(log) : 0", "0")
             (folder / path.name).write_text(text.replace("enum { KEYS = 7 }", f"enum {{ KEYS = {keys} }}"))
         recorder.must(recorder.call("gcc", "-g", "-O1", "-w", folder / "cells.c", folder / "hold_back.c", "-o", folder / "hold_back"))
         return folder / "hold_back"
@@ -210,10 +230,12 @@ class Cells(recorder.Case):
         self.assertEqual(list(self.wrong_cases(self.program(self.folder / "as-it-is", 7))), [])
 
     def test_the_places_are_the_same(self):
-        programs, found, accesses, left_accesses = [self.program(self.folder / str(keys), keys) for keys in (7, 2)], 0, 0, 0
+        programs = [self.program(self.folder / f"{keys}-{has_tables}", keys, has_tables=has_tables)
+                    for keys, has_tables in ((7, False), (2, False), (2, True))]
+        found, accesses, left_accesses = 0, 0, 0
         for seed in range(100):
             entries = Drawn(seed).entries
-            left, whole = self.left(programs[seed % 2], entries), self.trace(entries)
+            left, whole = self.left(programs[seed % 3], entries), self.trace(entries)
             places, variables = test_open.races(whole)
             trace = self.trace([left])
             self.assertEqual(test_open.races(trace), (places, variables), seed)
@@ -228,10 +250,12 @@ class Cells(recorder.Case):
         whole = {}
         for number, (fault, plant) in enumerate(FAULTS.items()):
             with self.subTest(fault):
-                self.assertTrue(any(self.wrong_cases(self.program(self.folder / f"{number}", 7, plant))))
-                if number < FOUND_IN_DRAWN:
-                    program = self.program(self.folder / f"{number}-drawn", 2, plant)
-                    self.assertTrue(any(self.differs(program, seed, whole) for seed in range(20)))
+                of_tables = "table" in fault
+                if not of_tables:
+                    self.assertTrue(any(self.wrong_cases(self.program(self.folder / f"{number}", 7, plant))))
+                if of_tables or number < FOUND_IN_DRAWN:
+                    program = self.program(self.folder / f"{number}-drawn", 2, plant, of_tables)
+                    self.assertTrue(any(self.differs(program, seed, whole) for seed in range(200 if of_tables else 20)))
 
     def differs(self, program, seed, whole):
         """Has the record other places, or none that can be converted?"""

@@ -1,0 +1,63 @@
+/* The quick hook: an access that its thread repeats in a cell that it owns, or reads with others, is held back by a few instructions.
+   It is quick where no waiter doubts that the thread needs the turn (turn.c), the functions that it is in are recorded, and the cell
+   has the use already. Then nothing changes but the position of that use. Such a hook is a step, as others are.
+   All calls here are jumps, so no registers are saved. */
+#include "runtime.h"
+#include "cells.h"
+
+#define BARRIER() __asm__ volatile("" ::: "memory")          /* for the compiler; the processor stores in this order */
+
+void note_access(enum operation operation, uint64_t address, uint64_t size, uint64_t caller);
+void hold_elsewhere(thread *t, cell *c, uint64_t what, uint64_t address);
+
+static inline enum operation operation_of(uint64_t what) { return what >> 48 & 3; }
+
+/* Is it held back? A read right after the same one isn't: a loop of these may wait for another thread (note_spin). */
+static inline int hold_quickly(thread *t, uint64_t *key, uint64_t what) {
+    uint64_t position = t->base + t->steps + 1;
+    if (operation_of(what) == OP_READ && *key % (1ull << POSITION_BITS) + 1 == position) return 0;
+    *key = (*key & ~POSITIONS) | position;
+    t->last = what;
+    t->steps++;
+    changes += operation_of(what) == OP_WRITE;
+    return 1;
+}
+
+/* Handlers of signals may come from here on. */
+static inline void end_quick_hook(thread *t) {
+    BARRIER();
+    t->inside = 0;
+    BARRIER();
+}
+
+static inline int may_be_quick(const thread *t, uint64_t address, uint64_t size) {
+    return t && t->limit && size <= GRAIN && address % GRAIN <= GRAIN - size && address < CELL_ADDRESSES;
+}
+
+static inline int is_usual(const thread *t) {
+    return t->steps < t->limit && t == quick_holder && t->depth <= t->first_new && t->depth < DEPTH_BEFORE;
+}
+
+static inline __attribute__((always_inline))
+void hook(enum operation operation, uint64_t address, uint64_t size, uint64_t caller) {
+    thread *t = self;
+    if (!may_be_quick(t, address, size)) return note_access(operation, address, size, caller);
+    t->inside = 1;                     /* so no handler of a signal comes, which may change all that is read below */
+    BARRIER();
+    cell *c = is_usual(t) ? find_cell(address) : 0;
+    uint64_t what = what_of_use(caller, size < GRAIN ? address : 0) + ((uint64_t)operation << 48)
+        + ((uint64_t)__builtin_ctzl(size) << 54) + ((uint64_t)t->depth << (54 + LOGARITHM_BITS)), use = slot_of_use(what, 0);
+    if (c && (c->owner != t->serial || c->log_keys)) return hold_elsewhere(t, c, what, address);
+    if (c && cell_uses[use].what == what) {
+#pragma GCC unroll 7
+        for (int k = 0; k < KEYS; k++)
+            if (c->keys[k] >> POSITION_BITS == use) {
+                if (!hold_quickly(t, &c->keys[k], what)) break;
+                end_quick_hook(t);
+                if (__builtin_expect(t->deferred, 0)) deliver_deferred(t);
+                return;
+            }
+    }
+    end_quick_hook(t);
+    note_access(operation, address, size, caller);
+}
