@@ -70,6 +70,8 @@ static int unlock(void *at, size_t bytes) { return munlock(at, bytes); }
 
 void unlock_cells(void) { if (has_cells) for_all_memory(unlock); }
 
+void limit_cells(uint64_t bytes) { if (bytes < memory_left) memory_left = bytes; }
+
 void end_cells(void) {
     if (has_cells) for_all_memory(munmap);
     has_cells = 0;

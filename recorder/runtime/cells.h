@@ -61,6 +61,7 @@ extern cell_use *cell_uses;
 void begin_cells(uint64_t most_bytes);
 void end_cells(void);                  /* gives their memory back; what is held back is never recorded */
 void unlock_cells(void);
+void limit_cells(uint64_t bytes);      /* takes no more than so many from here on */
 
 /* A record that is to be made now, of a thread with this serial number, which no other has. `bytes` is how many it accesses; of
    OP_ALLOC and OP_START how many are new. */

@@ -6,9 +6,18 @@
 #include <stdarg.h>
 #include <sys/mman.h>
 #include <sys/prctl.h>
+#include <sys/resource.h>
 #include <sys/syscall.h>
+#include <unistd.h>
 #include "runtime.h"
 #include "cells.h"
+
+/* With the turn, so nobody uses the cells. */
+static void end_with(const char *reason) {
+    stop_recording(reason);
+    give_back_room();
+    end_cells();
+}
 
 /* The record takes address space, of which only what is in use counts where the program locks its own. */
 PUBLIC int mlockall(int flags) {
@@ -18,15 +27,36 @@ PUBLIC int mlockall(int flags) {
         unlock_list();
     }
     thread *t = error && errno == ENOMEM && recording ? enter(NEVER_YIELD) : 0;
-    if (t) {                           /* it has the turn, so nobody uses the cells */
-        stop_recording("the program locks its memory (mlockall), and the record takes more than it may lock");
-        give_back_room();
-        end_cells();
+    if (t) {
+        end_with("the program locks its memory (mlockall), and the record takes more than it may lock");
         leave(t);
         error = REAL(mlockall)(flags);
     }
     return error;
 }
+
+/* ---- a limit of the addresses: the record is to leave the program most of them ---- */
+static void will_limit(int resource, uint64_t addresses) {
+    thread *t = resource == RLIMIT_AS && recording ? enter(NEVER_YIELD) : 0;
+    if (!t) return;
+    if (!limit_record(addresses)) end_with("the program limits its address space (RLIMIT_AS), and the record takes more than a quarter of it");
+    leave(t);
+}
+
+#define LIMITS(name, rlimit) \
+    PUBLIC int name(__rlimit_resource_t resource, const struct rlimit *limit) { \
+        will_limit(resource, limit->rlim_cur); \
+        return REAL(name)(resource, limit); \
+    }
+#define LIMITS_PROCESS(name, rlimit) \
+    PUBLIC int name(pid_t process, enum __rlimit_resource resource, const struct rlimit *limit, struct rlimit *old) { \
+        if (!process || process == getpid()) will_limit(resource, limit ? limit->rlim_cur : RLIM_INFINITY); \
+        return REAL(name)(process, resource, limit, old); \
+    }
+LIMITS(setrlimit, rlimit)
+LIMITS(setrlimit64, rlimit64)
+LIMITS_PROCESS(prlimit, rlimit)
+LIMITS_PROCESS(prlimit64, rlimit64)
 
 /* ---- seccomp: a system call of ours that isn't allowed may kill the program ---- */
 static void will_limit_calls(void) { stop_recording("the program limits its system calls (seccomp)"); }

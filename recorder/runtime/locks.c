@@ -13,6 +13,16 @@ typedef const struct timespec *deadline;
 
 /* ---- the shapes of the calls below; r is what the real call gives ---- */
 enum { MOST_TRIES = 8 };
+/* A call that may sleep in a replay, where the list has it: with the turn. Handlers of signals run in it, also for those that came before
+   in the hook, for it may be them that it waits for. */
+#define SLEEPING(t, call) ({ \
+    (t)->inside = 0; \
+    if ((t)->deferred) deliver_deferred(t); \
+    __typeof__(call) result_ = (call); \
+    (t)->inside = 1; \
+    end_quick(t); \
+    result_; \
+})
 /* TAKES: it may wait; recorded after it, if it was done.  The quick form is tried first, for it needs no hand-over.  In a
    replay it is busy where it was then; else the one that has it may be about to give it. */
 #define TAKES(name, operation, object, busy, quick, done, parameters, arguments) \
@@ -22,10 +32,10 @@ enum { MOST_TRIES = 8 };
         int r = 0, is_busy, n = 0; \
         do { \
             is_busy = was_unusual(t); \
-            if (!is_busy) r = is_replaying ? REAL(name) arguments : quick; \
+            if (!is_busy) r = is_replaying ? SLEEPING(t, REAL(name) arguments) : quick; \
             if (!is_busy && busy) is_busy = note_unusual(t); \
         } while (is_busy && n++ < MOST_TRIES && let_another_run(t)); \
-        if (is_busy) r = waits_for_list(t) ? REAL(name) arguments : BLOCKING(t, REAL(name) arguments); \
+        if (is_busy) r = waits_for_list(t) ? SLEEPING(t, REAL(name) arguments) : BLOCKING(t, REAL(name) arguments); \
         if (done) put(t, operation, object, 0, CALLER); \
         leave(t); \
         return r; \
@@ -152,7 +162,7 @@ static int wakes_by_list(thread *t, void *mutex) {
         put(t, OP_USE, c, 0, CALLER); \
         put(t, OP_UNLOCK, m, 0, CALLER); \
         if (wakes_by_list(t, m)) { \
-            int r = was_unusual(t) ? REAL(name) arguments : 0; \
+            int r = was_unusual(t) ? SLEEPING(t, REAL(name) arguments) : 0; \
             put(t, OP_LOCK, m, 0, CALLER); \
             leave(t); \
             return r; \

@@ -37,8 +37,8 @@ static uint64_t least_of(uint64_t a, uint64_t b) { return a < b ? a : b; }
 
 /* How many records, where SHB_RECORDS doesn't say: a position counts no more, and the converter has memory for them, 20 bytes for each
    and as much for what they access. They are mapped, which takes no more than a quarter of the addresses that the program may have. */
+enum { BYTES_TO_CONVERT = 40, PARTS_OF_ADDRESSES = 4 };
 static uint64_t most_by_default(void) {
-    enum { BYTES_TO_CONVERT = 40, PARTS_OF_ADDRESSES = 4 };
     struct sysinfo machine;
     struct rlimit addresses;
     uint64_t most = 1ull << (POSITION_BITS - ORDER_BITS);
@@ -428,6 +428,16 @@ void close_recording(void) {
     if (!in_memory) cut_file(HEADER_BYTES + written * sizeof *records);
     note_whole();
     leave(t);
+}
+
+/* With the turn: the program may have so many addresses from here on. Is what has disk space a part of them that is small enough? */
+int limit_record(uint64_t addresses) {
+    uint64_t page = getpagesize(), before = map_bytes(), most = addresses / PARTS_OF_ADDRESSES / page * page;
+    limit_cells(addresses / PARTS_OF_ADDRESSES);
+    if (most >= before) return 1;
+    if (most < HEADER_BYTES + atomic_load(&room) * sizeof *records) return 0;
+    most_records = (most - HEADER_BYTES) / sizeof *records;
+    return !munmap(header + most, before - most);
 }
 
 /* What a program locks in memory is its own, and not the room for the record. */

@@ -161,6 +161,7 @@ void note_text(const char *line);      /* adds a line to the header */
 const char *own_command(void);         /* that line of the header */
 void unlock_record(void);
 void give_back_room(void);
+int limit_record(uint64_t addresses);
 /* Records of one access, its depth and its way, with sizes; of an atomic one, with those that are late; of a copy's read and write. */
 enum { ROOM = 5, ROOM_OF_ATOMIC = 2000, ROOM_OF_COPY = 10 };
 extern uint64_t changes;               /* records so far of anything but reads, and writes that were held back */

@@ -86,8 +86,12 @@ static void tell_of_child(void) {
     is_unrecorded_child = 0;
 }
 
+/* A process made by vfork uses its parent's memory and says nothing. Where nothing is recorded any more no system call is made: a
+   filter of the program's may forbid it (limits.c). */
+static int is_own(void) { return recording && process && getpid() == process; }
+
 __attribute__((destructor(101))) static void end(void) {
-    if (process && getpid() == process) close_recording();
+    if (is_own()) close_recording();
 }
 
 __attribute__((constructor(101))) static void begin(void) {
@@ -116,9 +120,7 @@ __attribute__((constructor(101))) static void begin(void) {
     watch_crashes();
 }
 
-/* Ways out that run no destructor.  A process made by vfork uses its parent's memory and says nothing. */
-static int is_own(void) { return process && getpid() == process; }
-
+/* Ways out that run no destructor. */
 #define LEAVES(name) \
     PUBLIC void name(int status) { \
         if (is_own()) close_recording(); \
@@ -130,7 +132,7 @@ LEAVES(_Exit)
 
 #define EXECS(name, parameters, arguments) \
     PUBLIC int name parameters { \
-        int own = is_own() && recording; \
+        int own = is_own(); \
         if (own) note_end(own_end()); \
         int r = REAL(name) arguments; \
         if (own) note_end(""); \

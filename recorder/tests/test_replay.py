@@ -93,6 +93,13 @@ class Replays(recorder.Case):
             self.assertEqual((running.stderr.read(), running.wait()), (b"", 0))
             limit.cancel()
 
+    def test_a_thread_waits_for_the_handler_of_a_signal(self):
+        """That comes at another moment in the replay, which ends all the same."""
+        program = self.program("signal_posts.c")
+        for seed in range(1, 4):
+            self.run_it("first", seed, program)
+            self.run_it("second", seed, program, replay="first")
+
     def test_a_file_that_is_no_list(self):
         program = self.program()
         self.run_it("first", 5, program)

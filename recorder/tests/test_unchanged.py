@@ -86,6 +86,9 @@ class OwnLimits(Unchanged):
         reason = b"the program locks its memory (mlockall), and the record takes more than it may lock"
         self.assertEqual(self.ends("mlockall-limited", reason), (b"locked\nended\n", set()))
 
+    def test_a_limit_of_addresses(self):
+        self.assertEqual(self.ends("addresses", b""), (b"ended\n", self.marked("own_limits.c")))
+
     def test_system_calls(self):
         for way in ("prctl", "seccomp"):
             with self.subTest(way):

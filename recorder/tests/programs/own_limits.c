@@ -5,6 +5,7 @@
 #include <pthread.h>
 #include <stddef.h>
 #include <stdio.h>
+#include <stdlib.h>
 #include <string.h>
 #include <sys/mman.h>
 #include <sys/prctl.h>
@@ -36,12 +37,17 @@ static int lock_memory(void) {
 #define KILLS(n) BPF_JUMP(BPF_JMP | BPF_JEQ | BPF_K, n, 0, 1), BPF_STMT(BPF_RET | BPF_K, SECCOMP_RET_KILL_PROCESS)
 static int limit_calls(int by_syscall) {
     struct sock_filter filter[] = {BPF_STMT(BPF_LD | BPF_W | BPF_ABS, offsetof(struct seccomp_data, nr)), KILLS(SYS_fallocate),
-                                   KILLS(SYS_openat), KILLS(SYS_ftruncate), KILLS(SYS_fstat),
+                                   KILLS(SYS_openat), KILLS(SYS_ftruncate), KILLS(SYS_fstat), KILLS(SYS_getpid),
                                    BPF_STMT(BPF_RET | BPF_K, SECCOMP_RET_ALLOW)};
     struct sock_fprog program = {sizeof filter / sizeof *filter, filter};
     if (prctl(PR_SET_NO_NEW_PRIVS, 1, 0, 0, 0)) return 1;
     if (by_syscall) return syscall(SYS_seccomp, SECCOMP_SET_MODE_FILTER, 0, &program);
     return prctl(PR_SET_SECCOMP, SECCOMP_MODE_FILTER, &program);
+}
+
+static int limit_addresses(void) {
+    struct rlimit two_gigabytes = {2048ul * MEGABYTE, 2048ul * MEGABYTE};
+    return setrlimit(RLIMIT_AS, &two_gigabytes) || !malloc(1024ul * MEGABYTE);
 }
 
 int main(int argc, char **argv) {
@@ -52,6 +58,7 @@ int main(int argc, char **argv) {
     if (!strcmp(argv[1], "mlockall")) failed = lock_memory();
     if (!strcmp(argv[1], "mlockall-limited"))
         failed = setrlimit(RLIMIT_MEMLOCK, &little) || (!getuid() && setuid(65534)) || lock_memory();
+    if (!strcmp(argv[1], "addresses")) failed = limit_addresses();
     if (!strcmp(argv[1], "prctl")) failed = limit_calls(0);
     if (!strcmp(argv[1], "seccomp")) failed = limit_calls(1);
     pthread_create(&a, 0, work, &kept[0]);
