@@ -51,7 +51,7 @@ void hold_elsewhere(thread *t, cell *c, uint64_t what, uint64_t address) {
     uint64_t reader = is_readers ? reader_of(t->serial, t->number) : 0, use = slot_of_use(what, reader);
     int is_known = (is_readers || c->owner == t->serial) && cell_uses[use].what == what && cell_uses[use].before == reader;
     uint64_t *key = is_known ? find_key(c, use) : 0;
-    int is_held = key && hold_quickly(t, key, what);
+    int is_held = key && hold_quickly(t, key, key_now(t, use), what);
     end_quick_hook(t);
     if (t->deferred) deliver_deferred(t);
     if (!is_held) note_access(operation_of(what), address, 1 << (what >> 54) % (1 << LOGARITHM_BITS), what & LOW_48_BITS);

@@ -12,11 +12,13 @@ void hold_elsewhere(thread *t, cell *c, uint64_t what, uint64_t address);
 
 static inline enum operation operation_of(uint64_t what) { return what >> 48 & 3; }
 
+/* The key of a use that is made now. */
+static inline uint64_t key_now(const thread *t, uint64_t use) { return use << POSITION_BITS | (t->base + t->steps + 1); }
+
 /* Is it held back? A read right after the same one isn't: a loop of these may wait for another thread (note_spin). */
-static inline int hold_quickly(thread *t, uint64_t *key, uint64_t what) {
-    uint64_t position = t->base + t->steps + 1;
-    if (operation_of(what) == OP_READ && *key % (1ull << POSITION_BITS) + 1 == position) return 0;
-    *key = (*key & ~POSITIONS) | position;
+static inline int hold_quickly(thread *t, uint64_t *key, uint64_t new, uint64_t what) {
+    if (operation_of(what) == OP_READ && *key + 1 == new) return 0;
+    *key = new;
     t->last = what;
     t->steps++;
     changes += operation_of(what) == OP_WRITE;
@@ -31,7 +33,7 @@ static inline void end_quick_hook(thread *t) {
 }
 
 static inline int may_be_quick(const thread *t, uint64_t address, uint64_t size) {
-    return t && t->limit && size <= GRAIN && address % GRAIN <= GRAIN - size && address < CELL_ADDRESSES;
+    return t && t->limit && size <= GRAIN && address % GRAIN <= GRAIN - size;
 }
 
 static inline int is_usual(const thread *t) {
@@ -44,15 +46,16 @@ void hook(enum operation operation, uint64_t address, uint64_t size, uint64_t ca
     if (!may_be_quick(t, address, size)) return note_access(operation, address, size, caller);
     t->inside = 1;                     /* so no handler of a signal comes, which may change all that is read below */
     BARRIER();
-    cell *c = is_usual(t) ? find_cell(address) : 0;
+    cell *c = is_usual(t) && address < CELL_ADDRESSES ? find_cell(address) : 0;
     uint64_t what = what_of_use(caller, size < GRAIN ? address : 0) + ((uint64_t)operation << 48)
         + ((uint64_t)__builtin_ctzl(size) << 54) + ((uint64_t)t->depth << (54 + LOGARITHM_BITS)), use = slot_of_use(what, 0);
     if (c && (c->owner != t->serial || c->log_keys)) return hold_elsewhere(t, c, what, address);
+    uint64_t key = key_now(t, use);
     if (c && cell_uses[use].what == what) {
 #pragma GCC unroll 7
         for (int k = 0; k < KEYS; k++)
-            if (c->keys[k] >> POSITION_BITS == use) {
-                if (!hold_quickly(t, &c->keys[k], what)) break;
+            if (!((c->keys[k] ^ key) >> POSITION_BITS)) {
+                if (!hold_quickly(t, &c->keys[k], key, what)) break;
                 end_quick_hook(t);
                 if (__builtin_expect(t->deferred, 0)) deliver_deferred(t);
                 return;
