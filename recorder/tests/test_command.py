@@ -51,7 +51,7 @@ class Command(recorder.Case):
         self.assertRegex(said, r"(?m)^shb-record: run 1, process \d+ \(\S+/status 0 race\): .*; 1 place with races$")
         self.assertIn("status.c:9", said)
         page, = (self.folder / "status.shb").glob("run*.html")
-        self.assertEqual(said.splitlines()[-3:], ["shb-record: 1 place with races; the program's own status: 0; files in "
+        self.assertEqual([said.splitlines()[-4], *said.splitlines()[-2:]], ["shb-record: 1 place with races; the program's own status: 0; files in "
                                                   f"{self.folder}/status.shb", ONE, f"shb-record: page: {page}"])
         self.assertRegex(text_of(page), r"<title>\S+/status 0 race \(run 1, process \d+, \d{4}-\d\d-\d\d \d\d:\d\d\): 1 place with races, ")
         self.assertEqual(self.names(), [*TABLES, "run1.N.html", "run1.N.scan", "run1.N.stacks", "run1.N.std", "run1.N.turns", "run1.N.uses",
