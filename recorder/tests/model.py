@@ -28,12 +28,12 @@ loses the turn. A waiter may leave it at each of its looks: sooner than turn.c d
 import typing
 
 NONE = -1
-PROGRAMS = ["hhh hhh", "hbh hsh", "hch hbh", "hsb hcb", "hxh hbh", "h h h", "h s b", "hh b h"]
+PROGRAMS = ["hhh hhh", "hbh hsh", "hch hbh", "hsb hcb", "hxh hbh", "h h h", "h s b"]
 REPLAYS = [("hh hhh", ((0, 1), (1, 2), (0, 3), (1, 4))), ("hb hbh", ((1, 1), (0, 2), (1, 2), (0, 3), (1, 4))),
            ("hsh hc", ((0, 1), (1, 1), (0, 3), (1, 2))), ("hxh hb", ((0, 2), (1, 2))),
            ("hh hb", ((1, 3), (0, 1), (1, 9))), ("hb hh", ((0, 1), (0, 2), (1, 0), (0, 9)))]  # the last two don't fit
 LONG_REPLAYS = [("hhh hhh", ((0, 1), (1, 2), (0, 4), (1, 4))), ("h b h", ((2, 2), (1, 1), (0, 2), (1, 2)))]
-LONG_PROGRAMS = ["hhhh hhhh", "hbhsh hchbh", "hsxh hbch", "hh hh h", "hs hb h", "hx hb h", "hc hh b", "hb hs hh", "hh hh hh"]
+LONG_PROGRAMS = ["hh b h", "hhhh hhhh", "hbhsh hchbh", "hsxh hbch", "hh hh h", "hs hb h", "hx hb h", "hc hh b", "hb hs hh", "hh hh hh"]
 
 # Bugs to plant, and the property that each breaks.
 PUT_DOES_NOT_ASK = "put does not ask for the turn again"
