@@ -80,7 +80,7 @@ class Command(recorder.Case):
         for shown in said, text_of(page):
             self.assertIn("1 place with races, in 1 group", shown)
             self.assertIn("no lock held", shown)
-            self.assertNotRegex(shown, "(?i)pairs? of (lines|locations)|location pair|lock in the trace|without a lock")
+            self.assertNotRegex(shown, "(?i)pairs? of (lines|locations)|location pair|lock in the trace")
 
     def test_a_pair_that_races_in_both_orders_is_shown(self):
         """x is written by one thread first, and then by the other; y by the other first."""
@@ -715,7 +715,7 @@ class Command(recorder.Case):
                 status, _, said = self.stopped(["TERM"], at, *words)
                 self.assertEqual((status, "1 place with races; the program's own status: 0" in said), (66, True), said)
                 self.assertIn("SIGTERM: what was recorded is still shown; another one ends at once, and keeps the record\n", said)
-                self.assertEqual([name for name in self.names() if name.endswith((".rec", ".html"))], ["run1.N.html", *kept])
+                self.assertEqual([name for name in self.names() if name.endswith((".rec", ".html"))], ["index.html", "run1.N.html", *kept])
 
     def test_a_second_signal_ends_at_once_and_keeps_the_record(self):
         for at in "shb", "shb-std":

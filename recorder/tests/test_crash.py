@@ -59,5 +59,5 @@ class Crash(recorder.Case):
         self.assertEqual((ran.returncode, said.splitlines()[1]), (66, note), said)
         self.assertNotIn("not the whole", said)
         self.assertIn("the program's own status: 139;", said)
-        [page] = (self.folder / "crash.shb").glob("*.html")
+        [page] = (self.folder / "crash.shb").glob("run*.html")
         self.assertIn(note, page.read_text())

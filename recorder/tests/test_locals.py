@@ -54,7 +54,7 @@ class Programs(recorder.Case):
         return names
 
     def test_locks_and_atomics(self):
-        """Each has one name in the whole trace, however much of it is written: with -r no lock that only keeps accesses apart."""
+        """Each has one name in the whole trace, however much of it is written."""
         raced = {b"work.gate of main", b"work.tail of main", b"work.items[1] of main"}
         kept_apart = {b"work.door of main", b"work.count of main"}
         for compiler in ("gcc", "clang"):
@@ -65,7 +65,7 @@ class Programs(recorder.Case):
                 for line in lines:
                     name = line.split(b"(", 1)[1].split(b")|")[0].partition(b"@")[0].partition(b"!")[0]
                     named.update([stacks.lasting_locals.get(name)] if name.startswith(b"stack.main") else [])
-                named.update(stacks.lasting_locals.get(use.name) for use in stacks.stores)
+                named.update(stacks.lasting_locals.get(use.name) for use in stacks.uses)
                 wanted = raced | kept_apart
                 others = named - raced - kept_apart - {b"one of main", b"other of main"}
                 self.assertEqual((wanted - named, others), (set(), set()), (compiler, options))

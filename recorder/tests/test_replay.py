@@ -45,7 +45,7 @@ class Replays(recorder.Case):
             followed = re.findall(r"(?m)^shb-record: run \d+, process \d+ \(\S+\): all \d+ turns of the list were followed$", said)
             found = re.findall(r"(?m)^shb-record: run \d+, .*; [1-9] places? with races$", said)
             self.assertEqual((status, len(followed), len(found)), (66, 10, 10), said)
-        page = next((self.folder / "other").glob("*.html")).read_text()
+        page = next((self.folder / "other").glob("run*.html")).read_text()
         self.assertRegex(page, r"All \d+ turns of the list were followed\.")
 
     def test_the_same_turns_whatever_is_recorded_of_them(self):

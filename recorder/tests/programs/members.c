@@ -32,6 +32,7 @@ static void *work(void *x) {
     points[3].y = 1;                   /* AT points[3].y */
     table[1][2] = 1;                   /* AT table[1][2] */
     *(volatile short *)((char *)&table[0][1] + 2) = 1; /* AT table[0][1]+2 */
+    size = sizeof whole;               /* AT size */
     memset(&whole, 0, size);           /* AT whole, size */
     plain = 1;                         /* AT plain */
     return 0;
