@@ -47,7 +47,8 @@ class MadeTraces(program.Case):
     def compare_verdicts(self, pick, text, full):
         trace = self.file(text)
         if full.status != 0:
-            self.assertEqual(program.run(["check", trace], b"anything"), full)
+            answer = program.run(["check", trace], b"anything")
+            self.assertEqual(answer._replace(err=answer.err.partition(b"\n")[0] + b"\n"), full)   # what the line has comes after it
             return
         self.compare_verdict(trace, text, full.out, b"ok %d\n" % full.out.count(b"\nrace "))
         for _ in range(CHANGES):
