@@ -2,6 +2,8 @@
 
 import pathlib
 import random
+import re
+import resource
 import subprocess
 import sys
 
@@ -31,8 +33,25 @@ REPAIRS = [
      "T0|acq(l) T0|rel(l)|2 T1|acq(l) T1|rel(l) T0|acq(l)|2 T0|rel(l)"),
     ("a reader", "T0|rdlock(l) T0|rdunlock(l) T1|wrlock(l) T1|rel(l)",
      "T0|acq(l#reader.T0) T0|rel(l#reader.T0) T1|acq(l) T1|acq(l#reader.T0) T1|rel(l#reader.T0) T1|rel(l)"),
+    ("a reader after the writer", "T1|wrlock(l) T1|wrunlock(l) T0|rdlock(l) T0|rdunlock(l)",
+     "T1|acq(l) T1|acq(l#reader.T0) T1|rel(l#reader.T0) T1|rel(l) T0|acq(l#reader.T0) T0|rel(l#reader.T0)"),
+    ("two readers of a volatile", "T0|vw(f) T1|vr(f) T2|vr(f)",
+     "T0|acq(f#volatile.0.T1) T0|rel(f#volatile.0.T1) T0|acq(f#volatile.0.T2) T0|rel(f#volatile.0.T2) "
+     "T1|acq(f#volatile.0.T1) T1|rel(f#volatile.0.T1) T2|acq(f#volatile.0.T2) T2|rel(f#volatile.0.T2)"),
+    ("a lock that was held, and volatiles", "T0|vw(f) T1|vr(f) T0|rel(l)",
+     "T0|acq(l) T0|acq(f#volatile.0.T1) T0|rel(f#volatile.0.T1) T1|acq(f#volatile.0.T1) T1|rel(f#volatile.0.T1) T0|rel(l)"),
+    ("a late fork in a log with others", "T2|w(x) T1|w(x) T2|w(y) T1|fork(T2) T2|w(z)", "T1|fork(T2) T2|w(x) T1|w(x) T2|w(y) T2|w(z)"),
 ]
-OPERATIONS = [f"{word}({name})" for word in ("r", "w", "acq", "rel", "vr", "vw", "rdlock", "wrlock", "rdunlock", "wait", "notify") for name in "xy"]
+# Logs whose races depend on a repair: the events, and the locations of the races.
+RACES = [
+    ("two reads of one volatile write don't order each other",
+     "main|fork(T1) main|fork(T2) main|vw(f) T1|w(x)|1 T1|vr(f) T2|vr(f) T2|r(x)|2", [("1", "2")]),
+    ("a first reader after a writer is ordered",
+     "main|fork(A) main|fork(B) A|rdlock(t) A|r(x)|1 A|rdunlock(t) main|wrlock(t) main|w(x)|2 main|wrunlock(t) B|rdlock(t) B|r(x)|3 B|rdunlock(t)", []),
+    ("what comes after a writer's release isn't",
+     "main|fork(A) main|wrlock(t) main|wrunlock(t) main|w(x)|1 A|rdlock(t) A|r(x)|2 A|rdunlock(t)", [("1", "2")]),
+]
+OPERATIONS = [f"{word}({name})" for word in ("r", "w", "acq", "rel", "vr", "vw", "rdlock", "wrlock", "rdunlock", "wrunlock", "wait", "notify") for name in "xy"]
 OPERATIONS += [f"{word}(T{k})" for word in ("fork", "join") for k in range(4)] + ["begin", "end", "unknown", "READ(x)"]
 
 
@@ -58,9 +77,34 @@ class Fix(program.Case):
         self.assertRegex(ran.stderr, rb"\Aline 2: the lock was held when the log began.*\nshb-fix: 1 repair\n\Z")
         self.assertEqual(fixed(lines("T0|w(x) T0|rel(l)"), "--quiet").stderr, b"shb-fix: 1 repair\n")
 
+    def test_the_races_of_a_repaired_log(self):
+        for what, log, wanted in RACES:
+            with self.subTest(what):
+                listed = program.run(["places", "--list"], fixed(lines(log)).stdout).out.decode()
+                self.assertEqual(re.findall(r"^at (.*)\nand (.*)$", listed, re.M), wanted)
+
+    def test_what_is_printed_of_a_line(self):
+        """A line is quoted, and of two things the one that was done is named."""
+        for line, wanted in ((" T0|w(x)", "blanks were dropped"), ("T0|READ(x)", "`READ` is `r` now"), ("T0|writ(x)|b", "`T0|writ(x)|b` is no event: dropped"),
+                             ("T0|vw(x)", "a volatile write that no other thread reads later orders nothing: dropped"),
+                             ("T0|vr(x)", "a volatile read after no new write of another thread orders nothing: dropped")):
+            ran = fixed(f"T1|w(y)\n{line}\n".encode())
+            self.assertEqual(ran.stderr.decode(), f"line 2: {wanted}\nshb-fix: 1 repair\n")
+
+    def test_a_long_trace_through_a_pipe(self):
+        """In less memory than its events take. The release in its last line needs an acquire before the first."""
+        count = 300000
+        log = b"main|fork(T)|1\n" + b"T|w(x)|2\n" * count + b"main|rel(door)|3\n"
+        most = 64 << 20
+        ran = subprocess.run([sys.executable, COMMAND], input=log, capture_output=True, timeout=program.SECONDS,
+                             preexec_fn=lambda: resource.setrlimit(resource.RLIMIT_DATA, (most, most)))
+        self.assertEqual((ran.returncode, ran.stderr.count(b"\n")), (1, 2), ran.stderr)
+        self.assertEqual(ran.stdout, b"main|acq(door)|3\n" + log)
+
     def test_a_file_that_is_no_trace(self):
         ran = fixed(b"comment\n" * 3)
         self.assertEqual((ran.returncode, ran.stdout, ran.stderr), (2, b"", b"shb-fix: no line is an event: this is no trace\n"))
+        self.assertEqual(fixed("T0|w(x)\n".encode("utf-16")).stderr, b"shb-fix: no line is an event: this is no trace: the file is UTF-16: save it as UTF-8\n")
         self.assertEqual(fixed(b"").returncode, 0)
 
     def test_many_repairs_are_counted(self):

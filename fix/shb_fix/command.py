@@ -1,6 +1,10 @@
 """The words of the command, its files and its statuses."""
 
+import contextlib
+import itertools
+import shutil
 import sys
+import tempfile
 
 from shb_common.commands import Parser
 from shb_common.standard import leave_standard_output, open_standard_files, words_of
@@ -11,7 +15,13 @@ from shb_fix.events import Repairs
 ABOUT = """\
 Repairs a trace of another tool so that `shb` reads it, writes it to standard output, and
 lists each repair on standard error. A repair is a guess about the program: read the list.
-Some add order (a lock that is given up, a fork that is moved), which can hide a race."""
+Some add order (a lock that is released, a fork that is moved), which can hide a race. A
+dropped line can lose one.
+
+It knows r, w, acq, rel, fork and join in other spellings, and makes locks of vr, vw
+(volatile or atomic accesses), rdlock, rdunlock, wrlock, wrunlock, wait and notify. A trace
+may have any length: it is read line by line, several times. A pipe is copied to a file
+first."""
 STATUS = """\
 Exit status: 0 nothing had to be repaired; 1 the trace was repaired; 2 no line is an event, so
 nothing was written; 3 wrong command line; 4 a file can't be read or written."""
@@ -20,13 +30,53 @@ nothing was written; 3 wrong command line; 4 a file can't be read or written."""
 def arguments(words):
     parser = Parser("shb-fix", ABOUT, STATUS)
     parser.add_argument("--quiet", action="store_true", help="don't list the repairs, only how many there are")
-    parser.add_argument("trace", metavar="TRACE", nargs="?", help="a trace; standard input where none is named")
+    parser.add_argument("trace", metavar="TRACE", nargs="?", help="a trace; standard input if none is named")
     return parser.parsed(words)
 
 
-def repaired(read, repairs):
-    """The events that were read, repaired."""
-    return locks.repaired(threads.repaired(read, repairs), repairs)
+@contextlib.contextmanager
+def opened(path):
+    """The trace as a file that can be read several times."""
+    with open(path, "rb") if path else open(0, "rb", closefd=False) as file:
+        if file.seekable():
+            yield file
+            return
+        with tempfile.TemporaryFile() as copy:
+            shutil.copyfileobj(file, copy)
+            yield copy
+
+
+class Trace:
+    """A trace that is read several times: first for what the repairs have to know of the whole."""
+
+    def __init__(self, file, repairs):
+        self.file, self.lives, self.uses, self.count = file, threads.Lives(), locks.Uses(), 0
+        for event in threads.named_apart(lines.events_of(self.from_start(), repairs), repairs):
+            self.lives.note(event)
+            self.uses.note(event)
+            self.count = event.line
+        self.plan = threads.Plan(self.lives, repairs)
+
+    def from_start(self):
+        self.file.seek(0)
+        return self.file
+
+    def read(self, repairs):
+        """The repaired events, and the state of the locks behind them."""
+        unnoted = Repairs()
+        read = itertools.takewhile(lambda event: event.line <= self.count, lines.events_of(self.from_start(), unnoted))
+        events = self.plan.followed(threads.named_apart(read, unnoted))
+        events = locks.with_reader_locks(locks.with_waits(events, repairs), self.uses, repairs)
+        sections = locks.Sections(self.plan.forked, repairs)
+        return locks.with_volatiles(sections.whole(events), self.uses, repairs), sections
+
+
+def repaired(trace, repairs):
+    """The events of a trace, repaired. They are made twice: what has to come before the first line shows at the end."""
+    events, sections = trace.read(Repairs())
+    for _ in events:
+        pass
+    return itertools.chain(sections.begun, trace.read(repairs)[0])
 
 
 def say(repairs, quiet):
@@ -37,21 +87,14 @@ def say(repairs, quiet):
     print(f"shb-fix: {counted(count, 'repair')}", file=sys.stderr)
 
 
-def main(words):
-    open_standard_files()
-    options = arguments(words)
-    repairs = Repairs()
-    try:
-        with open(options.trace, "rb") if options.trace else open(0, "rb", closefd=False) as file:
-            read = list(lines.events_of(file, repairs))
-    except OSError as fault:
-        print(f"shb-fix: {words_of(fault)}", file=sys.stderr)
-        return 4
-    if repairs.counts and not read:
-        print("shb-fix: no line is an event: this is no trace", file=sys.stderr)
+def fix(file, options, repairs):
+    """Writes a repaired trace, and answers with the status."""
+    trace = Trace(file, repairs)
+    if repairs.counts and not trace.count:
+        print(f"shb-fix: no line is an event: this is no trace{lines.kind_of(file)}", file=sys.stderr)
         return 2
     try:
-        sys.stdout.buffer.writelines(event.text() for event in repaired(read, repairs))
+        sys.stdout.buffer.writelines(event.text() for event in repaired(trace, repairs))
         sys.stdout.buffer.flush()
     except OSError as fault:
         leave_standard_output()
@@ -59,3 +102,14 @@ def main(words):
         return 4
     say(repairs, options.quiet)
     return 1 if repairs.counts else 0
+
+
+def main(words):
+    open_standard_files()
+    options = arguments(words)
+    try:
+        with opened(options.trace) as file:
+            return fix(file, options, Repairs())
+    except OSError as fault:
+        print(f"shb-fix: {words_of(fault)}", file=sys.stderr)
+        return 4

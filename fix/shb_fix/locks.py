@@ -6,35 +6,53 @@ from shb_fix.events import Event, OWN
 
 VOLATILE, READER = OWN.encode() + b"volatile.", OWN.encode() + b"reader."
 
+# The repairs of volatile accesses: which are alike, and what is printed.
+READ = "a volatile read", "a volatile read: it acquires the locks of the writes before it"
+WRITE = "a volatile write", "a volatile write: it has a lock of its own for each thread that reads it later"
+LOST_READ = "a volatile read that orders nothing", "a volatile read after no new write of another thread orders nothing: dropped"
+LOST_WRITE = "a volatile write that orders nothing", "a volatile write that no other thread reads later orders nothing: dropped"
 
-def later_readers(events):
-    """For each volatile write, by its place: the other threads that read the variable later, in the order of their first events."""
-    readers, found = collections.defaultdict(dict), {}
-    for k in range(len(events) - 1, -1, -1):
-        event = events[k]
+
+class Uses:
+    """What the repairs of locks have to know of a whole trace: for each volatile variable the last line at which each thread reads
+    it, and for each reader-writer lock its readers, in the order in which they come."""
+
+    def __init__(self):
+        self.last_reads, self.readers = collections.defaultdict(dict), collections.defaultdict(dict)
+
+    def note(self, event):
         if event.word == b"vr":
-            readers[event.name][event.thread] = None
-        elif event.word == b"vw":
-            found[k] = [reader for reader in sorted(readers[event.name]) if reader != event.thread]
-    return found
+            self.last_reads[event.name][event.thread] = event.line
+        elif event.word == b"rdlock":
+            self.readers[event.name][event.thread] = None
+
+    def later_readers(self, event):
+        """The other threads that read the variable of a volatile write later."""
+        reads = self.last_reads.get(event.name, {})
+        return sorted(thread for thread, line in reads.items() if thread != event.thread and line > event.line)
 
 
-def with_volatiles(events, repairs):
+def with_volatiles(events, uses, repairs):
     """What a thread did before a volatile write comes before what another one does after a later read of the variable, and nothing
     else is ordered: a write takes and gives back a lock of its own for each such reader, which takes it at its next read."""
-    events, given = list(events), collections.defaultdict(list)
-    readers = later_readers(events)
-    for k, event in enumerate(events):
-        if event.word not in (b"vr", b"vw"):
+    given, writes = collections.defaultdict(list), 0
+    for event in events:
+        if event.word == b"vr":
+            locks = given.pop((event.name, event.thread), [])
+            repairs.note(event.line, *(READ if locks else LOST_READ))
+        elif event.word == b"vw":
+            readers = uses.later_readers(event)
+            locks = [b"%s%s%d.%s" % (event.name, VOLATILE, writes, reader) for reader in readers]
+            writes += 1
+            for reader, lock in zip(readers, locks):
+                given[event.name, reader].append(lock)
+            repairs.note(event.line, *(WRITE if locks else LOST_WRITE))
+        else:
             yield event
             continue
-        repairs.note(event.line, "is a volatile access", "a volatile access is made of locks, which order a read after the writes before it")
-        locks = given.pop((event.name, event.thread), []) if event.word == b"vr" else [b"%s%s%d.%s" % (event.name, VOLATILE, k, reader) for reader in readers[k]]
         for lock in locks:
             yield event.like(b"acq", lock)
             yield event.like(b"rel", lock)
-        for reader, lock in zip(readers.get(k, ()), locks):
-            given[event.name, reader].append(lock)
 
 
 def with_waits(events, repairs):
@@ -54,13 +72,8 @@ def with_waits(events, repairs):
             yield event
 
 
-def with_reader_locks(events, repairs):
+def with_reader_locks(events, uses, repairs):
     """Each reader of a reader-writer lock has a lock of its own, and a writer takes the locks of all readers too."""
-    events = list(events)
-    readers = collections.defaultdict(list)
-    for event in events:
-        if event.word == b"rdlock" and event.thread not in readers[event.name]:
-            readers[event.name].append(event.thread)
     reading = collections.Counter()
     for event in events:
         held = (event.thread, event.name)
@@ -71,29 +84,31 @@ def with_reader_locks(events, repairs):
         elif event.word == b"rdunlock" or event.word == b"rel" and reading[held]:
             reading[held] -= 1
             yield event.like(b"rel", event.name + READER + event.thread)
-        elif event.word in (b"wrlock", b"acq", b"rel"):
-            word = b"rel" if event.word == b"rel" else b"acq"
-            each = [event.name] + [event.name + READER + reader for reader in readers.get(event.name, ())]
-            yield from (event.like(word, name) for name in (each if word == b"acq" else each[::-1]))
+        elif event.word in (b"wrlock", b"acq", b"wrunlock", b"rel"):
+            takes = event.word in (b"wrlock", b"acq")
+            if event.word == b"wrlock":
+                repairs.note(event.line, "takes a lock for writing", "the writer takes the locks of all readers too")
+            each = [event.name] + [event.name + READER + reader for reader in uses.readers.get(event.name, ())]
+            yield from (event.like(b"acq" if takes else b"rel", name) for name in (each if takes else each[::-1]))
         else:
             yield event
 
 
 class Sections:
-    """Which locks are held, and the events so far."""
+    """Which locks are held. `begun` has the acquires that have to come before the first line."""
 
     def __init__(self, forked, repairs):
         self.forked, self.repairs = forked, repairs
-        self.holder, self.depth, self.known = {}, collections.Counter(), set()
-        self.begun, self.body = [], []
+        self.holder, self.depth, self.known = {}, {}, set()
+        self.begun = []
 
-    def give_up(self, lock, location):
-        """Adds the releases that weren't logged."""
-        self.body += [Event(0, self.holder[lock], b"rel", lock, location)] * self.depth[lock]
-        self.depth[lock], self.holder[lock] = 0, None
+    def released(self, lock, location):
+        """The releases that weren't logged."""
+        thread, count = self.holder.pop(lock), self.depth.pop(lock)
+        return [Event(0, thread, b"rel", lock, location)] * count
 
-    def take_release(self, event):
-        """A release by a thread that hasn't the lock: the log may have begun behind its acquire. Says whether it stays."""
+    def allows_release(self, event):
+        """Whether a release by a thread that doesn't hold the lock stays: the log may have begun after its acquire."""
         if event.name in self.known or event.thread in self.forked:
             self.repairs.note(event.line, "releases a lock that it doesn't hold", "the thread doesn't hold this lock: dropped")
             return False
@@ -102,34 +117,34 @@ class Sections:
         self.holder[event.name], self.depth[event.name] = event.thread, 1
         return True
 
-    def take(self, event):
-        lock, held = event.name, self.holder.get(event.name)
+    def missing(self, event):
+        """The releases that have to come before an event, since they weren't logged."""
         if event.word == b"join":
-            for kept in [it for it, holder in self.holder.items() if holder == lock]:
+            held = [lock for lock, holder in self.holder.items() if holder == event.name]
+            for _ in held:
                 self.repairs.note(event.line, "joins a thread that holds a lock", "the thread holds a lock, and its release wasn't logged: it is released right before")
-                self.give_up(kept, event.location)
-        if event.word == b"rel" and held != event.thread and not self.take_release(event):
-            return
-        if event.word == b"acq" and held not in (None, event.thread):
+            return [it for lock in held for it in self.released(lock, event.location)]
+        if event.word == b"acq" and self.holder.get(event.name) not in (None, event.thread):
             self.repairs.note(event.line, "acquires a lock that another thread holds", "another thread holds this lock, and its release wasn't logged: it is released right before")
-            self.give_up(lock, event.location)
-        if event.word in (b"acq", b"rel"):
-            self.known.add(lock)
-            self.depth[lock] += 1 if event.word == b"acq" else -1
-            self.holder[lock] = event.thread if self.depth[lock] else None
-        self.body.append(event)
+            return self.released(event.name, event.location)
+        return []
 
+    def note(self, event):
+        """Notes an acquire or a release."""
+        lock = event.name
+        self.known.add(lock)
+        self.holder[lock] = event.thread
+        self.depth[lock] = self.depth.get(lock, 0) + (1 if event.word == b"acq" else -1)
+        if not self.depth[lock]:
+            del self.holder[lock], self.depth[lock]
 
-def with_whole_sections(events, repairs):
-    """A lock that is given up before anybody took it was held when the log began: its holder takes it first. One that is taken
-    while another thread has it, or whose holder is joined, was given up before; one that is given up by who hasn't it isn't."""
-    events = list(events)
-    sections = Sections({event.name for event in events if event.word == b"fork"}, repairs)
-    for event in events:
-        sections.take(event)
-    return sections.begun + sections.body
-
-
-def repaired(events, repairs):
-    """The events with locks alone."""
-    return with_whole_sections(with_reader_locks(with_waits(with_volatiles(events, repairs), repairs), repairs), repairs)
+    def whole(self, events):
+        """A lock that is given up before anybody took it was held when the log began: its holder takes it first. One that is taken
+        while another thread has it, or whose holder is joined, was given up before; one that is given up by who hasn't it isn't."""
+        for event in events:
+            yield from self.missing(event)
+            if event.word == b"rel" and self.holder.get(event.name) != event.thread and not self.allows_release(event):
+                continue
+            if event.word in (b"acq", b"rel"):
+                self.note(event)
+            yield event

@@ -2,6 +2,7 @@
 
 import collections
 
+from shb_common.printable import printable
 from shb_fix.events import OWN
 
 
@@ -16,23 +17,37 @@ def named_apart(events, repairs):
         if event.word == b"fork" and event.name in joined:
             joined.discard(event.name)
             turn[event.name] += 1
-            repairs.note(event.line, "forks a thread whose name was used before", f"the thread is another one, and is called {own(event.name).decode(errors='replace')}")
+            repairs.note(event.line, "forks a thread whose name was used before", f"the name was used before: this thread is called {printable(own(event.name))}")
         if event.word == b"join":
             joined.add(event.name)
         name = own(event.name) if event.word in (b"fork", b"join") else event.name
         yield event._replace(thread=own(event.thread), name=name)
 
 
-def without_timed_joins(events, repairs):
+class Lives:
+    """What the repairs of threads have to know of a whole trace: the last line of each thread, all forks and joins, and of each
+    thread the first event that is neither. So `turns` has the first event of each thread, whichever forks and joins are dropped."""
+
+    def __init__(self):
+        self.last, self.turns, self.begun = {}, [], set()
+
+    def note(self, event):
+        self.last[event.thread] = event.line
+        if event.word in (b"fork", b"join"):
+            self.turns.append(event)
+        elif event.thread not in self.begun:
+            self.begun.add(event.thread)
+            self.turns.append(event)
+
+
+def without_timed_joins(lives, repairs):
     """A join after which the thread goes on did not wait for its end, and orders nothing: it is dropped. So is what a thread
     says of itself, and a second fork."""
-    events = list(events)
-    last = {event.thread: k for k, event in enumerate(events)}
     forked = set()
-    for k, event in enumerate(events):
+    for event in lives.turns:
         if event.word in (b"fork", b"join") and event.name == event.thread:
             repairs.note(event.line, "names its own thread", f"a thread can't {event.word.decode()} itself: dropped")
-        elif event.word == b"join" and last.get(event.name, -1) > k:
+        elif event.word == b"join" and lives.last.get(event.name, 0) > event.line:
             repairs.note(event.line, "joins a thread that goes on", "the thread goes on after this join, which may have timed out: dropped")
         elif event.word == b"fork" and event.name in forked:
             repairs.note(event.line, "forks a thread again", "the thread was forked before, and not joined: dropped")
@@ -53,22 +68,39 @@ def late_forks(events):
 
 def with_early_forks(events, repairs):
     """A fork that stands behind an event of its thread was logged late: it is moved before the first one. That may bring the
-    forking thread's own fork to be late. A fork that would be moved twice is dropped: two threads can't fork each other."""
-    events, moved = list(events), set()
+    forking thread's own fork to be late. A fork that would be moved twice is dropped: two threads can't fork each other. The
+    second answer has the line before which each moved fork stands."""
+    events, moved = list(events), {}
     late = late_forks(events)
     while late:
-        before = collections.defaultdict(list)
+        before, earlier = collections.defaultdict(list), dict(moved)
         for fork, place in late.items():
-            if fork in moved:
+            if fork in earlier:
                 repairs.note(fork.line, "forks a thread that began before", "no place before the first event of its thread is right for this fork: dropped")
-            else:
-                moved.add(fork)
-                before[place].append(fork)
-                repairs.note(fork.line, "was logged late", "the fork came after the first event of its thread, and was moved before it")
+                continue
+            moved[fork] = earlier.get(events[place], events[place].line)
+            before[place].append(fork)
+            repairs.note(fork.line, "was logged late", "the fork came after the first event of its thread, and was moved before it")
         events = [it for k, event in enumerate(events) for it in [*before.get(k, ()), *([] if event in late else [event])]]
         late = late_forks(events)
-    return events
+    return events, moved
 
 
-def repaired(events, repairs):
-    return with_early_forks(without_timed_joins(named_apart(events, repairs), repairs), repairs)
+class Plan:
+    """Which forks and joins don't stay at their lines, and which forks come before a line."""
+
+    def __init__(self, lives, repairs):
+        events, moved = with_early_forks(without_timed_joins(lives, repairs), repairs)
+        self.before = collections.defaultdict(list)
+        for event in events:
+            if event in moved:
+                self.before[moved[event]].append(event)
+        self.gone = {event.line for event in lives.turns} - {event.line for event in events if event not in moved}
+        self.forked = {event.name for event in events if event.word == b"fork"}
+
+    def followed(self, events):
+        """The events with each fork and join where the plan has it."""
+        for event in events:
+            yield from self.before.get(event.line, ())
+            if event.line not in self.gone:
+                yield event
