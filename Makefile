@@ -14,12 +14,12 @@ SOURCES = crates.txt HANDLES $(shell find crates -path '*/out' -prune -o -path '
 define HELP
 make build              proves and builds bin/shb                              half an hour; needs the Rattle kit
 make run                the same, and runs it on an example
-make recorder           builds what records C and C++ programs                 seconds
-make install            builds bin/shb if it isn't built, and installs it:     seconds beside the build
+make recorder           builds what records C and C++ programs, links commands  seconds
+make install            builds bin/shb if it isn't built, and installs it:     seconds, after the build
      PREFIX=/usr/local  commands, manual pages, completions, recorder
 make uninstall PREFIX=/usr/local
-make dist               makes the package of the commit, with its checksum     seconds beside the build
-make deb                makes the same as a package of Debian                  seconds beside the build
+make dist               makes the package of the commit, with its checksum     seconds, after the build
+make deb                makes the same as a package of Debian                  seconds, after the build
 make quick BASE=main    checks a part of what a change can have broken         minutes
 make changed BASE=main  checks all that a change can have broken               minutes to an hour
 make test               what a merge must pass                                 docs/GATE.md
@@ -62,9 +62,11 @@ quick:
 end-to-end: build
 	python3 tests/run.py bin/shb
 
-# Builds what makes traces of C and C++ programs (recorder/README.md).
+# Builds what makes traces of C and C++ programs (recorder/README.md), and links all commands beside the program.
 recorder:
 	$(MAKE) -C recorder
+	mkdir -p bin
+	for command in */shb-*; do [ ! -f "$$command" ] || ln -sf "../$$command" bin/; done
 
 # A program that SHB names isn't built here; its path may have blanks.
 ifeq ($(SHB),bin/shb)

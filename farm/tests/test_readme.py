@@ -21,11 +21,12 @@ def shown():
 
 class Readme(farm.Case):
     def test_what_the_readme_shows(self):
-        for name in ("farm", "examples"):
-            (self.folder / name).symlink_to(farm.TOP / name)
+        (self.folder / "examples").symlink_to(farm.TOP / "examples")
+        how = self.environment()
+        how["PATH"] = f"{farm.TOP / 'farm'}:{how['PATH']}"
         self.traces.rmdir()
         commands = list(shown())
         self.assertEqual(len(commands), 4)
         for command, wanted in commands:
-            ran = subprocess.run(["sh", "-c", command], cwd=self.folder, env=self.environment(), capture_output=True, timeout=farm.SECONDS)
+            ran = subprocess.run(["sh", "-c", command], cwd=self.folder, env=how, capture_output=True, timeout=farm.SECONDS)
             self.assertEqual(ran.stdout.decode(), wanted, command)

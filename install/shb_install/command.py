@@ -78,7 +78,8 @@ def dist(options):
     with tempfile.TemporaryDirectory() as room:
         made = pathlib.Path(room)
         name, seconds = packaged(options, made, "PREFIX", "libtsan.so.2")
-        (made / "README.md").symlink_to("share/doc/shb/README.md")
+        for path in sorted((made / "share/doc/shb").iterdir()):     # the documents' links lead somewhere from the top too
+            (made / path.name).symlink_to(f"share/doc/shb/{path.name}")
         top = f"shb-{name}-x86_64-linux"
         write_package(options.out / f"{top}.tar.xz", package.archive(made, top, seconds))
 

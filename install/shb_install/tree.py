@@ -12,8 +12,9 @@ from shb_install.sources import TOP
 
 FOLDERS = ("recorder", "view", "farm", "fix", "common")      # where commands (shb-NAME) and packages (shb_NAME) are, beside the program
 HOME = "lib/shb"                            # commands stand there beside their packages, as in the checkout; links lead to them
-DOCUMENTS = ("README.md", "CHANGELOG.md", "CONTRIBUTING.md", "recorder/README.md", "farm/README.md", "install/README.md")
+DOCUMENTS = ("README.md", "CHANGELOG.md", "SECURITY.md", "CITATION.cff", "recorder/README.md", "farm/README.md")
 DOCUMENT_FOLDERS = ("docs/", "examples/")
+OF_THE_CHECKOUT = ("docs/GATE.md", "docs/PROOF-NOTES.md")   # they are about files that aren't installed
 PLACES = ("bin", HOME, "share/doc/shb", "share/man/man1", "share/bash-completion/completions", "share/zsh/site-functions",
           "share/fish/vendor_completions.d")
 COMPLETIONS = ((completions.bash, "share/bash-completion/completions/{}"), (completions.zsh, "share/zsh/site-functions/_{}"),
@@ -38,7 +39,7 @@ def make(tree, shb, prefix, library, files, version, date):
         for folder in FOLDERS:
             put_commands(parts / folder, tree)
     for name in files:
-        if name in DOCUMENTS or name.startswith(DOCUMENT_FOLDERS):
+        if name in DOCUMENTS or name.startswith(DOCUMENT_FOLDERS) and name not in OF_THE_CHECKOUT:
             copy(TOP / name, tree / "share/doc/shb" / name)
     helps = helps_of(tree, prefix)
     put_manual(tree, helps, version, date)

@@ -14,7 +14,7 @@ HERE = pathlib.Path(__file__).resolve().parent
 TOP = HERE.parents[1]
 SHB = TOP / "crates" / "shb" / "out" / "shb"
 SECONDS = 600  # after so long a command hangs, also where proofs run beside it
-PARTS = ("Makefile", "build.sh", "README.md", "CHANGELOG.md", "CONTRIBUTING.md", "docs", "examples", "common", "farm", "fix", "install", "recorder", "view")
+PARTS = ("Makefile", "build.sh", "README.md", "CHANGELOG.md", "SECURITY.md", "CITATION.cff", "docs", "examples", "common", "farm", "fix", "install", "recorder", "view")
 
 
 def call(*words, **how):

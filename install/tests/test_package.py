@@ -44,6 +44,8 @@ class Package(installing.Case):
         for wanted in (f"commit {commit} of 2026-01-02", checksum, f"(logic {LOGIC})", "(docs/GUARANTEES.md)"):
             self.assertIn(wanted, proved)
         self.assertEqual((unpacked / "README.md").read_text(), README.read_text())
+        links = re.findall(r"\]\(([^)#:]+)[)#]", README.read_text())
+        self.assertEqual([name for name in links if not (unpacked / name).exists()], [])
         call("sha256sum", "--check", f"{package.name}.sha256", cwd=copy)
 
     def debian(self, folder):
@@ -153,17 +155,3 @@ class Package(installing.Case):
         self.assertIn("not a git repository", self.refused(copy, GIT_CEILING_DIRECTORIES=str(self.folder)))
         call("git", "-C", self.folder, "init", "-q")
         self.assertIn("isn't a checkout of its own", self.refused(copy))
-
-    def test_the_commands_of_the_readme(self):
-        """Those of the part on the package and of the table of commands, in an empty folder with the package, without an environment."""
-        shutil.copy(installing.packaged()[1], self.folder)
-        text = README.read_text()
-        shown = re.search(r"^((?:    .*\n)*    tar -xf shb-\*.*\n(?:    .*\n)*)", text, re.M)[1]
-        more = re.findall(r"^\| `(shb (?:races|places|check) [^`]*)` \|", text, re.M)
-        self.assertGreaterEqual(len(more), 3)
-        commands = "".join(f"bin/{command}\n" for command in more)
-        script = shown + "cp share/doc/shb/examples/places.std app.std\n" + commands
-        said = call("/bin/sh", "-e", "-c", script, cwd=self.folder, env={})
-        self.assertIn("\nat worker.c:3\nand start.c:6\n", said)
-        self.assertIn("\nplaces 3\n", said)
-        self.assertTrue(said.endswith("\nok 3\n"), said[-200:])
