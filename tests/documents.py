@@ -1,6 +1,7 @@
 #!/usr/bin/env python3
 """Finds in the documents what the repository doesn't have: names in back quotes, files, links, headings, commits,
-and numbers of lines. Also finds where a document or a sentence in it is too long. Ends with the line 'N passed, N failed'.
+and numbers of lines. Also finds where a document, a paragraph or a sentence is too long, and where docs/*.md and READMEs together
+are. Ends with the line 'N passed, N failed'.
 
 Documents are the files *.md. A word in back quotes has to occur in another file of the repository, in the name of one,
 or in OUTSIDE, and `crate::word` in that crate. A path has to be the end of a file's or folder's path, or stand in MADE;
@@ -20,11 +21,12 @@ OWN = "tests/documents.py"  # its texts name what isn't there
 
 # Words of the outside world that no file of the repository has, by where they come from.
 OUTSIDE = {
-    "words and messages of rt": "holes incremental nearest proposition rattle tidy",
+    "words and messages of rt": "axioms holes incremental nearest proposition rattle tidy",
     "modules and words of the kit's library": "IsOk Mem le_bytes Display",
     "commands and packages of Linux": "callgrind poppler valgrind",
     "a message of Slurm": "Duplicate jobid",
     "options of gcc": "func instrument lubsan param",
+    "settings of CMake, Meson and make": "DCMAKE_CXX_FLAGS DCMAKE_C_FLAGS Db_sanitize LDFLAGS",
     "names of ThreadSanitizer's that the recorder leaves out": "__interceptor_* __sanitizer_syscall_pre_* _post_*",
     "others of these, and one that it makes by macros": "__tsan_default_suppressions __tsan_read4_pc",
     "a descriptor": "fd5",
@@ -37,11 +39,13 @@ MADE = {
     "make dist": "PROVED.md",
     "rt": "out",
     "shb-record, shb-farm": "made-by-shb-record.txt places.txt runN.PROCESS.std",
-    "the reader's own": "app.std app.report util.c",
+    "the reader's own": "app.std app.report configure util.c",
 }
 
 # The most lines of a document, and the most words of a sentence in it.
-LENGTHS = {"README.md": (110, 25), "docs/GUIDE.md": (190, 25), "recorder/README.md": (140, 35)}
+LENGTHS = {"README.md": (150, 25), "docs/GUIDE.md": (200, 25), "docs/RECORDER.md": (240, 35), "recorder/README.md": (70, 35)}
+MOST_OF_PARAGRAPH = 80      # words of a paragraph or an item; tables and code are none
+MOST_OF_ALL = 34000         # words of docs/*.md and READMEs together, as `wc -w` counts
 
 IS_OUTSIDE = {word for words in OUTSIDE.values() for word in words.split()}
 IS_MADE = {name for names in MADE.values() for name in names.split()}
@@ -174,7 +178,24 @@ def sentences(text):
     return [re.findall(r"\S*\w\S*", sentence) for part in parts for sentence in SENTENCE_END.split(part)]
 
 
+def paragraphs(text):
+    """The paragraphs and items of a text, each as its words."""
+    lines = ("" if line.startswith(("|", "#")) else line for line in BLOCK.sub("\n\n", text).splitlines())
+    return [part.split() for part in re.split(r"\n\s*\n|\n(?= *(?:[-*]|\d+\.) )", "\n".join(lines))]
+
+
+def is_counted(document):
+    """Whether a document is in docs or a README."""
+    return document.startswith("docs/") or pathlib.PurePath(document).name == "README.md"
+
+
 def faults_of_length(document, text):
+    """Where a paragraph is longer than it may be, or a document or a sentence in it than LENGTHS allows."""
+    long = [it for it in paragraphs(text) if len(it) > MOST_OF_PARAGRAPH] if is_counted(document) else []
+    return [f"a paragraph of {len(it)} words: {' '.join(it[:12])} .." for it in long] + faults_of_sentences(document, text)
+
+
+def faults_of_sentences(document, text):
     """Where a document or a sentence in it is longer than LENGTHS allows."""
     if document not in LENGTHS:
         return []
@@ -204,13 +225,15 @@ PLANTED = (
     "`docs/OTHER.md`", "[one](docs/B.md)", "[a](docs/A.md#second)", "`abcdef1`", "`src/read.rt` (3 lines)",
     "| `one/src/read.rt` | 1 |", "1 files, 3 lines:\n\n| `one/src/read.rt` | 2 |\n", "    crates/three/src\n",
     "    read_some\n\n`read_some`", "```\nread_some\n```\n\n`read_some`",
-    "a.\n" * 110, "One.\n- " + "word " * 25 + "end. More.", "| `read_all` | " + "word, " * 26 + "|",
+    "a.\n" * 150, "One.\n- " + "word " * 25 + "end. More.", "| `read_all` | " + "word, " * 26 + "|",
+    "One.\n\n" + "Two words. " * 40 + "\nThree.\n", "1. " + "Two words. " * 40,
 )
 RIGHT = (
     "`read_all`", "`read_a*`", "`*_all`", "`one::read_all`", "`src/read.rt`", "`crates/NAME/src/*.rt`",
     "[one](docs/A.md#the-first-one)", "`1234567`", "`src/read.rt` (2 lines)", "[x](https://x.y/z)",
     "1 files, 2 lines:\n\n| `one/src/read.rt` | 2 |\n", "    read_some crates/two/src\n", "```\nread_some\n```\n",
-    "a.\n" * 109, "One.\n- " + "word " * 24 + "end. More.", "| " + "word " * 20 + "| " + "word " * 20 + "|", "    " + "word " * 40 + "\n",
+    "One.\n\n" + "Two words. " * 40 + "\n\n- Three.\n- Four.\n", "| " + "Two words. " * 50 + " |\n",
+    "a. a\n\n" * 74, "One.\n- " + "word " * 24 + "end. More.", "| " + "word " * 20 + "| " + "word " * 20 + "|", "    " + "word " * 40 + "\n",
 )
 
 
@@ -238,16 +261,23 @@ def is_commit(name):
     return is_shallow or git("merge-base", "--is-ancestor", name, "HEAD").returncode == 0
 
 
+def faults_of_all(repository):
+    """Where the documents are longer together than they may be."""
+    count = sum(len((repository.root / document).read_text().split()) for document in repository.documents if is_counted(document))
+    return [f"{count:,} words, more than {MOST_OF_ALL:,}"] if count > MOST_OF_ALL else []
+
+
 def main():
     listed = git("ls-files", "-z", "--cached", "--others", "--exclude-standard").stdout.split("\0")
     repository = Repository(ROOT, [path for path in listed if path and (ROOT / path).is_file()], is_commit)
     wrong = {text: ["the test of this script"] for text in failed_tests()}
+    wrong["docs/*.md and READMEs together"] = faults_of_all(repository)
     wrong.update((document, faults_of(repository, document)) for document in repository.documents)
     for name, faults in wrong.items():
         for fault in faults:
             print(f"{name}: {fault}")
     failed = sum(bool(faults) for faults in wrong.values())
-    print(f"{len(PLANTED) + len(RIGHT) + len(repository.documents) - failed} passed, {failed} failed")
+    print(f"{len(PLANTED) + len(RIGHT) + 1 + len(repository.documents) - failed} passed, {failed} failed")
     return 1 if failed or not repository.documents else 0
 
 

@@ -1,7 +1,9 @@
 """What README, docs/GUIDE.md and docs/FORMATS.md show and list, followed on the built program."""
 
 import re
+import shutil
 import subprocess
+import sys
 
 import program
 
@@ -9,25 +11,13 @@ TOP = program.HERE.parent
 README = (TOP / "README.md").read_text()
 GUIDE = (TOP / "docs" / "GUIDE.md").read_text()
 FORMATS = (TOP / "docs" / "FORMATS.md").read_text()
-AROUND = """\
-#include <pthread.h>
-#include <stdio.h>
-static long count;
-static pthread_mutex_t door = PTHREAD_MUTEX_INITIALIZER;
-{head}
-static void *run_worker(void *none) {{
-    me = "worker";
-    EVENT("w(count)", count = 8);
-    return none;
-}}
-int main(void) {{
-    pthread_t t;
-    out = stdout;
-    {body}
-    return 0;
-}}
-"""
-LOGGED = ("main|w(count)", "main|acq(door)", "main|rel(door)", "main|fork(worker)", "worker|w(count)", "main|join(worker)")
+LOGS = TOP / "examples" / "logs"
+# What examples/logs log, by thread, since the threads run at once; a seller may look at `ready` more than once.
+LOGGED = {
+    "main": ["fork(seller)", "w(price)", "vw(ready)", "r(count)", "join(seller)"],
+    "seller": ["vr(ready)", "r(price)", "acq(door)", "w(count)", "rel(door)"],
+}
+FIX = [sys.executable, TOP / "fix" / "shb-fix", "--quiet"]
 
 # A trace for each reason, with the line that is refused. The texts of three are long, and other tests have them.
 REFUSED = {
@@ -66,17 +56,45 @@ class Documents(program.Case):
         report = (TOP / "examples" / "fork-join.report").read_text()
         self.assertTrue(report.endswith("\n" + block_from(README, "race 1: ")))
 
-    def test_the_log_of_another_language(self):
-        head, body = block_from(GUIDE, "static FILE *out;").split("\n\n")
-        source, binary = self.file(AROUND.format(head=head, body=body).encode(), "log.c"), self.folder / "log"
-        subprocess.run(["cc", "-Wall", "-Werror", "-pthread", "-o", binary, source], check=True)
-        trace = subprocess.run([binary], stdout=subprocess.PIPE, check=True).stdout
-        lines = trace.decode().splitlines()
-        self.assertEqual(tuple(line.rpartition("|")[0] for line in lines), LOGGED)
-        self.assertEqual({line.rpartition("|")[2].rpartition(":")[0] for line in lines}, {str(source)})
-        answer = program.run(["races", "--list"], trace)
-        self.assertEqual((answer.status, answer.err), (0, b""))
-        self.assertIn(b"events 6 threads 2 locks 1 variables 1\nraces 0\n", answer.out)
+    def test_what_a_parser_needs(self):
+        """Locations that are empty, and a schedule without events."""
+        answer = program.run(["races"], b"T1|w(x)\nT2|w(x)\n")
+        self.assertTrue(answer.out.endswith(b"\nplace 1: 1\nat \nand \nrace 1: 1 2\nfirst T1|w(x)\nsecond T2|w(x)\nschedule 0:\nend\n"), answer.out)
+
+    def logged(self, *words):
+        """The log of a program that is run in a folder of its own."""
+        subprocess.run(words, cwd=self.folder, check=True, timeout=program.SECONDS)
+        return (self.folder / "app.std").read_bytes()
+
+    def look_at(self, log, lines):
+        """A log has the events of each thread, and once repaired one race, at the lines of the sources that have these texts."""
+        events = [line.split("|") for line in log.decode().splitlines()]
+        for thread, wanted in LOGGED.items():
+            found = [operation for name, operation, _ in events if name == thread]
+            while found[:2] == ["vr(ready)"] * 2:
+                del found[0]
+            self.assertEqual(found, wanted)
+        fixed = subprocess.run(FIX, input=log, stdout=subprocess.PIPE, stderr=subprocess.DEVNULL, timeout=program.SECONDS).stdout
+        listed = program.run(["places", "--list"], fixed).out.decode()
+        self.assertEqual(set(re.findall(r"^(?:at|and) (.*)$", listed, re.M)), lines)
+        self.assertIn("\nplaces 1\n", listed)
+
+    def test_the_logger_in_c(self):
+        source = LOGS / "logged.c"
+        lines = source.read_text().splitlines()
+        for line in block_from(GUIDE, 'EVENT("w(count)"').splitlines():
+            self.assertIn(line, [line.strip() for line in lines])
+        subprocess.run(["cc", "-Wall", "-Wextra", "-Werror", "-pthread", "-o", self.folder / "logged", source], check=True)
+        at = [number for number, line in enumerate(lines, 1) if '"w(count)"' in line or '"r(count)"' in line]
+        self.look_at(self.logged(self.folder / "logged"), {f"{source}:{number}" for number in at})
+
+    def test_the_logger_in_java(self):
+        if not shutil.which("javac"):
+            self.skipTest("javac isn't installed")
+        lines = (LOGS / "Logged.java").read_text().splitlines()
+        subprocess.run(["javac", "-d", self.folder, *LOGS.glob("*.java")], check=True, timeout=program.SECONDS)
+        at = [number for number, line in enumerate(lines, 1) if '"w(count)"' in line or '"r(count)"' in line]
+        self.look_at(self.logged("java", "-cp", self.folder, "Logged"), {f"Logged.java:{number}" for number in at})
 
     def test_what_is_refused(self):
         table = FORMATS[FORMATS.index("| Reason |"):FORMATS.index("## A race")]

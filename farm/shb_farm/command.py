@@ -18,8 +18,8 @@ from shb_farm.calls import Calls
 from shb_farm.sources import Sources
 
 ABOUT = """\
-Analyses all traces in a folder and below, and joins what was found: a row for
-each two locations that race, whichever comes first, with their variables and the
+Analyses all traces in a folder and below, and joins what was found: one row per
+two locations that race, whichever comes first, with their variables and the
 number of traces that have them. A place is such a pair in one order. A trace is
 NAME.std, NAME.std.gz or NAME.std.xz; links within the folder are followed. Each trace
 ends as a file in OUT/outcomes, put in place whole and last. To resume, or when
@@ -32,7 +32,7 @@ Files in OUT:
   places.tsv      the places as a table, with an example and its report
   places.json     the places with all that is known of them, for programs
   places.sarif    the places for code review tools, in SARIF 2.1.0
-  facts.tsv       what was found, a number on each line (see Exit status)
+  facts.tsv       what was found, one number per line (see Exit status)
   unknown.places  the places that aren't known, as a file of known places
   traces.tsv      how each trace ended: a report, refused, out of memory, time
                   or size, or missing; with its seconds and MiB
@@ -43,9 +43,9 @@ Files in OUT:
 Known places:
   On a line two locations, or functions as FILE:FUNCTION(), in either order, and
   the variable, with tabs between; * stands for any text, and \\* for the sign
-  itself. A line with two fields is of every variable. Empty lines, and lines
+  itself. A line with two fields applies to every variable. Empty lines, and lines
   that begin with #, are skipped; \\# begins a field with this sign. Functions
-  are known where the recorder's NAME.stacks is beside NAME.std. Lines that
+  are known if the recorder's NAME.stacks is beside NAME.std. Lines that
   match nothing are reported.
 
 Exit status:
@@ -78,11 +78,11 @@ ANALYSERS = "../bin/shb", "../../bin/shb"       # in a checkout, and installed
 def arguments(words):
     parser = Parser("shb-farm", ABOUT, NOTES)
     parser.add_argument("--known", metavar="FILE", help="places to pass over")
-    parser.add_argument("--fail-on-stale", action="store_true", help="end with status 1 where a line of --known matched nothing")
+    parser.add_argument("--fail-on-stale", action="store_true", help="end with status 1 if a line of --known matched nothing")
     parser.add_argument("--since", metavar="OLD", help="report which places are new, gone and the same since an earlier result: the folder "
                         "OUT of a farm, or a places.json")
     parser.add_argument("--links", action="store_true", help="follow links that lead out of TRACES")
-    parser.add_argument("--source", metavar="DIR", help="the repository, whose files places.sarif names where it finds them")
+    parser.add_argument("--source", metavar="DIR", help="the repository: places.sarif names its files if it finds them")
     parser.add_argument("--engine", choices=sorted(engines.ENGINES), default="xargs",
                         help="xargs: this machine (the default); slurm: a job array on a cluster whose nodes see the same folders")
     parser.add_argument("--jobs", metavar="N", type=number(1), default=len(os.sched_getaffinity(0)),

@@ -41,17 +41,17 @@ A place is a pair of locations that race, that of the first access and that of t
 each of its own program's source file."""
 NOTES = """\
 The environment's SHB names another analyser. SHB_SEED, SHB_SLICE, SHB_CELLS, SHB_RECORDS and SHB_STALL are the
-recorder's (recorder/README.md).
+recorder's (docs/RECORDER.md).
 
 SIGINT and SIGTERM end the program, are passed on to it unless the terminal did so, and end the runs; what
 was recorded is shown. Another one ends that at once, and records that weren't shown are kept.
 
-Exit status: 125 if a check failed, whatever else was found; 66 if there is a race of a variable that isn't known at its place,
-whatever the program's own status was; 67 with --fail-on-stale if there is none, and a line of known places matched nothing;
-125 if nothing can be said or something failed, with the reason; 124 if not the whole run was recorded and
-there is no such race (where the program was killed, and its own status says so, that one); 126 or 127 if
-the program can't be run or isn't there; else the program's own, 128 + N if signal N ended it. What is said
-at the end has the program's own status and the path of the page."""
+Exit status: 125 if a check failed, whatever else was found; 66 if there is a race of a variable that isn't known at
+its place, whatever the program's own status was; 67 with --fail-on-stale if there is none, and a line of known places
+matched nothing; 125 if nothing was recorded or something failed, with the reason; 124 if the recording is incomplete and
+there is no such race (if a signal killed the program, its own status, 128 + N, is given instead); 126 or 127 if
+the program can't be run or isn't there; else the program's own. The last lines print the program's own
+status and the path of the page."""
 
 
 def parser_of_words():
@@ -69,12 +69,12 @@ def parser_of_words():
                            help="run it at most N times, and end after the first run with a race that isn't known")
     parser.add_argument("--replay", metavar="RUN.turns",
                         help="run it with the order of turns of an earlier run, whose list is in the folder of its results where it has a place "
-                        "that isn't known, as long as that fits. After how many turns it was left is said, and from there on the run is as any other")
+                        "that isn't known, as long as that fits. It prints after how many turns the list was left; from there on the run is like any other")
     parser.add_argument("--known", metavar="FILE", dest="known_path",
                         help="places to pass over, as unknown.places has them: on a line two locations, FILE:LINE, or functions, "
                         "FILE:FUNCTION(), in either order, and the variable, with tabs between; * stands for any text; a line that begins with "
-                        "# is a comment. A line with two fields is of every variable. Lines that match nothing are reported")
-    parser.add_argument("--fail-on-stale", action="store_true", help="where no race is unknown, such lines end with status 67. A race that is in few runs "
+                        "# is a comment. A line with two fields applies to every variable. Lines that match nothing are reported")
+    parser.add_argument("--fail-on-stale", action="store_true", help="if no race is unknown, such lines end with status 67. A race that is in few runs "
                         "needs --runs")
     parser.add_argument("--source", metavar="DIR", action="append", default=[],
                         help="look for source files below this folder too; may be given again. Those of the debug information are found without it")
@@ -84,8 +84,8 @@ def parser_of_words():
     parser.add_argument("--wait", metavar="N", type=number(0), default=10,
                         help="wait up to N seconds for processes that outlive the program (%(default)s), and for those that SIGINT or SIGTERM "
                         "is passed on to, before they are killed")
-    parser.add_argument("--log", metavar="FILE", help="write to this file what else goes to standard error, which then is the program's alone")
-    parser.add_argument("--keep", action="store_true", help="keep the records (16 bytes an access)")
+    parser.add_argument("--log", metavar="FILE", help="write to this file what otherwise goes to standard error, which then is the program's alone")
+    parser.add_argument("--keep", action="store_true", help="keep the records (16 bytes per access)")
     parser.add_argument("words", metavar="PROGRAM", nargs=argparse.REMAINDER, help="the program, and the words that it is given")
     return parser
 

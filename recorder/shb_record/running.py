@@ -117,7 +117,8 @@ def cause(program):
             languages = [language for mark, language in MARKS.items() if content.find(mark) >= 0]
     if not has_hooks:
         return ("neither it nor a program that it started was compiled with -fsanitize=thread, or that one was started without this "
-                "command's environment (SHB_RECORD, LD_LIBRARY_PATH)")
+                "command's environment (SHB_RECORD, LD_LIBRARY_PATH); if a plug-in of it was, run "
+                "`shb-record env LD_PRELOAD=libtsan.so.2 PROGRAM`")
     if not has_library and languages:
         return f"it has code in {languages[0]}, whose compiler links ThreadSanitizer's own library; C and C++ programs are recorded"
     if not has_library:

@@ -40,7 +40,7 @@ def arguments(words, program):
     parser.add_argument("--note", metavar="TEXT", action="append", default=[],
                         help="a note on the trace, shown below the title; may be given again")
     parser.add_argument("--about", metavar="TEXT", action="append", default=[],
-                        help="a fact on the trace, as that a library wasn't recorded; may be given again")
+                        help="a fact on the trace, such as that a library wasn't recorded; may be given again")
     parser.add_argument("--no-notes", action="store_true", help="leave out of the text what is to know of the trace; --json has it as `notes`")
     parser.add_argument("--behind", metavar="FILE", help="those of these places that were found behind known races")
     parser.add_argument("--turns", metavar="FILE", help="the list of turns that `shb-record --replay` runs the trace's interleaving again with")
