@@ -4,12 +4,19 @@ misspelling is told from one that a contract refuses. Ends with the line 'N pass
 
 An edit is a line 'file: PATH', and then pairs of lines 'old: TEXT' and 'new: TEXT'; the file may be named again between
 pairs. Each old text stands once in the file.
+
+It also refuses a function that a crate exports and that no edit is named after, unless exports.txt lists it (exports.py).
 """
 
+import collections
 import pathlib
 import subprocess
 import sys
 import tempfile
+
+sys.dont_write_bytecode = True
+
+import exports
 
 CRATES = pathlib.Path(__file__).resolve().parent.parent / "crates"
 
@@ -60,6 +67,14 @@ def misspelled(texts):
         return [line for line in lines if not line.startswith("rt: formatted ")] if ran.returncode else []
 
 
+def names_by_crate(edits):
+    """The functions that the edits of each crate are named after."""
+    found = collections.defaultdict(set)
+    for path in edits:
+        found[path.parent.parent.name].add(path.name.split(".")[0])
+    return found
+
+
 def main():
     edits = sorted(CRATES.glob("*/must-fail/*.edit"))
     others = {*CRATES.glob("*/must-fail/**/*")} - {*edits}
@@ -77,8 +92,11 @@ def main():
         wrong[named.get(name, name)] = line
     for path, why in wrong.items():
         print(f"{path}: {why}")
-    print(f"{len({*edits} - {*wrong})} passed, {len(wrong)} failed")
-    return 1 if wrong or not edits else 0
+    unedited = exports.unedited(exports.sources(), names_by_crate(edits))
+    for what in unedited:
+        print(what)
+    print(f"{len({*edits} - {*wrong})} passed, {len(wrong) + len(unedited)} failed")
+    return 1 if wrong or unedited or not edits else 0
 
 
 if __name__ == "__main__":

@@ -13,8 +13,9 @@ In the table a crate's name begins a line, and its items follow, a line each:
     TYPE::METHOD(TYPES) -> TYPE
     mod NAME                               the lines of its items begin with `NAME::` after the first word
 
-Types are written as in the sources, but for lifetimes; what is ghost isn't looked at. A crate may export more. Where a form isn't
-the plain one that the item's name lets expect, the line ends with '# ' and words of docs/DECISIONS.md that say why.
+Types are written as in the sources, but for lifetimes; what is ghost isn't looked at. What a crate exports besides is named in
+exports.txt (exports.py). If a form isn't the plain one that the item's name lets expect, the line ends with '# ' and words of
+docs/DECISIONS.md that give the reason.
 """
 
 import pathlib
@@ -28,7 +29,7 @@ from brackets import end_of, end_of_parameters, parts
 ROOT = pathlib.Path(__file__).resolve().parent.parent
 TABLE = ROOT / "tests" / "surface.txt"
 COMMENT = re.compile(r"//.*")
-HANDED_ON = re.compile(r"(?m)^pub use ([\w:]+)::(?:\{([^}]*)\}|(\w+));")
+HANDED_ON = re.compile(r"(?m)^pub use ([\w:]+)::(?:\{([^}]*)\}|(\w+(?: as \w+)?));")
 MODULE = re.compile(r"(?m)^pub mod (\w+);")
 ITEM = re.compile(r"(?m)^pub (struct|enum|trait|fn) (\w+)")
 METHODS = re.compile(r"(?m)^impl(?=[< ])")
@@ -166,14 +167,15 @@ def wrong_in(table, sources, reasons):
 
 
 def main():
-    crates = ROOT / "crates"
-    files = {it.name: {path.relative_to(it / "src").as_posix(): path.read_text() for path in sorted((it / "src").rglob("*.rt"))}
-             for it in sorted(crates.iterdir()) if (it / "src").is_dir()}
-    wrong, count = wrong_in(TABLE.read_text(), Sources(files), (ROOT / "docs" / "DECISIONS.md").read_text())
-    for what in wrong:
+    import exports  # which uses this module
+
+    sources = exports.sources()
+    wrong, count = wrong_in(TABLE.read_text(), sources, (ROOT / "docs" / "DECISIONS.md").read_text())
+    more = exports.unlisted(sources, TABLE.read_text())
+    for what in wrong + more:
         print(what)
-    print(f"{count - len(wrong)} passed, {len(wrong)} failed")
-    return 1 if wrong or not count else 0
+    print(f"{count - len(wrong)} passed, {len(wrong) + len(more)} failed")
+    return 1 if wrong or more or not count else 0
 
 
 if __name__ == "__main__":

@@ -3,6 +3,7 @@
 import re
 import unittest
 
+import exports
 import surface
 
 LOW = {
@@ -141,3 +142,26 @@ class Surface(unittest.TestCase):
 
 if __name__ == "__main__":
     unittest.main()
+
+
+class Exports(unittest.TestCase):
+    """What isn't in the table has to be listed, and a function without an edit too."""
+
+    def setUp(self):
+        laws = {"lib.rt": "pub mod laws;\npub use low::Room;\n", "laws.rt": "pub fn rooms_are_small() {}\n"}
+        self.sources = surface.Sources({"low": LOW, "high": laws})
+
+    def test_names_that_the_table_lacks(self):
+        table = "low\n    struct Pair\n    Room::bytes(&self)\n    mod machine\n"
+        self.assertEqual(exports.beyond(self.sources, table), {"low": {"Kind", "make_pair", "go_on"}, "high": {"laws", "Room"}})
+
+    def test_functions_without_an_edit(self):
+        """Those of other crates have their edits there, and laws need none."""
+        self.assertEqual(set(exports.functions(self.sources, "low")), {"make_pair", "Room::bytes", "advance"})
+        self.assertEqual(exports.without_edit(self.sources, {"low": {"bytes"}}), {"low": {"make_pair", "advance"}, "high": set()})
+
+    def test_a_new_export_and_an_old_line(self):
+        listed = exports.read("low\n    also Kind, Gone\n    unedited Room::bytes\n", "also")
+        self.assertEqual(listed, {"low": {"Kind", "Gone"}})
+        self.assertEqual(list(exports.differences({"low": {"Kind", "New"}}, listed, "is new", "is old")), ["low: New is new", "low: Gone is old"])
+        self.assertEqual(list(exports.differences({"low": {"Kind", "Gone"}}, listed, "is new", "is old")), [])
