@@ -148,6 +148,6 @@ def packed(text):
 
 def strip(made):
     """Takes out of the programs and the library what only debuggers read."""
-    for name in ("bin/shb", "lib/shb/shb-std", "lib/shb/shb-windows", "lib/shb/libtsan.so"):
+    for name in ("bin/shb", "lib/shb/shb-std", "lib/shb/libtsan.so"):
         if (made / name).exists():
             subprocess.run(["strip", "--strip-unneeded", made / name], check=True)
