@@ -7,7 +7,7 @@
 
 enum { ROUNDS = 100 };
 static sem_t tokens;
-static atomic_int posted;
+static atomic_int posted, has_begun;
 
 static void post(int signal) {
     atomic_fetch_add(&posted, 1);
@@ -15,6 +15,7 @@ static void post(int signal) {
 }
 
 static void *work(void *unused) {
+    atomic_store(&has_begun, 1);
     for (int round = 0; round < ROUNDS; round++)
         while (sem_wait(&tokens)) ;
     return unused;
@@ -26,6 +27,7 @@ int main(void) {
     sem_init(&tokens, 0, 0);
     sigaction(SIGUSR1, &action, 0);
     pthread_create(&worker, 0, work, 0);
+    while (!atomic_load(&has_begun)) ;
     for (int round = 0; round < ROUNDS; round++) {
         pthread_kill(worker, SIGUSR1);
         while (atomic_load(&posted) <= round) ;
