@@ -35,7 +35,7 @@ class Results:
         for name in spared:
             self.path(name, is_there=True)
         self.tables = {name: self.path(name) for name in TABLES}
-        self.work = pathlib.Path(tempfile.mkdtemp(prefix="work-", dir=self.folder))  # records, and windows before they are looked at
+        self.work = pathlib.Path(tempfile.mkdtemp(prefix="work-", dir=self.folder))  # records before they are looked at
         self.path(self.work.name, is_there=True)
         (self.work / LIST).touch()      # shows a later call that it is one of ours
         self.first = [] if spared else list(self.names)     # which say nothing if they are all
