@@ -36,7 +36,7 @@ def copy_of_repository(folder):
         shutil.copytree(source, folder / name, ignore=ignore) if source.is_dir() else shutil.copy(source, folder / name)
     time = "2026-01-02T03:04:05 +0100"
     environment = {**os.environ, "GIT_AUTHOR_DATE": time, "GIT_COMMITTER_DATE": time}
-    for words in (["init", "-q"], ["add", "."], ["-c", "user.name=n", "-c", "user.email=e", "commit", "-q", "-m", "all"]):
+    for words in (["init", "-q"], ["add", "."], ["-c", "user.name=maintainers", "-c", "user.email=maintainers@shb.example", "commit", "-q", "-m", "all"]):
         call("git", "-C", folder, *words, env=environment)
     return folder
 

@@ -162,7 +162,7 @@ class Uninstalled(installing.Case):
         prefix.mkdir()
         self.make("install", f"PREFIX={prefix}")
         compiled = prefix / "lib/shb/shb_farm/__pycache__"
-        compiled.mkdir()
+        compiled.mkdir(exist_ok=True)
         (compiled / "command.cpython-311.pyc").touch()
         self.make("uninstall", f"PREFIX={prefix}")
         self.assertEqual(list(prefix.iterdir()), [])

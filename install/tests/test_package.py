@@ -66,7 +66,7 @@ class Package(installing.Case):
         version = f"{COMMIT_DAY}+{commit[:12]}"
         self.assertEqual(package.name, f"shb_{version}_amd64.deb")
         fields = call("dpkg-deb", "--field", package, "Package", "Version", "Architecture", "Maintainer")
-        self.assertEqual(fields, f"Package: shb\nVersion: {version}\nArchitecture: amd64\nMaintainer: n <e>\n")
+        self.assertEqual(fields, f"Package: shb\nVersion: {version}\nArchitecture: amd64\nMaintainer: maintainers <maintainers@shb.example>\n")
         call("dpkg-deb", "--extract", package, tree)
         self.assertEqual([path.name for path in tree.iterdir()], ["usr"])
         said = call(tree / "usr/bin/shb", "races", "--list", tree / "usr/share/doc/shb/examples/fork-join.std")
