@@ -18,7 +18,7 @@ from shb_common.refused import explained
 from shb_common.report import BadReport, Report, in_order
 from shb_common.stacks import BadStacks, Stacks, Tables
 from shb_fix import lines
-from shb_fix.command import repaired
+from shb_fix.command import Trace, repaired
 from shb_fix.events import Repairs
 
 HERE = pathlib.Path(__file__).resolve().parent
@@ -127,7 +127,8 @@ def read_trace(text):
 
 def read_trace_to_fix(text):
     """What shb-fix makes of a trace needs no further repair of a line."""
-    fixed = b"".join(event.text() for event in repaired(list(lines.events_of(io.BytesIO(text), Repairs())), Repairs()))
+    repairs = Repairs()
+    fixed = b"".join(event.text() for event in repaired(Trace(io.BytesIO(text), repairs), repairs))
     again = Repairs()
     list(lines.events_of(io.BytesIO(fixed), again))
     assert not again.counts, again.kept
