@@ -13,8 +13,7 @@ mod traces;
 use crate::checks::follow_check;
 use crate::complaints::{FAILED, WORDS_REFUSED, complain};
 use crate::traces::{Task, follow_task};
-use shb_run::Settings;
-use shb_words::Listing;
+use shb_run::{Settings, Workers};
 pub use shb_words::{Plan, WordsFault, plan_of};
 use std::env;
 use std::io::{ErrorKind, IsTerminal};
@@ -50,6 +49,14 @@ fn follow_trace<
     follow_task(rt, path, task, terminals.errors)
 }
 
+/// How a report is made by these workers, which is a list or has schedules.
+fn settings(workers: Workers, list: bool) -> Settings {
+    Settings {
+        workers,
+        schedules: !list,
+    }
+}
+
 /// Does what the words ask for.
 fn follow<R: Print + Eprint + Input + AllocGlobal + Files + RandomSource + Threads + Wait + Sync>(
     rt: &R,
@@ -58,23 +65,19 @@ fn follow<R: Print + Eprint + Input + AllocGlobal + Files + RandomSource + Threa
 ) -> u8 {
     match plan_of(rt.alloc(), words) {
         Ok(
-            Plan::Report {
-                listing,
+            Plan::Races {
                 workers,
                 list,
                 trace,
             },
-        ) => {
-            let settings = Settings {
+        ) => follow_trace(rt, terminals, trace, Task::Races(settings(workers, list))),
+        Ok(
+            Plan::Places {
                 workers,
-                schedules: !list,
-            };
-            let task = match listing {
-                Listing::Races => Task::Races(settings),
-                Listing::Places => Task::Places(settings),
-            };
-            follow_trace(rt, terminals, trace, task)
-        }
+                list,
+                trace,
+            },
+        ) => follow_trace(rt, terminals, trace, Task::Places(settings(workers, list))),
         Ok(Plan::Scan { by_variable, trace }) => {
             follow_trace(rt, terminals, trace, Task::Scan { by_variable })
         }

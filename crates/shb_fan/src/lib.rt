@@ -21,6 +21,20 @@
 //! Where nobody has drawn the piece that the caller waits for, it draws and makes that piece itself,
 //! so nothing is waited for that nobody makes. A thread that waits lets others run for 20 turns and
 //! then sleeps, for 1 to 256 microseconds; it wakes by time alone.
+//!
+//! Six arguments are made by no public clause:
+//!
+//! - Every piece was drawn once if `stream` succeeds: by `drawn` of the private `stream_to_close` as many numbers were
+//!   drawn as there are pieces, and nobody stopped; `each_once` does the rest. That the workers drew from these tickets is
+//!   by reading.
+//! - Tickets and ring are closed on Ok: only `Tickets::end` makes the `DrawEnd` in that answer, and only `Ring::close`
+//!   gives `drawn`. On an error it is by reading.
+//! - An error of the caller's side comes only once its pass has stopped the draw or seen a stop (`stopped` of the private
+//!   `take_all`, `worked` of `work_and_take`). How far the draw came isn't stated.
+//! - No drawn piece is lost: who draws has placed all that it drew before (`CanDraw`, `HasEnded`, `CanTake`).
+//! - A caller that sees a stop finds the refusal for it, which is put there before the draw is stopped. A wait that has
+//!   seen a stop gets no slot and no result after it (`won` of the private `wait_to_claim`; `CanTake` of `wait_to_lift`).
+//! - The start of a taker's results is the taker as it was handed to `stream` (`nothing`, `may_take`).
 #![tactic(auto)]
 
 mod crew;

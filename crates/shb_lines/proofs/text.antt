@@ -14,6 +14,7 @@ pub mod TakingLemmas
 pub mod LinesRead
 pub mod Operands
 pub mod OwnedLemmas
+pub mod KeptNames
 pub mod NumberingLemmas
 pub mod TakenEvents
 pub mod Scanning

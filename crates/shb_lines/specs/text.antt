@@ -16,8 +16,8 @@ pub mod Numbering
 pub mod Taken
 -- what the reader and the trace hold
 pub mod Hashing
-pub mod Spans
-pub mod Reader
+pub mod Tables
 pub mod Parsed
+pub mod KeptNames
 pub mod Parts
 pub mod Stored

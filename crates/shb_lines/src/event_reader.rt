@@ -1,5 +1,6 @@
 //! The events of a source, one after the other, up to its first line fault. The text is not kept.
 ghost use Rattle.std.specs.Prelude.{◌≡◌, ◌+◌, ◌-◌, ◌^◌, ◌<◌, ◌≤◌, ◌++◌, ℕ, List, [], length, IfOk, OnOk, Option};
+ghost use Rattle.std.specs.Option.{option_copied};
 ghost use Rattle.std.specs.Str.Lines.{strip_carriage_return};
 ghost use Rattle.shb_io.specs.Devices.{CountsFailure};
 ghost use Rattle.shb_lines.specs.text.Grammar.{NamedEvent};
@@ -7,8 +8,9 @@ ghost use Rattle.shb_lines.specs.text.Numbering.{AreWide, HasNumbered, IsWithin}
 ghost use Rattle.shb_lines.specs.declared.event_reader.Taken.TheVariants.{Nothing};
 ghost use Rattle.shb_lines.specs.text.Lines.{Moves};
 ghost use Rattle.shb_lines.specs.text.Text.{trace_of};
-ghost use Rattle.shb_lines.specs.text.Taken.{HasTaken, IsTaken, IsTakenLine, IsTakenNext, IsWithinAfter};
+ghost use Rattle.shb_lines.specs.text.Taken.{HasBar, HasTaken, IsBarred, IsTaken, IsTakenLine, IsTakenNext, IsWithinAfter};
 ghost use Rattle.shb_lines.specs.text.Taking.{read_failed};
+ghost use Rattle.shb_lines.specs.text.TraceData.{location_after};
 
 use crate::fault::Fault;
 use crate::limits::Limits;
@@ -75,6 +77,22 @@ impl EventReader {
         self.lines.line()
     }
 
+    /// The location in the line that was given last, which gave a step: the bytes after its second bar, perhaps none. `None`
+    /// where it has no second bar.
+    pub fn location(&self) -> Option<&[u8]>
+        requires { HasBar self.now }
+        ensures { option_copied result ≡ location_after (strip_carriage_return self.now.lines.line) }
+    {
+        let line = self.line();
+        let bar = self.numbering.bar();
+        if bar < line.len() {
+            let (_, rest) = line.split_at(bar + 1);
+            Some(rest)
+        } else {
+            None
+        }
+    }
+
     /// How many lines were taken, that of a fault counted.
     pub fn line_count(&self) -> u64
         ensures { result ≡ self.now.line }
@@ -98,13 +116,17 @@ impl EventReader {
         ensures lines { OnOk result (self.new.lines ≡ self.old.lines) }
         ensures line { self.new.line ≡ self.old.line + 1 }
         ensures ended { OnOk result (self.new.ended ≡ ended) }
+        ensures barred { IfOk result (IsBarred self.new) }
         ensures taken { (before : List NamedEvent) → HasNumbered before self.old.numbering
             → length self.old.lines.line ≤ limits.now.line
             → IfOk result (IsTakenLine limits.now before self.old.lines.line self.new.numbering) }
     {
         self.ended = ended;
         self.line += 1;
-        match self.numbering.take_line(alloc, limits, self.lines.line())? {
+        match self
+            .numbering
+            .take_line(alloc, limits, self.lines.line(), self.lines.wide())?
+        {
             Ok(None) => Ok(Taken::Nothing),
             Ok(Some(step)) => Ok(Taken::Step(step)),
             Err(fault) => Ok(Taken::Fault(fault)),
@@ -128,6 +150,7 @@ impl EventReader {
         requires countable { S.failure_count source.old < 2 ^ 64 - 1 }
         ensures within { IfOk result (IsWithinAfter limits.now self.new.numbering) }
         ensures line { IfOk result (λ taken. taken ≡ Nothing → self.new.line ≡ self.old.line + 1) }
+        ensures barred { IfOk result (IsBarred self.new) }
         ensures taken { (read : List ℕ) (lines : List (List ℕ)) → HasTaken limits.now read lines (S.remaining source.old) self.old
             → IfOk result (λ taken. (more : List ℕ)
             × Moves (S.remaining source.old) (S.remaining source.new) (S.given_count source.old) (S.given_count source.new) more
@@ -166,6 +189,7 @@ impl EventReader {
         requires countable { S.failure_count source.old < 2 ^ 64 - 1 }
         ensures within { IfOk result (IsWithinAfter limits.now self.new.numbering) }
         ensures nothing { IfOk result (λ taken. taken ≡ Nothing → 2 ^ 64 - 1 ≤ self.new.line) }
+        ensures barred { IfOk result (IsBarred self.new) }
         ensures taken { (read : List ℕ) (lines : List (List ℕ)) → HasTaken limits.now read lines (S.remaining source.old) self.old
             → IfOk result (λ taken. (more : List ℕ) × (empty : List (List ℕ))
             × Moves (S.remaining source.old) (S.remaining source.new) (S.given_count source.old) (S.given_count source.new) more

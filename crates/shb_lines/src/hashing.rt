@@ -4,9 +4,9 @@
 //! each folded to 64 bits. It is no cryptographic hash. What it keeps off is someone who chooses the
 //! texts of a trace: without the keys no texts are known that meet in a table more often than by chance.
 //! Who knew the keys could make all texts meet, and a trace would take time with the square of their
-//! number. So each table of each run has keys of its own, which are shown nowhere. Nothing proves that
-//! they are random, since a contract takes whatever a random source gives. Texts that meet cost time
-//! alone: the table compares them whole.
+//! number. So each table of each run has keys of its own, which are shown nowhere (the tables of classes
+//! of one search lend each other theirs). Nothing proves that they are random, since a contract takes
+//! whatever a random source gives. Texts that meet cost time alone: the table compares them whole.
 ghost use Rattle.std.specs.Prelude.{◌≡◌, ◌+◌, ◌<◌, ◌≤◌, [], ◌∷◌, true, length};
 ghost use Rattle.std.specs.Cmp.{on_equiv, on_per, partial_equiv_from_equiv};
 ghost use Rattle.std.specs.Cmp.Lexicographic.{nat_list_eq_equiv};

@@ -8,9 +8,10 @@ ghost use Rattle.shb_lines.specs.declared.lines.TheConstants.{ROOM};
 ghost use Rattle.shb_lines.specs.text.Limits.{most_line};
 ghost use Rattle.shb_lines.specs.text.Lines.{Gives, IsNext, LinesState};
 ghost use Rattle.shb_lines.specs.text.Parsed.{part};
+ghost use Rattle.shb_lines.specs.text.Reading.{Begins};
 
 use crate::grammar::before_byte;
-use crate::line::without_carriage_return;
+use crate::line::{with_more, without_carriage_return};
 use shb_io::{Failed, NoMemory, Source};
 use std::alloc::Global;
 use std::marker::Model;
@@ -106,6 +107,13 @@ impl Lines {
         ensures { result.now ≡ strip_carriage_return self.now.line }
     {
         without_carriage_return(&self.bytes[self.start..self.start + self.len])
+    }
+
+    /// The line that was given last, with its carriage return, and bytes that stand behind it.
+    pub(crate) fn wide(&self) -> &[u8]
+        ensures { Begins self.now.line result.now }
+    {
+        with_more(self.bytes.as_slice(), self.start, self.start + self.len)
     }
 
     /// How many bytes are held.

@@ -1,12 +1,15 @@
 //! The event of a line, with names that are owned.
-ghost use Rattle.std.specs.Prelude.{◌≡◌, ◌+◌, ◌<◌, ◌≤◌, ◌^◌, ◌∷◌, [], ℕ, List, length, slice_get, Some, IfOk, IfSome, OnOk};
+ghost use Rattle.std.specs.Prelude.{◌≡◌, ◌+◌, ◌<◌, ◌≤◌, ◌^◌, ◌∷◌, [], ℕ, List, length, nat_lt, not, slice_get, Some, IfOk, IfSome, OnOk};
+ghost use Rattle.std.specs.List.{list_any};
+ghost use Rattle.std.specs.Str.{bytes_eq};
 ghost use Rattle.std.specs.Str.Lines.{strip_carriage_return};
+ghost use Rattle.shb_lines.specs.text.Tables.{with_names, with_operand, with_thread};
 ghost use Rattle.shb_lines.specs.text.Grammar.{NamedEvent};
-ghost use Rattle.shb_lines.specs.text.Numbering.{AreWide, HasLastThread, HasNumbered, IsFound, IsStepOf, IsWithin, tables_of};
+ghost use Rattle.shb_lines.specs.text.Numbering.{AreWide, HasLastThread, HasNumbered, IsBarOf, IsFound, IsKept, IsStepOf, IsWithin, tables_of};
 ghost use Rattle.shb_lines.specs.text.Numbers.{IsOperation, op_for};
 ghost use Rattle.shb_lines.specs.text.OwnedNames.{names_of};
-ghost use Rattle.shb_lines.specs.text.Reader.{with_operand, with_thread};
-ghost use Rattle.shb_lines.specs.text.Reading.{HasNoBar, HasNumberIn, IsNumberedIn, named};
+ghost use Rattle.shb_lines.specs.text.Reading.{Begins, HasNoBar, HasNumberIn, IsNumberedIn, named};
+ghost use Rattle.shb_lines.specs.text.Text.{threads_among};
 
 use crate::event::{Kind, Op};
 use crate::fault::Fault;
@@ -34,6 +37,8 @@ pub struct Numbering {
     events: u32,
     /// The thread of the last event, which the next one mostly has.
     last: u32,
+    /// Where the second bar stands in its line, or the line's length.
+    bar: usize,
 }
 
 impl Drop for Numbering {
@@ -44,11 +49,13 @@ impl Drop for Numbering {
             variables: _,
             events: _,
             last: _,
+            bar: _,
         } = self;
     }
 }
 
 /// The operation of this kind with this number, which a mark lacks.
+#[inline(always)]
 fn op_of(kind: Kind, number: u32) -> Op
     ensures { result ≡ op_for kind number }
 {
@@ -76,6 +83,7 @@ impl Numbering {
             variables: OwnedNames::new(rt, alloc)?,
             events: 0,
             last: 0,
+            bar: 0,
         })
     }
 
@@ -100,11 +108,33 @@ impl Numbering {
         &self.variables
     }
 
+    /// The names of the threads, of the locks and of the variables.
+    pub(crate) fn into_names(self) -> (OwnedNames, OwnedNames, OwnedNames)
+        ensures { result ≡ (self.threads, self.locks, self.variables) }
+    {
+        let Numbering {
+            threads,
+            locks,
+            variables,
+            events: _,
+            last: _,
+            bar: _,
+        } = self;
+        (threads, locks, variables)
+    }
+
     /// How many events there were.
     pub fn events(&self) -> u32
         ensures { result ≡ self.now.events }
     {
         self.events
+    }
+
+    /// Where the second bar stands in the line of the last event, or the line's length where there is none.
+    pub(crate) fn bar(&self) -> usize
+        ensures { result ≡ self.now.bar }
+    {
+        self.bar
     }
 
     /// The number of an operand, and 0 for a mark, which has none.
@@ -125,6 +155,7 @@ impl Numbering {
     }
 
     /// The event of a line that was read, with its names numbered.
+    #[inline(always)]
     fn step_of(&mut self, alloc: Global, found: &LineEvent<'_>) -> Result<Step, NoMemory>
         requires threads { length (names_of self.old.threads) + 1 < 2 ^ 32 }
         requires locks { length (names_of self.old.locks) < 2 ^ 32 }
@@ -148,6 +179,7 @@ impl Numbering {
     }
 
     /// The thread of the last event, which a line is first compared with.
+    #[inline(always)]
     fn last_thread(&self) -> Option<KnownThread<'_>>
         requires { HasLastThread self.now }
         ensures no_bar { IfSome result (λ known. HasNoBar known.name.now) }
@@ -162,22 +194,68 @@ impl Numbering {
         }
     }
 
-    /// What a line gives after the events so far: nothing, an event or a fault. The line is within its limit,
-    /// and its carriage return is gone. After a fault nothing is said of the names.
+    /// Whether no event has named the thread.
+    fn is_new_thread(&self, name: &[u8]) -> bool
+        ensures { result ≡ not (list_any (bytes_eq name.now) (names_of self.now.threads)) }
+    {
+        !self.threads.contains(name)
+    }
+
+    /// How many new threads an event would name.
+    fn new_threads(&self, kind: Kind, thread: &[u8], operand: &[u8]) -> usize
+        ensures bound { result ≤ 2 }
+        ensures count { length (with_names (names_of self.now.threads) (thread.now ∷ threads_among kind operand.now))
+            ≡ length (names_of self.now.threads) + result }
+    {
+        let own = usize::from(self.is_new_thread(thread));
+        match kind {
+            Kind::Fork | Kind::Join => {
+                if operand == thread {
+                    own
+                } else {
+                    own + usize::from(self.is_new_thread(operand))
+                }
+            }
+            _ => own,
+        }
+    }
+
+    /// Whether there are more threads than the limit with those of an event.
+    #[inline(always)]
+    fn has_too_many_threads(&self, limits: &Limits, found: &LineEvent<'_>) -> bool
+        ensures { result ≡ nat_lt limits.now.threads (length (with_names (names_of self.now.threads)
+            (found.now.thread.now ∷ threads_among found.now.kind found.now.operand.now))) }
+    {
+        let known = self.threads.len();
+        let most = limits.threads as usize;
+        // An event names two threads at most, so mostly they need not be looked up.
+        if known + 2 <= most {
+            return false;
+        }
+        known + self.new_threads(found.kind, found.thread, found.operand) > most
+    }
+
+    /// What a line gives after the events so far: nothing, an event or a fault. The line is within its limit, and its carriage
+    /// return is gone. `wide` begins with it, and may have more bytes. A line without an event changes nothing.
+    #[inline(always)]
     pub fn take_line(
         &mut self,
         alloc: Global,
         limits: &Limits,
         line: &[u8],
+        wide: &[u8],
     ) -> Result<Result<Option<Step>, Fault>, NoMemory>
-        requires wide { AreWide limits.now }
+        requires limits { AreWide limits.now }
         requires within { IsWithin limits.now self.old }
-        ensures within { IfOk result (λ found. OnOk found (IsWithin limits.now self.new)) }
+        requires wide { Begins line.now wide.now }
+        ensures within { OnOk result (IsWithin limits.now self.new) }
+        ensures kept { IfOk result (IsKept self.old self.new) }
+        ensures bar { IfOk result (IsBarOf line.now self.new) }
         ensures found { (before : List NamedEvent) (raw : List ℕ) → HasNumbered before self.old
             → line.now ≡ strip_carriage_return raw → length raw ≤ limits.now.line
             → IfOk result (IsFound limits.now before raw self.new) }
     {
-        let found = match read_line(line, line, self.last_thread()) {
+        let found = match read_line(line, wide, self.last_thread()) {
             Ok(None) => return Ok(Ok(None)),
             Ok(Some(found)) => found,
             Err(fault) => return Ok(Err(fault)),
@@ -185,11 +263,12 @@ impl Numbering {
         if self.events >= limits.events {
             return Ok(Err(Fault::TooManyEvents));
         }
-        let step = self.step_of(alloc, &found)?;
-        if self.threads.len() > limits.threads as usize {
+        if self.has_too_many_threads(limits, &found) {
             return Ok(Err(Fault::TooManyThreads));
         }
+        let step = self.step_of(alloc, &found)?;
         self.events += 1;
+        self.bar = found.bar;
         Ok(Ok(Some(step)))
     }
 }

@@ -1,6 +1,7 @@
 //! Names that a table owns, numbered in order of first appearance.
 ghost use Rattle.std.specs.Prelude.{◌≡◌, ◌+◌, ◌<◌, ◌≤◌, ◌^◌, ℕ, List, [], ◌∷◌, true, Some, length, slice_get, IfOk, IfSome, OnOk};
 ghost use Rattle.std.specs.Option.{option_copied};
+ghost use Rattle.std.specs.List.{list_any};
 ghost use Rattle.std.specs.Cmp.{on_equiv, on_per, partial_equiv_from_equiv};
 ghost use Rattle.std.specs.Cmp.Lexicographic.{nat_list_eq_equiv};
 ghost use Rattle.std.specs.Hash.{same_Alike};
@@ -12,6 +13,7 @@ ghost use Rattle.shb_lines.specs.text.OwnedNames.{names_of};
 
 use crate::following::Guessing;
 use crate::hashing::{HashKeys, TextKey, alike, key_of};
+use indexmap::set::IntoIter;
 use indexmap::{Equivalent, IndexSet};
 use shb_io::NoMemory;
 use smallvec::SmallVec;
@@ -99,6 +101,21 @@ impl OwnedNames {
         ensures small { result < 2 ^ 63 }
     {
         self.table.len()
+    }
+
+    /// The names, in order of first appearance. Their index goes.
+    pub(crate) fn into_texts(self) -> IntoIter<OwnedText>
+        ensures { result ≡ self.table.keys }
+    {
+        let OwnedNames { table, guessing: _ } = self;
+        table.into_iter()
+    }
+
+    /// Whether the name has a number.
+    pub(crate) fn contains(&self, name: &[u8]) -> bool
+        ensures { result ≡ list_any (bytes_eq name.now) (names_of self.now) }
+    {
+        self.table.contains(TextKey { bytes: name })
     }
 
     /// The name of this number. There must be one.
@@ -207,9 +224,6 @@ impl OwnedNames {
         ensures names { OnOk result (names_of self.new ≡ with_name (names_of self.old) name.now) }
         ensures number { IfOk result (λ number. slice_get (names_of self.new) number ≡ Some name.now) }
     {
-        if let Some(number) = self.table.get_index_of(TextKey { bytes: name }) {
-            return Ok(number as u32);
-        }
         let (number, _) = self.table.insert_full(OwnedText::copied(alloc, name)?)?;
         Ok(number as u32)
     }

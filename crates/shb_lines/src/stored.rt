@@ -67,6 +67,23 @@ fn op_with(kind: Kind, number: u32) -> Op
     }
 }
 
+/// The kind of an operation, and its number, 0 where it is a mark.
+#[inline(always)]
+fn parts_of(op: Op) -> (Kind, u32)
+    ensures { op_for result.0 result.1 ≡ op }
+{
+    match op {
+        Op::Read(number) => (Kind::Read, number),
+        Op::Write(number) => (Kind::Write, number),
+        Op::Acquire(number) => (Kind::Acquire, number),
+        Op::Release(number) => (Kind::Release, number),
+        Op::Fork(number) => (Kind::Fork, number),
+        Op::Join(number) => (Kind::Join, number),
+        Op::BeginMark => (Kind::BeginMark, 0),
+        Op::EndMark => (Kind::EndMark, 0),
+    }
+}
+
 /// The events of a trace, by their numbers from 0. Memory: eight bytes for each event, and eight for each
 /// event that comes right after a line without one. Contracts see it as the list of the events.
 pub struct Events {
@@ -109,19 +126,14 @@ impl Events {
     }
 
     /// Adds the event of a line.
-    pub(crate) fn push(
-        &mut self,
-        thread: u32,
-        kind: Kind,
-        operand: u32,
-        line: u32,
-    ) -> Result<(), NoMemory>
+    pub(crate) fn push(&mut self, thread: u32, op: Op, line: u32) -> Result<(), NoMemory>
         requires thread { thread < 2 ^ 16 }
         requires line { length self.old < line }
-        ensures { OnOk result (self.new ≡ self.old ++ record { thread = thread; op = op_for kind operand; line = line } ∷ []) }
+        ensures { OnOk result (self.new ≡ self.old ++ record { thread = thread; op = op; line = line } ∷ []) }
     {
         let event = self.stored.len() as u32;
         note_lines(&mut self.skipped, event, line - 1 - event)?;
+        let (kind, operand) = parts_of(op);
         self.stored.push(StoredEvent {
             operand,
             thread: thread as u16,

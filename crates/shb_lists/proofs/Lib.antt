@@ -18,6 +18,7 @@ pub mod GrownLemmas
 pub mod StartLemmas
 pub mod CountLemmas
 pub mod TotalLemmas
-pub mod AloneLemmas
+pub mod TableLemmas
+pub mod EventSums
 pub mod PlaceLemmas
 pub mod PartLemmas

@@ -1,5 +1,5 @@
 -- The places of the leading races are those of all races.
-use Rattle.std.proofs.Common.{◌≡◌, ℕ, suc, ◌+◌, ◌≤◌, ◌++◌, Bool, true, false, cond, List, [], ◌∷◌, length, map, Option, None, Some, is_some, All, refl, sym, ap, subst, ◌∙◌, append_assoc, append-nil, arith}
+use Rattle.std.proofs.Common.{◌≡◌, ℕ, suc, ◌+◌, ◌≤◌, ◌++◌, Bool, true, false, cond, List, [], ◌∷◌, map, Option, None, Some, is_some, All, refl, sym, ap, subst, ◌∙◌, append_assoc, append-nil, arith}
 use Rattle.std.specs.List.{AllByRecursion, IsDistinct}
 use Rattle.std.specs.Str.{bytes_eq}
 use Rattle.std.proofs.lemmas.List.{map_push}
@@ -7,7 +7,7 @@ use Rattle.shb_lines.specs.declared.event.Pair.{Pair}
 use Rattle.shb_lines.specs.text.TraceData.{TraceData}
 use Rattle.shb_format.specs.Keyed.{AreKeyed, Key, Keyed, counted_of, same_key, with_keyed, with_new}
 use Rattle.shb_format.specs.Leading.{AreLeading}
-use Rattle.shb_format.specs.Places.{IsPairOf, PlaceOf, counts_in, location_at, places_after, places_of_pairs, with_pair}
+use Rattle.shb_format.specs.Places.{PlaceOf, counts_in, location_at, places_after, places_of_pairs, with_pair}
 use Rattle.shb_format.specs.declared.places.PlaceCount.{PlaceCount}
 use Rattle.shb_format.proofs.KeyedLemmas.{keyed_counts, keyed_pair}
 use Rattle.shb_format.proofs.LeadingLemmas.{firsts, firsts_lead, leading_unique}

@@ -1,11 +1,10 @@
 -- The races of all variables, one after the other: how many there are, and that they are the race list.
 use Rattle.std.proofs.lemmas.Grind.{common_steps}
-use Rattle.std.proofs.Common.{◌≡◌, ℕ, zero, suc, ◌+◌, ◌-◌, ◌*◌, ◌<◌, ◌≤◌, inl, inr, Bool, true, false, List, [], ◌∷◌, ◌++◌, Option, Some, None, All, get_or, length, map, not, refl, arith, ap, sym, subst, ◌∙◌, append-nil}
-use Rattle.std.specs.Prelude.{cond, ◌==◌, Contains, flat_map, nat_lt}
+use Rattle.std.proofs.Common.{◌≡◌, ℕ, zero, suc, ◌+◌, ◌-◌, ◌*◌, ◌<◌, ◌≤◌, inl, inr, Bool, false, List, [], ◌∷◌, ◌++◌, Option, Some, None, length, refl, arith, ap, sym, subst, ◌∙◌, append-nil}
+use Rattle.std.specs.Prelude.{cond, ◌==◌, flat_map}
 use Rattle.std.proofs.lemmas.Bool.{cases_Bool, cases_lt, eqb-true}
-use Rattle.std.proofs.lemmas.List.{get_or-map, length-append, length-map}
+use Rattle.std.proofs.lemmas.List.{length-append}
 use Rattle.std.proofs.lemmas.List.Concat.{flat_map-append}
-use Rattle.std.proofs.lemmas.List.Elements.{Contains-get_or}
 use Rattle.shb_lines.specs.declared.event.Event.{Event}
 use Rattle.shb_lines.specs.declared.event.Sizes.{Sizes}
 use Rattle.shb_lines.specs.events.Race.{IsRaceList, variable_at}
@@ -15,17 +14,12 @@ use Rattle.shb_links.proofs.Owners.{variable_sized}
 use Rattle.shb_stamps.specs.Open.{accesses_open}
 use Rattle.shb_pairs.specs.Accesses.{accesses_at, accesses_in, variables_in}
 use Rattle.shb_pairs.specs.Races.{races_with}
-use Rattle.shb_pairs.proofs.Counting.{access_from_test, numbers_more_no, numbers_more_yes, test_from_access, variable_within, numbers_all}
-use Rattle.shb_pairs.proofs.FlatMaps.{flat_map_parts}
-use Rattle.shb_pairs.proofs.Listing.{all_is_race_list, races_on_parts}
+use Rattle.shb_pairs.proofs.Counting.{access_from_test, numbers_more_no, numbers_more_yes, variable_within, numbers_all}
+use Rattle.shb_pairs.proofs.Listing.{all_is_race_list}
 use Rattle.shb_lists.proofs.FewRaces.{races_few}
-use Rattle.shb_lists.specs.Batches.{AreNarrowed, races_below, races_between, races_on}
-use Rattle.shb_lists.specs.Counted.{OpensOnly}
-use Rattle.shb_lists.specs.Listed.{pair_in, races_before}
-use Rattle.shb_lists.specs.declared.kept.ListedRace.{ListedRace}
-use Rattle.shb_lists.proofs.BatchLemmas.{accessed_within, below_between, below_next}
-use Rattle.shb_lists.proofs.ListedLemmas.{open_access, open_variable}
-use Rattle.shb_lists.proofs.RankLemmas.{numbers_alike}
+use Rattle.shb_lists.specs.Batches.{races_below, races_on}
+use Rattle.shb_lists.specs.Listed.{races_before}
+use Rattle.shb_lists.proofs.BatchLemmas.{accessed_within, below_next}
 
 -- ---- 64 bits count them: each access is one of a single variable, and has fewer races than there are numbers of 32 bits
 
@@ -135,32 +129,7 @@ all_below trace sizes numbered within =
     (same_below trace (variables_in trace) sizes.variables (λ k x access. variable_within trace k (length trace) x (accessed_within trace x k access) access) (λ k x access. (variable_sized trace sizes k x within access).1))
     (all_is_race_list trace numbered)
 
--- ---- the races of one variable in the order of the trace
-
-pub opens_alone : (trace : List Event) (sizes : Sizes) (x : ℕ) (flags : List Bool) → x < sizes.variables → IsWithin trace sizes → AreNarrowed [] sizes.variables x (x + 1) flags → OpensOnly trace flags x
-opens_alone trace sizes x flags low within are = record {
-  opens = are.inside x low (omega arith) (omega arith);
-  only = λ k passes.
-      let v = open_variable trace flags k passes in
-      let small = (variable_sized trace sizes k v.0 within v.1).1 in
-      elim (cases_lt v.0 x) [
-        | inl less ↦ absurd (let f : true ≡ false = sym v.2 ∙ are.outside v.0 small (inl less) in let bad : ⊥ = cc in bad)
-        | inr most ↦ elim (cases_lt x v.0) [
-          | inl more ↦ absurd (let f : true ≡ false = sym v.2 ∙ are.outside v.0 small (inr (omega (arith, more))) in let bad : ⊥ = cc in bad)
-          | inr least ↦ v.1 ∙ ap Some (let e : v.0 ≡ x = omega (arith, most, least) in e)
-        ]
-      ];
-}
-
-pub before_all : (trace : List Event) (flags : List Bool) (x : ℕ) → OpensOnly trace flags x → races_before trace flags (length trace) ≡ races_on trace x
-before_all trace flags x h = ap (λ (ks : List ℕ). flat_map (races_with trace) ks) (numbers_alike (accesses_open flags trace) (accesses_at trace x) (length trace)
-    (λ k lt. elim (cases_Bool (accesses_open flags trace k)) [
-      | inl t ↦ t ∙ sym (test_from_access trace x k (h.only k t))
-      | inr f ↦ elim (cases_Bool (accesses_at trace x k)) [
-        | inl a ↦ absurd (let bad : true ≡ false = sym (open_access trace flags k x (access_from_test trace x k a) h.opens) ∙ f in let g : ⊥ = cc in g)
-        | inr b ↦ f ∙ sym b
-      ]
-    ]))
+-- ---- the races of open variables in the order of the trace
 
 -- the races of one event more
 abbrev pub next_races : List Event → List Bool → ℕ → List (ℕ × ℕ)
@@ -194,48 +163,3 @@ next_room trace flags e n lt =
 pub before_none : (trace : List Event) (flags : List Bool) → races_before trace flags 0 ≡ []
 unfolding numbers_where
 before_none trace flags = refl
-
--- ---- the races of a batch
-
-between_within : (trace : List Event) (from to : ℕ) (p : ℕ × ℕ) → Contains (races_between trace from to) p → (p.0 < length trace) × (p.1 < length trace)
-between_within trace from to p c =
-    let there = flat_map_parts (races_on trace) (numbers_where (λ k. not (nat_lt k from)) to) p c in
-    let parts = races_on_parts trace there.0 p there.2 in
-    let within = accessed_within trace there.0 p.1 parts.0 in
-    let low = parts.1.earlier in (
-      omega (arith, low, within),
-      within,
-    )
-
-pub kept_within : (trace : List Event) (from to n : ℕ) (races : List ListedRace) → n ≡ length trace → map pair_in races ≡ races_between trace from to → All (λ (r : ListedRace). (r.first < n) × (r.second < n)) races
-kept_within trace from to n races many is k d lt =
-    let long = length-map races pair_in in
-    let there = subst (λ (l : List (ℕ × ℕ)). Contains l (get_or (map pair_in races) k (pair_in d))) is (Contains-get_or (map pair_in races) k (pair_in d) (omega (arith, long, lt))) in
-    let within = between_within trace from to (get_or (map pair_in races) k (pair_in d)) there in
-    let same = get_or-map pair_in races k d (pair_in d) lt in
-    let both = subst (λ (p : ℕ × ℕ). (p.0 < length trace) × (p.1 < length trace)) same within in
-    let low = both.0 in
-    let high = both.1 in (
-      omega (arith, low, many),
-      omega (arith, high, many),
-    )
-
-pub batch_room : (trace : List Event) (from to n : ℕ) (races : List ListedRace) → length trace < 4294967296 → from ≤ to → n ≡ length (races_below trace from) → map pair_in races ≡ races_between trace from to → n + length races < 18446744073709551616
-batch_room trace from to n races small le is same =
-    let few = few_below trace to small in
-    let parts = ap length (below_between trace from to le) in
-    let size = length-append (races_below trace from) (races_between trace from to) in
-    let long = length-map races pair_in in
-    let as_many = ap length same in
-    omega (arith, few, parts, size, long, as_many, is)
-
-pub alone_room : (trace : List Event) (x n : ℕ) → length trace < 4294967296 → n ≡ length (races_below trace x) → n + length (races_on trace x) < 18446744073709551616
-alone_room trace x n small is =
-    let few = few_below trace (x + 1) small in
-    let parts = ap length (below_next trace x) in
-    let size = length-append (races_below trace x) (races_on trace x) in
-    omega (arith, few, parts, size, is)
-
-pub below_none : (trace : List Event) → races_below trace 0 ≡ []
-unfolding numbers_where
-below_none trace = refl

@@ -6,7 +6,6 @@ use Rattle.indexmap.specs.IndexSet.{insert_key}
 use Rattle.shb_lines.specs.declared.event.Event.{Event}
 use Rattle.shb_lines.specs.declared.event.Pair.{Pair}
 use Rattle.shb_lines.specs.declared.event.Sizes.{Sizes}
-use Rattle.shb_lines.specs.events.Race.{variable_at}
 use Rattle.shb_lines.specs.text.TraceData.{TraceData}
 use Rattle.shb_format.specs.Keyed.{Key, Keyed, counted_of, counting, same_key, with_keyed, with_new}
 use Rattle.shb_format.specs.Places.{location_at}
@@ -14,9 +13,10 @@ use Rattle.shb_format.specs.Report.{pair_of}
 use Rattle.shb_stamps.specs.Open.{accesses_open, is_open}
 use Rattle.shb_lists.specs.Past.{IsPast}
 use Rattle.shb_lists.specs.Unknown.{IsUnknown, number_in}
-use Rattle.shb_lists.specs.declared.alone.Alone.{Alone}
-use Rattle.shb_lists.specs.declared.alone.Racing.{Racing}
 use Rattle.shb_lists.specs.declared.counter.RaceCounter.{RaceCounter}
+use Rattle.shb_lists.specs.declared.counting.Counting.{Counting}
+use Rattle.shb_lists.specs.declared.racing.Racing.{Racing}
+use Rattle.shb_lists.specs.declared.tables.Table.{Table}
 use Rattle.shb_lists.specs.declared.unknown.Unknown.{Unknown}
 
 -- each of the first `count` events that accesses an open variable has the number of its location, and each other 0
@@ -92,13 +92,12 @@ side_of writes racing = cond writes racing.with_writes racing.with_reads
 abbrev pub AreRacing : List Event → ℕ → List ℕ → ℕ → ℕ → ℕ → Racing → Type 0
 AreRacing trace x numbers classes threads n racing = (writes : Bool) → IsUnknown (record { trace = trace; x = x; writes = writes }) numbers classes threads n (side_of writes racing)
 
--- the flags open x, and no other variable that is accessed
-pub record OpensOnly (trace : List Event) (flags : List Bool) (x : ℕ) : Type 0 where
-  pub opens : is_open flags x ≡ true
-  pub only : (k : ℕ) → accesses_open flags trace k ≡ true → variable_at trace k ≡ Some x
+-- the tables of each open variable have its accesses before n
+pub record AreTables (trace : List Event) (sizes : Sizes) (flags : List Bool) (numbers : List ℕ) (classes n : ℕ) (tables : List Table) : Type 0 where
+  pub as_many : length tables ≡ sizes.variables
+  pub each : (x : ℕ) (table : Table) → is_open flags x ≡ true → slice_get tables x ≡ Some table → IfSome table.racing (AreRacing trace x numbers classes sizes.threads n)
 
--- what is known of the accesses of x before n, which the flags open alone
-pub record IsAlone (trace : List Event) (sizes : Sizes) (flags : List Bool) (x : ℕ) (numbers : List ℕ) (classes n : ℕ) (alone : Alone) : Type 0 where
-  pub opened : OpensOnly trace flags x
-  pub past : IsPast trace flags n sizes.variables alone.past
-  pub racing : IfSome alone.racing (AreRacing trace x numbers classes sizes.threads n)
+-- what is known of the accesses of open variables before n
+pub record IsCounting (trace : List Event) (sizes : Sizes) (flags : List Bool) (numbers : List ℕ) (classes n : ℕ) (counting : Counting) : Type 0 where
+  pub past : IsPast trace flags n sizes.variables counting.past
+  pub tables : AreTables trace sizes flags numbers classes n counting.tables.items

@@ -5,10 +5,8 @@ ghost use Rattle.shb_lines.specs.declared.event.Event.{Event};
 ghost use Rattle.shb_lines.specs.declared.event.Pair.{Pair};
 ghost use Rattle.shb_format.specs.Keyed.{Key, Keyed};
 ghost use Rattle.shb_lists.specs.Counted.{HasCounted, IsCounted, by_number, key_in, only, with_places};
-ghost use Rattle.shb_lists.specs.Listed.{pair_in};
 ghost use Rattle.shb_lists.specs.Unknown.{number_in};
 
-use crate::kept::ListedRace;
 use shb_format::{PlaceCount, PlaceTable};
 use shb_io::NoMemory;
 use shb_lines::Pair;
@@ -105,19 +103,6 @@ impl RaceCounter {
     {
         for first in firsts {
             self.add(key_of(numbers, *first, second), 1);
-        }
-    }
-
-    /// Counts some races that are kept.
-    pub(crate) fn count_kept(&mut self, numbers: &[u32], races: &[ListedRace])
-        requires within { All (λ race. (race.first < length numbers.now) × (race.second < length numbers.now)) races.now }
-        requires room { self.old.races + length races.now < 2 ^ 64 }
-        requires counted { (leading : List Pair) × (before : List (ℕ × ℕ)) × HasCounted numbers.now leading before self.old }
-        ensures { (leading : List Pair) (before : List (ℕ × ℕ)) → HasCounted numbers.now leading before self.old
-            → HasCounted numbers.now leading (before ++ map pair_in races.now) self.new }
-    {
-        for race in races {
-            self.add(key_of(numbers, race.first, race.second), 1);
         }
     }
 

@@ -8,33 +8,32 @@
 //! each race a step.
 //!
 //! [`kept_races`] keeps what the sweep finds, and sorts it into the order of the race list; workers make pairs of it in
-//! pieces ([`pairs_in_pieces`]). A [`BatchPlan`] does the same for as many variables as have few enough races, and
-//! [`RaceParts`] finds those of one variable a part at a time. [`Unknown`] counts the races of an access by the numbers
-//! of their locations, without a step for each of them; [`counted_races`] counts all races, and those of each place.
+//! pieces ([`pairs_in_pieces`]). Where there are too many, [`counted_races`] counts those of each place and variable in one
+//! sweep, many of them by the numbers of their locations, without a step for each (`unknown`). The [`BatchPlan`] that it
+//! gives finds those of as many variables as have few enough races, and [`RaceParts`] those of one variable a part at a
+//! time.
 #![tactic(auto)]
 
-mod alone;
 mod batches;
 mod counted;
 mod counter;
+mod counting;
 mod kept;
 mod numbering;
 mod parts;
 mod past;
 mod pieces;
 mod plan;
+mod racing;
 mod rivals;
 mod search;
 mod settled;
+mod tables;
 mod unknown;
 
-pub use batches::narrowed;
 pub use counted::{RaceCount, counted_races};
 pub use kept::{ListedRace, kept_races};
 pub use parts::RaceParts;
-pub use past::{Past, access_at};
 pub use pieces::{pairs_in_pieces, pairs_of};
 pub use plan::{Batch, BatchPlan};
-pub use search::Access;
 pub use settled::Settled;
-pub use unknown::Unknown;

@@ -8,7 +8,7 @@ ghost use Rattle.shb_stamps.specs.Open.{accesses_open, is_open as is_open_in};
 ghost use Rattle.shb_lists.specs.Past.{IsAccess, IsPast};
 
 use crate::rivals::{Newest, Rivals};
-use crate::search::{Access, find_races, find_unsorted};
+use crate::search::{Access, find_races};
 use shb_io::NoMemory;
 use shb_stamps::{Order, Ordered, is_open};
 use std::alloc::Global;
@@ -23,7 +23,7 @@ pub struct Past {
 }
 
 /// No rivals of so many variables.
-fn no_rivals(alloc: Global, variables: u32) -> Result<Vec<Rivals>, NoMemory>
+pub(crate) fn no_rivals(alloc: Global, variables: u32) -> Result<Vec<Rivals>, NoMemory>
     ensures as_many { IfOk result (λ table. length table.items ≡ variables) }
     ensures empty { IfOk result (λ table. All (λ rivals. rivals.each.items ≡ []) table.items) }
 {
@@ -91,33 +91,6 @@ impl Past {
             access,
             found,
         )
-    }
-
-    /// How many earlier events race with an access of an open variable.
-    ///
-    /// # Errors
-    ///
-    /// `NoMemory` where a growth was refused.
-    pub fn count<O: Order>(
-        &self,
-        ordered: &Ordered<'_, O>,
-        access: Access,
-        found: &mut Vec<u32>,
-    ) -> Result<u64, NoMemory>
-        requires access { IsAccess ordered.now.disciplined.now.events.now access }
-        requires asked { O.asks ordered.now.order.now access.event ≡ true }
-        requires past { (flags : List Bool) × (is_open_in flags access.variable ≡ true)
-            × IsPast ordered.now.disciplined.now.events.now flags access.event ordered.now.disciplined.now.sizes.variables self.now }
-    {
-        let rivals = &self.rivals[access.variable as usize];
-        find_unsorted(
-            ordered,
-            self.earlier.as_slice(),
-            rivals.each.as_slice(),
-            access,
-            found,
-        )?;
-        Ok(found.len() as u64)
     }
 
     /// Takes an access of an open variable in.

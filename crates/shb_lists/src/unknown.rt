@@ -4,6 +4,16 @@
 //! through the accesses of each thread once, from the first one on, and those that it hasn't passed race with its next
 //! access. They are counted by the numbers of their locations: one more for each thread where an access comes, one less
 //! where it is passed.
+//!
+//! Four events, of which the fourth races with the third alone. Of each thread how many accesses of A and of B it knows, and
+//! how many of the others are at locations a and b, after the event:
+//!
+//! | Event | what it is counted with | A: knows, others | B: knows, others |
+//! |---|---|---|---|
+//! | `A|w(x)|a` | nothing | 0 0, 1 0 | 0 0, 1 0 |
+//! | `A|fork(B)` | | 0 0, 1 0 | 0 0, 1 0 |
+//! | `A|w(x)|b` | nothing: A passes its own first access | 1 0, 0 1 | 0 0, 1 1 |
+//! | `B|w(x)|b` | one at b: B passes what came before the fork | 1 0, 0 2 | 1 0, 0 2 |
 
 ghost use Rattle.std.specs.Prelude.{◌≡◌, ◌≢◌, ◌+◌, ◌<◌, ◌^◌, ℕ, [], true, All, List, Some, IfOk, OnOk, length, slice_get, slice_index_or};
 ghost use Rattle.shb_lists.specs.Past.{IsAccess};

@@ -1,5 +1,5 @@
 -- The groups of a variable, an access more.
-use Rattle.std.proofs.Common.{◌≡◌, ℕ, suc, ◌+◌, ◌<◌, ◌≤◌, inl, inr, Bool, true, false, cond, ◌&&◌, List, [], ◌∷◌, ◌++◌, None, Option, Some, length, take, filter, get_or, arith, refl, sym, ap, subst, ◌∙◌}
+use Rattle.std.proofs.Common.{◌≡◌, ℕ, zero, suc, ◌+◌, ◌<◌, ◌≤◌, inl, inr, Bool, true, false, cond, ◌&&◌, List, [], ◌∷◌, ◌++◌, None, Option, Some, length, take, filter, get_or, arith, refl, sym, ap, subst, ◌∙◌}
 use Rattle.std.specs.Bool.{beq}
 use Rattle.std.specs.Prelude.{All, AllPairs, Contains, nat_eq, slice_get}
 use Rattle.std.specs.List.{remove}
@@ -11,6 +11,7 @@ use Rattle.std.proofs.lemmas.List.Kept.{AllPairs-filter}
 use Rattle.std.proofs.lemmas.List.Quantifiers.{all_pairs_push, all_pairs_remove}
 use Rattle.std.proofs.lemmas.List.{get_or-take, get_or_push, length-take, length_push}
 use Rattle.std.proofs.lemmas.Option.{get_or_from_slice_get, slice_get_read, slice_get_within}
+use Rattle.std.specs.List.Retain.{RetainsInTurn}
 use Rattle.shb_lines.specs.declared.event.Event.{Event}
 use Rattle.shb_lines.specs.events.Discipline.{local_time}
 use Rattle.shb_lines.specs.events.Events.{thread_at}
@@ -330,3 +331,19 @@ module _ (trace : List Event) (spots : List Spot) (x : ℕ) (access : FoundAcces
   run_begun = record {
     alone = λ i from lt at. (let here : i ≡ access.event = omega (arith, from, lt) in ap (thread_at trace) here ∙ own.thread_is);
   }
+
+-- where no call of a test changes the test or the element, those stay that pass
+pub retained_passing : {X F : Type 0} (R : F → X → Bool → F → X → Type 0) (test : X → Bool) (f : F) → ((x : X) (b : Bool) (g : F) (y : X) → R f x b g y → (b ≡ test x) × (g ≡ f) × (y ≡ x))
+    → (xs ys : List X) → RetainsInTurn R f xs ys → ys ≡ filter test xs
+retained_passing R test f says [] ys h = h
+retained_passing R test f says (x ∷ xs) ys h =
+    let said = says x h.0 h.1 h.2 h.3 in
+    let rest = retained_passing R test f says xs h.4 (subst (λ g. RetainsInTurn R g xs h.4) said.1 h.5) in
+    h.6 ∙ (λ i. cond (said.0 i) (said.2 i ∷ rest i) (rest i))
+
+-- an access in place of the last one
+pub last_replaced : (old : List Kept) (at : ℕ) (access : Kept) → at + 1 ≡ length old → set old at access ≡ remove old at ++ access ∷ []
+last_replaced [] at access is = absurd (omega (arith, is))
+last_replaced (a ∷ []) zero access is = refl
+last_replaced (a ∷ (b ∷ old)) zero access is = absurd (omega (arith, is))
+last_replaced (a ∷ old) (suc at) access is = ap (λ (l : List Kept). a ∷ l) (last_replaced old at access (omega (arith, is)))

@@ -1,7 +1,7 @@
 //! Accesses and races that are found.
 
 /// Where an event stands.
-#[derive(Clone, Copy, Debug, PartialEq, Eq)]
+#[derive(Clone, Copy, Debug, Default, PartialEq, Eq)]
 pub struct Spot {
     /// The number of its location.
     pub location: u32,

@@ -1,6 +1,6 @@
 //! The accesses that are kept of a variable, by thread and kind.
 
-ghost use Rattle.std.specs.Prelude.{AllPairs, ◌≡◌, ◌≤◌, ◌+◌, ◌++◌, ◌∷◌, [], ℕ, true, List, IfOk, IfSome, OnOk, Some, filter, slice_get};
+ghost use Rattle.std.specs.Prelude.{AllPairs, ◌≡◌, ◌≤◌, ◌+◌, ◌++◌, ◌∷◌, [], ℕ, true, List, IfOk, IfSome, OnOk, Some, filter, length, slice_get};
 ghost use Rattle.shb_lines.specs.declared.event.Event.{Event};
 ghost use Rattle.shb_lines.specs.events.Discipline.{local_time};
 ghost use Rattle.shb_nearest.specs.Classes.{AreClasses};
@@ -12,12 +12,13 @@ ghost use Rattle.shb_nearest.specs.declared.groups.Kept.{Kept as KeptData};
 use crate::access::{FoundAccess, Spot};
 use crate::classes::{Class, Classes};
 use crate::screen::Latest;
-use crate::tight::push;
 use shb_io::NoMemory;
+use smallvec::SmallVec;
 use std::alloc::Global;
+use std::default::MadeWith;
 
 /// An access that a group keeps.
-#[derive(Clone, Copy)]
+#[derive(Clone, Copy, Default)]
 pub struct Kept {
     pub event: u32,
     /// How many events its thread had, with this one.
@@ -26,12 +27,12 @@ pub struct Kept {
 }
 
 /// Accesses of a variable by one thread, writes or reads, in the order of the stream. The newest one at each location
-/// is among them.
+/// is among them. One access, as most groups have, needs no memory of its own.
 #[derive(Drop)]
 pub struct Group {
     pub thread: u32,
     pub writes: bool,
-    pub kept: Vec<Kept>,
+    pub kept: SmallVec<Kept, 1>,
     /// With more than so many it forgets those that aren't the last at their location.
     pub most: usize,
 }
@@ -44,10 +45,11 @@ pub struct Run {
     pub start: u32,
 }
 
-/// The groups of a variable, its run, and what is kept to know that most of its accesses race with none.
+/// The groups of a variable, its run, and what is kept to know that most of its accesses race with none. Two groups, as
+/// a variable has that one thread reads and writes, need no memory of their own.
 #[derive(Drop)]
 pub struct Groups {
-    pub each: Vec<Group>,
+    pub each: SmallVec<Group, 2>,
     pub run: Run,
     pub latest: Latest,
 }
@@ -94,8 +96,23 @@ fn index_at(kept: &[Kept], location: u32) -> Option<usize>
     None
 }
 
+/// The index of the group of a thread and a kind, if there is one. The newest ones are looked at first.
+fn index_of(groups: &[Group], thread: u32, writes: bool) -> Option<usize>
+    ensures { IfSome result (λ at. (group : Group) × (slice_get groups.now at ≡ Some group) × IsOfGroup group thread writes) }
+{
+    let mut from = groups.len();
+    while from > 0 {
+        from -= 1;
+        let is_it = groups[from].is_of(thread, writes);
+        if is_it {
+            return Some(from);
+        }
+    }
+    None
+}
+
 /// Forgets those that a table doesn't have.
-fn forget(kept: &mut Vec<Kept>, classes: &Classes, variable: u32, thread: u32, writes: bool)
+fn forget(kept: &mut SmallVec<Kept, 1>, classes: &Classes, variable: u32, thread: u32, writes: bool)
     ensures { kept.new.items ≡ filter (is_newest_kept classes.now.newest.entries variable thread writes) kept.old.items }
 {
     kept.retain(|access| {
@@ -133,11 +150,41 @@ impl Run {
 }
 
 impl Group {
+    /// No access by a thread of a kind.
+    fn new(alloc: Global, thread: u32, writes: bool) -> Group
+        ensures own { IsOfGroup result thread writes }
+        ensures none { result.kept.items ≡ [] }
+    {
+        Group {
+            thread,
+            writes,
+            kept: SmallVec::new(alloc),
+            most: FEW,
+        }
+    }
+
     /// Whether it has the accesses by a thread of a kind.
     fn is_of(&self, thread: u32, writes: bool) -> bool
         ensures { result ≡ true → IsOfGroup self.now thread writes }
     {
         self.thread == thread && self.writes == writes
+    }
+
+    /// Keeps an access in place of the last one, which is at this index and at its location, and answers that one.
+    fn replace_last(&mut self, at: usize, access: Kept) -> u32
+        requires last { at + 1 ≡ length self.old.kept.items }
+        requires location { (a : KeptData) × (slice_get self.old.kept.items at ≡ Some a) × (a.spot.location ≡ access.spot.location) }
+        ensures kept { (x : ℕ) → HasKept x access self.old self.new }
+        ensures before { IsAt self.old.kept.items access.spot.location result }
+    {
+        match self.kept.get_mut(at) {
+            Some(last) => {
+                let before = last.event;
+                *last = access;
+                before
+            }
+            None => 0,
+        }
     }
 
     /// Keeps an access in place of the last one at its location, where there is one, and answers that one, or 0.
@@ -150,11 +197,16 @@ impl Group {
         ensures before { IfOk result (IsAt self.old.kept.items access.spot.location) }
     {
         let Some(at) = index_at(self.kept.as_slice(), access.spot.location) else {
-            push(&mut self.kept, access)?;
+            self.kept.push(access)?;
             return Ok(0);
         };
+        let is_last = at + 1 == self.kept.len();
+        if is_last {
+            let before = self.replace_last(at, access);
+            return Ok(before);
+        }
         let before = self.kept.remove(at);
-        push(&mut self.kept, access)?;
+        self.kept.push(access)?;
         Ok(before.event)
     }
 
@@ -172,7 +224,7 @@ impl Group {
     ) -> Result<(), NoMemory>
         ensures { OnOk result (HasKept variable access self.old self.new) }
     {
-        push(&mut self.kept, access)?;
+        self.kept.push(access)?;
         if self.kept.len() <= self.most {
             return Ok(());
         }
@@ -190,20 +242,14 @@ impl Group {
     }
 }
 
-impl Groups {
-    /// The index of the group of a thread and a kind, if there is one.
-    fn index_of(&self, thread: u32, writes: bool) -> Option<usize>
-        ensures { IfSome result (λ at. (group : Group) × (slice_get self.now.each.items at ≡ Some group) × IsOfGroup group thread writes) }
-    {
-        for at in 0..self.each.len() {
-            let is_it = self.each[at].is_of(thread, writes);
-            if is_it {
-                return Some(at);
-            }
-        }
-        None
+/// What stands in the place of a group that a list has no memory for yet.
+impl MadeWith<Global> for Group {
+    fn made_with(alloc: Global) -> Group {
+        Group::new(alloc, 0, false)
     }
+}
 
+impl Groups {
     /// The index of the group of a thread and a kind, which is made where there is none.
     ///
     /// # Errors
@@ -212,17 +258,11 @@ impl Groups {
     fn group_at(&mut self, alloc: Global, thread: u32, writes: bool) -> Result<usize, NoMemory>
         ensures { IfOk result (HasGroupAt self.old.each.items self.new.each.items thread writes) }
     {
-        if let Some(at) = self.index_of(thread, writes) {
+        if let Some(at) = index_of(self.each.as_slice(), thread, writes) {
             return Ok(at);
         }
         let at = self.each.len();
-        let group = Group {
-            thread,
-            writes,
-            kept: Vec::new(alloc),
-            most: FEW,
-        };
-        push(&mut self.each, group)?;
+        self.each.push(Group::new(alloc, thread, writes))?;
         Ok(at)
     }
 
@@ -253,7 +293,9 @@ impl Groups {
             time,
             spot: access.spot,
         };
-        let group = &mut self.each[at];
+        let Some(group) = self.each.get_mut(at) else {
+            return Ok(0);
+        };
         if group.kept.len() <= FEW {
             let before = group.replace(kept)?;
             return Ok(before);

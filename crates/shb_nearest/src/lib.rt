@@ -30,7 +30,6 @@ mod rivals;
 mod screen;
 mod search;
 mod tables;
-mod tight;
 
 pub use access::{FoundAccess, FoundRace, Spot};
 pub use search::NearestRaces;

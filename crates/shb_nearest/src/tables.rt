@@ -15,6 +15,7 @@ use crate::rivals::rivals_of;
 use crate::screen::{screen, unscreened};
 use shb_io::NoMemory;
 use shb_stamps::StreamClocks;
+use smallvec::SmallVec;
 use std::alloc::Global;
 use std::random::RandomSource;
 
@@ -32,7 +33,7 @@ fn make_space(groups: &mut Vec<Groups>, alloc: Global, variable: u32) -> Result<
 {
     while groups.len() <= variable as usize {
         groups.push(Groups {
-            each: Vec::new(alloc),
+            each: SmallVec::new(alloc),
             run: Run {
                 thread: 0,
                 start: 0,

@@ -42,6 +42,7 @@ pub(crate) fn report_leading<R: Threads + Wait + Sync + RandomSource, K: Sink, W
         let plan = BlockPlan {
             workers: settings.workers,
             gate,
+            schedules: true,
         };
         return write_known(rt, alloc, sink, &ordered, &races, &plan);
     }

@@ -15,7 +15,6 @@ mod leading;
 mod pipeline;
 mod places;
 mod settings;
-mod statuses;
 
 pub use pipeline::{run, run_gated};
 pub use places::run_places;
@@ -25,4 +24,3 @@ pub use shb_check::{
 };
 pub use shb_fan::{FreeGate, Gate, Workers};
 pub use shb_scan::{ScanError, run_scan, scan_line, status_of_scan};
-pub use statuses::status_of_run;

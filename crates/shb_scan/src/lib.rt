@@ -19,8 +19,6 @@ mod writing;
 
 pub use errors::ScanError;
 pub use found::{FoundScan, write_found};
-pub use limits::scan_bounds;
 pub use reading::read_scan;
 pub use scan::run_scan;
 pub use statuses::{scan_line, scan_message, status_of_scan};
-pub use writing::{ScanNames, write_scan};

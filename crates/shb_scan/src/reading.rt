@@ -1,6 +1,7 @@
 //! From a source to the nearest races of its trace, or to the first fault of its text. Neither the text nor the
 //! events are kept.
 ghost use Rattle.std.specs.Prelude.{◌≡◌, ◌+◌, ◌-◌, ◌^◌, ◌<◌, ◌↔◌, ◌++◌, ◌∷◌, ℕ, List, [], IsTrue, IfOk, OnOk, Option, Some, length, is_some};
+ghost use Rattle.std.specs.Option.{option_copied};
 ghost use Rattle.std.specs.Str.Lines.{strip_carriage_return};
 ghost use Rattle.shb_io.specs.Devices.{CountsFailure};
 ghost use Rattle.shb_lines.specs.events.Discipline.{MayCome};
@@ -10,7 +11,8 @@ ghost use Rattle.shb_lines.specs.text.Names.{with_name};
 ghost use Rattle.shb_lines.specs.text.Numbering.{IsWithin, event_of, with_step};
 ghost use Rattle.shb_lines.specs.text.Numbers.{Tables, events_of};
 ghost use Rattle.shb_lines.specs.text.OwnedNames.{names_of};
-ghost use Rattle.shb_lines.specs.text.TraceData.{TraceData, location_of};
+ghost use Rattle.shb_lines.specs.text.Taken.{HasBar, IsBarred};
+ghost use Rattle.shb_lines.specs.text.TraceData.{TraceData, location_after, location_of};
 ghost use Rattle.shb_nearest.specs.declared.access.Spot.{Spot as SpotData};
 ghost use Rattle.shb_scan.specs.declared.errors.ScanError.TheVariants.{Trace};
 ghost use Rattle.shb_scan.specs.Errors.{IsDeviceless, source_failed};
@@ -24,7 +26,7 @@ use crate::found::FoundScan;
 use crate::limits::scan_bounds;
 use shb_discipline::State;
 use shb_io::{NoMemory, Source};
-use shb_lines::{EventReader, Fault, Limits, Op, OwnedNames, Step, Taken, location_after};
+use shb_lines::{EventReader, Fault, Limits, Op, OwnedNames, Step, Taken};
 use shb_nearest::{NearestRaces, Spot};
 use std::alloc::Global;
 use std::random::RandomSource;
@@ -59,13 +61,18 @@ fn is_access(op: Op) -> bool
     }
 }
 
-/// Where an access stands, by its line. A location that is new is put last.
-fn spot_of(alloc: Global, locations: &mut OwnedNames, line: &[u8]) -> Result<Spot, NoMemory>
+/// Where an access stands, by the location in its line, if there is one. A location that is new is put last.
+fn spot_of(
+    alloc: Global,
+    locations: &mut OwnedNames,
+    location: Option<&[u8]>,
+) -> Result<Spot, NoMemory>
     requires room { length (names_of locations.old) < 2 ^ 32 }
-    ensures spot { IfOk result (IsSpotOf (names_of locations.new) line.now) }
-    ensures names { OnOk result (names_of locations.new ≡ with_name (names_of locations.old) (location_of line.now)) }
+    ensures spot { (line : List ℕ) → option_copied location.entry ≡ location_after line → IfOk result (IsSpotOf (names_of locations.new) line) }
+    ensures names { (line : List ℕ) → option_copied location.entry ≡ location_after line
+        → OnOk result (names_of locations.new ≡ with_name (names_of locations.old) (location_of line)) }
 {
-    match location_after(line) {
+    match location {
         Some(text) => {
             let location = locations.number_of(alloc, text)?;
             Ok(Spot {
@@ -100,13 +107,14 @@ impl Scan {
     /// Where the event of the line that was given last stands. Of an event that is no access the spot says nothing.
     fn spot(&mut self, alloc: Global, op: Op) -> Result<Spot, NoMemory>
         requires room { length (names_of self.old.locations) < 2 ^ 32 }
+        requires bar { HasBar self.old.reader }
         ensures reader { self.new.reader ≡ self.old.reader }
         ensures state { self.new.state ≡ self.old.state }
         ensures nearest { self.new.nearest ≡ self.old.nearest }
         ensures spot { IfOk result (HasSpot (names_of self.old.locations) (names_of self.new.locations) op (strip_carriage_return self.old.reader.lines.line)) }
     {
         if is_access(op) {
-            return spot_of(alloc, &mut self.locations, self.reader.line());
+            return spot_of(alloc, &mut self.locations, self.reader.location());
         }
         Ok(Spot {
             location: 0,
@@ -117,6 +125,7 @@ impl Scan {
     /// Takes note of an event that may come, and where it stands.
     fn note(&mut self, alloc: Global, step: Step) -> Result<(), NoMemory>
         requires room { length (names_of self.old.locations) < 2 ^ 32 }
+        requires bar { HasBar self.old.reader }
         ensures reader { self.new.reader ≡ self.old.reader }
         ensures form { self.new.nearest.by_variable ≡ self.old.nearest.by_variable }
         ensures noted { (trace : TraceData) (spots : List SpotData) (tables : Tables) (line : ℕ) → HasNoted trace spots self.old.locations self.old.state self.old.nearest
@@ -146,6 +155,7 @@ impl Scan {
     /// `Trace` where it is a fault, or an event that may not come. `TooManyLines` where nothing was taken.
     fn take(&mut self, alloc: Global, taken: Taken) -> Result<bool, ScanError>
         requires room { length (names_of self.old.locations) < 2 ^ 32 }
+        requires bar { IsBarred self.old.reader taken }
         ensures reader { self.new.reader ≡ self.old.reader }
         ensures form { self.new.nearest.by_variable ≡ self.old.nearest.by_variable }
         ensures reading { IsDeviceless result }

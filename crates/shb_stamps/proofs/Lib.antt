@@ -11,4 +11,5 @@ pub mod StampItems
 pub mod Stamping
 pub mod Accesses
 pub mod Streams
+pub mod SpanLemmas
 pub mod StreamSteps

@@ -1,9 +1,9 @@
 -- What is kept of a stream's order, an event more.
 use Rattle.std.proofs.Common.{◌≡◌, ◌≢◌, ℕ, zero, suc, ◌+◌, ◌<◌, ◌≤◌, ◌^◌, ◌⊎◌, inl, inr, Bool, true, false, List, [], ◌∷◌, ◌++◌, Some, length, get_or, take, arith, refl, sym, subst, ◌∙◌, ap, get_or-set_same, get_or-set_other}
-use Rattle.std.specs.Prelude.{◌↔◌, cond, count_by, max, slice_get, replicate}
+use Rattle.std.specs.Prelude.{◌↔◌, ◌-◌, cond, count_by, max, min, slice_get, replicate}
 use Rattle.std.proofs.Math.ListN.{set, length-replicate}
 use Rattle.std.proofs.lemmas.Bool.{cases_Bool, cases_eq, cases_lt}
-use Rattle.std.proofs.lemmas.List.{get_or_append_left, get_or_past, get_or_push, length-append, length_push, take_all, take-append-le}
+use Rattle.std.proofs.lemmas.List.{get_or_past, get_or_push, length-append, length_push, take_all, take-append-le}
 use Rattle.shb_lines.specs.Growing.{IsPut}
 use Rattle.shb_lines.specs.declared.event.Event.{Event}
 use Rattle.shb_lines.specs.declared.event.Op.{Op}
@@ -391,6 +391,26 @@ module _ (past : List Event) (e : Event) (disciplined : IsDisciplined (past ++ e
   pub taken_other : ((u : ℕ) → e.op ≡ Fork u → ⊥) → ((l : ℕ) → e.op ≡ Release l → ⊥) → ((x : ℕ) → e.op ≡ Write x → ⊥) → AreStreamed (past ++ e ∷ []) more after times_after locks variables
   taken_other no_fork no_release no_write = after_other past e disciplined rows current times locks variables old more own.0 row own.2 stamp refl (sym same) counted own.1 after times_after row_put time_put no_fork no_release no_write
 
+-- a write was taken, and a read of what the thread knows: its row stays
+module _ (past : List Event) (e : Event) (disciplined : IsDisciplined (past ++ e ∷ [])) (rows : List (List ℕ)) (current times : List ℕ) (locks variables : List Stamp) (old : AreStreamed past rows current times locks variables)
+    (few : length past + 1 < 2 ^ 32) (thread x before time own : ℕ) (same : e.thread ≡ thread) (own_is : own ≡ get_or times thread 0) (time_is : time ≡ min (own + 1) (2 ^ 32 - 1)) (times_after : List ℕ) (put_time : IsPut 0 thread time times times_after) where
+  counted_time : time ≡ get_or times thread 0 + 1
+  counted_time = let low = few_times past e disciplined rows current times locks variables old thread in omega (arith, low, few, own_is, time_is)
+
+  itself : (number : ℕ) → number ≡ get_or current thread 0 → IsPut 0 thread number current current
+  itself number is = record { there = sym is; others = λ k ne. refl }
+
+  pub taken_early : e.op ≡ Write x → before ≡ get_or current thread 0 → (default : Stamp) → default ≡ empty_stamp → (variables_after : List Stamp)
+      → IsPut default x (record { row = before; thread = thread; time = time }) variables variables_after → AreStreamed (past ++ e ∷ []) rows current times_after locks variables_after
+  taken_early is before_is default none variables_after put = taken_write past e disciplined rows current times locks variables old few thread before time before empty_stamp rows current times_after same before_is counted_time
+      (no_source past e disciplined rows current times locks variables old (λ l takes. (let one : Write x ≡ Acquire l = sym is ∙ takes in (let f : ⊥ = cc in f))) (λ u joins. (let one : Write x ≡ Join u = sym is ∙ joins in (let f : ⊥ = cc in f))) (λ y reads. (let one : Write x ≡ Read y = sym is ∙ reads in (let f : ⊥ = cc in f))))
+      (knows (inr (omega arith)) refl refl) (itself before before_is) put_time x is default none variables_after put
+
+  pub taken_known : e.op ≡ Read x → KnowsStamp (get_or rows (get_or current thread 0) []) thread (get_or variables x empty_stamp) → AreStreamed (past ++ e ∷ []) rows current times_after locks variables
+  taken_known is known = taken_other past e disciplined rows current times locks variables old few thread (get_or current thread 0) time (get_or current thread 0) (get_or variables x empty_stamp) rows current times_after same refl counted_time
+      (read_source past e disciplined rows current times locks variables old x is) (knows known refl refl) (itself (get_or current thread 0) refl) put_time
+      (λ u forks. (let one : Read x ≡ Fork u = sym is ∙ forks in (let f : ⊥ = cc in f))) (λ l releases. (let one : Read x ≡ Release l = sym is ∙ releases in (let f : ⊥ = cc in f))) (λ y writes. (let one : Read x ≡ Write y = sym is ∙ writes in (let f : ⊥ = cc in f)))
+
 -- before the first event
 pub streamed_none : (rows : List (List ℕ)) (current times : List ℕ) (locks variables : List Stamp) → rows ≡ [] ∷ [] → current ≡ [] → times ≡ [] → locks ≡ [] → variables ≡ [] → AreStreamed [] rows current times locks variables
 streamed_none rows current times locks variables is none no_times no_locks no_variables = record {
@@ -411,18 +431,35 @@ streamed_none rows current times locks variables is none no_times no_locks no_va
       };
     }
 
--- an entry more of a joined clock, and all of them
-pub joined_push : (one other joined : List ℕ) (t x : ℕ) → length joined ≡ t → ((k : ℕ) → k < t → get_or joined k 0 ≡ max (get_or one k 0) (get_or other k 0)) → x ≡ max (get_or one t 0) (get_or other t 0) → (k : ℕ) → k < t + 1 → get_or (joined ++ x ∷ []) k 0 ≡ max (get_or one k 0) (get_or other k 0)
-joined_push one other joined t x long each is k lt = elim (cases_lt k t) [
-  | inl low ↦ get_or_append_left joined (x ∷ []) 0 k (omega (arith, long, low)) ∙ each k low
-  | inr ge ↦ (let last : t ≡ k = omega (arith, lt, ge) in get_or_push joined x 0 k (long ∙ last) ∙ (is ∙ ap (λ (m : ℕ). max (get_or one m 0) (get_or other m 0)) last))
+-- an entry more of a clock that is raised, and all of them
+pub raised_set : (old other now after : List ℕ) (t x : ℕ) → length now ≡ length old → t < length old → ((k : ℕ) → k < t → get_or now k 0 ≡ max (get_or old k 0) (get_or other k 0))
+    → ((k : ℕ) → t ≤ k → get_or now k 0 ≡ get_or old k 0) → x ≡ max (get_or now t 0) (get_or other t 0) → after ≡ set now t x
+    → ((k : ℕ) → k < t + 1 → get_or after k 0 ≡ max (get_or old k 0) (get_or other k 0)) × ((k : ℕ) → t + 1 ≤ k → get_or after k 0 ≡ get_or old k 0)
+raised_set old other now after t x long low done rest x_is after_is = (below, above)
+  where
+    entry : (k : ℕ) → get_or after k 0 ≡ get_or (set now t x) k 0
+    entry k = ap (λ (xs : List ℕ). get_or xs k 0) after_is
+
+    below : (k : ℕ) → k < t + 1 → get_or after k 0 ≡ max (get_or old k 0) (get_or other k 0)
+    below k lt = elim (cases_eq k t) [
+      | inl same ↦ (let at = get_or-set_same now t x 0 (omega (arith, low, long)) in let own = rest t (omega arith) in let e = entry t in
+          subst (λ (m : ℕ). get_or after m 0 ≡ max (get_or old m 0) (get_or other m 0)) (sym same) (omega (arith, at, own, e, x_is)))
+      | inr ne ↦ (let at = get_or-set_other now t k x 0 ne in let own = done k (omega (arith, lt, ne)) in let e = entry k in omega (arith, at, own, e))
+    ]
+
+    above : (k : ℕ) → t + 1 ≤ k → get_or after k 0 ≡ get_or old k 0
+    above k le = (let at = get_or-set_other now t k x 0 (λ same. omega (arith, le, same)) in let own = rest k (omega (arith, le)) in let e = entry k in omega (arith, at, own, e))
+
+pub raised_whole : (old other now : List ℕ) (t : ℕ) → length other ≤ t → ((k : ℕ) → k < t → get_or now k 0 ≡ max (get_or old k 0) (get_or other k 0))
+    → ((k : ℕ) → t ≤ k → get_or now k 0 ≡ get_or old k 0) → (k : ℕ) → get_or now k 0 ≡ max (get_or old k 0) (get_or other k 0)
+raised_whole old other now t most done rest k = elim (cases_lt k t) [
+  | inl low ↦ done k low
+  | inr ge ↦ (let own = rest k ge in let none = get_or_past other k 0 (omega (arith, most, ge)) in omega (arith, own, none))
 ]
 
-pub joined_whole : (one other joined : List ℕ) (t : ℕ) → length joined ≡ t → max (length one) (length other) ≤ t → ((k : ℕ) → k < t → get_or joined k 0 ≡ max (get_or one k 0) (get_or other k 0)) → (k : ℕ) → get_or joined k 0 ≡ max (get_or one k 0) (get_or other k 0)
-joined_whole one other joined t long most each k = elim (cases_lt k t) [
-  | inl low ↦ each k low
-  | inr ge ↦ (let a = get_or_past joined k 0 (omega (arith, long, ge)) in let b = get_or_past one k 0 (omega (arith, most, ge)) in let c = get_or_past other k 0 (omega (arith, most, ge)) in omega (arith, a, b, c))
-]
+-- zeros behind a clock change no entry
+pub resized : (old new : List ℕ) (size n : ℕ) → length old ≤ size → new ≡ take size old ++ replicate n 0 → (t : ℕ) → get_or new t 0 ≡ get_or old t 0
+resized old new size n wide is t = ap (λ (xs : List ℕ). get_or xs t 0) (is ∙ ap (λ (xs : List ℕ). xs ++ replicate n 0) (take_all size old wide)) ∙ zeros_after old n t
 
 -- the rows were moved, and the first stayed the first
 pub streamed_moved : (past : List Event) (rows new : List (List ℕ)) (current times after : List ℕ) (locks locks_after variables variables_after : List Stamp) → HasMoved rows new current after locks locks_after variables variables_after → IsMovedRow rows new 0 0 → AreStreamed past rows current times locks variables

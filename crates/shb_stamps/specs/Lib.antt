@@ -5,6 +5,7 @@ pub mod Moved
 pub mod Open
 pub mod RowBytes
 pub mod Rows
+pub mod Spans
 pub mod Stamps
 pub mod StreamClocks
 pub mod Streamed

@@ -1,4 +1,4 @@
-//! Rows of any length, which never change.
+//! Rows of any length in one memory, which never change.
 
 ghost use Rattle.std.specs.Prelude.{◌≡◌, ◌-◌, ◌<◌, ◌++◌, ◌^◌, [], ◌∷◌, IfOk, OnOk, length, min, slice_index_or};
 ghost use Rattle.shb_stamps.specs.Moved.{AreKept};
@@ -8,53 +8,71 @@ use shb_io::NoMemory;
 use std::alloc::Global;
 use std::marker::Model;
 
-/// Rows, seen as the list of their entries.
+/// Where the entries of a row are in the memory of all.
+#[derive(Clone, Copy, Drop)]
+struct Span {
+    start: usize,
+    len: usize,
+}
+
+/// Rows one after the other in one memory, seen as the list of their entries.
 #[derive(Drop)]
 pub struct RowList {
-    rows: Vec<Vec<u32>>,
-    /// About how many bytes they take.
+    spans: Vec<Span>,
+    entries: Vec<u32>,
+    /// How many bytes they take.
     size: usize,
 }
 
-/// About how many bytes a row takes that has so many entries: four for each, and 40 for the row itself.
+/// How many bytes a row takes that has so many entries: four for each, and 16 for where they are.
 fn row_size(entries: usize) -> usize
     ensures { result ≡ min (row_bytes entries) (2 ^ 64 - 1) }
 {
-    entries.saturating_mul(4).saturating_add(40)
+    entries.saturating_mul(4).saturating_add(16)
 }
 
 impl Model for RowList {
-    ghost use Rattle.std.specs.Prelude.{◌≡◌, ◌-◌, ◌^◌, List, ℕ, map, min};
+    ghost use Rattle.std.specs.Prelude.{◌≡◌, ◌-◌, ◌^◌, List, ℕ, length, min};
     ghost use Rattle.shb_stamps.specs.RowBytes.{rows_bytes};
+    ghost use Rattle.shb_stamps.specs.Spans.{AreInside, rows_in};
 
     ghost Value = { List (List ℕ) };
 
-    ghost view = { λ r. map (λ row. row.items) r.rows.items };
+    ghost view = { λ r. rows_in r.entries.items r.spans.items };
 
-    ghost invariant = { λ r. r.size ≡ min (rows_bytes (map (λ row. row.items) r.rows.items)) (2 ^ 64 - 1) };
+    ghost invariant = { λ r. AreInside (length r.entries.items) r.spans.items
+        × (r.size ≡ min (rows_bytes (rows_in r.entries.items r.spans.items)) (2 ^ 64 - 1)) };
 }
 
 impl RowList {
+    /// No rows.
+    fn empty(alloc: Global) -> RowList
+        ensures { result ≡ [] }
+    {
+        RowList {
+            spans: Vec::new(alloc),
+            entries: Vec::new(alloc),
+            size: 0,
+        }
+    }
+
     /// One row, which has no entry.
     pub fn new(alloc: Global) -> Result<RowList, NoMemory>
         ensures { IfOk result (λ rows. rows ≡ [] ∷ []) }
     {
-        let mut rows = Vec::new(alloc);
-        rows.push(Vec::new(alloc))?;
-        Ok(RowList {
-            rows,
-            size: row_size(0),
-        })
+        let mut rows = RowList::empty(alloc);
+        rows.push(&[])?;
+        Ok(rows)
     }
 
     /// How many rows there are.
     pub fn count(&self) -> u32
         ensures { length self.now < 2 ^ 32 → result ≡ length self.now }
     {
-        self.rows.len().min(u32::MAX as usize) as u32
+        self.spans.len().min(u32::MAX as usize) as u32
     }
 
-    /// About how many bytes the rows take.
+    /// How many bytes the rows take.
     pub fn size(&self) -> usize
         ensures { result ≡ min (rows_bytes self.now) (2 ^ 64 - 1) }
     {
@@ -65,20 +83,25 @@ impl RowList {
     pub fn row(&self, number: u32) -> &[u32]
         ensures { result.now ≡ slice_index_or self.now number [] }
     {
-        match self.rows.get(number as usize) {
-            Some(row) => row.as_slice(),
+        match self.spans.get(number as usize) {
+            Some(span) => &self.entries[span.start..span.start + span.len],
             None => &[],
         }
     }
 
     /// Adds a row, and gives its number. Numbers count from 0.
-    pub fn push(&mut self, row: Vec<u32>) -> Result<u32, NoMemory>
-        ensures rows { OnOk result (self.new ≡ self.old ++ row.items ∷ []) }
+    pub fn push(&mut self, row: &[u32]) -> Result<u32, NoMemory>
+        ensures rows { OnOk result (self.new ≡ self.old ++ row.now ∷ []) }
         ensures number { length self.old < 2 ^ 32 → IfOk result (λ number. number ≡ length self.old) }
     {
         let number = self.count();
+        let start = self.entries.len();
+        self.entries.extend_from_slice(row)?;
         let size = row_size(row.len());
-        self.rows.push(row)?;
+        self.spans.push(Span {
+            start,
+            len: row.len(),
+        })?;
         self.size = self.size.saturating_add(size);
         Ok(number)
     }
@@ -87,14 +110,9 @@ impl RowList {
     pub fn kept(&self, alloc: Global, kept: &[u32]) -> Result<RowList, NoMemory>
         ensures { IfOk result (AreKept self.now kept.now (length kept.now)) }
     {
-        let mut list = RowList {
-            rows: Vec::new(alloc),
-            size: 0,
-        };
+        let mut list = RowList::empty(alloc);
         for b in 0..kept.len() {
-            let mut row = Vec::new(alloc);
-            row.extend_from_slice(self.row(kept[b]))?;
-            list.push(row)?;
+            list.push(self.row(kept[b]))?;
         }
         Ok(list)
     }

@@ -1,12 +1,13 @@
 //! The order of a stream, event by event: rows and stamps by the names so far, and no trace.
 
-ghost use Rattle.std.specs.Prelude.{◌≡◌, ◌+◌, ◌<◌, ◌++◌, ◌^◌, ℕ, List, [], ◌∷◌, IfOk, OnOk, length, max, slice_index_or};
+ghost use Rattle.std.specs.Prelude.{◌≡◌, ◌+◌, ◌<◌, ◌≤◌, ◌↔◌, ◌++◌, ◌^◌, ℕ, List, [], ◌∷◌, IfOk, IsTrue, OnOk, length, max, slice_index_or};
 ghost use Rattle.shb_lines.specs.Growing.{IsPut};
 ghost use Rattle.shb_lines.specs.declared.event.Event.{Event};
+ghost use Rattle.shb_lines.specs.declared.event.Op.TheVariants.{Read, Write};
 ghost use Rattle.shb_lines.specs.events.Discipline.{IsDisciplined};
 ghost use Rattle.shb_lines.specs.events.Order.{IsBelowPredCount};
 ghost use Rattle.shb_stamps.specs.StreamClocks.{IsStreamed};
-ghost use Rattle.shb_stamps.specs.Stamps.{IsSource, empty_stamp};
+ghost use Rattle.shb_stamps.specs.Stamps.{IsSource, KnowsStamp, empty_stamp};
 ghost use Rattle.shb_stamps.specs.Streamed.{HasRowAfter};
 
 use crate::clock::entry;
@@ -32,6 +33,8 @@ pub struct StreamClocks {
     pub locks: Vec<Stamp>,
     /// For each variable the stamp of its last write.
     pub variables: Vec<Stamp>,
+    /// Space to make a row in.
+    pub clock: Vec<u32>,
     /// The size of the rows at which those that nothing names are freed.
     pub limit: usize,
 }
@@ -44,45 +47,42 @@ fn size_limit(used: usize, stamps: usize) -> usize {
         .max(1_048_576)
 }
 
-/// A row, with a time put at a thread.
-fn clock_of(alloc: Global, row: &[u32], thread: u32, time: u32) -> Result<Vec<u32>, NoMemory>
-    ensures { IfOk result (λ clock. IsPut 0 thread time row.now clock.items) }
+/// Makes a clock that of a row, with a time put at a thread.
+fn set_clock(clock: &mut Vec<u32>, row: &[u32], thread: u32, time: u32) -> Result<(), NoMemory>
+    ensures { OnOk result (IsPut 0 thread time row.now clock.new.items) }
 {
-    let mut clock = Vec::new(alloc);
+    clock.clear();
     clock.extend_from_slice(row)?;
-    put(&mut clock, thread, time, 0)?;
-    Ok(clock)
+    put(clock, thread, time, 0)?;
+    Ok(())
 }
 
-/// The entry at an index, 0 past the end.
-fn entry_at(clock: &[u32], t: usize) -> u32
-    ensures { result ≡ slice_index_or clock.now t 0 }
+/// Raises the first entries of a clock to those of another.
+#[tactic(auto, using(crate::proofs::StreamSteps::raised_set, crate::proofs::StreamSteps::raised_whole))]
+fn raise(clock: &mut [u32], other: &[u32])
+    requires { length other.now ≤ length clock.old }
+    ensures { (t : ℕ) → slice_index_or clock.new t 0 ≡ max (slice_index_or clock.old t 0) (slice_index_or other.now t 0) }
 {
-    match clock.get(t) {
-        Some(number) => *number,
-        None => 0,
+    for t in 0..other.len() {
+        clock[t] = clock[t].max(other[t]);
     }
 }
 
-/// The greater of the entries of two clocks, for each thread.
-#[tactic(auto, using(crate::proofs::StreamSteps::joined_push, crate::proofs::StreamSteps::joined_whole))]
-fn joined(alloc: Global, one: &[u32], other: &[u32]) -> Result<Vec<u32>, NoMemory>
-    ensures { IfOk result (λ joined. (t : ℕ) → slice_index_or joined.items t 0 ≡ max (slice_index_or one.now t 0) (slice_index_or other.now t 0)) }
+/// Raises each entry of a clock to that of another.
+fn join(clock: &mut Vec<u32>, other: &[u32]) -> Result<(), NoMemory>
+    ensures { OnOk result ((t : ℕ) → slice_index_or clock.new.items t 0 ≡ max (slice_index_or clock.old.items t 0) (slice_index_or other.now t 0)) }
 {
-    let mut joined = Vec::new(alloc);
-    for t in 0..one.len().max(other.len()) {
-        let own = entry_at(one, t);
-        let entry = entry_at(other, t);
-        joined.push(own.max(entry))?;
-    }
-    Ok(joined)
+    let size = clock.len().max(other.len());
+    clock.resize(size, 0)?;
+    raise(clock.as_mut_slice(), other);
+    Ok(())
 }
 
 /// The number of the row of what a thread knows after an event that learns of the source: the one before
-/// it where it knows the source, and no row is made then; else a new one.
+/// it where it knows the source, and no row is made then; else a new one. The clock is space to work in.
 fn row_after(
-    alloc: Global,
     rows: &mut RowList,
+    clock: &mut Vec<u32>,
     thread: u32,
     before: u32,
     source: Stamp,
@@ -95,9 +95,9 @@ fn row_after(
         return Ok(before);
     }
     let given = rows.row(source.row);
-    let clock = clock_of(alloc, given, source.thread, source.time)?;
-    let row = joined(alloc, clock.as_slice(), known)?;
-    let number = rows.push(row)?;
+    set_clock(clock, given, source.thread, source.time)?;
+    join(clock, known)?;
+    let number = rows.push(clock.as_slice())?;
     Ok(number)
 }
 
@@ -112,6 +112,7 @@ impl StreamClocks {
             times: Vec::new(alloc),
             locks: Vec::new(alloc),
             variables: Vec::new(alloc),
+            clock: Vec::new(alloc),
             limit: size_limit(0, 0),
         })
     }
@@ -179,15 +180,53 @@ impl StreamClocks {
         entry(row, other)
     }
 
-    /// Takes the next event. No row is freed.
-    fn take_event(&mut self, alloc: Global, thread: u32, op: Op) -> Result<(), NoMemory>
+    /// Whether a thread knows the event of a stamp.
+    #[inline(always)]
+    fn knows(&self, thread: u32, source: Stamp) -> bool
+        ensures { IsTrue result ↔ KnowsStamp (slice_index_or self.now.rows (slice_index_or self.now.current.items thread 0) []) thread source }
+    {
+        let number = self.row_number(thread);
+        let row = self.rows.row(number);
+        source.is_known(thread, row)
+    }
+
+    /// Takes the next event, a write. Its thread learns nothing of others.
+    #[inline(always)]
+    fn take_write(&mut self, thread: u32, variable: u32) -> Result<(), NoMemory>
+        ensures { (past : List Event) (e : Event) → e.thread ≡ thread → e.op ≡ Write variable → length past + 1 < 2 ^ 32
+            → IsDisciplined (past ++ e ∷ []) → IsStreamed past self.old → OnOk result (IsStreamed (past ++ e ∷ []) self.new) }
+    {
+        let row = self.row_number(thread);
+        let time = self.time(thread).saturating_add(1);
+        let stamp = Stamp { row, thread, time };
+        put(&mut self.times, thread, time, 0)?;
+        put(&mut self.variables, variable, stamp, Stamp::empty())?;
+        Ok(())
+    }
+
+    /// Takes the next event, a read of a variable whose last write its thread knows.
+    #[inline(always)]
+    fn take_known(&mut self, thread: u32, variable: u32) -> Result<(), NoMemory>
+        requires known { KnowsStamp (slice_index_or self.old.rows (slice_index_or self.old.current.items thread 0) []) thread
+            (slice_index_or self.old.variables.items variable empty_stamp) }
+        ensures { (past : List Event) (e : Event) → e.thread ≡ thread → e.op ≡ Read variable → length past + 1 < 2 ^ 32
+            → IsDisciplined (past ++ e ∷ []) → IsStreamed past self.old → OnOk result (IsStreamed (past ++ e ∷ []) self.new) }
+    {
+        let time = self.time(thread).saturating_add(1);
+        put(&mut self.times, thread, time, 0)?;
+        Ok(())
+    }
+
+    /// Takes the next event, which is no write. No row is freed.
+    fn take_event(&mut self, thread: u32, op: Op) -> Result<(), NoMemory>
+        requires no_write { (x : ℕ) → op ≡ Write x → ⊥ }
         ensures { (past : List Event) (e : Event) → e.thread ≡ thread → e.op ≡ op → length past + 1 < 2 ^ 32
             → IsDisciplined (past ++ e ∷ []) → IsStreamed past self.old → OnOk result (IsStreamed (past ++ e ∷ []) self.new) }
     {
         let source = self.source(op);
         let before = self.row_number(thread);
         let time = self.time(thread).saturating_add(1);
-        let row = row_after(alloc, &mut self.rows, thread, before, source)?;
+        let row = row_after(&mut self.rows, &mut self.clock, thread, before, source)?;
         put(&mut self.current, thread, row, 0)?;
         put(&mut self.times, thread, time, 0)?;
         let stamp = Stamp { row, thread, time };
@@ -196,14 +235,10 @@ impl StreamClocks {
                 put(&mut self.locks, lock, stamp, Stamp::empty())?;
                 Ok(())
             }
-            Op::Write(variable) => {
-                put(&mut self.variables, variable, stamp, Stamp::empty())?;
-                Ok(())
-            }
             Op::Fork(child) => {
                 let own = self.rows.row(row);
-                let clock = clock_of(alloc, own, thread, time)?;
-                let forked = self.rows.push(clock)?;
+                set_clock(&mut self.clock, own, thread, time)?;
+                let forked = self.rows.push(self.clock.as_slice())?;
                 put(&mut self.current, child, forked, 0)?;
                 Ok(())
             }
@@ -228,7 +263,23 @@ impl StreamClocks {
         Ok(())
     }
 
-    /// Takes the next event. Where the rows had grown to their limit, those that nothing names are freed first.
+    /// Takes the next event, which is no write. Where the rows had grown to their limit, those that nothing names are freed
+    /// first.
+    #[inline(never)]
+    fn take_other(&mut self, alloc: Global, thread: u32, op: Op) -> Result<(), NoMemory>
+        requires no_write { (x : ℕ) → op ≡ Write x → ⊥ }
+        ensures { (past : List Event) (e : Event) → e.thread ≡ thread → e.op ≡ op → length past + 1 < 2 ^ 32
+            → IsDisciplined (past ++ e ∷ []) → IsStreamed past self.old → OnOk result (IsStreamed (past ++ e ∷ []) self.new) }
+    {
+        if self.rows.size() < self.limit {
+            return self.take_event(thread, op);
+        }
+        self.compact(alloc)?;
+        self.take_event(thread, op)
+    }
+
+    /// Takes the next event. Where its thread may learn something and the rows had grown to their limit, those that nothing
+    /// names are freed first.
     ///
     /// # Errors
     ///
@@ -237,10 +288,16 @@ impl StreamClocks {
         ensures { (past : List Event) (e : Event) → e.thread ≡ thread → e.op ≡ op → length past + 1 < 2 ^ 32
             → IsDisciplined (past ++ e ∷ []) → IsStreamed past self.old → OnOk result (IsStreamed (past ++ e ∷ []) self.new) }
     {
-        if self.rows.size() < self.limit {
-            return self.take_event(alloc, thread, op);
+        match op {
+            Op::Write(variable) => self.take_write(thread, variable),
+            Op::Read(variable) => {
+                let known = self.knows(thread, self.write_stamp(variable));
+                if known {
+                    return self.take_known(thread, variable);
+                }
+                self.take_other(alloc, thread, op)
+            }
+            _ => self.take_other(alloc, thread, op),
         }
-        self.compact(alloc)?;
-        self.take_event(alloc, thread, op)
     }
 }

@@ -31,9 +31,9 @@ fn variables_argument<'a>(alloc: Global) -> Arg<'a> {
 
 /// `TRACE`, where it may be left out.
 fn trace_argument<'a>(alloc: Global) -> Arg<'a> {
-    Arg::new(alloc, "trace").value_name("TRACE").help(
-        "The file of the trace; standard input where it is left out",
-    )
+    Arg::new(alloc, "trace")
+        .value_name("TRACE")
+        .help("The file of the trace; standard input if it is left out")
 }
 
 /// `NAME [--workers N] [--list] [TRACE]`: a command that writes a report.
@@ -55,7 +55,7 @@ fn report_command<'a>(
 /// `scan [--variables] [TRACE]`
 fn scan_command<'a>(alloc: Global) -> Result<Command<'a>, NoMemory> {
     let command = Command::new(alloc, "scan")
-        .about("Writes one race of each place of a trace of any length")
+        .about("Writes one race of each place of a long trace")
         .after_help(ABOUT_SCANS)
         .arg(variables_argument(alloc))?
         .arg(trace_argument(alloc))?;

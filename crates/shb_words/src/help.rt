@@ -7,8 +7,8 @@ pub const ABOUT_THE_PROGRAM: &str =
 
   $ printf 'T1|w(y)|1\\nT2|r(y)|2\\n' | shb places --list
 
-'shb help races' says what a trace and a report look like, and 'shb help check'
-what a good report means.
+'shb help races' explains traces and reports, and 'shb help check' what a good
+report means.
 
 Exit status: 0 done, 2 trace refused, 3 wrong command line, 4 a file, a device
 or the memory failed, 5 report rejected
@@ -34,7 +34,7 @@ The report:
   come next. The last line is 'end'.
 
   A race is two accesses of one variable by different threads, at least one a
-  write, where the earlier isn't ordered before the event that precedes the
+  write, such that the earlier isn't ordered before the event that precedes the
   later in its thread (its fork, for a thread's first event). Ordered are the
   events of a thread, a release before a later acquire of the lock, a fork
   before the events of the forked thread, these before a join of it, and the
@@ -73,18 +73,18 @@ Example:
 /// Under the options of `places`: which races it lists, and what that costs.
 pub const ABOUT_PLACES: &str =
     "A place is a pair of locations: that of the first access of a race, and that of
-the second. Two locations in either order are two places. Of each place the
-first race is listed, in the order of 'shb races', so each race that there is
-has the place of one that is listed. The trace and the form of the report are
-those of 'shb help races'; the races are numbered from 1, and each place has
-a count of 1. 'shb check' judges such a report as any other, and other tools
-read it as any other.
+the second. Two locations in either order are two places. The first race of each
+place is listed, in the order of 'shb races', so each race that there is has the
+place of one that is listed. The trace and the form of the report are those of
+'shb help races'; the races are numbered from 1, and each place has a count of
+1. 'shb check' judges such a report as any other, and other tools read it as any
+other.
 
 Costs:
   One race of each place is looked for, and no list of all races is made: time
   and memory grow with the trace and with the places, not with the races. A
   schedule is made for those races alone that are listed; --list leaves it out.
-  'shb races --list' says how many races a place has.
+  'shb races --list' prints how many races a place has.
 
 Exit status:
   0  the report was written, or the help that was asked for
@@ -111,13 +111,13 @@ Example:
 /// Under the options of `scan`: what it reads and writes, and what that costs.
 pub const ABOUT_SCANS: &str =
     "The trace is read once, from front to end, and neither its text nor its events
-are kept: it may come from a pipe, and have any length. It is as in 'shb help
-races', and may have 4294967294 events, 65535 threads and lines of 4096 bytes.
+are kept: it may come from a pipe. It is as in 'shb help races', and may have
+4294967294 events, 65535 threads, lines of 4096 bytes and any number of bytes.
 
-Of each place, the locations of two accesses in their order, that has a race
-anywhere in the trace one is listed: the one whose second event comes first,
-and of those that this event has there the one whose first event comes last.
-They are the places of 'shb places --list', mostly with other races of them.
+A place is the locations of two accesses, in their order. One race is listed per
+place that has one anywhere in the trace: the one whose second event comes
+first, and if this event has several there, the one whose first event comes
+last. They are the places of 'shb places --list', mostly with other races.
 With --variables one race of each place and variable is listed, in the same way.
 
 The scan:
@@ -176,7 +176,7 @@ tool may have written the report.
 Not judged: whether races of the trace are left out, the order of those that are
 listed, and whether one is listed twice. A report made with --list has no
 schedules to judge: it is a 'bad line', unless it lists no race. So is a report
-of more than 1073741824 bytes, as standard error says then: check the report of
+of more than 1073741824 bytes, which standard error reports: check the report of
 'shb places' instead.
 
 Exit status:

@@ -8,4 +8,4 @@ mod command;
 mod help;
 mod plan;
 
-pub use plan::{Listing, Plan, WordsFault, plan_of};
+pub use plan::{Plan, WordsFault, plan_of};

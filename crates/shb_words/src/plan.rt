@@ -9,22 +9,12 @@ use shb_fan::Workers;
 use shb_io::NoMemory;
 use std::alloc::Global;
 
-/// Which races of a trace a report lists.
-#[derive(Clone, Copy, Debug, Drop)]
-pub enum Listing {
-    /// All of them.
-    Races,
-    /// One of each place.
-    Places,
-}
-
 /// What the words ask for.
 #[derive(Debug, Drop)]
 pub enum Plan {
-    /// Write a report of a trace, of standard input where `trace` is `None`; with `list`, without
+    /// Write the report of all races of a trace, of standard input where `trace` is `None`; with `list`, without
     /// schedules.
-    Report {
-        listing: Listing,
+    Races {
         workers: Workers,
         list: bool,
         trace: Option<String>,
@@ -36,6 +26,12 @@ pub enum Plan {
     /// Print this help on standard output.
     Help {
         text: String,
+    },
+    /// Write the report of one race of each place, otherwise as `Races` does.
+    Places {
+        workers: Workers,
+        list: bool,
+        trace: Option<String>,
     },
     /// Write the scan of a trace, of standard input where `trace` is `None`; with `by_variable`, of
     /// each place and variable.
@@ -80,6 +76,17 @@ fn default_workers() -> Workers
     }
 }
 
+/// What no words ask for: the report of all races of standard input without schedules, by 4 workers.
+fn lists_input() -> Plan
+    ensures { ListsInput result }
+{
+    Plan::Races {
+        workers: default_workers(),
+        list: true,
+        trace: None,
+    }
+}
+
 /// The number of workers that the words after `races` or `places` name, or 4.
 fn workers_in(matches: &ArgMatches<'_>) -> Workers {
     matches
@@ -96,14 +103,18 @@ fn trace_in(alloc: Global, matches: &ArgMatches<'_>) -> Result<Option<String>, W
     }
 }
 
-/// The plan of the words after `races` or `places`.
-fn report_plan(
-    alloc: Global,
-    listing: Listing,
-    matches: &ArgMatches<'_>,
-) -> Result<Plan, WordsFault> {
-    Ok(Plan::Report {
-        listing,
+/// The plan of the words after `races`.
+fn races_plan(alloc: Global, matches: &ArgMatches<'_>) -> Result<Plan, WordsFault> {
+    Ok(Plan::Races {
+        workers: workers_in(matches),
+        list: matches.get_flag("list"),
+        trace: trace_in(alloc, matches)?,
+    })
+}
+
+/// The plan of the words after `places`.
+fn places_plan(alloc: Global, matches: &ArgMatches<'_>) -> Result<Plan, WordsFault> {
+    Ok(Plan::Places {
         workers: workers_in(matches),
         list: matches.get_flag("list"),
         trace: trace_in(alloc, matches)?,
@@ -155,8 +166,8 @@ fn plan_of_error(alloc: Global, error: Error) -> Result<Plan, WordsFault> {
 /// The plan of a command line that was read.
 fn plan_in(alloc: Global, matches: &ArgMatches<'_>) -> Result<Plan, WordsFault> {
     match matches.subcommand() {
-        Some(("races", inner)) => report_plan(alloc, Listing::Races, inner),
-        Some(("places", inner)) => report_plan(alloc, Listing::Places, inner),
+        Some(("races", inner)) => races_plan(alloc, inner),
+        Some(("places", inner)) => places_plan(alloc, inner),
         Some(("scan", inner)) => scan_plan(alloc, inner),
         Some(("check", inner)) => check_plan(alloc, inner),
         _ => refused(alloc, "error: no command was given\n"),
@@ -186,12 +197,7 @@ pub fn plan_of(alloc: Global, words: &[String]) -> Result<Plan, WordsFault>
     ensures no_words { words.now ≡ [] → IsOkAnd result ListsInput }
 {
     if words.is_empty() {
-        return Ok(Plan::Report {
-            listing: Listing::Races,
-            workers: default_workers(),
-            list: true,
-            trace: None,
-        });
+        return Ok(lists_input());
     }
     let line = line_of(alloc, words)?;
     match command(alloc)?.try_get_matches_from(line.as_slice()) {

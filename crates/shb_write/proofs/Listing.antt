@@ -1,24 +1,26 @@
 -- The races of a trace, listed part by part.
-use Rattle.std.proofs.Common.{◌≡◌, ℕ, suc, ◌+◌, ◌^◌, ◌<◌, ◌≤◌, false, List, [], ◌∷◌, ◌++◌, length, map, get_or, All, Option, Result, Ok, Err, IsErrAnd, refl, sym, ap, subst, ◌∙◌, arith}
-use Rattle.std.proofs.lemmas.List.{get_or_append_left, length-append, length-map, map-append}
+use Rattle.std.proofs.Common.{◌≡◌, ℕ, suc, ◌+◌, ◌^◌, ◌<◌, ◌≤◌, Bool, false, true, List, [], ◌∷◌, ◌++◌, length, map, get_or, All, Option, Result, Ok, Err, IsErrAnd, refl, sym, ap, subst, ◌∙◌, arith}
+use Rattle.std.proofs.lemmas.List.{get_or-map, get_or_append_left, length-append, length-map, map-append}
 use Rattle.std.proofs.lemmas.List.Elements.{All-from_get_or, All-map, Contains-get_or}
+use Rattle.std.specs.Prelude.{if◌then◌else◌}
 use Rattle.std.specs.Io.KnownBytes.{Appends}
 use Rattle.shb_io.specs.Devices.{CountsFailure}
 use Rattle.shb_io.specs.declared.no_memory.NoMemory.{NoMemory}
 use Rattle.shb_io.proofs.Growth.{Appends-nil}
 use Rattle.shb_lines.specs.declared.event.Event.{Event}
-use Rattle.shb_lines.specs.events.Race.{IsRaceList}
+use Rattle.shb_lines.specs.declared.event.Pair.{Pair}
+use Rattle.shb_lines.specs.events.Race.{IsRaceList, Race, ends}
 use Rattle.shb_lines.specs.text.TraceData.{TraceData}
 use Rattle.shb_lists.specs.Batches.{races_below, races_between}
 use Rattle.shb_lists.proofs.BatchLemmas.{below_between}
 use Rattle.shb_format.specs.Places.{IsPairOf, IsPlaceOf, counts_in, places_of_pairs}
 use Rattle.shb_format.specs.declared.places.PlaceCount.{PlaceCount}
-use Rattle.shb_format.specs.Report.{blocks_from, pair_of}
+use Rattle.shb_format.specs.Report.{ShownRace, blocks_from, pair_of}
 use Rattle.shb_format.proofs.PlaceLemmas.{places_in_range}
 use Rattle.shb_write.specs.declared.block_writer.BlockWriter.{BlockWriter}
 use Rattle.shb_write.specs.declared.errors.WriteError.{WriteError}
 use Rattle.shb_write.specs.declared.errors.WriteError.TheVariants as errors
-use Rattle.shb_write.specs.Blocks.{HasStopped, HasWritten, WritesBlocks, alone}
+use Rattle.shb_write.specs.Blocks.{HasShown, HasStopped, HasWritten, WritesFront, alone, scheduled, scheduled_in, shown_in}
 use Rattle.shb_write.specs.Written.{AppendsFront, write_failed}
 use Rattle.shb_write.specs.Listed.{HasListed, IsRaceOf, MayList}
 use Rattle.shb_write.proofs.Blocks.{stopped_after, stopped_then, written_then}
@@ -32,33 +34,37 @@ module _ {A : Type 0} (P : A → Type 0) where
   all_right [] ys h = h
   all_right (x ∷ xs) ys h = all_right xs ys (λ j e l. h (suc j) e (omega arith))
 
-module _ {K : Type 0} (taken : K → Option (List ℕ)) (failures : K → ℕ) (start middle : BlockWriter K) (front : List (ℕ × ℕ)) (has : HasWritten taken failures start (map alone front) middle) where
+module _ {K : Type 0} (taken : K → Option (List ℕ)) (failures : K → ℕ) (shown : ℕ × ℕ → ShownRace) (start middle : BlockWriter K) (front : List (ℕ × ℕ)) (has : HasWritten taken failures start (map shown front) middle) where
   -- those that come next can be listed
-  pub next_may : (more rest all : List (ℕ × ℕ)) → all ≡ (front ++ more) ++ rest → MayList failures start all → MayList failures middle more
-  next_may more rest all is may = record {
+  pub next_may : (events : List Event) (more rest all : List (ℕ × ℕ)) → all ≡ (front ++ more) ++ rest → MayList failures events start all → MayList failures events middle more
+  next_may events more rest all is may = record {
+    of_trace = may.of_trace ∙ sym (ap (λ (t : TraceData). t.events) has.same_trace);
+    are_races = next (λ race. Race events race.0 race.1) may.are_races;
     countable = omega (arith, may.countable, has.counted);
-    room = omega (arith, may.room, has.as_many, ap length is, length-append (front ++ more) rest, length-append front more, length-map front alone);
-    in_range = subst (λ (t : TraceData). All (IsRaceOf t) more) (sym has.same_trace)
-        (all_right (IsRaceOf start.trace.now) front more (all_left (IsRaceOf start.trace.now) (front ++ more) rest (subst (All (IsRaceOf start.trace.now)) is may.in_range)));
+    room = omega (arith, may.room, has.as_many, ap length is, length-append (front ++ more) rest, length-append front more, length-map front shown);
+    in_range = subst (λ (t : TraceData). All (IsRaceOf t) more) (sym has.same_trace) (next (IsRaceOf start.trace.now) may.in_range);
   }
+    where
+      next : (P : ℕ × ℕ → Type 0) → All P all → All P more
+      next P h = all_right P front more (all_left P (front ++ more) rest (subst (All P) is h))
 
   -- the next ones were written too
-  pub next_written : (end : BlockWriter K) (more all : List (ℕ × ℕ)) → all ≡ front ++ more → HasWritten taken failures middle (map alone more) end → HasWritten taken failures start (map alone all) end
-  next_written end more all is written = written_then taken failures start middle end (map alone front) (map alone more) (map alone all) (ap (map alone) is ∙ map-append alone front more) has written
+  pub next_written : (end : BlockWriter K) (more all : List (ℕ × ℕ)) → all ≡ front ++ more → HasWritten taken failures middle (map shown more) end → HasWritten taken failures start (map shown all) end
+  next_written end more all is written = written_then taken failures start middle end (map shown front) (map shown more) (map shown all) (ap (map shown) is ∙ map-append shown front more) has written
 
   -- or not all of them
   pub next_stopped : {T : Type 0} (r : Result T WriteError) (error : WriteError) (end : BlockWriter K) (more rest all : List (ℕ × ℕ)) → all ≡ (front ++ more) ++ rest → IsErrAnd r (λ e. e ≡ error)
-      → HasStopped taken failures middle (map alone more) error end → HasListed taken failures start all r end
+      → HasStopped taken failures middle (map shown more) error end → HasListed shown taken failures start all r end
   next_stopped (Ok x) error end more rest all is failed stopped = absurd failed
-  next_stopped (Err e) error end more rest all is failed stopped = subst (λ (e : WriteError). HasStopped taken failures start (map alone all) e end) (sym failed)
-      (stopped_then taken failures start middle end (map alone front) (map alone more) (map alone rest) (map alone all) error
-      (ap (map alone) is ∙ (map-append alone (front ++ more) rest ∙ ap (λ l. l ++ map alone rest) (map-append alone front more))) has stopped)
+  next_stopped (Err e) error end more rest all is failed stopped = subst (λ (e : WriteError). HasStopped taken failures start (map shown all) e end) (sym failed)
+      (stopped_then taken failures start middle end (map shown front) (map shown more) (map shown rest) (map shown all) error
+      (ap (map shown) is ∙ (map-append shown (front ++ more) rest ∙ ap (λ l. l ++ map shown rest) (map-append shown front more))) has stopped)
 
   -- memory was refused before them
-  pub then_refused : {T : Type 0} (r : Result T WriteError) (refused : NoMemory) (rest all : List (ℕ × ℕ)) → all ≡ front ++ rest → IsErrAnd r (λ e. e ≡ errors.Memory refused) → HasListed taken failures start all r middle
+  pub then_refused : {T : Type 0} (r : Result T WriteError) (refused : NoMemory) (rest all : List (ℕ × ℕ)) → all ≡ front ++ rest → IsErrAnd r (λ e. e ≡ errors.Memory refused) → HasListed shown taken failures start all r middle
   then_refused (Ok x) refused rest all is failed = absurd failed
-  then_refused (Err e) refused rest all is failed = subst (λ (e : WriteError). HasStopped taken failures start (map alone all) e middle) (sym failed)
-      (stopped_after taken failures start middle (map alone front) (map alone rest) (map alone all) refused (ap (map alone) is ∙ map-append alone front rest) has)
+  then_refused (Err e) refused rest all is failed = subst (λ (e : WriteError). HasStopped taken failures start (map shown all) e middle) (sym failed)
+      (stopped_after taken failures start middle (map shown front) (map shown rest) (map shown all) refused (ap (map shown) is ∙ map-append shown front rest) has)
 
 -- ---- the races of a trace
 
@@ -68,6 +74,16 @@ listed_of_trace trace events races same lists = All-from_get_or (IsRaceOf trace)
   where
     each : (k : ℕ) → k < length races → IsRaceOf trace (get_or races k (0, 0))
     each k lt = race_of_trace trace events (get_or races k (0, 0)).0 (get_or races k (0, 0)).1 same ((lists.all (get_or races k (0, 0)).0 (get_or races k (0, 0)).1).0 (Contains-get_or races k (0, 0) lt))
+
+pub races_of_list : (events : List Event) (races : List (ℕ × ℕ)) → IsRaceList events races → All (λ race. Race events race.0 race.1) races
+races_of_list events races lists k d lt = (lists.all (get_or races k d).0 (get_or races k d).1).0 (Contains-get_or races k d lt)
+
+-- some races as pairs
+pub pairs_race : (events : List Event) (pairs : List Pair) (races : List (ℕ × ℕ)) → map ends pairs ≡ races → All (λ race. Race events race.0 race.1) races → All (λ (p : Pair). Race events p.first p.second) pairs
+pairs_race events pairs races same are k d lt =
+    let long = length-map pairs ends in
+    let there = subst (λ (l : List (ℕ × ℕ)). All (λ race. Race events race.0 race.1) l) (sym same) are in
+    subst (λ (q : ℕ × ℕ). Race events q.0 q.1) (get_or-map ends pairs k d (ends d) lt) (there k (ends d) (omega (arith, long, lt)))
 
 -- the places of such races are places of the trace
 pub places_of_trace : (trace : TraceData) (races : List (ℕ × ℕ)) (places : List PlaceCount) → All (IsRaceOf trace) races → places ≡ counts_in (places_of_pairs trace (map pair_of races)) → All (IsPlaceOf trace) places
@@ -89,18 +105,23 @@ module _ {K : Type 0} (taken : K → Option (List ℕ)) (failures : K → ℕ) (
     counted = refl;
   }
 
-  pub same_listed : {T : Type 0} (r : Result T WriteError) (races : List (ℕ × ℕ)) (end : BlockWriter K) → HasListed taken failures start races r end → end.sink.ghost_name ≡ start.sink.ghost_name
-  same_listed (Ok x) races end h = h.same_sink
-  same_listed (Err e) races end h = h.same_sink
+  pub same_shown : {T : Type 0} (r : Result T WriteError) (races : List ShownRace) (end : BlockWriter K) → HasShown taken failures start races r end → end.sink.ghost_name ≡ start.sink.ghost_name
+  same_shown (Ok x) races end h = h.same_sink
+  same_shown (Err e) races end h = h.same_sink
 
-  pub blocks_listed : {T : Type 0} (r : Result T WriteError) (races : List (ℕ × ℕ)) (end : BlockWriter K) → start.written ≡ 0 → HasListed taken failures start races r end
-      → WritesBlocks false start.trace.now races (taken start.sink.now) (taken end.sink.now) r
-  blocks_listed (Ok x) races end first h = subst (λ (n : ℕ). Appends (taken start.sink.now) (taken end.sink.now) (blocks_from start.trace.now n (map alone races))) (let e : start.written + 1 ≡ 1 = omega (arith, first) in e) h.appended
-  blocks_listed (Err e) races end first h = subst (λ (n : ℕ). AppendsFront (taken start.sink.now) (taken end.sink.now) (blocks_from start.trace.now n (map alone races))) (let e : start.written + 1 ≡ 1 = omega (arith, first) in e) h.front
+  pub blocks_shown : {T : Type 0} (r : Result T WriteError) (races : List ShownRace) (end : BlockWriter K) → start.written ≡ 0 → HasShown taken failures start races r end
+      → WritesFront (taken start.sink.now) (taken end.sink.now) r (blocks_from start.trace.now 1 races)
+  blocks_shown (Ok x) races end first h = subst (λ (n : ℕ). Appends (taken start.sink.now) (taken end.sink.now) (blocks_from start.trace.now n races)) (let e : start.written + 1 ≡ 1 = omega (arith, first) in e) h.appended
+  blocks_shown (Err e) races end first h = subst (λ (n : ℕ). AppendsFront (taken start.sink.now) (taken end.sink.now) (blocks_from start.trace.now n races)) (let e : start.written + 1 ≡ 1 = omega (arith, first) in e) h.front
 
-  pub counted_listed : {T : Type 0} (r : Result T WriteError) (races : List (ℕ × ℕ)) (end : BlockWriter K) → HasListed taken failures start races r end → CountsFailure write_failed (failures start.sink.now) (failures end.sink.now) r
-  counted_listed (Ok x) races end h = h.counted
-  counted_listed (Err e) races end h = h.counted
+  pub counted_shown : {T : Type 0} (r : Result T WriteError) (races : List ShownRace) (end : BlockWriter K) → HasShown taken failures start races r end → CountsFailure write_failed (failures start.sink.now) (failures end.sink.now) r
+  counted_shown (Ok x) races end h = h.counted
+  counted_shown (Err e) races end h = h.counted
+
+-- races as they are shown in one of the two forms, of a trace whose events may have another name
+pub shown_so : (with_schedules : Bool) (trace : TraceData) (events : List Event) (races : List (ℕ × ℕ)) → events ≡ trace.events → map (shown_in with_schedules events) races ≡ (if with_schedules then map (scheduled trace) races else map alone races)
+shown_so true trace events races same = ap (λ (es : List Event). map (scheduled_in es) races) same
+shown_so false trace events races same = refl
 
 -- ---- the races of one batch more
 

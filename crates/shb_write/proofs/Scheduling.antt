@@ -1,5 +1,5 @@
 -- Blocks that are written as their schedules come.
-use Rattle.std.proofs.Common.{◌≡◌, ℕ, zero, suc, ◌+◌, ◌<◌, ◌≤◌, List, [], ◌∷◌, ◌++◌, length, map, take, drop, get_or, All, Option, true, refl, sym, ap, subst, ◌∙◌, arith}
+use Rattle.std.proofs.Common.{◌≡◌, ℕ, zero, suc, ◌+◌, ◌-◌, ◌^◌, ◌<◌, ◌≤◌, List, [], ◌∷◌, ◌++◌, length, map, take, drop, get_or, All, Option, refl, sym, ap, subst, ◌∙◌, arith}
 use Rattle.std.proofs.lemmas.List.{map-append, map-id, map_more, map_push, take_all, take-append-drop}
 use Rattle.std.specs.Io.KnownBytes.{Appends}
 use Rattle.shb_fan.specs.Values.{values_of}
@@ -11,7 +11,7 @@ use Rattle.shb_lines.specs.text.TraceData.{TraceData}
 use Rattle.shb_witness.specs.Schedules.{Asked, schedule_at}
 use Rattle.shb_format.specs.Places.{IsPairOf}
 use Rattle.shb_write.specs.declared.schedule_writer.ScheduleWriter.{ScheduleWriter}
-use Rattle.shb_write.specs.Blocks.{blocks_of, HasScheduled, MaySchedule, scheduled, shown_from, with_schedule}
+use Rattle.shb_write.specs.Blocks.{HasScheduled, MaySchedule, scheduled, scheduled_in, shown_from, with_schedule}
 use Rattle.shb_format.specs.Report.{blocks_from}
 use Rattle.shb_write.specs.Written.{AppendsFront}
 use Rattle.shb_write.proofs.Blocks.{blocks_front}
@@ -55,37 +55,38 @@ scheduled_split trace races k =
     ∙ ap (map (scheduled trace)) (map-append ends (take k races) (drop k races))
     ∙ map-append (scheduled trace) (map ends (take k races)) (map ends (drop k races))
 
-module _ {K : Type 0} (taken : K → Option (List ℕ)) (failures : K → ℕ) (start before : ScheduleWriter K) (given : List (List ℕ)) (has : HasScheduled taken failures start given before) where
-  -- how many are written
-  many : before.writer.written ≡ length given + start.writer.written
-  many = omega (arith, has.written.as_many, length-shown start.writer.written start.races.now given)
-
+module _ {K : Type 0} (taken : K → Option (List ℕ)) (failures : K → ℕ) (start before : ScheduleWriter K) (given : List (List ℕ)) (k : ℕ) (long : length given ≡ k) (has : HasScheduled taken failures start given before) where
   -- the next race is one of those
-  pub next_there : MaySchedule failures start given → before.writer.written < length before.races.now
-  next_there may = omega (arith, may.room, many, ap length has.same_races)
+  pub next_there : MaySchedule failures start given → k < length before.races.now
+  next_there may = omega (arith, may.more, long, ap length has.same_races)
 
-  pub next_in_range : MaySchedule failures start given → IsPairOf before.writer.trace.now (get_or before.races.now before.writer.written none)
+  pub next_room : MaySchedule failures start given → before.writer.written < 2 ^ 64 - 1
+  next_room may = omega (arith, may.more, may.room, has.written.as_many, length-shown 0 start.races.now given)
+
+  pub next_in_range : MaySchedule failures start given → IsPairOf before.writer.trace.now (get_or before.races.now k none)
   next_in_range may =
-      subst (λ (t : TraceData). IsPairOf t (get_or before.races.now before.writer.written none)) (sym has.written.same_trace)
-      (subst (λ (l : List Pair). All (IsPairOf start.writer.trace.now) l) (sym has.same_races) may.in_range before.writer.written none (next_there may))
+      subst (λ (t : TraceData). IsPairOf t (get_or before.races.now k none)) (sym has.written.same_trace)
+      (subst (λ (l : List Pair). All (IsPairOf start.writer.trace.now) l) (sym has.same_races) may.in_range k none (next_there may))
 
-  pub next_shown : (s : List ℕ) → shown_from start.writer.written start.races.now (given ++ s ∷ []) ≡ shown_from start.writer.written start.races.now given ++ with_schedule (get_or before.races.now before.writer.written none) s ∷ []
+  pub next_shown : (s : List ℕ) → shown_from 0 start.races.now (given ++ s ∷ []) ≡ shown_from 0 start.races.now given ++ with_schedule (get_or before.races.now k none) s ∷ []
   next_shown s =
-      shown-push start.writer.written start.races.now given s before.writer.written many
-      ∙ ap (λ (l : List Pair). shown_from start.writer.written start.races.now given ++ with_schedule (get_or l before.writer.written none) s ∷ []) (sym has.same_races)
+      shown-push 0 start.races.now given s k (omega (arith, long))
+      ∙ ap (λ (l : List Pair). shown_from 0 start.races.now given ++ with_schedule (get_or l k none) s ∷ []) (sym has.same_races)
 
 -- what was written of the blocks of all races, where the first k schedules came
-pub came_front : (trace : TraceData) (events : List Event) (races : List Pair) (asked : Asked) → events ≡ trace.events → asked ≡ record { trace = events; races = races } → (k : ℕ) (given : List (List ℕ)) (old new : Option (List ℕ)) → k ≤ length asked.races
-    → map (λ s. s) given ≡ values_of (schedule_at asked.trace asked.races) k → AppendsFront old new (blocks_from trace 1 (shown_from 0 races given)) → AppendsFront old new (blocks_of true trace (map ends races))
-came_front trace events races asked same is k given old new le first front =
-    blocks_front trace 1 (map (scheduled trace) (map ends (take k races))) (map (scheduled trace) (map ends (drop k races))) (map (scheduled trace) (map ends races)) old new (scheduled_split trace races k)
-    (subst (λ l. AppendsFront old new (blocks_from trace 1 l)) (came_shown trace events races asked same is k given le first) front)
+pub came_front : (trace : TraceData) (events : List Event) (races : List Pair) (asked : Asked) → events ≡ trace.events → asked ≡ record { trace = events; races = races } → (n k : ℕ) (given : List (List ℕ)) (old new : Option (List ℕ)) → k ≤ length asked.races
+    → map (λ s. s) given ≡ values_of (schedule_at asked.trace asked.races) k → AppendsFront old new (blocks_from trace n (shown_from 0 races given)) → AppendsFront old new (blocks_from trace n (map (scheduled_in events) (map ends races)))
+came_front trace events races asked same is n k given old new le first front =
+    subst (λ (es : List Event). AppendsFront old new (blocks_from trace n (map (scheduled_in es) (map ends races)))) (sym same)
+    (blocks_front trace n (map (scheduled trace) (map ends (take k races))) (map (scheduled trace) (map ends (drop k races))) (map (scheduled trace) (map ends races)) old new (scheduled_split trace races k)
+    (subst (λ l. AppendsFront old new (blocks_from trace n l)) (came_shown trace events races asked same is k given le first) front))
 
-pub came_all : (trace : TraceData) (events : List Event) (races : List Pair) (asked : Asked) → events ≡ trace.events → asked ≡ record { trace = events; races = races } → (given : List (List ℕ)) (old new : Option (List ℕ))
-    → map (λ s. s) given ≡ values_of (schedule_at asked.trace asked.races) (length asked.races) → Appends old new (blocks_from trace 1 (shown_from 0 races given)) → Appends old new (blocks_of true trace (map ends races))
-came_all trace events races asked same is given old new first written =
-    subst (λ l. Appends old new (blocks_from trace 1 (map (scheduled trace) (map ends l)))) (take_all (length asked.races) races (omega (arith, ap (λ (a : Asked). length a.races) is)))
-    (subst (λ l. Appends old new (blocks_from trace 1 l)) (came_shown trace events races asked same is (length asked.races) given (omega arith) first) written)
+pub came_all : (trace : TraceData) (events : List Event) (races : List Pair) (asked : Asked) → events ≡ trace.events → asked ≡ record { trace = events; races = races } → (n : ℕ) (given : List (List ℕ)) (old new : Option (List ℕ))
+    → map (λ s. s) given ≡ values_of (schedule_at asked.trace asked.races) (length asked.races) → Appends old new (blocks_from trace n (shown_from 0 races given)) → Appends old new (blocks_from trace n (map (scheduled_in events) (map ends races)))
+came_all trace events races asked same is n given old new first written =
+    subst (λ (es : List Event). Appends old new (blocks_from trace n (map (scheduled_in es) (map ends races)))) (sym same)
+    (subst (λ l. Appends old new (blocks_from trace n (map (scheduled trace) (map ends l)))) (take_all (length asked.races) races (omega (arith, ap (λ (a : Asked). length a.races) is)))
+    (subst (λ l. Appends old new (blocks_from trace n l)) (came_shown trace events races asked same is (length asked.races) given (omega arith) first) written))
 
 -- one schedule more
 pub values_next : {V M : Type 0} (meaning : V → M) (f : ℕ → M) (k : ℕ) (given : List V) (out : V) → map meaning given ≡ values_of f k → meaning out ≡ f k → map meaning (given ++ out ∷ []) ≡ values_of f (k + 1)

@@ -1,6 +1,7 @@
 -- The blocks of races, written one after the other.
 use Rattle.std.specs.Prelude.{◌≡◌, ℕ, ◌+◌, ◌-◌, ◌^◌, ◌<◌, Bool, List, [], ◌∷◌, All, length, map, Option, None, Some, Result, MatchResult, if◌then◌else◌, slice_index_or}
 use Rattle.std.specs.Io.KnownBytes.{Appends}
+use Rattle.shb_lines.specs.declared.event.Event.{Event}
 use Rattle.shb_lines.specs.declared.event.Pair.{Pair}
 use Rattle.shb_lines.specs.events.Race.{ends}
 use Rattle.shb_lines.specs.text.TraceData.{TraceData}
@@ -16,8 +17,15 @@ use Rattle.shb_write.specs.Written.{AppendsFront, write_failed}
 abbrev pub alone : ℕ × ℕ → ShownRace
 alone race = record { pair = race; schedule = None }
 
+abbrev pub scheduled_in : List Event → ℕ × ℕ → ShownRace
+scheduled_in events race = record { pair = race; schedule = Some (printed_schedule events (pair_of race)) }
+
 abbrev pub scheduled : TraceData → ℕ × ℕ → ShownRace
-scheduled trace race = record { pair = race; schedule = Some (printed_schedule trace.events (pair_of race)) }
+scheduled trace race = scheduled_in trace.events race
+
+-- a race of these events in one of the two forms
+abbrev pub shown_in : Bool → List Event → ℕ × ℕ → ShownRace
+shown_in with_schedules events race = if with_schedules then scheduled_in events race else alone race
 
 -- a race with this schedule
 abbrev pub with_schedule : Pair → List ℕ → ShownRace
@@ -55,13 +63,18 @@ module _ {K : Type 0} (taken : K → Option (List ℕ)) (failures : K → ℕ) w
     pub front : AppendsFront (taken start.sink.now) (taken end.sink.now) (blocks_from start.trace.now (start.written + 1) races)
     pub counted : failures end.sink.now ≡ (if write_failed error then failures start.sink.now + 1 else failures start.sink.now)
 
--- there is a next race, the races are of the trace, and the sink can count a failure
+-- blocks of these races were written or, on an error, the front of them
+abbrev pub HasShown : {K T : Type 0} → (K → Option (List ℕ)) → (K → ℕ) → BlockWriter K → List ShownRace → Result T WriteError → BlockWriter K → Type 0
+HasShown taken failures start races r end = MatchResult r (λ _. HasWritten taken failures start races end) (λ e. HasStopped taken failures start races e end)
+
+-- there is a next race, the races can be numbered and are of the trace, and the sink can count a failure
 pub record MaySchedule {K : Type 0} (failures : K → ℕ) (start : ScheduleWriter K) (schedules : List (List ℕ)) : Type 0 where
-  pub room : start.writer.written + length schedules < length start.races.now
+  pub more : length schedules < length start.races.now
+  pub room : length start.races.now + start.writer.written < 2 ^ 64
   pub countable : failures start.writer.sink.now < 2 ^ 64 - 1
   pub in_range : All (IsPairOf start.writer.trace.now) start.races.now
 
 -- the blocks of the next races were written, one for each of these schedules, and nothing else changed
 pub record HasScheduled {K : Type 0} (taken : K → Option (List ℕ)) (failures : K → ℕ) (start : ScheduleWriter K) (schedules : List (List ℕ)) (end : ScheduleWriter K) : Type 0 where
   pub same_races : end.races.now ≡ start.races.now
-  pub written : HasWritten taken failures start.writer (shown_from start.writer.written start.races.now schedules) end.writer
+  pub written : HasWritten taken failures start.writer (shown_from 0 start.races.now schedules) end.writer

@@ -17,6 +17,7 @@ mod list;
 mod plan;
 mod prepared;
 mod schedule_writer;
+mod scheduled;
 mod searched;
 mod text;
 mod text_writer;
@@ -24,6 +25,7 @@ mod texts;
 mod write;
 
 pub use errors::WriteError;
+pub use list::kept_at_once;
 pub use plan::BlockPlan;
 pub use searched::write_search;
 pub use write::{write_list, write_report};

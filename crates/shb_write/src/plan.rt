@@ -8,4 +8,6 @@ pub struct BlockPlan<'g, G> {
     pub workers: Workers,
     /// What a worker passes before it makes a schedule, or the text of a piece.
     pub gate: &'g G,
+    /// Whether blocks have schedules, where races are searched for while they are written.
+    pub schedules: bool,
 }

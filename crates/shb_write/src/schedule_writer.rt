@@ -33,7 +33,7 @@ impl<'s, 't, 'r, 'n, K: Sink> Taker<Positions> for ScheduleWriter<'s, 't, 'r, 'n
     ghost may_take = { λ start given _. MaySchedule K.failure_count start given };
 
     ghost refuses = { λ start given schedule e end. HasStopped K.taken K.failure_count start.writer
-        (shown_from start.writer.written start.races.now (given ++ schedule ∷ [])) e end.writer };
+        (shown_from 0 start.races.now (given ++ schedule ∷ [])) e end.writer };
 
     ghost nothing = { λ s. record {
       same_races = refl;
@@ -46,8 +46,8 @@ impl<'s, 't, 'r, 'n, K: Sink> Taker<Positions> for ScheduleWriter<'s, 't, 'r, 'n
       };
     } };
 
-    fn take(&mut self, _k: u64, schedule: Positions) -> Result<(), WriteError> {
-        let race = self.races[self.writer.written as usize];
+    fn take(&mut self, k: u64, schedule: Positions) -> Result<(), WriteError> {
+        let race = self.races[k as usize];
         match self.writer.schedule(race, self.numbers, &schedule) {
             Ok(()) => Ok(()),
             Err(_) => Err(WriteError::Sink),

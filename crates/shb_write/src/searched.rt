@@ -1,5 +1,5 @@
 //! The report of a trace that lists all its races, without keeping them.
-ghost use Rattle.std.specs.Prelude.{◌≡◌, ◌-◌, ◌^◌, ◌<◌, ℕ, IfOk, List, false, length, map};
+ghost use Rattle.std.specs.Prelude.{◌≡◌, ◌-◌, ◌^◌, ◌<◌, ℕ, IfOk, List, length, map};
 ghost use Rattle.shb_lines.specs.events.Race.{IsRaceList, ends};
 ghost use Rattle.shb_format.specs.Report.{LeadingRaces};
 ghost use Rattle.shb_write.specs.Written.{HasReported, These};
@@ -12,18 +12,18 @@ use shb_fan::Gate;
 use shb_format::tail;
 use shb_io::Sink;
 use shb_lines::Pair;
-use shb_lists::{BatchPlan, Settled, counted_races};
+use shb_lists::{Settled, counted_races};
 use std::alloc::Global;
 use std::random::RandomSource;
 use std::sync::Wait;
 use std::thread::Threads;
 
-/// Writes the report without schedules of a trace that lists all its races. Says how many there are. `leading` has of
+/// Writes the report of a trace that lists all its races. Says how many there are. `leading` has of
 /// each place the first race.
 ///
-/// The races are searched for three times, to put variables into batches of not more races than are kept at once, to
-/// count the races of each place, and to write the blocks, so the memory that is taken doesn't grow with the races. The
-/// places are made before anything is written.
+/// The races are searched for twice, to count them by variable and by place, and to write the blocks in batches of not
+/// more races than are kept at once, so the memory that is taken doesn't grow with the races. The places are made before
+/// anything is written.
 ///
 /// A gate of the plan is passed before the text of a piece of the races is made, but not while races are counted.
 ///
@@ -45,13 +45,12 @@ pub fn write_search<R: Threads + Wait + Sync + RandomSource, K: Sink, G: Gate + 
     ensures count { (listed : List (ℕ × ℕ)) → IsRaceList settled.now.disciplined.now.events.now listed
         → IfOk result (λ count. count ≡ length listed) }
     ensures written { (listed : List (ℕ × ℕ)) → IsRaceList settled.now.disciplined.now.events.now listed
-        → HasReported (These listed) false settled.now.disciplined.now.trace.now K.taken K.failure_count sink.old sink.new result }
+        → HasReported (These listed) plan.now.schedules settled.now.disciplined.now.trace.now K.taken K.failure_count sink.old sink.new result }
 {
     let trace = settled.disciplined.trace;
-    let batches = BatchPlan::new(alloc, settled, kept_at_once(trace.len()))?;
-    let counted = counted_races(rt, alloc, settled, leading, &batches)?;
+    let counted = counted_races(rt, alloc, settled, leading, kept_at_once(trace.len()))?;
     write_front(sink, trace, counted.races, &counted.places)?;
-    write_all(rt, alloc, sink, settled, &batches, plan)?;
+    write_all(rt, alloc, sink, settled, &counted.batches, plan)?;
     tail(sink)?;
     Ok(counted.races)
 }

@@ -12,14 +12,12 @@ ghost use Rattle.shb_lines.specs.events.Race.{ends};
 use crate::block_writer::BlockWriter;
 use crate::errors::WriteError;
 use crate::plan::BlockPlan;
-use crate::prepared::prepared_for;
-use crate::schedule_writer::ScheduleWriter;
-use shb_fan::{Gate, StreamError, stream};
+use crate::scheduled::schedule_races;
+use shb_fan::Gate;
 use shb_format::{Counts, Places, head, place_lines, places_of, tail};
 use shb_io::{Failed, Sink};
 use shb_lines::{Pair, Trace};
 use shb_stamps::{Order, Ordered};
-use shb_witness::WitnessJob;
 use std::alloc::Global;
 use std::random::RandomSource;
 use std::sync::Wait;
@@ -62,28 +60,12 @@ fn write_schedules<R: Threads + Wait + Sync, K: Sink, O: Order + Sync, G: Gate +
         (K.taken sink.old) (K.taken sink.new) result }
     ensures counted { CountsFailure write_failed (K.failure_count sink.old) (K.failure_count sink.new) result }
 {
-    let prepared = prepared_for(alloc, ordered, races.len())?;
-    let job = WitnessJob::new(
-        ordered.order,
-        ordered.disciplined,
-        ordered.links,
-        races,
-    ).with_checkpoints(&prepared.points);
-    let writer = BlockWriter {
+    let mut writer = BlockWriter {
         sink: &mut *sink,
         trace: ordered.disciplined.trace,
         written: 0,
     };
-    let mut taker = ScheduleWriter {
-        writer,
-        races,
-        numbers: &prepared.numbers,
-    };
-    match stream(rt, alloc, &job, plan.gate, plan.workers, &mut taker) {
-        Ok(_) => Ok(()),
-        Err(StreamError::Taker(error)) => Err(error),
-        Err(StreamError::Memory(refused)) => Err(WriteError::Memory(refused)),
-    }
+    schedule_races(rt, alloc, &mut writer, ordered, races, plan)
 }
 
 /// How many events and names a trace has.

@@ -1,95 +1,116 @@
 -- What the parts of a trace stand for, where a reader has read the text's lines.
-use Rattle.std.proofs.Common.{◌≡◌, ◌+◌, ◌*◌, ◌≤◌, ℕ, List, [], ◌∷◌, length, map, Option, None, Some, refl, sym, ap, subst, ◌∙◌, arith}
+use Rattle.std.proofs.Common.{◌≡◌, ◌≤◌, ℕ, suc, List, [], ◌∷◌, ◌++◌, ◌+◌, length, map, Option, None, Some, Ok, refl, sym, ap, subst, ◌∙◌, arith}
 use Rattle.std.specs.List.{AllByRecursion, AllZip}
-use Rattle.std.proofs.lemmas.List.{length-map}
+use Rattle.std.specs.Str.Lines.{strip_carriage_return}
+use Rattle.std.proofs.lemmas.List.{length-map, map-append}
 use Rattle.shb_lines.specs.declared.limits.Limits.{Limits}
 use Rattle.shb_lines.specs.declared.fault.LineFault.{LineFault}
-use Rattle.shb_lines.specs.declared.names.Span.{Span}
+use Rattle.shb_lines.specs.declared.numbering.Numbering.{Numbering}
+use Rattle.shb_lines.specs.declared.numbering.Step.{Step}
 use Rattle.shb_lines.specs.declared.reader.Reader.{Reader}
 use Rattle.shb_lines.specs.declared.trace.Parts.{Parts}
-use Rattle.shb_lines.specs.text.Limits.{most_bytes, most_events}
-use Rattle.shb_lines.specs.text.Spans.{IsLineFrom, line_from, NamesWithSpans, StandIn, names_in, spans_in}
-use Rattle.shb_lines.specs.text.Parsed.{HasRead}
-use Rattle.shb_lines.specs.text.Numbers.{IsEventOf}
-use Rattle.shb_lines.specs.text.Reader.{HasRoom, tables_of}
+use Rattle.shb_lines.specs.text.Limits.{AreStandard, most_events}
+use Rattle.shb_lines.specs.text.Meaning.{meaning}
+use Rattle.shb_lines.specs.text.Numbering.{GivesStep, HasNumbered, IsWithin, event_of, tables_of, with_step}
+use Rattle.shb_lines.specs.text.Numbers.{IsEventOf, events_of}
+use Rattle.shb_lines.specs.text.OwnedNames.{names_of}
+use Rattle.shb_lines.specs.text.Parsed.{HasRead, line_from, trace_in}
 use Rattle.shb_lines.specs.text.Text.{IsLineText, LocatedEvent, trace_of}
-use Rattle.shb_lines.specs.text.Parts.{AreParts, AreSpans, names_at, trace_at}
-use Rattle.shb_lines.specs.text.TraceData.{IsReading, IsTraceOf, tables_in}
-use Rattle.shb_lines.proofs.text.LineLemmas.{length-starts}
+use Rattle.shb_lines.specs.text.Parts.{AreParts, trace_at}
+use Rattle.shb_lines.specs.text.TraceData.{IsReading, IsTraceOf, TraceData, tables_in}
 use Rattle.shb_lines.proofs.text.Numbers.{well_formed}
+use Rattle.shb_lines.proofs.text.TraceLemmas.{trace_of-none, trace_of-some}
+use Rattle.shb_lines.proofs.text.TraceMore.{step_more, step_none}
 
 pub IsReading-to : (limits : Limits) (text : List ℕ) (Holds Other : List (List ℕ) → Type 0) → ((lines : List (List ℕ)) → Holds lines → Other lines) → (stop : Option LineFault) → IsReading limits text Holds stop → IsReading limits text Other stop
 IsReading-to limits text Holds Other to None h = (h.0, to _ h.1)
 IsReading-to limits text Holds Other to (Some stop) h = (h.0, h.1, h.2, to _ h.3)
 
-module _ (text : List ℕ) where
-  names_at-spans_in : (entries : NamesWithSpans) → StandIn text entries → names_at text (spans_in entries) ≡ names_in entries
-  names_at-spans_in [] h = refl
-  names_at-spans_in (e ∷ entries) h = λ i. h.0.reads i ∷ names_at-spans_in entries h.1 i
+length_zip : {A B : Type 0} (R : A → B → Type 0) (xs : List A) (ys : List B) → AllZip R xs ys → length ys ≡ length xs
+length_zip R [] [] h = refl
+length_zip R [] (y ∷ ys) h = absurd h
+length_zip R (x ∷ xs) [] h = absurd h
+length_zip R (x ∷ xs) (y ∷ ys) h = ap (λ n. suc n) (length_zip R xs ys h.1)
 
-  names_are : (spans : List Span) (entries : NamesWithSpans) → spans ≡ spans_in entries → StandIn text entries → names_at text spans ≡ names_in entries
-  names_are spans entries is h = ap (names_at text) is ∙ names_at-spans_in entries h
+-- a reader has noted as many events as the lines give, and a start of a line for each
+pub length-events : (lines : List (List ℕ)) (trace : TraceData) → IsTraceOf lines trace → length (trace_of lines) ≡ length trace.events
+length-events lines trace h = length_zip (IsEventOf (tables_in trace)) trace.events (trace_of lines) h.events_are
 
-  spans_within : (entries : NamesWithSpans) → StandIn text entries → AllByRecursion (λ span. span.start + span.len ≤ length text) (spans_in entries)
-  spans_within [] h = tt
-  spans_within (e ∷ entries) h = (h.0.within, spans_within entries h.1)
-
-  spans_are : (spans : List Span) (entries : NamesWithSpans) (n : ℕ) → spans ≡ spans_in entries → StandIn text entries → length entries ≤ 2 * n → n ≤ most_events → AreSpans text spans
-  spans_are spans entries n is h few most = record {
-    few = omega (arith, ap (λ l. length l) is ∙ length-map entries (λ e. e.1));
-    within = subst (AllByRecursion (λ (span : Span). span.start + span.len ≤ length text)) (sym is) (spans_within entries h);
-  }
-
-  starts_within : (starts : List ℕ) (events : List LocatedEvent) → AllZip (λ s e. IsLineFrom text e.text s) starts events → AllByRecursion (λ start. start ≤ length text) starts
-  starts_within [] events h = tt
-  starts_within (s ∷ starts) [] h = absurd h
-  starts_within (s ∷ starts) (e ∷ events) h = (h.0.within, starts_within starts events h.1)
-
-  lines_are : (starts : List ℕ) (events : List LocatedEvent) → AllZip (λ s e. IsLineFrom text e.text s) starts events → map (line_from text) starts ≡ map (λ e. e.text) events
-  lines_are [] [] h = refl
-  lines_are [] (e ∷ events) h = absurd h
-  lines_are (s ∷ starts) [] h = absurd h
-  lines_are (s ∷ starts) (e ∷ events) h = λ i. h.0.reads i ∷ lines_are starts events h.1 i
+length-starts : (text : List ℕ) (reader : Reader) (lines : List (List ℕ)) → HasRead text reader lines → length reader.starts.items ≡ length reader.events
+length-starts text reader lines h =
+    sym (length-map reader.starts.items (line_from text)) ∙ ap length h.trace_is.lines_are ∙ length-map (trace_of lines) (λ e. e.text) ∙ length-events lines (trace_in text reader) h.trace_is
 
 -- the parts are those that a reader has noted
 pub record AreNoted (reader : Reader) (parts : Parts) : Type 0 where
   pub events : parts.events ≡ reader.events
   pub starts : parts.starts ≡ reader.starts
-  pub threads : parts.threads.items ≡ spans_in reader.threads.table.entries
-  pub locks : parts.locks.items ≡ spans_in reader.locks.table.entries
-  pub variables : parts.variables.items ≡ spans_in reader.variables.table.entries
+  pub threads : parts.threads ≡ names_of reader.numbering.threads
+  pub locks : parts.locks ≡ names_of reader.numbering.locks
+  pub variables : parts.variables ≡ names_of reader.numbering.variables
 
 module _ (text : List ℕ) (reader : Reader) (parts : Parts) (noted : AreNoted reader parts) (lines : List (List ℕ)) (read : HasRead text reader lines) where
-  tables_same : tables_in (trace_at text parts) ≡ tables_of reader
-  tables_same = λ i. record {
-    threads = names_are text parts.threads.items reader.threads.table.entries noted.threads read.stand.threads i;
-    locks = names_are text parts.locks.items reader.locks.table.entries noted.locks read.stand.locks i;
-    variables = names_are text parts.variables.items reader.variables.table.entries noted.variables read.stand.variables i;
+  trace_same : trace_in text reader ≡ trace_at text parts
+  trace_same = λ i. record {
+    events = sym noted.events i;
+    lines = map (line_from text) (sym noted.starts i).items;
+    threads = sym noted.threads i;
+    locks = sym noted.locks i;
+    variables = sym noted.variables i;
   }
 
   pub trace_held : IsTraceOf lines (trace_at text parts)
-  trace_held = record {
-    tables_are = tables_same ∙ read.tables_are;
-    events_are = subst (λ t. AllZip (IsEventOf t) parts.events (trace_of lines)) (sym tables_same)
-        (subst (λ events. AllZip (IsEventOf (tables_of reader)) events (trace_of lines)) (sym noted.events) read.events_are);
-    lines_are = ap (λ v. map (line_from text) v.items) noted.starts ∙ lines_are text reader.starts.items (trace_of lines) read.starts_are;
-  }
+  trace_held = subst (IsTraceOf lines) trace_same read.trace_is
 
-  pub parts_held : length text ≤ most_bytes + 1 → length reader.events ≤ most_events → HasRoom reader → AllByRecursion IsLineText (map (λ e. e.text) (trace_of lines)) → AreParts text parts
-  parts_held short few room line_texts =
-      let n = length reader.events in
-      let events_len : length parts.events ≡ n = ap length noted.events in
-      let starts_len : length parts.starts.items ≡ n = ap (λ v. length v.items) noted.starts ∙ length-starts text reader lines read in
+  pub parts_held : (limits : Limits) → AreStandard limits → IsWithin limits reader.numbering → AllByRecursion IsLineText (map (λ e. e.text) (trace_of lines)) → AreParts text parts
+  parts_held limits standard within line_texts =
+      let events_len : length parts.events ≡ length reader.events = ap length noted.events in
+      let starts_len : length parts.starts.items ≡ length reader.events = ap (λ v. length v.items) noted.starts ∙ length-starts text reader lines read in
+      let count : length reader.events ≡ reader.numbering.events = sym (length-events lines (trace_in text reader) read.trace_is) ∙ sym (length-map (trace_of lines) (λ e. e.event)) ∙ sym read.numbered.count_is in
+      let few : length reader.events ≤ most_events = omega (arith, count, within.few, standard.events) in
       record {
-        short = omega arith;
         a_line_each = starts_len ∙ sym events_len;
-        starts = record {
-          few = omega (arith, starts_len, few);
-          within = subst (AllByRecursion (λ (start : ℕ). start ≤ length text)) (sym (ap (λ v. v.items) noted.starts)) (starts_within text reader.starts.items (trace_of lines) read.starts_are);
-        };
-        threads = spans_are text parts.threads.items reader.threads.table.entries n noted.threads read.stand.threads (omega (arith, room.threads)) few;
-        locks = spans_are text parts.locks.items reader.locks.table.entries n noted.locks read.stand.locks (omega (arith, room.locks)) few;
-        variables = spans_are text parts.variables.items reader.variables.table.entries n noted.variables read.stand.variables (omega (arith, room.variables)) few;
+        starts = subst (AllByRecursion (λ (start : ℕ). start ≤ length text)) (sym (ap (λ v. v.items) noted.starts)) read.starts;
+        threads = omega (arith, ap length noted.threads, within.threads, standard.threads);
+        locks = omega (arith, ap length noted.locks, within.locks, count, few);
+        variables = omega (arith, ap length noted.variables, within.variables, count, few);
         well_formed = well_formed lines (trace_at text parts) trace_held (omega (arith, events_len, few))
             (length-map parts.starts.items (line_from text) ∙ starts_len ∙ sym events_len) line_texts;
       }
+
+-- a line that gives nothing changes nothing
+pub read_none : (text : List ℕ) (old : Reader) (numbering : Numbering) (lines : List (List ℕ)) (line : List ℕ) → meaning (strip_carriage_return line) ≡ Ok None → numbering ≡ old.numbering
+    → HasRead text old lines → HasRead text (record { events = old.events; starts = old.starts; numbering = numbering }) (lines ++ line ∷ [])
+read_none text old numbering lines line none same h =
+    let trace = trace_of-none lines line none in
+    subst (λ (n : Numbering). HasRead text (record { events = old.events; starts = old.starts; numbering = n }) (lines ++ line ∷ [])) (sym same) (record {
+      numbered = subst (λ (t : List LocatedEvent). HasNumbered (map (λ e. e.event) t) old.numbering) (sym trace) h.numbered;
+      trace_is = step_none lines (lines ++ line ∷ []) (trace_in text old) trace h.trace_is;
+      starts = h.starts;
+    })
+
+all_more : (n : ℕ) (starts : List ℕ) (start : ℕ) → AllByRecursion (λ s. s ≤ n) starts → start ≤ n → AllByRecursion (λ s. s ≤ n) (starts ++ start ∷ [])
+all_more n [] start all here = (here, tt)
+all_more n (first ∷ starts) start all here = (all.0, all_more n starts start all.1 here)
+
+-- a line that gives an event adds it, its names and its start
+pub read_some : (text : List ℕ) (old new : Reader) (lines : List (List ℕ)) (line : List ℕ) (start : ℕ) (step : Step) (limits : Limits) (found : GivesStep limits (events_of lines) line new.numbering step)
+    → new.events ≡ old.events ++ event_of step (1 + length lines) ∷ [] → new.starts.items ≡ old.starts.items ++ start ∷ [] → line_from text start ≡ strip_carriage_return line → start ≤ length text
+    → HasRead text old lines → HasRead text new (lines ++ line ∷ [])
+read_some text old new lines line start step limits found events_are starts_are line_is within h =
+    let trace_more = trace_of-some lines line found.named found.meaning_is in
+    let events : events_of (lines ++ line ∷ []) ≡ events_of lines ++ found.named ∷ [] = ap (map (λ (e : LocatedEvent). e.event)) trace_more ∙ map-append (λ (e : LocatedEvent). e.event) (trace_of lines) _ in
+    let numbered : HasNumbered (events_of (lines ++ line ∷ [])) new.numbering = subst (λ es. HasNumbered es new.numbering) (sym events) found.numbered in
+    let lines_are : map (line_from text) new.starts.items ≡ map (line_from text) old.starts.items ++ strip_carriage_return line ∷ [] =
+    ap (map (line_from text)) starts_are ∙ map-append (line_from text) old.starts.items (start ∷ []) ∙ ap (λ l. map (line_from text) old.starts.items ++ l ∷ []) line_is in
+    let longer : with_step (trace_in text old) (tables_of new.numbering) step (1 + length lines) (strip_carriage_return line) ≡ trace_in text new = λ i. record {
+      events = sym events_are i;
+      lines = sym lines_are i;
+      threads = names_of new.numbering.threads;
+      locks = names_of new.numbering.locks;
+      variables = names_of new.numbering.variables;
+    } in
+    record {
+      numbered = numbered;
+      trace_is = subst (IsTraceOf (lines ++ line ∷ [])) longer (step_more lines line (trace_in text old) (tables_of new.numbering) step found.named h.trace_is events numbered.tables_are found.step_is);
+      starts = subst (AllByRecursion (λ (s : ℕ). s ≤ length text)) (sym starts_are) (all_more (length text) old.starts.items start h.starts within);
+    }

@@ -7,11 +7,11 @@ use Rattle.std.proofs.lemmas.List.{take_all}
 use Rattle.shb_lines.specs.declared.fault.Fault.TheVariants as faults
 use Rattle.shb_lines.specs.declared.limits.Limits.{Limits}
 use Rattle.shb_lines.specs.declared.fault.LineFault.{LineFault}
+use Rattle.shb_lines.specs.text.Parsed.{line_from}
 use Rattle.shb_lines.specs.text.Limits.{most_line}
 use Rattle.shb_lines.specs.text.Faults.{HasNoLineFaultBefore}
 use Rattle.shb_lines.specs.text.Grammar.{Meaning, NamedEvent}
 use Rattle.shb_lines.specs.text.Meaning.{meaning}
-use Rattle.shb_lines.specs.text.Spans.{line_from}
 use Rattle.shb_lines.specs.text.Text.{IsLineText, event_on, lines_of, located, trace_of}
 use Rattle.shb_lines.specs.text.TraceData.{IsReading, location_of}
 

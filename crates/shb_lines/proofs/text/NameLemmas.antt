@@ -1,43 +1,17 @@
 -- What an insertion does to the names.
 use Rattle.std.proofs.lemmas.Grind.{common_steps}
-use Rattle.std.proofs.Common.{◌≡◌, ◌+◌, ◌≤◌, ◌||◌, ℕ, Bool, true, false, cond, not, zero, suc, List, [], ◌∷◌, length, add-zero, is_some, Some, slice_get, refl, sym, ap, subst, ◌∙◌, arith}
+use Rattle.std.proofs.Common.{◌≡◌, ◌+◌, ◌≤◌, ◌||◌, ℕ, Bool, true, false, cond, not, zero, suc, List, [], ◌∷◌, length, add-zero, Some, slice_get, refl, sym, ap, ◌∙◌, arith}
 use mir.Val.{bool_byte}
 use Rattle.std.specs.List.{list_any, position_or_len}
 use Rattle.std.specs.Str.{bytes_eq}
 use Rattle.std.proofs.lemmas.Slice.Eq.{bytes_eq-Decides}
 use Rattle.std.proofs.Math.Numerals.{one-add}
-use Rattle.std.specs.Map.{keys_of, lookup}
-use Rattle.indexmap.specs.IndexMap.{insert_entry}
-use Rattle.shb_lines.specs.declared.hashing.TextKey.{TextKey}
-use Rattle.shb_lines.specs.declared.names.Span.{Span}
-use Rattle.shb_lines.specs.text.Reader.{with_names}
+use Rattle.shb_lines.specs.text.Tables.{with_names}
 use Rattle.shb_lines.specs.text.Names.{with_name}
-use Rattle.shb_lines.specs.text.Spans.{names_in, NamesWithSpans, StandsAt, StandIn}
 
 -- names with the same bytes are one
 bytes_eq-same : (xs ys : List ℕ) → bytes_eq xs ys ≡ true → xs ≡ ys
 bytes_eq-same xs ys = (bytes_eq-Decides xs ys).0
-
-abbrev pub same_name : TextKey → TextKey → Bool
-same_name x y = bytes_eq x.bytes.now y.bytes.now
-
-module _ (name : TextKey) (span : Span) where
-  pub names_in-insert_entry : (entries : NamesWithSpans) → names_in (insert_entry same_name entries name span) ≡ with_name (names_in entries) name.bytes.now
-  names_in-insert_entry [] = refl
-  names_in-insert_entry (e ∷ entries) = by (bytes_eq name.bytes.now e.0.bytes.now) (names_in-insert_entry entries)
-    where
-      by : (b : Bool) → names_in (insert_entry same_name entries name span) ≡ with_name (names_in entries) name.bytes.now
-          → names_in (cond b ((e.0, span) ∷ entries) (e ∷ insert_entry same_name entries name span)) ≡ cond b (e.0.bytes.now ∷ names_in entries) (e.0.bytes.now ∷ with_name (names_in entries) name.bytes.now)
-      by true rest = refl
-      by false rest = ap (λ names. e.0.bytes.now ∷ names) rest
-
-  pub StandIn-insert_entry : (text : List ℕ) (entries : NamesWithSpans) → StandsAt text name.bytes.now span → StandIn text entries → StandIn text (insert_entry same_name entries name span)
-  StandIn-insert_entry text [] here all = (here, tt)
-  StandIn-insert_entry text (e ∷ entries) here all = by (bytes_eq name.bytes.now e.0.bytes.now) refl (StandIn-insert_entry text entries here all.1)
-    where
-      by : (b : Bool) → bytes_eq name.bytes.now e.0.bytes.now ≡ b → StandIn text (insert_entry same_name entries name span) → StandIn text (cond b ((e.0, span) ∷ entries) (e ∷ insert_entry same_name entries name span))
-      by true same rest = (subst (λ bytes. StandsAt text bytes span) (bytes_eq-same name.bytes.now e.0.bytes.now same) here, all.1)
-      by false same rest = (all.0, rest)
 
 -- a name's number is its index in the table
 pub with_name-at : (names : List (List ℕ)) (name : List ℕ) → slice_get (with_name names name) (position_or_len (bytes_eq name) names) ≡ Some name
@@ -48,11 +22,6 @@ with_name-at (known ∷ names) name = by (bytes_eq name known) refl (with_name-a
         → slice_get (cond b (known ∷ names) (known ∷ with_name names name)) (cond (not b) (1 + position_or_len (bytes_eq name) names) 0) ≡ Some name
     by true same rest = ap Some (sym (bytes_eq-same name known same))
     by false same rest = rw (one-add (position_or_len (bytes_eq name) names)) rest
-
--- the keys' spans are the names' spans
-pub position-names_in : (name : TextKey) (entries : NamesWithSpans) → position_or_len (same_name name) (keys_of entries) ≡ position_or_len (bytes_eq name.bytes.now) (names_in entries)
-position-names_in name [] = refl
-position-names_in name (e ∷ entries) = ap (λ n. cond (not (bytes_eq name.bytes.now e.0.bytes.now)) (1 + n) 0) (position-names_in name entries)
 
 -- a known name keeps its number when a name is put last
 pub slice_get-with_name : (names : List (List ℕ)) (name known : List ℕ) (number : ℕ) → slice_get names number ≡ Some known → slice_get (with_name names name) number ≡ Some known
@@ -119,16 +88,6 @@ length-with_name_le names name = grind (arith, common_steps, length-with_name)
 pub length-with_names_le : (more names : List (List ℕ)) → length (with_names names more) ≤ length names + length more
 length-with_names_le [] names = omega arith
 length-with_names_le (name ∷ more) names = omega (arith, length-with_names_le more (with_name names name), length-with_name_le names name)
-
--- a table has a name where a look-up finds it
-pub lookup-names_in : (name : List ℕ) (entries : NamesWithSpans) → is_some (lookup (λ k. bytes_eq name k.bytes.now) entries) ≡ list_any (bytes_eq name) (names_in entries)
-lookup-names_in name [] = refl
-lookup-names_in name (e ∷ entries) = by (bytes_eq name e.0.bytes.now) (lookup-names_in name entries)
-  where
-    by : (b : Bool) → is_some (lookup (λ k. bytes_eq name k.bytes.now) entries) ≡ list_any (bytes_eq name) (names_in entries)
-        → is_some (cond b (Some e.1) (lookup (λ k. bytes_eq name k.bytes.now) entries)) ≡ (b || list_any (bytes_eq name) (names_in entries))
-    by true rest = refl
-    by false rest = rest
 
 -- the same, with what a count of new names says
 pub new-one : (names : List (List ℕ)) (a : List ℕ) (own : ℕ) (new : Bool) → own ≡ bool_byte new → new ≡ not (list_any (bytes_eq a) names) → length (with_name names a) ≡ length names + own

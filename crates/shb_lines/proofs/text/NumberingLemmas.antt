@@ -4,12 +4,12 @@ use Rattle.shb_lines.specs.declared.event.Kind.{Kind}
 use Rattle.shb_lines.specs.declared.event.Kind.TheVariants as kinds
 use Rattle.shb_lines.specs.declared.limits.Limits.{Limits}
 use Rattle.shb_lines.specs.declared.numbering.Numbering.{Numbering}
+use Rattle.shb_lines.specs.text.Tables.{with_names, with_operand, with_thread}
 use Rattle.shb_lines.specs.text.Grammar.{NamedEvent}
 use Rattle.shb_lines.specs.text.Numbering.{HasLastThread, HasNumbered, IsWithin, tables_of}
 use Rattle.shb_lines.specs.text.Numbers.{Tables, tables_of_events}
 use Rattle.shb_lines.specs.text.OwnedNames.{names_of}
-use Rattle.shb_lines.specs.text.Reader.{with_operand, with_thread}
-use Rattle.shb_lines.specs.text.Text.{locks_among, threads_of, variables_among}
+use Rattle.shb_lines.specs.text.Text.{locks_among, threads_among, threads_of, variables_among}
 use Rattle.shb_lines.proofs.text.NameLemmas.{length-with_names_le}
 use Rattle.shb_lines.proofs.text.TraceLemmas.{tables-push}
 
@@ -21,12 +21,14 @@ few_variables : (kind : Kind) (name : List ℕ) → length (variables_among kind
 few_variables kinds.Read name = omega arith
 few_variables _ name = omega arith
 
-module _ (before : List NamedEvent) (old new : Numbering) (e : NamedEvent) (h : HasNumbered before old) (grown : tables_of new ≡ with_operand (with_thread (tables_of old) e.thread) e.kind e.operand) where
-  pub tables_after : tables_of new ≡ tables_of_events (before ++ e ∷ [])
-  tables_after = grown ∙ ap (λ t. with_operand (with_thread t e.thread) e.kind e.operand) h.tables_are ∙ sym (tables-push before e)
+-- how many threads there are with those of one event more
+pub threads_with : (before : List NamedEvent) (old : Numbering) (e : NamedEvent) → HasNumbered before old
+    → length (threads_of (before ++ e ∷ [])) ≡ length (with_names (names_of old.threads) (e.thread ∷ threads_among e.kind e.operand))
+threads_with before old e h = ap (λ (t : Tables). length t.threads) (tables-push before e ∙ ap (λ t. with_operand (with_thread t e.thread) e.kind e.operand) (sym h.tables_are))
 
-  pub threads_after : length (threads_of (before ++ e ∷ [])) ≡ length (names_of new.threads)
-  threads_after = ap (λ (t : Tables). length t.threads) (sym tables_after)
+module _ (before : List NamedEvent) (old new : Numbering) (e : NamedEvent) (h : HasNumbered before old) (grown : tables_of new ≡ with_operand (with_thread (tables_of old) e.thread) e.kind e.operand) where
+  tables_after : tables_of new ≡ tables_of_events (before ++ e ∷ [])
+  tables_after = grown ∙ ap (λ t. with_operand (with_thread t e.thread) e.kind e.operand) h.tables_are ∙ sym (tables-push before e)
 
   pub numbered_after : new.events ≡ old.events + 1 → HasNumbered (before ++ e ∷ []) new
   numbered_after count = record { tables_are = tables_after; count_is = omega (arith, count, h.count_is, length-append before (e ∷ [])) }

@@ -12,11 +12,11 @@ use Rattle.shb_lines.specs.declared.event.Kind.{Kind}
 use Rattle.shb_lines.specs.declared.event.Op.{Op}
 use Rattle.shb_lines.specs.declared.event.Op.TheVariants as ops
 use Rattle.shb_lines.specs.events.Events.{op_at, variable_of}
+use Rattle.shb_lines.specs.text.Tables.{with_names}
 use Rattle.shb_lines.specs.text.Limits.{most_events}
 use Rattle.shb_lines.specs.text.Names.{table_of, with_name}
 use Rattle.shb_lines.specs.text.Numbers.{IsEventOf, IsOperation, Tables, events_of}
 use Rattle.shb_lines.specs.events.Race.{variable_at}
-use Rattle.shb_lines.specs.text.Reader.{with_names}
 use Rattle.shb_lines.specs.events.Sizes.{IsEventWithin, IsOpWithin, IsWithin}
 use Rattle.shb_lines.specs.text.Text.{IsLineText, LocatedEvent, locks_among, threads_among, trace_of, variables_among}
 use Rattle.shb_lines.specs.text.TraceData.{IsTraceOf, IsWellFormed, TraceData, tables_in}

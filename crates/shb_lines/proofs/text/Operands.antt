@@ -2,9 +2,9 @@
 use Rattle.std.proofs.Common.{◌≡◌, ◌⊎◌, ℕ, List, Some, Result, Ok, Err, IfOk, inl, inr, ap, refl, slice_get, subst, sym}
 use Rattle.shb_lines.specs.declared.event.Kind.{Kind}
 use Rattle.shb_lines.specs.declared.event.Kind.TheVariants as kinds
+use Rattle.shb_lines.specs.text.Tables.{with_operand}
 use Rattle.shb_lines.specs.text.Names.{with_name}
 use Rattle.shb_lines.specs.text.Numbers.{IsOperation, Tables, op_for}
-use Rattle.shb_lines.specs.text.Reader.{with_operand}
 
 -- what numbers a name in its table changes the table of its kind, and gives the operation its number
 module _ (tables : Tables) (kind : Kind) (name : List ℕ) where

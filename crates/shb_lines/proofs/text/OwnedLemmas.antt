@@ -1,33 +1,12 @@
 -- What a look-up and an insertion say of the names that a table owns.
-use Rattle.std.proofs.Common.{◌≡◌, ◌+◌, ◌||◌, ℕ, Bool, true, false, cond, zero, suc, List, [], ◌∷◌, ◌++◌, Some, option_map, slice_get, refl, sym, ap, subst, ◌∙◌, arith}
-use Rattle.std.specs.List.{list_any, position_from}
+use Rattle.std.proofs.Common.{◌≡◌, ◌||◌, ℕ, Bool, true, false, cond, List, [], ◌∷◌, ◌++◌, Some, option_map, slice_get, refl, sym, ap, ◌∙◌}
+use Rattle.std.specs.List.{list_any}
 use Rattle.std.specs.Str.{bytes_eq}
 use Rattle.std.proofs.lemmas.Slice.Eq.{bytes_eq-Decides}
 use Rattle.std.proofs.lemmas.Option.{slice_get-map}
 use Rattle.shb_lines.specs.declared.owned_names.OwnedText.{OwnedText}
 use Rattle.shb_lines.specs.text.Names.{with_name}
 use Rattle.shb_lines.specs.text.OwnedNames.{texts_in}
-
--- a name that is found at an index is that of this number
-found_from : (name : List ℕ) (keys : List OwnedText) (i number : ℕ) → position_from (λ k. bytes_eq name k.bytes.items) i keys ≡ Some number → (k : ℕ) × (number ≡ i + k) × (slice_get (texts_in keys) k ≡ Some name)
-found_from name [] i number e = absurd cc
-found_from name (key ∷ keys) i number e = by (bytes_eq name key.bytes.items) refl e (found_from name keys (i + 1) number)
-  where
-    Found : Type 0
-    Found = (k : ℕ) × (number ≡ (i + 1) + k) × (slice_get (texts_in keys) k ≡ Some name)
-
-    by : (b : Bool) → bytes_eq name key.bytes.items ≡ b → cond b (Some i) (position_from (λ k. bytes_eq name k.bytes.items) (i + 1) keys) ≡ Some number
-        → (position_from (λ k. bytes_eq name k.bytes.items) (i + 1) keys ≡ Some number → Found) → (k : ℕ) × (number ≡ i + k) × (slice_get (texts_in (key ∷ keys)) k ≡ Some name)
-    by true same h later = (zero, (let at : number ≡ i = cc in omega (arith, at)), ap Some (sym ((bytes_eq-Decides name key.bytes.items).0 same)))
-    by false same h later =
-        let rest = later h in
-        (suc rest.0, omega (arith, rest.1), rest.2)
-
-pub found_name : (name : List ℕ) (keys : List OwnedText) (number : ℕ) → position_from (λ k. bytes_eq name k.bytes.items) 0 keys ≡ Some number → slice_get (texts_in keys) number ≡ Some name
-found_name name keys number e =
-    let found = found_from name keys 0 number e in
-    let same : found.0 ≡ number = omega (arith, found.1) in
-    subst (λ k. slice_get (texts_in keys) k ≡ Some name) same found.2
 
 -- a name that is new is put last
 put_last : (keys : List OwnedText) (key : OwnedText) → texts_in (cond (list_any (λ k. bytes_eq key.bytes.items k.bytes.items) keys) keys (keys ++ key ∷ [])) ≡ with_name (texts_in keys) key.bytes.items
@@ -47,3 +26,8 @@ put_name keys new key name is bytes_are = ap texts_in is ∙ put_last keys key �
 pub stored_name : (keys : List OwnedText) (key known : OwnedText) (number : ℕ) (name : List ℕ) → slice_get keys number ≡ Some known → bytes_eq key.bytes.items known.bytes.items ≡ true → key.bytes.items ≡ name → slice_get (texts_in keys) number ≡ Some name
 stored_name keys key known number name at same bytes_are =
     slice_get-map (λ k. k.bytes.items) keys number ∙ ap (option_map (λ k. k.bytes.items)) at ∙ ap Some (sym ((bytes_eq-Decides key.bytes.items known.bytes.items).0 same) ∙ bytes_are)
+
+-- a table has a name where its texts have it
+pub any_text : (name : List ℕ) (keys : List OwnedText) → list_any (λ k. bytes_eq name k.bytes.items) keys ≡ list_any (bytes_eq name) (texts_in keys)
+any_text name [] = refl
+any_text name (key ∷ keys) = ap (λ (b : Bool). bytes_eq name key.bytes.items || b) (any_text name keys)

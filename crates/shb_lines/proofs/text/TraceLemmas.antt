@@ -1,9 +1,8 @@
 -- What one line more does to a trace.
 use Rattle.std.proofs.lemmas.Grind.{common_steps}
-use Rattle.std.proofs.Common.{◌≡◌, ◌+◌, ℕ, List, [], ◌∷◌, ◌++◌, length, map, None, Some, Ok, sym, ap, subst, ◌∙◌, arith, append-nil, add-zero}
+use Rattle.std.proofs.Common.{◌≡◌, ◌+◌, ℕ, List, [], ◌∷◌, ◌++◌, length, None, Some, Ok, sym, ap, ◌∙◌, arith, append-nil, add-zero}
 use Rattle.std.specs.List.{AllZip, enumerate_from, filter_map, flat_map, cons_option}
 use Rattle.std.specs.Str.Lines.{strip_carriage_return}
-use Rattle.std.proofs.lemmas.List.{map-append}
 use Rattle.std.proofs.lemmas.List.Elements.{filter_map-append}
 use Rattle.std.proofs.lemmas.List.Sums.{fold-append}
 use Rattle.std.proofs.lemmas.Grind.{flat_map-append}
@@ -11,15 +10,12 @@ use Rattle.shb_lines.specs.declared.event.Event.{Event}
 use Rattle.shb_lines.specs.declared.event.Kind.{Kind}
 use Rattle.shb_lines.specs.declared.event.Op.{Op}
 use Rattle.shb_lines.specs.declared.event.Op.TheVariants as ops
-use Rattle.shb_lines.specs.declared.reader.Reader.{Reader}
+use Rattle.shb_lines.specs.text.Tables.{with_names, with_operand, with_thread}
 use Rattle.shb_lines.specs.text.Grammar.{NamedEvent}
 use Rattle.shb_lines.specs.text.Meaning.{meaning}
-use Rattle.shb_lines.specs.text.Spans.{IsLineFrom}
 use Rattle.shb_lines.specs.text.Names.{table_of, with_name}
-use Rattle.shb_lines.specs.text.Reader.{AddsEvent, AllStand, tables_of, with_names, with_operand, with_thread}
-use Rattle.shb_lines.specs.text.Numbers.{IsEventOf, IsNumbered, IsOperation, Tables, events_of, tables_of_events}
+use Rattle.shb_lines.specs.text.Numbers.{IsEventOf, IsOperation, Tables, tables_of_events}
 use Rattle.shb_lines.specs.text.Text.{LocatedEvent, event_on, located, locks_among, threads_among, trace_of, variables_among}
-use Rattle.shb_lines.specs.text.Parsed.{HasRead}
 use Rattle.shb_lines.proofs.text.NameLemmas.{slice_get-with_name, slice_get-with_names}
 
 pub enumerate_from-push : {X : Type 0} (n : ℕ) (xs : List X) (x : X) → enumerate_from n (xs ++ x ∷ []) ≡ enumerate_from n xs ++ (n + length xs, x) ∷ []
@@ -68,31 +64,3 @@ AllZip-push R Q weaker [] [] x y all last = (last, tt)
 AllZip-push R Q weaker [] (b ∷ ys) x y all last = absurd all
 AllZip-push R Q weaker (a ∷ xs) [] x y all last = absurd all
 AllZip-push R Q weaker (a ∷ xs) (b ∷ ys) x y all last = (weaker a b all.0, AllZip-push R Q weaker xs ys x y all.1 last)
-
--- a line that gives nothing changes nothing
-pub HasRead-none : (text : List ℕ) (reader : Reader) (lines : List (List ℕ)) (line : List ℕ) → meaning (strip_carriage_return line) ≡ Ok None → HasRead text reader lines → HasRead text reader (lines ++ line ∷ [])
-HasRead-none text reader lines line none h = grind (arith, common_steps, trace_of-none, map)
-
--- a line that gives an event adds it, its names and its start
-pub HasRead-some : (text : List ℕ) (old new : Reader) (lines : List (List ℕ)) (line : List ℕ) (e : NamedEvent) (start : ℕ)
-    → meaning (strip_carriage_return line) ≡ Ok (Some e) → IsLineFrom text (strip_carriage_return line) start → AddsEvent old new (1 + length lines) e start → AllStand text new
-    → HasRead text old lines → HasRead text new (lines ++ line ∷ [])
-HasRead-some text old new lines line e start some stands adds stand h =
-    let last : LocatedEvent = record { line = 1 + length lines; text = strip_carriage_return line; event = e } in
-    let trace_is = trace_of-some lines line e some in
-    let grown = with_operand (with_thread (tables_of old) e.thread) e.kind e.operand in
-    let numbered : IsNumbered grown adds.event e = subst (λ t. IsNumbered t adds.event e) adds.tables_are adds.numbered in
-    let events : AllZip (IsEventOf grown) (old.events ++ adds.event ∷ []) (trace_of lines ++ last ∷ []) =
-    AllZip-push (IsEventOf (tables_of old)) (IsEventOf grown) (IsEventOf-more (tables_of old) e.thread e.kind e.operand) old.events (trace_of lines) adds.event last h.events_are (record { numbered = numbered; line_is = adds.line_is }) in
-    let starts : AllZip (λ s l. IsLineFrom text l.text s) (old.starts.items ++ start ∷ []) (trace_of lines ++ last ∷ []) =
-    AllZip-push (λ s l. IsLineFrom text l.text s) (λ s l. IsLineFrom text l.text s) (λ s l here. here) old.starts.items (trace_of lines) start last h.starts_are stands in
-    record {
-      tables_are = adds.tables_are ∙ ap (λ t. with_operand (with_thread t e.thread) e.kind e.operand) h.tables_are ∙ sym (tables-push (events_of lines) e)
-          ∙ ap tables_of_events (sym (map-append (λ (x : LocatedEvent). x.event) (trace_of lines) (last ∷ []))) ∙ ap (λ t. tables_of_events (map (λ x. x.event) t)) (sym trace_is);
-      events_are = subst (λ t. AllZip (IsEventOf t) new.events (trace_of (lines ++ line ∷ []))) (sym adds.tables_are)
-          (subst (λ es. AllZip (IsEventOf grown) es (trace_of (lines ++ line ∷ []))) (sym adds.events_are)
-          (subst (AllZip (IsEventOf grown) (old.events ++ adds.event ∷ [])) (sym trace_is) events));
-      starts_are = subst (λ ps. AllZip (λ s l. IsLineFrom text l.text s) ps (trace_of (lines ++ line ∷ []))) (sym adds.starts_are)
-          (subst (AllZip (λ s l. IsLineFrom text l.text s) (old.starts.items ++ start ∷ [])) (sym trace_is) starts);
-      stand = stand;
-    }

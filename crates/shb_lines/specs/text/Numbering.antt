@@ -7,7 +7,7 @@ use Rattle.shb_lines.specs.declared.limits.Limits.{Limits}
 use Rattle.shb_lines.specs.declared.numbering.Numbering.{Numbering}
 use Rattle.shb_lines.specs.declared.numbering.Step.{Step}
 use Rattle.shb_lines.specs.text.Faults.{HasLineFault, number_of}
-use Rattle.shb_lines.specs.text.Reading.{HasNoBar}
+use Rattle.shb_lines.specs.text.Reading.{HasBarAt, HasNoBar}
 use Rattle.shb_lines.specs.text.Grammar.{NamedEvent}
 use Rattle.shb_lines.specs.text.Limits.{most_line}
 use Rattle.shb_lines.specs.text.Meaning.{meaning}
@@ -52,6 +52,16 @@ pub record HasNumbered (before : List NamedEvent) (numbering : Numbering) : Type
 -- the name of the thread of the last event, if there is one, is that of a thread: it has no bar
 abbrev pub HasLastThread : Numbering → Type 0
 HasLastThread numbering = IfSome (slice_get (names_of numbering.threads) numbering.last) HasNoBar
+
+-- a line that gives no event changes nothing
+abbrev pub IsKept : Numbering → Numbering → Result (Option Step) Fault → Type 0
+IsKept old new (Ok (Some step)) = step.thread < length (names_of new.threads)
+IsKept old new _ = new ≡ old
+
+-- where a line gives an event, the place of its second bar is kept
+abbrev pub IsBarOf : List ℕ → Numbering → Result (Option Step) Fault → Type 0
+IsBarOf line new (Ok (Some step)) = HasBarAt line new.bar
+IsBarOf line new _ = Unit {0}
 
 -- there are no more events and threads than the limits, and no more locks and variables than events
 pub record IsWithin (limits : Limits) (numbering : Numbering) : Type 0 where

@@ -1,11 +1,12 @@
 -- What a line's reading says, without where its bytes lie in memory.
-use Rattle.std.specs.Prelude.{◌≡◌, ◌+◌, ◌≤◌, List, ℕ, length, take, drop, slice_get, Option, None, Some, Result, Ok, Err, IfSome}
+use Rattle.std.specs.Prelude.{◌≡◌, ◌+◌, List, ℕ, length, take, drop, nat_lt, if◌then◌else◌, slice_get, Option, None, Some, Result, Ok, Err, IfSome}
 use Rattle.std.specs.List.{before_first}
 use Rattle.shb_lines.specs.declared.fault.Fault.{Fault}
 use Rattle.shb_lines.specs.declared.grammar.KnownThread.{KnownThread}
 use Rattle.shb_lines.specs.declared.grammar.LineEvent.{LineEvent}
 use Rattle.shb_lines.specs.text.Grammar.{NamedEvent, Meaning}
 use Rattle.shb_lines.specs.text.Meaning.{is_bar}
+use Rattle.shb_lines.specs.text.TraceData.{location_after}
 
 abbrev pub named : LineEvent → NamedEvent
 named e = record { thread = e.thread.now; kind = e.kind; operand = e.operand.now }
@@ -15,12 +16,9 @@ meaning_of (Ok None) = Ok None
 meaning_of (Ok (Some e)) = Ok (Some (named e))
 meaning_of (Err f) = Err f
 
--- the thread and the operand stand in the line
-pub record IsInLine (line : List ℕ) (e : LineEvent) : Type 0 where
-  pub thread_within : length e.thread.now ≤ length line
-  pub thread : e.thread.now ≡ take (length e.thread.now) line
-  pub operand_within : e.operand_at + length e.operand.now ≤ length line
-  pub operand : e.operand.now ≡ take (length e.operand.now) (drop e.operand_at line)
+-- the second bar of the line stands at this offset, or the line has no second bar and ends there
+abbrev pub HasBarAt : List ℕ → ℕ → Type 0
+HasBarAt line at = location_after line ≡ (if nat_lt at (length line) then Some (drop (at + 1) line) else None)
 
 abbrev pub HasNoBar : List ℕ → Type 0
 HasNoBar name = before_first is_bar name ≡ name

@@ -2,6 +2,7 @@
 use Rattle.std.specs.Prelude.{◌≡◌, ◌+◌, ◌<◌, ℕ, Bool, true, false, List, [], ◌∷◌, ◌++◌, length, take, slice_index_or, Option, None, Some}
 use Rattle.std.specs.Io.KnownBytes.{IsAtEnd}
 use Rattle.std.specs.List.{AllByRecursion, flat_map}
+use Rattle.std.specs.Str.Lines.{strip_carriage_return}
 use Rattle.shb_lines.specs.declared.event_reader.EventReader.{EventReader}
 use Rattle.shb_lines.specs.declared.event_reader.Taken.{Taken}
 use Rattle.shb_lines.specs.declared.event_reader.Taken.TheVariants as takens
@@ -13,6 +14,7 @@ use Rattle.shb_lines.specs.text.Faults.{HasLineFault, HasNoLineFaultBefore, IsFi
 use Rattle.shb_lines.specs.text.Grammar.{Lacks, NamedEvent}
 use Rattle.shb_lines.specs.text.Numbering.{GivesNothing, GivesStep, HasNumbered, IsStepOf, IsWithin, tables_of}
 use Rattle.shb_lines.specs.text.Numbers.{events_of}
+use Rattle.shb_lines.specs.text.Reading.{HasBarAt}
 use Rattle.shb_lines.specs.text.Text.{lines_of, trace_of}
 
 -- lines, each with its line feed
@@ -51,6 +53,14 @@ IsTakenLine limits before line new takens.Nothing = GivesNothing limits before l
 IsTakenLine limits before line new (takens.Step step) = GivesStep limits before line new step
 IsTakenLine limits before line new (takens.Fault fault) = IsLowest number_of (HasLineFault limits ⊥ before line) (Some fault)
 IsTakenLine limits before line new takens.End = ⊥
+
+-- it is known where the second bar stands in the line that was given last
+abbrev pub HasBar : EventReader → Type 0
+HasBar reader = HasBarAt (strip_carriage_return reader.lines.line) reader.numbering.bar
+
+abbrev pub IsBarred : EventReader → Taken → Type 0
+IsBarred reader (takens.Step step) = HasBar reader
+IsBarred reader _ = Unit {0}
 
 -- more lines can be taken, where this was no fault
 abbrev pub IsWithinAfter : Limits → Numbering → Taken → Type 0

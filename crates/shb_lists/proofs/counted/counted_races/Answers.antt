@@ -7,6 +7,7 @@ use Rattle.shb_lines.specs.events.Race.{IsRaceList}
 use Rattle.shb_pairs.specs.Open.{AreOpen}
 use Rattle.shb_lists.specs.Batches.{races_below}
 use Rattle.shb_lists.specs.Counted.{AreNumbered, HasCounted}
+use Rattle.shb_lists.proofs.EventSums.{counted_below}
 use Rattle.shb_lists.proofs.PlaceLemmas.{counted_places, leading_within, numbers_below}
 use Rattle.shb_lists.proofs.TotalLemmas.{all_below}
 use Rattle.shb_lists.proofs.counted.counted_races.Goals as goal
@@ -15,8 +16,8 @@ pub new-requires : goal.new-requires
 new-requires g c =
     leading_within c.args.settled.now.disciplined.now.trace.now (length c.as_slice-numbers.result.now) c.args.leading.now (ap length c.as_slice-numbers.ensures.value ∙ c.in_ok-located.ensures.as_many ∙ ap length c.args.settled.now.disciplined.now.of_trace) c.requires.leading
 
-pub count_batches-requires-clause-numbers : goal.count_batches-requires-clause-numbers
-count_batches-requires-clause-numbers g c =
+pub count_events-requires-clause-numbers : goal.count_events-requires-clause-numbers
+count_events-requires-clause-numbers g c =
     let trace = c.args.settled.now.disciplined.now in
     numbers_below trace.trace.now c.args.settled.now.flags.now trace.events.now c.in_ok-located.located.numbers.items c.as_slice-numbers.result.now c.in_ok-located.located.locations c.max-classes.result trace.of_trace
     (subst (λ (es : List Event). AreNumbered trace.trace.now c.args.settled.now.flags.now (length es) c.in_ok-located.located.numbers.items c.in_ok-located.located.locations) trace.of_trace c.in_ok-located.ensures) c.as_slice-numbers.ensures.value (c.max-classes.ensures ∙ ap (λ n. max n 1) c.len.ensures)
@@ -24,7 +25,9 @@ count_batches-requires-clause-numbers g c =
 pub returns-clause-races : goal.returns-clause-races
 returns-clause-races g c listed lists =
     let trace = c.args.settled.now.disciplined.now in
-    let has = c.in_ok-count_batches.ensures c.args.leading.now c.in_ok-counter.ensures in
+    let numbers = c.as_slice-numbers.result.now in
+    let leading = c.args.leading.now in
+    let has = counted_below trace.events.now trace.sizes c.args.settled.now.flags.now trace.within c.args.settled.now.settled numbers leading c.count_events.new.counter (c.in_ok-batches.ensures leading c.in_ok-counter.ensures) in
     has.count ∙ ap length (race_list_unique trace.events.now (races_below trace.events.now trace.sizes.variables) listed (all_below trace.events.now trace.sizes trace.numbered trace.within) lists)
 
 pub returns-clause-places : goal.returns-clause-places
@@ -33,8 +36,9 @@ returns-clause-places g c listed lists =
     let numbers = c.as_slice-numbers.result.now in
     let leading = c.args.leading.now in
     let same = race_list_unique trace.events.now (races_below trace.events.now trace.sizes.variables) listed (all_below trace.events.now trace.sizes trace.numbered trace.within) lists in
-    let has = subst (λ (l : List (ℕ × ℕ)). HasCounted numbers leading l c.count_batches.new.counter) same (c.in_ok-count_batches.ensures leading c.in_ok-counter.ensures) in
-    counted_places trace.trace.now c.args.settled.now.flags.now numbers c.in_ok-located.located.locations leading listed c.count_batches.new.counter c.in_ok-places.places c.are_different.ensures
+    let has = subst (λ (l : List (ℕ × ℕ)). HasCounted numbers leading l c.count_events.new.counter) same
+    (counted_below trace.events.now trace.sizes c.args.settled.now.flags.now trace.within c.args.settled.now.settled numbers leading c.count_events.new.counter (c.in_ok-batches.ensures leading c.in_ok-counter.ensures)) in
+    counted_places trace.trace.now c.args.settled.now.flags.now numbers c.in_ok-located.located.locations leading listed c.count_events.new.counter c.in_ok-places.places c.are_different.ensures
     (subst (λ (l : List ℕ). AreNumbered trace.trace.now c.args.settled.now.flags.now (length trace.trace.now.events) l c.in_ok-located.located.locations) (sym c.as_slice-numbers.ensures.value)
     (subst (λ (es : List Event). AreNumbered trace.trace.now c.args.settled.now.flags.now (length es) c.in_ok-located.located.numbers.items c.in_ok-located.located.locations) trace.of_trace c.in_ok-located.ensures))
     (subst (λ (es : List Event). AreOpen es c.args.settled.now.flags.now) trace.of_trace c.args.settled.now.settled)

@@ -1,13 +1,11 @@
 use Rattle.std.proofs.Common.{◌+◌, ℕ, List, ap, get_or, sym, ◌∙◌}
 use Rattle.std.specs.Prelude.{sum_by}
 use Rattle.std.proofs.lemmas.List.{take_all}
-use Rattle.std.proofs.lemmas.List.Sorted.{IsNonDecreasingBy-from_sort}
 use Rattle.std.proofs.lemmas.List.Sums.{sum_by_more}
 use Rattle.std.proofs.lemmas.Option.{slice_get-get_or}
 use Rattle.shb_lists.specs.Occurs.{occurs}
 use Rattle.shb_lists.specs.Past.{racing_by}
 use Rattle.shb_lists.specs.declared.rivals.Rival.{Rival}
-use Rattle.shb_lists.proofs.FoundLemmas.{found_all}
 use Rattle.shb_lists.proofs.search.find_unsorted.Goals as goal
 
 abbrev nobody : Rival

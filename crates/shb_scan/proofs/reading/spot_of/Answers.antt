@@ -1,17 +1,31 @@
+-- A location has the number of its name, and where there is none, that of the empty name.
 use Rattle.std.proofs.Common.{◌≡◌, ◌∙◌, ℕ, List, [], Option, Some, ap, sym}
+use Rattle.std.specs.Option.{option_copied}
 use Rattle.std.specs.Prelude.{is_some, unwrap_or}
 use Rattle.shb_lines.specs.text.Names.{with_name}
 use Rattle.shb_lines.specs.text.OwnedNames.{names_of}
-use Rattle.shb_lines.specs.text.TraceData.{location_of}
+use Rattle.shb_lines.specs.text.TraceData.{location_after, location_of}
 use Rattle.shb_lines.proofs.text.NamedLines.{location_from_after}
 use Rattle.shb_scan.proofs.reading.spot_of.Goals as goal
 
+-- the location of a line by what stands after its second bar
+from_after : (line : List ℕ) (after : Option (List ℕ)) → location_after line ≡ after → location_of line ≡ unwrap_or after []
+from_after line after is = location_from_after line ∙ ap (λ (o : Option (List ℕ)). unwrap_or o []) is
+
+pub returns-in_ok-location-in-Some-clause-spot : goal.returns-in_ok-location-in-Some-clause-spot
+returns-in_ok-location-in-Some-clause-spot c = λ line is.
+    let after = sym is ∙ ap option_copied c.in-Some.is in
+    record { location = c.in_ok-location-in-Some.ensures.number ∙ ap (λ (l : List ℕ). Some l) (sym (from_after line _ after)); barred = ap is_some (sym after) }
+
+pub returns-in_ok-location-in-Some-clause-names : goal.returns-in_ok-location-in-Some-clause-names
+returns-in_ok-location-in-Some-clause-names c = λ line is.
+    c.in_ok-location-in-Some.ensures.names ∙ ap (with_name (names_of c.args.locations.now)) (sym (from_after line _ (sym is ∙ ap option_copied c.in-Some.is)))
+
 pub returns-in_ok-location-in-None-clause-spot : goal.returns-in_ok-location-in-None-clause-spot
-returns-in_ok-location-in-None-clause-spot c =
-    let empty : location_of c.args.line.now ≡ [] = location_from_after c.args.line.now ∙ ap (λ (o : Option (List ℕ)). unwrap_or o []) (sym c.in-None.ensures) in
-    record { location = c.in_ok-location-in-None.ensures.number ∙ ap (λ (l : List ℕ). Some l) (sym empty); barred = ap is_some c.in-None.ensures }
+returns-in_ok-location-in-None-clause-spot c = λ line is.
+    let after = sym is ∙ ap option_copied c.in-None.is in
+    record { location = c.in_ok-location-in-None.ensures.number ∙ ap (λ (l : List ℕ). Some l) (sym (from_after line _ after)); barred = ap is_some (sym after) }
 
 pub returns-in_ok-location-in-None-clause-names : goal.returns-in_ok-location-in-None-clause-names
-returns-in_ok-location-in-None-clause-names c =
-    let empty : location_of c.args.line.now ≡ [] = location_from_after c.args.line.now ∙ ap (λ (o : Option (List ℕ)). unwrap_or o []) (sym c.in-None.ensures) in
-    c.in_ok-location-in-None.ensures.names ∙ ap (with_name (names_of c.args.locations.now)) (sym empty)
+returns-in_ok-location-in-None-clause-names c = λ line is.
+    c.in_ok-location-in-None.ensures.names ∙ ap (with_name (names_of c.args.locations.now)) (sym (from_after line _ (sym is ∙ ap option_copied c.in-None.is)))

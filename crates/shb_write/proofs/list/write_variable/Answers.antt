@@ -3,12 +3,12 @@ use Rattle.shb_lists.specs.Listed.{pair_in}
 use Rattle.shb_lists.specs.declared.kept.ListedRace.{ListedRace}
 use Rattle.shb_lists.specs.Parts.{races_until}
 use Rattle.shb_lists.proofs.PartLemmas.{until_front, until_none}
-use Rattle.shb_write.specs.Blocks.{HasWritten, alone}
+use Rattle.shb_write.specs.Blocks.{HasWritten, shown_in}
 use Rattle.shb_write.proofs.Listing.{next_may, next_stopped, next_written, none_written, then_refused}
 use Rattle.shb_write.proofs.list.write_variable.Goals as goal
 
 pub returns-in_err-parts : goal.returns-in_err-parts
-returns-in_err-parts g c = then_refused g.K.Sink.taken g.K.Sink.failure_count c.args.writer.now c.args.writer.now [] (none_written g.K.Sink.taken g.K.Sink.failure_count c.args.writer.now) c.from_residual.result _ _ _ refl c.from_residual.ensures.1
+returns-in_err-parts g c = then_refused g.K.Sink.taken g.K.Sink.failure_count (shown_in c.args.plan.now.schedules c.args.settled.now.disciplined.now.events.now) c.args.writer.now c.args.writer.now [] (none_written g.K.Sink.taken g.K.Sink.failure_count c.args.writer.now) c.from_residual.result _ _ _ refl c.from_residual.ensures.1
 
 pub loop-parts-init : goal.loop-parts-init
 loop-parts-init g c =
@@ -16,7 +16,7 @@ loop-parts-init g c =
     let start = c.args.writer.now in
     record {
       search = c.in_ok-parts.ensures.search;
-      written = subst (λ (l : List (ℕ × ℕ)). HasWritten g.K.Sink.taken g.K.Sink.failure_count start (map alone l) start)
+      written = subst (λ (l : List (ℕ × ℕ)). HasWritten g.K.Sink.taken g.K.Sink.failure_count start (map (shown_in c.args.plan.now.schedules c.args.settled.now.disciplined.now.events.now) l) start)
           (sym (ap (races_until trace c.args.variable) c.in_ok-parts.ensures.start ∙ until_none trace c.args.variable)) (none_written g.K.Sink.taken g.K.Sink.failure_count start);
     }
 
@@ -28,7 +28,7 @@ returns-in_err-races g c =
     let trace = c.args.settled.now.disciplined.now.events.now in
     let before = c.loop-parts.invariant in
     let rest = until_front trace c.args.variable c.loop-parts.parts.next (length trace) before.search.within in
-    then_refused g.K.Sink.taken g.K.Sink.failure_count c.args.writer.now c.loop-parts.writer _ before.written c.from_residual-in_err-races.result _ rest.0 _ rest.1 c.from_residual-in_err-races.ensures.1
+    then_refused g.K.Sink.taken g.K.Sink.failure_count (shown_in c.args.plan.now.schedules c.args.settled.now.disciplined.now.events.now) c.args.writer.now c.loop-parts.writer _ before.written c.from_residual-in_err-races.result _ rest.0 _ rest.1 c.from_residual-in_err-races.ensures.1
 
 pub write_kept-requires-after_bounds : goal.write_kept-requires-after_bounds
 write_kept-requires-after_bounds g c κs alive =
@@ -37,7 +37,7 @@ write_kept-requires-after_bounds g c κs alive =
     let more = c.in_ok-races.ensures.races c.args.variable before.search ∙ ap (λ (rs : List ListedRace). races_until trace c.args.variable c.loop-parts.parts.next ++ map pair_in rs) (sym c.deref.ensures.value) in
     let after = c.in_ok-races.ensures.search c.args.variable before.search in
     let rest = until_front trace c.args.variable c.next_part.new.self.next (length trace) after.within in
-    next_may g.K.Sink.taken g.K.Sink.failure_count c.args.writer.now c.loop-parts.writer _ before.written (map pair_in c.deref.result.now) rest.0 _
+    next_may g.K.Sink.taken g.K.Sink.failure_count (shown_in c.args.plan.now.schedules c.args.settled.now.disciplined.now.events.now) c.args.writer.now c.loop-parts.writer _ before.written c.args.settled.now.disciplined.now.events.now (map pair_in c.deref.result.now) rest.0 _
     (rest.1 ∙ ap (λ (l : List (ℕ × ℕ)). l ++ rest.0) more) c.requires.races
 
 pub returns-in_err-write_kept : goal.returns-in_err-write_kept
@@ -47,7 +47,7 @@ returns-in_err-write_kept g c =
     let more = c.in_ok-races.ensures.races c.args.variable before.search ∙ ap (λ (rs : List ListedRace). races_until trace c.args.variable c.loop-parts.parts.next ++ map pair_in rs) (sym c.deref.ensures.value) in
     let after = c.in_ok-races.ensures.search c.args.variable before.search in
     let rest = until_front trace c.args.variable c.next_part.new.self.next (length trace) after.within in
-    next_stopped g.K.Sink.taken g.K.Sink.failure_count c.args.writer.now c.loop-parts.writer _ before.written c.from_residual-in_err-write_kept.result _ c.write_kept.new.writer (map pair_in c.deref.result.now) rest.0 _
+    next_stopped g.K.Sink.taken g.K.Sink.failure_count (shown_in c.args.plan.now.schedules c.args.settled.now.disciplined.now.events.now) c.args.writer.now c.loop-parts.writer _ before.written c.from_residual-in_err-write_kept.result _ c.write_kept.new.writer (map pair_in c.deref.result.now) rest.0 _
     (rest.1 ∙ ap (λ (l : List (ℕ × ℕ)). l ++ rest.0) more) c.from_residual-in_err-write_kept.ensures.1 c.in_err-write_kept.ensures
 
 pub loop-parts-preserved : goal.loop-parts-preserved
@@ -57,7 +57,7 @@ loop-parts-preserved g c =
     let more = c.in_ok-races.ensures.races c.args.variable before.search ∙ ap (λ (rs : List ListedRace). races_until trace c.args.variable c.loop-parts.parts.next ++ map pair_in rs) (sym c.deref.ensures.value) in
     record {
       search = c.in_ok-races.ensures.search c.args.variable before.search;
-      written = next_written g.K.Sink.taken g.K.Sink.failure_count c.args.writer.now c.loop-parts.writer _ before.written c.write_kept.new.writer (map pair_in c.deref.result.now) _ more c.in_ok-write_kept.ensures;
+      written = next_written g.K.Sink.taken g.K.Sink.failure_count (shown_in c.args.plan.now.schedules c.args.settled.now.disciplined.now.events.now) c.args.writer.now c.loop-parts.writer _ before.written c.write_kept.new.writer (map pair_in c.deref.result.now) _ more c.in_ok-write_kept.ensures;
     }
 
 pub returns : goal.returns
@@ -66,4 +66,4 @@ returns g c =
     let before = c.loop-parts.invariant in
     let within = before.search.within in
     let whole : c.loop-parts.parts.next ≡ length trace = omega (arith, within) in
-    subst (λ (n : ℕ). HasWritten g.K.Sink.taken g.K.Sink.failure_count c.args.writer.now (map alone (races_until trace c.args.variable n)) c.loop-parts.writer) whole before.written
+    subst (λ (n : ℕ). HasWritten g.K.Sink.taken g.K.Sink.failure_count c.args.writer.now (map (shown_in c.args.plan.now.schedules c.args.settled.now.disciplined.now.events.now) (races_until trace c.args.variable n)) c.loop-parts.writer) whole before.written

@@ -1,4 +1,4 @@
-use Rattle.std.proofs.Common.{arith, false, rules, sym}
+use Rattle.std.proofs.Common.{arith, rules, sym}
 use Rattle.shb_io.proofs.Growth.{Appends-trans, AppendsPrefix-after, AppendsPrefix-front}
 use Rattle.shb_lists.specs.Batches.{races_below}
 use Rattle.shb_lists.proofs.PartLemmas.{below_is_list, list_is_below}
@@ -23,7 +23,7 @@ write_all-requires-clause-room g c κs alive =
 pub returns-in_err-write_front-clause-written : goal.returns-in_err-write_front-clause-written
 returns-in_err-write_front-clause-written g c listed lists =
     let counted = c.in_ok-counted.ensures in
-    report_failed false _ listed g.K.Sink.taken g.K.Sink.failure_count _ _ c.from_residual-in_err-write_front.result c.from_residual-in_err-write_front.ensures.1
+    report_failed c.args.plan.now.schedules _ listed g.K.Sink.taken g.K.Sink.failure_count _ _ c.from_residual-in_err-write_front.result c.from_residual-in_err-write_front.ensures.1
     (AppendsPrefix-front _ _ _ _ (c.in_err-write_front.ensures.written listed (counted.races listed lists) (counted.places listed lists))) c.in_err-write_front.ensures.counted
 
 pub returns-in_err-write_all-clause-written : goal.returns-in_err-write_all-clause-written
@@ -31,7 +31,7 @@ returns-in_err-write_all-clause-written g c listed lists =
     let trace = c.args.settled.now.disciplined.now in
     let counted = c.in_ok-counted.ensures in
     let is = list_is_below trace.events.now trace.sizes listed trace.within trace.numbered lists in
-    report_stopped false _ listed g.K.Sink.taken g.K.Sink.failure_count _ _ c.from_residual-in_err-write_all.result _ _ c.from_residual-in_err-write_all.ensures.1
+    report_stopped c.args.plan.now.schedules _ listed g.K.Sink.taken g.K.Sink.failure_count _ _ c.from_residual-in_err-write_all.result _ _ c.from_residual-in_err-write_all.ensures.1
     (c.in_ok-write_front.ensures.written listed (counted.races listed lists) (counted.places listed lists)) (rw is c.in_err-write_all.ensures.blocks)
     (rw (sym c.in_ok-write_front.ensures.counted) c.in_err-write_all.ensures.counted)
 
@@ -40,7 +40,7 @@ returns-in_err-tail-clause-written g c listed lists =
     let trace = c.args.settled.now.disciplined.now in
     let counted = c.in_ok-counted.ensures in
     let is = list_is_below trace.events.now trace.sizes listed trace.within trace.numbered lists in
-    report_failed false _ listed g.K.Sink.taken g.K.Sink.failure_count _ _ c.from_residual-in_err-tail.result c.from_residual-in_err-tail.ensures.1
+    report_failed c.args.plan.now.schedules _ listed g.K.Sink.taken g.K.Sink.failure_count _ _ c.from_residual-in_err-tail.result c.from_residual-in_err-tail.ensures.1
     (AppendsPrefix-after _ _ _ _ _ (c.in_ok-write_front.ensures.written listed (counted.races listed lists) (counted.places listed lists)) (AppendsPrefix-after _ _ _ _ _ (rw is c.in_ok-write_all.ensures.blocks) c.in_err-tail.ensures.written))
     (omega (arith, c.in_ok-write_front.ensures.counted, c.in_ok-write_all.ensures.counted, c.in_err-tail.ensures.counted))
 
@@ -49,6 +49,6 @@ returns-clause-written g c listed lists =
     let trace = c.args.settled.now.disciplined.now in
     let counted = c.in_ok-counted.ensures in
     let is = list_is_below trace.events.now trace.sizes listed trace.within trace.numbered lists in
-    reported false _ listed g.K.Sink.taken g.K.Sink.failure_count _ _ _
+    reported c.args.plan.now.schedules _ listed g.K.Sink.taken g.K.Sink.failure_count _ _ _
     (Appends-trans _ _ _ _ _ (c.in_ok-write_front.ensures.written listed (counted.races listed lists) (counted.places listed lists)) (Appends-trans _ _ _ _ _ (rw is c.in_ok-write_all.ensures.blocks) c.in_ok-tail.ensures.written))
     (omega (arith, c.in_ok-write_front.ensures.counted, c.in_ok-write_all.ensures.counted, c.in_ok-tail.ensures.counted))

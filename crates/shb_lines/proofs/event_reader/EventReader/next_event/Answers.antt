@@ -9,6 +9,7 @@ pub returns-in_default : goal.returns-in_default
 returns-in_default g c = record {
   within = c.in_ok-taken.ensures.within;
   nothing = λ is. absurd (c.in_default.not-Nothing is);
+  barred = c.in_ok-taken.ensures.barred;
   taken = λ read lines h.
       let after = taken_after c.args.limits.now read lines (g.S.Source.remaining c.args.source.now) (g.S.Source.remaining c.loop-self.source) (g.S.Source.remaining c.take_next.new.source) _ _ _ c.loop-self.self c.take_next.new.self c.in_ok-taken.taken
       (c.loop-self.invariant.passed read lines h) c.in_ok-taken.ensures.taken in

@@ -42,10 +42,8 @@ loop-start-preserved c =
     record {
       counted = omega (arith, line.order, loop.invariant.counted);
       within = omega (arith, end_within);
-      room = c.in_ok-fault.ensures.room;
-      last = c.in_ok-fault.ensures.last;
+      names = c.in_ok-fault.ensures.names;
       each = c.in_ok-fault.ensures.each;
-      few = c.in_ok-fault.ensures.few loop.invariant.few;
       begins = line.next;
       read = subst (HasRead text c.take_line.new.self) (sym line.with_it) (subst (λ o. HasRead text c.take_line.new.self (lines_read lines o (part text loop.start end))) c.in_default.is (c.in_ok-fault.ensures.read lines loop.invariant.read line.number));
       faultless = HasNoLineFaultBefore-more limits text loop.line loop.invariant.faultless (line.lowest None lowest);

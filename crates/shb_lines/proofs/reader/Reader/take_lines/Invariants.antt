@@ -2,7 +2,7 @@
 use Rattle.std.proofs.Common.{◌+◌, ◌-◌, ◌<◌, ◌≤◌, length, take}
 use Rattle.shb_lines.specs.text.Faults.{HasNoLineFaultBefore}
 use Rattle.shb_lines.specs.text.Parsed.{HasRead}
-use Rattle.shb_lines.specs.text.Reader.{HasLast, HasRoom}
+use Rattle.shb_lines.specs.text.Numbering.{IsWithin}
 use Rattle.shb_lines.specs.text.Text.{lines_of}
 use Rattle.shb_lines.proofs.text.Scanning.{IsStart}
 use Rattle.shb_lines.proofs.reader.Reader.take_lines.Given as goal
@@ -11,10 +11,8 @@ abbrev pub invariant-loop-start : goal.invariant-loop-start
 invariant-loop-start l = record {
   counted : l.line ≤ l.start;
   within : l.start ≤ length l.text + 1;
-  room : HasRoom l.self;
-  last : HasLast l.self;
+  names : IsWithin l.limits l.self.numbering;
   each : length l.self.events ≤ l.line;
-  few : length l.self.events ≤ l.limits.events;
   begins : IsStart l.text l.line l.start;
   read : HasRead l.text l.self (take l.line (lines_of l.text));
   faultless : HasNoLineFaultBefore l.limits l.text l.line;

@@ -1,10 +1,10 @@
 -- Different numbers are different names.
-use Rattle.std.proofs.Common.{ap}
+use Rattle.std.proofs.Common.{◌≡◌, ℕ, Some, slice_get, subst}
+use Rattle.shb_lines.specs.text.TraceData.{TraceData}
 use Rattle.shb_lines.proofs.text.Named.{alone}
 use Rattle.shb_lines.proofs.trace.Trace.lock_name.Goals as goal
 
 pub returns-clause-alone : goal.returns-clause-alone
 returns-clause-alone c =
-    let inside = c.self.inside in
-    alone inside.text.items inside.parts.locks.items c.args.self.now.locks c.args.l c.index.result.now c.as_slice.result.now c.bytes_in.result.now
-    (ap (λ trace. trace.locks) c.self.view_is) c.requires c.index.ensures c.as_slice.ensures.value c.bytes_in.ensures c.self.invariant.well_formed.locks_differ
+    subst (λ (trace : TraceData). (other : ℕ) → slice_get trace.locks other ≡ Some c.name.result.now → other ≡ c.args.l) c.self.view_is
+    (alone c.self.inside.parts.locks c.args.l c.name.result.now c.self.invariant.well_formed.locks_differ c.name.ensures)

@@ -8,8 +8,8 @@ pub returns-then-len-le-FEW-clause-since : goal.returns-then-len-le-FEW-clause-s
 returns-then-len-le-FEW-clause-since c trace spots groups are =
     let found = c.in_ok-at.ensures in
     let mid = c.group_at.new.self.each.items in
-    let at_old = slice_get_read mid (length mid) c.in_ok-at.at c.index_mut-group.result.now refl (slice_get_within mid c.in_ok-at.at found.group found.there) c.index_mut-group.ensures.value in
-    since_kept trace spots c.args.access.event c.args.variable c.args.access c.in_ok-before.before c.args.self.now.each.items mid c.in_ok-at.at c.index_mut-group.result.now refl groups found at_old c.in_ok-before.ensures.before
+    let at_old = slice_get_read mid (length mid) c.in_ok-at.at c.in-Some.group.now refl (slice_get_within mid c.in_ok-at.at found.group found.there) c.in-Some.ensures.value in
+    since_kept trace spots c.args.access.event c.args.variable c.args.access c.in_ok-before.before c.args.self.now.each.items mid c.in_ok-at.at c.in-Some.group.now refl groups found at_old c.in_ok-before.ensures.before
 
 pub returns-then-len-le-FEW-clause-classes : goal.returns-then-len-le-FEW-clause-classes
 returns-then-len-le-FEW-clause-classes c trace spots own are = classes_later trace spots c.args.access.event c.args.classes.now.newest.entries are
@@ -18,9 +18,9 @@ pub returns-then-len-le-FEW-clause-groups : goal.returns-then-len-le-FEW-clause-
 returns-then-len-le-FEW-clause-groups c trace spots are own time_is =
     let found = c.in_ok-at.ensures in
     let mid = c.group_at.new.self.each.items in
-    let at_old = slice_get_read mid (length mid) c.in_ok-at.at c.index_mut-group.result.now refl (slice_get_within mid c.in_ok-at.at found.group found.there) c.index_mut-group.ensures.value in
+    let at_old = slice_get_read mid (length mid) c.in_ok-at.at c.in-Some.group.now refl (slice_get_within mid c.in_ok-at.at found.group found.there) c.in-Some.ensures.value in
     noted trace spots c.args.variable c.args.access.event c.args.access refl own (record { event = c.args.access.event; time = c.args.time; spot = c.args.access.spot }) refl refl time_is
-    c.args.self.now.each.items mid c.in_ok-at.at c.index_mut-group.result.now c.replace.new.self are found at_old (c.in_ok-before.ensures.kept c.args.variable)
+    c.args.self.now.each.items mid c.in_ok-at.at c.in-Some.group.now c.replace.new.self are found at_old (c.in_ok-before.ensures.kept c.args.variable)
 
 pub returns-clause-since : goal.returns-clause-since
 returns-clause-since c trace spots groups are = since_is trace spots c.args.access.event c.args.classes.now.newest.entries c.args.variable c.in_ok-before-2.before c.args.access refl are c.in_ok-before-2.ensures.before
@@ -32,6 +32,6 @@ pub returns-clause-groups : goal.returns-clause-groups
 returns-clause-groups c trace spots are own time_is =
     let found = c.in_ok-at.ensures in
     let mid = c.group_at.new.self.each.items in
-    let at_old = slice_get_read mid (length mid) c.in_ok-at.at c.index_mut-group.result.now refl (slice_get_within mid c.in_ok-at.at found.group found.there) c.index_mut-group.ensures.value in
+    let at_old = slice_get_read mid (length mid) c.in_ok-at.at c.in-Some.group.now refl (slice_get_within mid c.in_ok-at.at found.group found.there) c.in-Some.ensures.value in
     noted trace spots c.args.variable c.args.access.event c.args.access refl own (record { event = c.args.access.event; time = c.args.time; spot = c.args.access.spot }) refl refl time_is
-    c.args.self.now.each.items mid c.in_ok-at.at c.index_mut-group.result.now c.keep.new.self are found at_old c.in_ok-keep.ensures
+    c.args.self.now.each.items mid c.in_ok-at.at c.in-Some.group.now c.keep.new.self are found at_old c.in_ok-keep.ensures

@@ -1,0 +1,108 @@
+-- What races with the accesses of each variable, by location.
+use Rattle.std.proofs.Common.{◌≡◌, ◌≢◌, ℕ, ◌+◌, ◌<◌, ◌++◌, inl, inr, Bool, true, false, List, [], ◌∷◌, Option, None, Some, IfSome, length, slice_get, arith, subst, sym, ◌∙◌}
+use Rattle.std.proofs.Math.ListN.{set}
+use Rattle.std.proofs.lemmas.Bool.{cases_Bool}
+use Rattle.std.proofs.lemmas.List.{length-set}
+use Rattle.std.proofs.lemmas.Option.{slice_get_cases}
+use Rattle.shb_discipline.proofs.Steps.{set_cases}
+use Rattle.shb_lines.specs.declared.event.Event.{Event}
+use Rattle.shb_lines.specs.declared.event.Sizes.{Sizes}
+use Rattle.shb_lines.specs.events.Race.{variable_at}
+use Rattle.shb_stamps.specs.Open.{accesses_open, is_open}
+use Rattle.shb_lists.specs.Counted.{AreRacing, AreTables}
+use Rattle.shb_lists.specs.Past.{IsAccess}
+use Rattle.shb_lists.specs.Rivals.{is_met}
+use Rattle.shb_lists.specs.Unknown.{Accessed, IsUnknown, accessed_by}
+use Rattle.shb_lists.specs.declared.racing.Racing.{Racing}
+use Rattle.shb_lists.specs.declared.search.Access.{Access}
+use Rattle.shb_lists.specs.declared.tables.Table.{Table}
+use Rattle.shb_lists.specs.declared.unknown.Side.{Side}
+use Rattle.shb_lists.specs.declared.unknown.Unknown.{Unknown}
+use Rattle.shb_lists.proofs.MetLemmas.{met_from_test, met_other_variable, met_own}
+use Rattle.shb_lists.proofs.PastLemmas.{shut_event}
+use Rattle.shb_lists.proofs.RivalLemmas.{get_cases}
+use Rattle.shb_lists.proofs.UnknownLemmas.{unknown_other_event}
+
+pub side_there : (unknown : Unknown) (s threads : ℕ) → length unknown.sides.items ≡ threads → s < threads → (side : Side) × (slice_get unknown.sides.items s ≡ Some side)
+side_there unknown s threads many lt = elim (slice_get_cases unknown.sides.items s).1 [
+  | inl there ↦ (there.0, there.2)
+  | inr past ↦ absurd (let low = past.0 in omega (arith, low, many, lt))
+]
+
+abbrev pub accessed : List Event → ℕ → Bool → Accessed
+accessed trace x writes = record { trace = trace; x = x; writes = writes }
+
+pub both_sides : (trace : List Event) (x : ℕ) (numbers : List ℕ) (classes threads n : ℕ) (with_writes with_reads : Unknown) → IsUnknown (accessed trace x true) numbers classes threads n with_writes → IsUnknown (accessed trace x false) numbers classes threads n with_reads
+    → AreRacing trace x numbers classes threads n (record { with_writes = with_writes; with_reads = with_reads })
+both_sides trace x numbers classes threads n with_writes with_reads of_writes of_reads true = of_writes
+both_sides trace x numbers classes threads n with_writes with_reads of_writes of_reads false = of_reads
+
+module _ (trace : List Event) (access : Access) (is : IsAccess trace access) where
+  pub own_met : (is_met trace true access.variable access.thread access.event ≡ true) × (is_met trace false access.variable access.thread access.event ≡ access.writes)
+  own_met = met_own trace access.variable access.thread access.event access.writes is.variable is.thread is.writes
+
+  -- no read is met where writes are wanted
+  pub read_unmet : access.writes ≡ false → (t : ℕ) → is_met trace false access.variable t access.event ≡ false
+  read_unmet reads t = elim (cases_Bool (is_met trace false access.variable t access.event)) [
+    | inl h ↦ (met_own trace access.variable t access.event access.writes is.variable (met_from_test trace false access.variable t access.event h).thread is.writes).1 ∙ reads
+    | inr h ↦ h
+  ]
+
+-- an event of another variable changes nothing
+pub racing_skipped : (trace : List Event) (x : ℕ) (numbers : List ℕ) (classes threads e : ℕ) (racing : Racing) → (variable_at trace e ≡ Some x → ⊥) → AreRacing trace x numbers classes threads e racing → AreRacing trace x numbers classes threads (e + 1) racing
+racing_skipped trace x numbers classes threads e racing other h true =
+    unknown_other_event (accessed trace x true) numbers classes threads e racing.with_writes (λ t. met_other_variable trace true x t e other) (h true)
+racing_skipped trace x numbers classes threads e racing other h false =
+    unknown_other_event (accessed trace x false) numbers classes threads e racing.with_reads (λ t. met_other_variable trace false x t e other) (h false)
+
+-- the side of an access
+pub to_side : (trace : List Event) (access : Access) (b : Bool) (numbers : List ℕ) (classes threads n : ℕ) (unknown : Unknown) → access.writes ≡ b → IsUnknown (accessed trace access.variable b) numbers classes threads n unknown
+    → IsUnknown (accessed_by trace access) numbers classes threads n unknown
+to_side trace access b numbers classes threads n unknown is h = subst (λ (w : Bool). IsUnknown (accessed trace access.variable w) numbers classes threads n unknown) (sym is) h
+
+pub from_side : (trace : List Event) (access : Access) (b : Bool) (numbers : List ℕ) (classes threads n : ℕ) (unknown : Unknown) → access.writes ≡ b → IsUnknown (accessed_by trace access) numbers classes threads n unknown
+    → IsUnknown (accessed trace access.variable b) numbers classes threads n unknown
+from_side trace access b numbers classes threads n unknown is h = subst (λ (w : Bool). IsUnknown (accessed trace access.variable w) numbers classes threads n unknown) is h
+
+-- ---- the tables of each variable
+
+-- one variable's tables are replaced, and those of others stay right
+pub tables_set : (trace : List Event) (sizes : Sizes) (flags : List Bool) (numbers : List ℕ) (classes n m x : ℕ) (old new : List Table) (table : Table) → AreTables trace sizes flags numbers classes n old → x < sizes.variables → new ≡ set old x table
+    → IfSome table.racing (AreRacing trace x numbers classes sizes.threads m) → ((y : ℕ) (racing : Racing) → y ≢ x → is_open flags y ≡ true → AreRacing trace y numbers classes sizes.threads n racing → AreRacing trace y numbers classes sizes.threads m racing)
+    → AreTables trace sizes flags numbers classes m new
+tables_set trace sizes flags numbers classes n m x old new table h within is_set here others = record {
+  as_many = rw is_set (let many = h.as_many in let long = length-set old x table in omega (arith, many, long));
+  each = λ y entry is at. elim (set_cases old x y table entry (let many = h.as_many in omega (arith, many, within)) (rw (← is_set) at)) [
+    | inl own ↦ subst (λ (k : ℕ). IfSome entry.racing (AreRacing trace k numbers classes sizes.threads m)) (sym own.0) (subst (λ (t : Table). IfSome t.racing (AreRacing trace x numbers classes sizes.threads m)) (sym own.1) here)
+    | inr there ↦ some_kept entry.racing (others y) there.0 is (h.each y entry is there.1)
+  ];
+}
+  where
+    some_kept : {y : ℕ} (o : Option Racing) → ((racing : Racing) → y ≢ x → is_open flags y ≡ true → AreRacing trace y numbers classes sizes.threads n racing → AreRacing trace y numbers classes sizes.threads m racing) → y ≢ x → is_open flags y ≡ true
+        → IfSome o (AreRacing trace y numbers classes sizes.threads n) → IfSome o (AreRacing trace y numbers classes sizes.threads m)
+    some_kept None keep ne is some = tt
+    some_kept (Some racing) keep ne is some = keep racing ne is some
+
+-- an event that accesses no open variable
+pub tables_skipped : (trace : List Event) (sizes : Sizes) (flags : List Bool) (numbers : List ℕ) (classes e : ℕ) (tables : List Table) → accesses_open flags trace e ≡ false → AreTables trace sizes flags numbers classes e tables
+    → AreTables trace sizes flags numbers classes (e + 1) tables
+tables_skipped trace sizes flags numbers classes e tables shut h = record {
+  as_many = h.as_many;
+  each = λ x table is at. by x table.racing is (h.each x table is at);
+}
+  where
+    by : (x : ℕ) (o : Option Racing) → is_open flags x ≡ true → IfSome o (AreRacing trace x numbers classes sizes.threads e) → IfSome o (AreRacing trace x numbers classes sizes.threads (e + 1))
+    by x None is some = tt
+    by x (Some racing) is some = racing_skipped trace x numbers classes sizes.threads e racing (shut_event trace flags e shut x is) some
+
+-- an access of x is none of another variable
+pub other_racing : (trace : List Event) (numbers : List ℕ) (classes threads e x y : ℕ) (racing : Racing) → variable_at trace e ≡ Some x → y ≢ x → AreRacing trace y numbers classes threads e racing → AreRacing trace y numbers classes threads (e + 1) racing
+other_racing trace numbers classes threads e x y racing access ne h = racing_skipped trace y numbers classes threads e racing (λ also. ne (let s : Some y ≡ Some x = sym also ∙ access in cc)) h
+
+-- one table more
+pub tables_more : (trace : List Event) (numbers : List ℕ) (classes threads : ℕ) (old new : List Table) (table : Table) → ((x : ℕ) (t : Table) → slice_get old x ≡ Some t → IfSome t.racing (AreRacing trace x numbers classes threads 0))
+    → ((x : ℕ) → IfSome table.racing (AreRacing trace x numbers classes threads 0)) → new ≡ old ++ table ∷ [] → (x : ℕ) (t : Table) → slice_get new x ≡ Some t → IfSome t.racing (AreRacing trace x numbers classes threads 0)
+tables_more trace numbers classes threads old new table h last more x t at = elim (get_cases old table x t (rw (← more) at)) [
+  | inl there ↦ h x t there
+  | inr is ↦ subst (λ (q : Table). IfSome q.racing (AreRacing trace x numbers classes threads 0)) is.1 (last x)
+]

@@ -1,0 +1,61 @@
+-- An event at a time.
+use Rattle.std.proofs.Common.{◌≡◌, ℕ, List, arith, length, rules, subst, sym}
+use Rattle.shb_lists.specs.Counted.{HasCounted}
+use Rattle.shb_lists.specs.Listed.{races_before}
+use Rattle.shb_lists.proofs.EventSums.{few_before}
+use Rattle.shb_lists.proofs.TotalLemmas.{before_next, before_none, next_room}
+use Rattle.shb_lists.proofs.counted.count_events.Goals as goal
+
+pub loop-e-init : goal.loop-e-init
+loop-e-init c =
+    let trace = c.args.settled.now.disciplined.now in
+    let flags = c.args.settled.now.flags.now in
+    record {
+      of_trace = search rules;
+      next = search rules;
+      counting = record {
+        past = c.in_ok-new.ensures trace.events.now flags;
+        tables = c.in_ok-tables_of.ensures trace.events.now flags c.args.numbers.now;
+      };
+      counted = λ leading has. subst (λ (l : List (ℕ × ℕ)). HasCounted c.args.numbers.now leading l c.args.counter.now) (sym (before_none trace.events.now flags)) has;
+    }
+
+pub pass-requires-clause-counting : goal.pass-requires-clause-counting
+pass-requires-clause-counting c = rw c.new-ordered.ensures.disciplined (c.args.classes, c.requires.numbers, c.loop-e.invariant.counting)
+
+pub pass-requires-clause-room : goal.pass-requires-clause-room
+pass-requires-clause-room c =
+    let trace = c.args.settled.now.disciplined.now in
+    let flags = c.args.settled.now.flags.now in
+    let e = c.loop-e.e in
+    let so_far = (c.loop-e.invariant.counted c.requires.counted.0 c.requires.counted.1).count in
+    let next = next_room trace.events.now flags e (length trace.events.now) (omega (arith, c.loop-e-test.true, c.len-e-end.ensures)) in
+    let few = few_before trace.events.now trace.sizes flags trace.within c.args.settled.now.settled (omega (arith, trace.few)) in
+    rw c.new-ordered.ensures.disciplined (omega (arith, so_far, next, few))
+
+pub pass-requires-clause-counted : goal.pass-requires-clause-counted
+pass-requires-clause-counted c = (
+  c.requires.counted.0,
+  races_before c.args.settled.now.disciplined.now.events.now c.args.settled.now.flags.now c.loop-e.e,
+  c.loop-e.invariant.counted c.requires.counted.0 c.requires.counted.1,
+)
+
+pub loop-e-preserved : goal.loop-e-preserved
+loop-e-preserved c =
+    let trace = c.args.settled.now.disciplined.now.events.now in
+    let flags = c.args.settled.now.flags.now in
+    let e = c.loop-e.e in
+    record {
+      of_trace = search rules;
+      next = search rules;
+      counting = (rw c.new-ordered.ensures.disciplined at c.in_ok-pass.ensures.counting) c.args.classes c.requires.numbers c.loop-e.invariant.counting;
+      counted = λ leading has.
+          subst (λ (l : List (ℕ × ℕ)). HasCounted c.args.numbers.now leading l c.pass.new.counter) (sym (before_next trace flags e))
+          ((rw c.new-ordered.ensures.disciplined at c.in_ok-pass.ensures.counted) leading (races_before trace flags e) (c.loop-e.invariant.counted leading has));
+    }
+
+pub returns : goal.returns
+returns c leading has =
+    let trace = c.args.settled.now.disciplined.now.events.now in
+    let all : c.loop-e.e ≡ length trace = omega arith in
+    subst (λ (n : ℕ). HasCounted c.args.numbers.now leading (races_before trace c.args.settled.now.flags.now n) c.loop-e.counter) all (c.loop-e.invariant.counted leading has)

@@ -1,0 +1,98 @@
+//! The races of the events so far, counted by variable and by place.
+
+ghost use Rattle.std.specs.Prelude.{◌≡◌, ◌++◌, ◌+◌, ◌<◌, ◌^◌, ℕ, Bool, [], cond, true, List, OnOk, length};
+ghost use Rattle.shb_lines.specs.declared.event.Pair.{Pair};
+ghost use Rattle.shb_stamps.specs.Open.{accesses_open, is_open as is_open_in};
+ghost use Rattle.shb_pairs.specs.Races.{races_with};
+ghost use Rattle.shb_lists.specs.Counted.{HasCounted, IsCounting};
+ghost use Rattle.shb_lists.specs.Past.{IsAccess};
+ghost use Rattle.shb_lists.specs.Unknown.{AreBelow};
+
+use crate::counter::RaceCounter;
+use crate::past::{Past, access_at};
+use crate::plan::BatchPlan;
+use crate::search::Access;
+use crate::tables::{Table, count_tabled, note_tabled};
+use shb_io::NoMemory;
+use shb_stamps::{Order, Ordered};
+
+/// What is known of the accesses before an event, and how many races each variable has.
+#[derive(Drop)]
+pub(crate) struct Counting {
+    pub(crate) past: Past,
+    /// By variable.
+    pub(crate) tables: Vec<Table>,
+    /// Room for the accesses that race with one.
+    pub(crate) found: Vec<u32>,
+    pub(crate) plan: BatchPlan,
+}
+
+impl Counting {
+    /// Counts the races of an access, and takes it in.
+    ///
+    /// # Errors
+    ///
+    /// `NoMemory` where a growth was refused; nothing is known of the accesses then.
+    fn count_access<O: Order>(
+        &mut self,
+        counter: &mut RaceCounter,
+        numbers: &[u32],
+        ordered: &Ordered<'_, O>,
+        access: Access,
+    ) -> Result<(), NoMemory>
+        requires access { IsAccess ordered.now.disciplined.now.events.now access }
+        requires asked { O.asks ordered.now.order.now access.event ≡ true }
+        requires counting { (flags : List Bool) × (classes : ℕ) × (is_open_in flags access.variable ≡ true) × AreBelow ordered.now.disciplined.now.events.now numbers.now classes
+            × IsCounting ordered.now.disciplined.now.events.now ordered.now.disciplined.now.sizes flags numbers.now classes access.event self.old }
+        requires room { counter.old.races + length (races_with ordered.now.disciplined.now.events.now access.event) < 2 ^ 64 }
+        requires counted { (leading : List Pair) × (races : List (ℕ × ℕ)) × HasCounted numbers.now leading races counter.old }
+        ensures counting { (flags : List Bool) (classes : ℕ) → is_open_in flags access.variable ≡ true → AreBelow ordered.now.disciplined.now.events.now numbers.now classes
+            → IsCounting ordered.now.disciplined.now.events.now ordered.now.disciplined.now.sizes flags numbers.now classes access.event self.old
+            → OnOk result (IsCounting ordered.now.disciplined.now.events.now ordered.now.disciplined.now.sizes flags numbers.now classes (access.event + 1) self.new) }
+        ensures counted { OnOk result ((leading : List Pair) (races : List (ℕ × ℕ)) → HasCounted numbers.now leading races counter.old
+            → HasCounted numbers.now leading (races ++ races_with ordered.now.disciplined.now.events.now access.event) counter.new) }
+    {
+        let before = counter.races;
+        let counted = count_tabled(&mut self.tables, counter, numbers, ordered, access);
+        if !counted {
+            self.past.find(ordered, access, &mut self.found)?;
+            counter.count_racing(numbers, self.found.as_slice(), access.event);
+        }
+        note_tabled(&mut self.tables, numbers, ordered, access)?;
+        self.past.note(ordered, access)?;
+        self.plan
+            .add(access.variable, counter.races.saturating_sub(before));
+        Ok(())
+    }
+
+    /// Counts the races of the next event, if it accesses an open variable, and takes it in.
+    ///
+    /// # Errors
+    ///
+    /// `NoMemory` where a growth was refused; nothing is known of the accesses then.
+    pub(crate) fn pass<O: Order>(
+        &mut self,
+        counter: &mut RaceCounter,
+        numbers: &[u32],
+        ordered: &Ordered<'_, O>,
+        flags: &[bool],
+        e: u32,
+    ) -> Result<(), NoMemory>
+        requires in_range { e < length ordered.now.disciplined.now.events.now }
+        requires asked { O.asks ordered.now.order.now e ≡ true }
+        requires counting { (classes : ℕ) × AreBelow ordered.now.disciplined.now.events.now numbers.now classes
+            × IsCounting ordered.now.disciplined.now.events.now ordered.now.disciplined.now.sizes flags.now numbers.now classes e self.old }
+        requires room { counter.old.races + length (cond (accesses_open flags.now ordered.now.disciplined.now.events.now e) (races_with ordered.now.disciplined.now.events.now e) []) < 2 ^ 64 }
+        requires counted { (leading : List Pair) × (races : List (ℕ × ℕ)) × HasCounted numbers.now leading races counter.old }
+        ensures counting { (classes : ℕ) → AreBelow ordered.now.disciplined.now.events.now numbers.now classes
+            → IsCounting ordered.now.disciplined.now.events.now ordered.now.disciplined.now.sizes flags.now numbers.now classes e self.old
+            → OnOk result (IsCounting ordered.now.disciplined.now.events.now ordered.now.disciplined.now.sizes flags.now numbers.now classes (e + 1) self.new) }
+        ensures counted { OnOk result ((leading : List Pair) (races : List (ℕ × ℕ)) → HasCounted numbers.now leading races counter.old
+            → HasCounted numbers.now leading (races ++ cond (accesses_open flags.now ordered.now.disciplined.now.events.now e) (races_with ordered.now.disciplined.now.events.now e) []) counter.new) }
+    {
+        match access_at(ordered, flags, e) {
+            Some(access) => self.count_access(counter, numbers, ordered, access),
+            None => self.past.skip(),
+        }
+    }
+}
