@@ -9,7 +9,7 @@
 #pragma once
 #include <stdint.h>
 
-#define RECORD_MAGIC "shb-record 8\n"
+#define RECORD_MAGIC "shb-record 9\n"
 #define LINE_END_IN_PATH 1
 #define HEADER_BYTES 65536
 #define ENDED_BYTES 256
@@ -18,14 +18,15 @@
 #define LOW_48_BITS 0xffffffffffffull
 #define FIRST_DESCRIPTOR (1ul << 47)   /* no program's address: descriptor D is at 16 D above it, its data 8 further */
 #define SIZE_FOLLOWS 1023              /* such a size or a greater one stands in a record OP_SIZE after this one */
-/* A read or write of 1, 2, 4, 8 or 16 bytes has in its place of the size the logarithm and the depth of its thread: how many
-   functions it is in, or DEPTH_BEFORE, by the records before; any other one has IS_RANGE and its size, if this isn't greater. */
+/* A read or write of 1, 2, 4, 8 or 16 bytes has in its place of the size the logarithm and its depth: it is made in so many functions, the
+   outermost of the thread's context, or DEPTH_BEFORE, in all; any other one has IS_RANGE and its size, if this isn't greater. */
 #define LOGARITHM_BITS 3
 #define DEPTH_BEFORE 63
 #define IS_RANGE 512
 #define MAX_SIZE (1ull << 36)          /* of a range; none is as long */
 #define THREAD_NUMBERS 65534           /* a joined thread's is used again when there is no new one: each fork begins another thread */
 #define MOST_FRAMES 16384              /* of a thread; those further in aren't recorded */
+#define CONTEXT_BITS 24                /* of the number of a context in which an access is held back */
 #define PLACE_BITS 24                  /* of each of the two numbers of a record OP_PLACE */
 #define NAME_PIECE 12                  /* so many bytes of a thread's name stand in a record OP_NAME, as in piece_of_name */
 #define HAS_ADDRESS 128                /* above the numbers of signals */
@@ -62,23 +63,24 @@ enum operation {
     OP_USE,                            /* a use of an object that orders nothing */
     OP_DESTROY,                        /* the end of an object, or a second beginning */
     OP_FENCE,                          /* its size is the memory order */
-    OP_FRAME,                          /* the thread is in a function (its address), called from there; the size is how many
-                                          more it is in further out. What was recorded further out or in stays, until such a
-                                          record of the same size replaces it. Further out than the functions of a fiber are
-                                          __tsan_create_fiber, which made it, and those that it was called in */
+    OP_FRAME,                          /* a context: the thread is in a function (its address), called from there, and in so many
+                                          further out (the size), the outermost of its context before. The record's contexts are
+                                          numbered from 1; in 0 a thread is in no function. Further out than the functions of a
+                                          fiber are __tsan_create_fiber, which made it, and those that it was called in */
     OP_WAY,                            /* of the record behind it, a frame too: its caller is code without hooks, which the
                                           innermost function called from here */
-    OP_PLACE,                          /* of the frame behind it, and of each later one with the same caller and function until
-                                          another such record: where its function lies on the stack. PLACE_BITS: how many bytes
+    OP_PLACE,                          /* of the frame behind it: where its function lies on the stack. PLACE_BITS: how many bytes
                                           below the stack pointer of the function further out (of the outermost one: below the
                                           end of the thread's stack) its return address ends; above these: how many bytes below
-                                          that its own stack pointer is. 0, and where there is no such record: not known */
-    OP_DEPTH,                          /* the size is how many of these it is in now; so is one more than that of an OP_FRAME */
+                                          that its own stack pointer is. Where there is none it isn't known */
+    OP_CONTEXT,                        /* the thread is in the context of this number (the address); with the size 1, for the record
+                                          behind it alone, as the converter has it before an access that is late */
     OP_NAME,                           /* a piece of the name that the program gives the thread: the size is 0 in its first one,
                                           and NAME_PIECE in another right behind it, where there is more */
     OP_CRASH,                          /* the last record of a thread that a signal ends with the program: the size is its number, and
                                           HAS_ADDRESS where the kernel told the address. It was behind the caller that it came */
     OP_LATE,                           /* the read or write that is in the next entry was made earlier: in the place of the address
-                                          is its position, of POSITION_BITS. It may come again, with the same position */
+                                          is its position, of POSITION_BITS, and of the caller its context, of CONTEXT_BITS. It may
+                                          come again, with the same position */
     OPERATIONS
 };

@@ -7,6 +7,15 @@ import sys
 from shb_common.printable import printable
 from shb_common.version import installed, version
 
+COLUMNS = 80
+
+
+def filled(text):
+    """A text with its paragraphs filled to 80 columns, but those with a line that begins with a blank."""
+    import textwrap  # takes its time, and is for help alone
+    return "\n\n".join(part if "\n " in f"\n{part}" else textwrap.fill(part, COLUMNS, break_long_words=False, break_on_hyphens=False)
+                       for part in text.strip("\n").split("\n\n"))
+
 
 class Version(argparse.Action):
     """Prints the version and ends."""
@@ -21,10 +30,14 @@ class Parser(argparse.ArgumentParser):
     `status`."""
 
     def __init__(self, command, about, notes, status=3, **more):
-        notes = f"{notes.rstrip()}\n\nshb {installed()}\n" if installed() else notes
-        super().__init__(prog=command, description=about, epilog=notes, formatter_class=argparse.RawDescriptionHelpFormatter,
+        super().__init__(prog=command, formatter_class=argparse.RawDescriptionHelpFormatter,
                          allow_abbrev=False, **more)      # what is short for one option today may be for another tomorrow
-        self.status = status
+        self.about, self.notes, self.status = about, notes, status
+
+    def format_help(self):
+        notes = f"{self.notes.rstrip()}\n\nshb {installed()}\n" if installed() else self.notes
+        self.description, self.epilog = filled(self.about), filled(notes)
+        return super().format_help()
 
     def error(self, message):
         self.print_usage(sys.stderr)

@@ -34,7 +34,7 @@ REPAIRS = {         # of faults between lines
 }
 LIMITS = (f"there are more than {MOST_EVENTS} events", f"there are more than {MOST_THREADS} threads",
           f"the text is longer than {MOST_TEXT} bytes")
-SCAN = "`shb scan` lists the places of a trace of any length"
+SCAN = "`shb scan` lists the places of a longer trace"
 CARRIAGE_RETURNS = "a carriage return without a line feed: lines end with a line feed, or with both"
 
 

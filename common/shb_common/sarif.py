@@ -1,7 +1,6 @@
 """Places as a log in SARIF 2.1.0, the static analysis results interchange format of OASIS: one result a place."""
 
 import collections
-import hashlib
 import json
 import os
 import posixpath
@@ -141,8 +140,9 @@ def variables_of(alert):
     return known.lasting_names(alert.variables())
 
 
-def fingerprint(parts):
-    return hashlib.blake2b(b"\t".join(parts), digest_size=16).hexdigest()
+def fingerprint(parts, between=b"\t", size=16):
+    import hashlib  # takes its time, and a run without a place does without
+    return hashlib.blake2b(between.join(parts), digest_size=size).hexdigest()
 
 
 def line_fingerprint(first, second, alert):
@@ -151,7 +151,7 @@ def line_fingerprint(first, second, alert):
     if first.code is None:
         return None
     parts = [first.path, first.code, *((second.text,) if second.code is None else (second.path, second.code)), *variables_of(alert)]
-    return hashlib.blake2b(b"\n".join(parts), digest_size=8).hexdigest()
+    return fingerprint(parts, b"\n", 8)
 
 
 def code_flows(alert, sources):

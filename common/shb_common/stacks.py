@@ -10,7 +10,7 @@ import sys
 import typing
 
 from shb_common.files import open_regular
-from shb_common.locations import line_of
+from shb_common.locations import line_of, parts_of
 from shb_common.printable import printable
 
 BEGIN = re.compile(rb"shb-stacks 1 ([0-9]{20})\n")
@@ -77,6 +77,7 @@ class Tables:
 
     def __init__(self, path=None):
         self.functions = {}  # by location those that it lies in, without parameters and arguments of templates
+        self.files = set()  # those of locations: files of source, and modules with code that has no lines
         self.sources, self.sums = {}, {}  # by the name in a location: the file's path; by location: a sum of its line's text
         self.locals = {}  # by variable on a stack: events, each with the name of the local that it is from there on
         if path:
@@ -95,6 +96,7 @@ class Tables:
     def take_frame(self, function, location):
         if function and line_of(location):
             self.functions.setdefault(location, set()).add(bare(function))
+        self.files.add(parts_of(location)[0])
 
     take_system_frame = take_frame
 

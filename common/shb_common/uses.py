@@ -1,6 +1,7 @@
 """What `shb-std --uses` writes beside the trace of a page: how often each thread used each variable in a race in the whole run, and which
 events of that trace those of the races are. The head of recorder/converter/page.c has its form."""
 
+import bisect
 import typing
 
 from shb_common.files import open_regular
@@ -29,10 +30,11 @@ class Use(typing.NamedTuple):
 
 
 class Uses:
-    """`events` has for an event of the run that of the page's trace; `count` is how many that trace has."""
+    """`events` has for an event of the run that of the page's trace; `count` is how many that trace has. `parts` are those of its events
+    before which some of the run may be missing."""
 
     def __init__(self, path):
-        self.uses, self.events, self.count = [], {}, None
+        self.uses, self.events, self.parts, self.count = [], {}, [], None
         with open_regular(path) as file:
             for number, line in enumerate(file, 1):
                 kind, *fields = line.rstrip(b"\n").split(b"\t")
@@ -52,10 +54,17 @@ class Uses:
         elif kind == b"event":
             in_page, in_run = map(number_of, fields)
             self.events[in_run] = in_page
+        elif kind == b"part":
+            self.parts.extend(map(number_of, fields))
         elif kind == b"events":
             [self.count] = map(number_of, fields)
         else:
             raise ValueError
+
+    def pair(self, first, second):
+        """Two events of the run in the page's trace, or None where it hasn't both with all that is between them."""
+        found = self.events.get(first), self.events.get(second)
+        return found if all(found) and len({bisect.bisect(self.parts, event) for event in found}) == 1 else None
 
 
 def number_of(text):

@@ -1,11 +1,8 @@
 /* What the parts of the converter share. */
 #include <stdio.h>
-#include <stddef.h>
-#include <stdint.h>
 #include "../record.h"
+#include "tables.h"
 
-typedef uint64_t u64;
-typedef uint32_t u32;
 enum { THREADS = 1 << 20 };            /* of a record, whose numbers may be used again */
 /* What shb takes of a trace, as common/shb_common/limits.py has it; the last is the most threads of shb scan. */
 enum { SHB_EVENTS = 4194304, SHB_THREADS = 1024, SHB_LINE = 4096, SHB_BYTES = 1 << 30, SCAN_THREADS = 65535 };
@@ -19,20 +16,6 @@ typedef struct { const char *at; u64 length; } part;         /* of a text, witho
 #define VERSION_LINE ""
 #define VERSION "of a checkout"
 #endif
-
-/* tables.c: arrays that grow, and maps from two words to a number from 1, in the order of asking. */
-typedef struct { u64 a, b; u32 value; } map_entry;
-typedef struct { map_entry *entries; u64 count, capacity; } map;
-extern const char *program_name;       /* as messages begin */
-extern int failed_status;
-void die(const char *format, ...) __attribute__((noreturn, format(printf, 1, 2)));
-void bad_words(void) __attribute__((noreturn));              /* the command line is wrong */
-void *zeroed(size_t count, size_t size);
-void *grown(void *array, u64 count, u64 *capacity, size_t size);
-#define GROW(array, count, capacity) ((array) = grown((array), (count), &(capacity), sizeof *(array)))  /* by one */
-u32 map_find(const map *m, u64 a, u64 b);                    /* 0: it isn't there */
-u32 map_number(map *m, u64 a, u64 b);
-u64 mix(u64 a, u64 b);
 
 /* records.c: the record. */
 extern u64 record_count;               /* before the first pass: no more than these */
@@ -62,10 +45,9 @@ u64 accessed_bytes(u64 i);
 /* late.c: gives the same entries with each access in its place that is late, and how many there are then. */
 struct record *with_late_in_place(const struct record *records, u64 *count, const char *path);
 
-/* lines.c, sources.c: the source files of modules, and how they are named. */
+/* sources.c: the source files of modules, and how they are named. */
 extern int whole_paths;
 void strip_folder(const char *folder); /* names of files below it are paths from it */
-void note_sources_of(const char *module);
 void note_source(const char *path);
 void write_sources(FILE *file);        /* a line "source NAME TAB PATH" for each file of the program's own, before any is added */
 
@@ -76,8 +58,7 @@ const char *source_name(const char *path);                   /* of one that was 
 int in_system(const char *path);       /* is it the system's or the compiler's? */
 
 /* names.c: modules, symbols, lines of code. */
-u64 size_of_module(const char *path);     /* of a regular file, by a path with a bar; else 0: a device or FIFO may have no end */
-enum { NAME_BYTES = 1400, PLACE_BYTES = 1000, THREAD_BYTES = 80 };   /* shb takes lines of 4,096 bytes */
+enum { PLACE_BYTES = 1000, THREAD_BYTES = 80 };              /* shb takes lines of 4,096 bytes */
 void read_modules(char *header);
 void note_caller(u64 caller);
 void find_places(void);                /* of all callers that were noted */
@@ -92,11 +73,10 @@ typedef struct inlined_frame {
     struct inlined_frame *outer;
     const char *function, *location;
     u32 number;                        /* in the file of stacks, or 0 */
-    uint8_t has_line, in_system_file;                        /* as a header of the C++ library is */
+    u32 line;                          /* or 0 */
+    uint8_t in_system_file;            /* as a header of the C++ library is */
     uint8_t in_system;                 /* the module is the system's */
 } inlined_frame;
-int has_own_lines(const char *module);     /* lines.c: are they in this file itself? */
-int may_have_lines(const char *module);    /* or in one of their own? Of a module of the system mostly not */
 inlined_frame *frames_of(u64 caller);  /* null where it wasn't noted */
 inlined_frame *outermost(inlined_frame *f);
 int in_one_function(u64 caller, u64 other);
@@ -113,22 +93,6 @@ int local_name(u64 function, u64 pc, u64 below, u64 above, u64 length, char *buf
 size_t name_in_block(u64 caller, u64 block_size, u64 offset, u64 length, char *buffer, size_t size);
 
 int is_variable(const char *name, size_t length);            /* is a static variable named so? */
-
-/* members.c: what lies inside of variables. */
-struct members;
-struct members *read_members(const char *path);              /* of a module */
-/* The same of a local of a function that begins there, with its name before it; gives the name of the function that it is inlined
-   from, or "", and null where no local is known. */
-typedef struct { u64 function, pc, below, above, length; } place_of_local;
-const char *add_local(struct members *m, place_of_local at, char *buffer, size_t size);
-/* Adds what lies at an offset of the variable that is at an address of the module's file, in so many bytes: ".head", "[3]", "+4". */
-void add_member(struct members *m, u64 address, u64 offset, u64 length, char *buffer, size_t size);
-
-/* blocks.c: what lies so far inside of a block of so many bytes that a call before `pc` allocated for the C++ library, in a function
-   that begins there: "bank::Account.balance", or with its element "Account[3].balance". Gives the length of the type's name, 0 where no
-   type is certain. */
-typedef struct { u64 function, pc, size, offset, length; } place_in_block;
-size_t add_in_block(struct members *m, place_in_block at, char *buffer, size_t size);
 
 /* memory.c: blocks and pieces. */
 typedef struct { u64 at, size, caller; int stack, many_users, named; u32 thread, user; } block;
@@ -164,6 +128,7 @@ void forget_writes(void);              /* of all pieces */
 void open_stacks(const char *path);
 void note_call(u64 i);                 /* each record of calls, in the first pass */
 void meet_call(u64 i);                 /* each record of the fourth pass, before its events */
+u64 own_function(u64 i);               /* of the context that a record tells: the outermost function that is the program's own, or 0 */
 u64 own_place(u32 t, u64 caller);      /* of what a thread does now: the innermost place in the program's own code, or the caller */
 u32 stack_at(u32 t, u64 caller);
 void stack_of_event(u32 number);       /* of the event that comes next */
@@ -206,6 +171,7 @@ void end_page(void);
 int is_behind_page(void);
 int is_in_span(void);
 void note_written(u64 number, u64 in_page);                  /* an event of the run, by both its numbers */
+void note_part(u64 in_page);           /* a span begins or ends behind so many events */
 void hold_for_uses(u32 t, u64 key), leave_for_uses(u32 t, u64 key);      /* a lock */
 part name_of_held(u64 key, u32 t, char *tail);               /* objects.c: of such a lock */
 void count_use(u32 t, u64 caller, u32 piece, char word);
@@ -244,7 +210,7 @@ void begin_events(void);               /* each pass that writes a trace */
 void begin_accesses(void);             /* the same */
 void use_limits_of_scan(void);
 void name_thread(u32 t, u64 function); /* by the function that it runs, where it has no name yet */
-void name_by_own(u32 t, u64 function); /* the same, by one that it enters, if that is the program's own */
+void name_by_own(u32 t, u64 i);        /* the same, by the functions that a record tells, if one is the program's own */
 void give_name(u32 t, const char *piece, int is_first);      /* a piece of one that the program gave; the main thread keeps its own */
 const char *thread_name(u32 t);        /* with an end */
 u64 thread_epoch(u32 t);               /* it grows with each event of the thread that could order another */

@@ -47,9 +47,10 @@ void name_thread(u32 t, u64 function) {
     is_named[t] = *name != 0;
 }
 
-void name_by_own(u32 t, u64 function) {
+void name_by_own(u32 t, u64 i) {
     char name[FUNCTION_BYTES];
-    if (!t || is_named[t] || !own_function_name(function, name, sizeof name)) return;
+    u64 function = t && !is_named[t] ? own_function(i) : 0;
+    if (!function || !own_function_name(function, name, sizeof name)) return;
     set_name(t, name);
     is_named[t] = 1;
 }
@@ -242,8 +243,10 @@ static void release_before(part thread, part lock, part place, u32 stack) { keep
 static enum page_step meet_page(void) {
     if (is_behind_page()) return PAGE_ENDS;
     enum page_step step = step_page(events + 1);
+    if (step == SPAN_BEGINS) note_part(written);
     if (step == SPAN_BEGINS) each_held(acquire_again);
     if (step == SPAN_ENDS) each_held(release_before);
+    if (step == SPAN_ENDS) note_part(written);
     return step;
 }
 

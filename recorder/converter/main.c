@@ -15,7 +15,7 @@
 enum { NOT_WHOLE = 1 };   /* the status where the trace is a part of the run */
 #define MAX_RANGE_STEPS (1ull << 28)   /* in a pass: seconds */
 
-static int is_of_stack(enum operation operation) { return operation >= OP_FRAME && operation <= OP_DEPTH; }
+static int is_of_stack(enum operation operation) { return operation >= OP_FRAME && operation <= OP_CONTEXT; }
 
 static void meet_record(u64 i) {
     enum operation operation = operation_of(i);
@@ -35,7 +35,7 @@ static void meet_name(u64 i) {
 static void find_sharing(u64 i) {
     if (operation_of(i) == OP_NAME) meet_name(i);
     if (operation_of(i) == OP_START) name_thread(thread_of(i), caller_of(i));
-    if (operation_of(i) == OP_FRAME) name_by_own(thread_of(i), address_of(i));
+    if (operation_of(i) == OP_FRAME || operation_of(i) == OP_CONTEXT) name_by_own(thread_of(i), i);
     share_pieces(i);
     if (operation_of(i) == OP_FENCE) share_fence(i);
     if (is_for_object(i)) share_object(i);
@@ -128,28 +128,34 @@ static const char help[] =
     "       shb-std --only RACES [OPTION].. RECORD > TRACE\n"
     "       shb-std --scan [--only RACES --page TRACE] [OPTION].. RECORD | shb scan\n"
     "\n"
-    "Turns a record of the recorder into an STD trace, which is cut at what shb takes.\n"
+    "Turns a record of the recorder into an STD trace, which is cut at the most\n"
+    "events and threads that shb takes.\n"
     "\n"
-    "  --scan         the trace is of any length, for 'shb scan'\n"
-    "  --only RACES   write a part of the trace, for a page: around the races of this file, the accesses of\n"
-    "                 their variables, and locks, forks and joins. It has a line for each race: I J VARIABLE, with\n"
-    "                 the numbers of its events in the trace of --scan. With --scan both are written, and RACES is\n"
-    "                 read, from a FIFO or standard input, when the first is; where it is empty that is all\n"
+    "options:\n"
+    "  --scan         the trace of the whole run, for 'shb scan'\n"
+    "  --only RACES   write a part of the trace, for a page: around the races of this\n"
+    "                 file, the accesses of their variables, and locks, forks and\n"
+    "                 joins. It has a line for each race: I J VARIABLE, with the\n"
+    "                 numbers of its events in the trace of --scan. With --scan both\n"
+    "                 are written, and RACES is read, from a FIFO or standard input,\n"
+    "                 when the first is; if it is empty, only the first is written\n"
     "  --page TRACE   write the trace of --only to this file\n"
-    "  --uses FILE    with --only, write how often each thread used these variables in the whole run, where and under\n"
-    "                 which locks, to this file\n"
-    "  --stacks FILE  write the call stack of each event to this file, where threads were created and blocks\n"
-    "                 allocated, and which locals the variables on stacks are; with --only, of its events\n"
+    "  --uses FILE    with --only, write how often each thread used these variables\n"
+    "                 in the whole run, where and under which locks, to this file\n"
+    "  --stacks FILE  write the call stack of each event to this file, where threads\n"
+    "                 were created and blocks allocated, and which locals the\n"
+    "                 variables on stacks are; with --only, of its events\n"
     "  -n EVENTS      at most so many events (4194304)\n"
     "  -a             also what can't conflict\n"
-    "  --strip DIR    files below this folder are named by their paths from it; else a file is named by the\n"
-    "                 end of its path that no other file of the program has\n"
+    "  --strip DIR    files below this folder are named by their paths from it; else\n"
+    "                 a file is named by the end of its path that no other file of\n"
+    "                 the program has\n"
     "  -p             whole paths\n"
-    "  --version      say of which package this is\n"
-    "  -h, --help     this text\n"
+    "  --version      print the version and exit\n"
+    "  -h, --help     print this text and exit\n"
     "\n"
-    "Exit status: 0; 1 the trace was written, and isn't the whole run; 2 nothing can be said; 3 wrong\n"
-    "command line.\n" VERSION_LINE;
+    "Exit status: 0; 1 the trace was written, and isn't the whole run; 2 it failed;\n"
+    "3 wrong command line.\n" VERSION_LINE;
 
 static const char *stacks_path, *only_path, *page_path, *uses_path;
 static int for_scan;
@@ -174,8 +180,13 @@ static void read_words(int count, char **words) {
         else if (c == 'u') uses_path = optarg;
         else if (c == 'a') whole_trace = 1;
         else if (c == 'p') whole_paths = 1;
-        else if (c && (c != 'n' || !(event_limit = strtoull(optarg, 0, 10)))) bad_words();
-    if (optind + 1 != count || (!only_path && (uses_path || page_path)) || (for_scan && only_path && !page_path)) bad_words();
+        else if (c == 'n') {
+            if (!(event_limit = strtoull(optarg, 0, 10))) bad_words(optarg, " isn't a number of events");
+        } else if (c) bad_words(words[optind - 1], " isn't an option, or has no value");
+    if (optind == count) bad_words("no RECORD is named", "");
+    if (optind + 1 < count) bad_words(words[optind + 1], " is one word too many");
+    if (!only_path && (uses_path || page_path)) bad_words(uses_path ? "--uses" : "--page", " needs --only");
+    if (for_scan && only_path && !page_path) bad_words("--scan", " with --only needs --page");
 }
 
 static void write_to(const char *path) {

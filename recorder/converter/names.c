@@ -1,20 +1,21 @@
-/* Names: of variables by `nm`, of lines of code by `llvm-addr2line` or else `addr2line`, which names some inlined functions by the
-   function that they are in.  Without these tools addresses stand in their place. */
+/* Names of variables, functions and lines of code, by what the readers of modules tell. */
 #define _GNU_SOURCE
-#include <errno.h>
-#include <fcntl.h>
-#include <spawn.h>
 #include <stdio.h>
 #include <stdlib.h>
 #include <string.h>
-#include <sys/resource.h>
-#include <sys/wait.h>
-#include <unistd.h>
-#include "converter.h"
+#include "readers.h"
 
-enum { MAX_MODULES = 512, LINE_BYTES = 8192 };
-typedef struct { u64 at, size; char *name; int twice; } symbol;
-typedef struct { u64 low, high, base; char *path; symbol *symbols; u64 count; int read, asked, is_late; struct members *members; } module;
+enum { MAX_MODULES = 512 };
+typedef struct { u64 at, size; char *name; int is_twice, is_function; } symbol;
+typedef struct {
+    u64 low, high, base;
+    char *path;
+    struct reader *reader;             /* null until it is asked */
+    map by_address;                    /* the numbers of symbols; that of an address without one has no name */
+    symbol *symbols;
+    u64 count, capacity;
+    int asked, is_late, is_said;       /* of its lines; they are asked for when they are shown; what isn't read */
+} module;
 
 static module modules[MAX_MODULES];
 static int module_count;
@@ -40,46 +41,13 @@ static char *copy(const char *text) {
     return p;
 }
 
-/* A program that writes to `output`, from the input that it gets; nothing, and no process, where there is no such program. */
-typedef struct { FILE *output; pid_t process; } tool;
+static struct reader *reader_of(module *m) { return m->reader ? m->reader : (m->reader = open_reader(m->path)); }
 
-enum { TOOL_SECONDS = 600, TOOL_TIMES = 16 };   /* of processor time; of memory so many times the module's size, and this: */
-#define TOOL_BYTES (2ul << 30)
-
-static void limit(pid_t process, int resource, u64 most) {
-    struct rlimit limits;
-    if (prlimit(process, resource, 0, &limits)) return;      /* it has ended already */
-    if (limits.rlim_max > most) limits.rlim_cur = limits.rlim_max = most;
-    prlimit(process, resource, &limits, 0);
-}
-
-static tool run_tool(const char *const *words, int input, u64 bytes) {
-    int ends[2], null = open("/dev/null", O_RDWR | O_CLOEXEC);
-    posix_spawn_file_actions_t files;
-    tool t = {0, 0};
-    if (null < 0 || pipe2(ends, O_CLOEXEC) || posix_spawn_file_actions_init(&files)) die("cannot run %s: %s", *words, strerror(errno));
-    posix_spawn_file_actions_adddup2(&files, input < 0 ? null : input, 0);
-    posix_spawn_file_actions_adddup2(&files, ends[1], 1);
-    posix_spawn_file_actions_adddup2(&files, null, 2);
-    int failed = posix_spawnp(&t.process, *words, &files, 0, (char *const *)words, environ);
-    if (!failed) limit(t.process, RLIMIT_AS, TOOL_BYTES + TOOL_TIMES * bytes);
-    if (!failed) limit(t.process, RLIMIT_CPU, TOOL_SECONDS);
-    posix_spawn_file_actions_destroy(&files);
-    close(ends[1]);
-    close(null);
-    if (failed) t.process = 0;
-    t.output = fdopen(ends[0], "r");
-    return t;
-}
-
-static void say_missing(tool t, const char *name) {
-    static int said;
-    if (!t.process && !said++) fprintf(stderr, "shb-std: %s (of binutils) cannot be run: names and places are addresses\n", name);
-}
-
-static void end_tool(tool t) {
-    fclose(t.output);
-    if (t.process) waitpid(t.process, 0, 0);
+/* Says what isn't read of a module of the program's own, once for each. */
+static void say_unread(module *m) {
+    answer why;
+    if (m->is_said++ || in_system(m->path) || !ask_one(reader_of(m), ASK_UNREAD, 0, 0, &why)) return;
+    fprintf(stderr, "shb-std: %s: members of variables, and locals, may have no names, for its debug information %s\n", m->path, why.first);
 }
 
 void read_modules(char *header) {
@@ -96,54 +64,23 @@ void read_modules(char *header) {
 }
 
 /* ---- symbols ---- */
-static int by_address(const void *a, const void *b) {
-    const symbol *x = a, *y = b;
-    return x->at < y->at ? -1 : x->at > y->at;
-}
-static int by_name(const void *a, const void *b) { return strcmp((*(symbol **)a)->name, (*(symbol **)b)->name); }
-
-static void mark_doubles(module *m) {  /* variables of one name, static in several files */
-    symbol **sorted = zeroed(m->count + 1, sizeof *sorted);
-    for (u64 i = 0; i < m->count; i++) sorted[i] = &m->symbols[i];
-    qsort(sorted, m->count, sizeof *sorted, by_name);
-    for (u64 i = 1; i < m->count; i++)
-        if (!strcmp(sorted[i]->name, sorted[i - 1]->name)) sorted[i]->twice = sorted[i - 1]->twice = 1;
-    free(sorted);
-}
-
-/* With a plugin, though it be none: else nm loads those for link-time optimisation, as LLVM's, which takes it most of its time. */
-static void read_symbols(module *m) {
-    char line[LINE_BYTES], type;
-    u64 capacity = 0, at, size;
-    int name = 0;
-    m->read = 1;
-    u64 bytes = size_of_module(m->path);
-    if (!bytes) return;
-    const char *const words[] = {"nm", "--plugin", "/dev/null", "-C", "-S", "--defined-only", "--", m->path, 0};
-    tool nm = run_tool(words, -1, bytes);
-    say_missing(nm, *words);
-    while (fgets(line, sizeof line, nm.output)) {
-        int sized = strlen(line) > 18 && line[18] != ' ';    /* else the type stands where the size would */
-        if (!sized || sscanf(line, "%lx %lx %c %n", &at, &size, &type, &name) < 3) continue;
-        if (!strchr("bBdDrRuVgGsStTwWi", type)) continue;
-        line[strcspn(line, "\n")] = 0;
-        GROW(m->symbols, m->count, capacity);
-        m->symbols[m->count++] = (symbol){at + m->base, size, copy(cleaned(line + name)), 0};
-    }
-    end_tool(nm);
-    if (m->count) qsort(m->symbols, m->count, sizeof *m->symbols, by_address);
-    mark_doubles(m);
+static symbol found_symbol(module *m, u64 address) {
+    const u64 at = address - m->base;
+    answer a;
+    if (!ask_one(reader_of(m), ASK_SYMBOL, &at, 1, &a)) return (symbol){0};
+    u64 size = a.two >> SYMBOL_FLAGS;
+    if (at - a.one >= size) refuse_answer(m->reader);
+    if (at - a.one >= size || !*a.first) return (symbol){0};
+    return (symbol){a.one + m->base, size, cleaned(copy(a.first)), (a.two & SYMBOL_IS_TWICE) != 0, a.two & SYMBOL_IS_FUNCTION};
 }
 
 static symbol *symbol_at(module *m, u64 address) {
-    if (!m->read) read_symbols(m);
-    u64 low = 0, high = m->count;
-    while (low < high) {
-        u64 middle = (low + high) / 2;
-        if (m->symbols[middle].at <= address) low = middle + 1;
-        else high = middle;
+    u32 number = map_number(&m->by_address, address, 0);
+    if (number > m->count) {
+        GROW(m->symbols, m->count, m->capacity);
+        m->symbols[m->count++] = found_symbol(m, address);
     }
-    return low && address < m->symbols[low - 1].at + m->symbols[low - 1].size ? &m->symbols[low - 1] : 0;
+    return m->symbols[number - 1].name ? &m->symbols[number - 1] : 0;
 }
 
 /* A module's name. */
@@ -228,7 +165,7 @@ static char *lambda_among(const char *name) {
     return 0;
 }
 
-/* By its module and its name: what addr2line says of the beginning of a function hangs on what is inlined there. */
+/* By its module and its name, not by what is inlined at its beginning. */
 int own_function_name(u64 address, char *buffer, size_t size) {
     module *m = module_at(address);
     symbol *s = m && !in_system(m->path) && !is_recorder(m) ? symbol_at(m, address) : 0;
@@ -254,43 +191,52 @@ void symbol_name(u64 address, char *buffer, size_t size) {
     const char *library = m == modules ? "" : leaf(m->path), *colon = *library ? ":" : "";
     int cut_off = strlen(s->name) > 1000;
     int n = snprintf(buffer, size, "%.200s%s%.1000s", library, colon, s->name);
-    if (s->twice || cut_off) n += snprintf(buffer + n, size - n, "~%lx", s->at - m->base);
+    if (s->is_twice || cut_off) n += snprintf(buffer + n, size - n, "~%lx", s->at - m->base);
     u64 end = s->at + s->size, length = next_cut(address, end < address + MOST_LENGTH ? end : address + MOST_LENGTH) - address;
-    if (!m->members) m->members = read_members(m->path);
-    add_member(m->members, s->at - m->base, address - s->at, length, buffer + n, size - n);
+    say_unread(m);
+    answer member;
+    if (ask_one(m->reader, ASK_MEMBER, (u64[]){s->at - m->base, address - s->at, length}, 3, &member))
+        cleaned(strncat(buffer + n, member.first, size - n - 1));
+    else if (address > s->at) snprintf(buffer + n, size - n, "+%lu", address - s->at);
 }
 
 /* Is there a variable that is named as a type is? */
 int is_variable(const char *name, size_t length) {
-    for (int i = 0; i < module_count; i++)
-        for (u64 k = 0; k < modules[i].count; k++)
-            if (!strncmp(modules[i].symbols[k].name, name, length) && !modules[i].symbols[k].name[length]) return 1;
+    u64 text[NAME_BYTES / sizeof(u64) + 1] = {0};
+    answer yes;
+    if (length >= sizeof text) return 0;
+    memcpy(text, name, length);
+    for (module *m = modules; m < modules + module_count; m++)
+        if (m->reader && ask_one(m->reader, ASK_VARIABLE, text, length / sizeof *text + 1, &yes)) return 1;
     return 0;
 }
 
+/* Where a call's type isn't known it isn't asked for again: its blocks may be many. */
 size_t name_in_block(u64 caller, u64 block_size, u64 offset, u64 length, char *buffer, size_t size) {
+    static map untyped;
     inlined_frame *f = frames_of(caller);
-    module *m = f && f->in_system_file && !f->in_system ? module_at(caller) : 0;
-    symbol *s = m ? symbol_at(m, caller - 1) : 0;
-    if (!s) return 0;
-    if (!m->members) m->members = read_members(m->path);
-    place_in_block at = {s->at - m->base, caller - 1 - m->base, block_size, offset, length};
-    size_t type = add_in_block(m->members, at, buffer, size);
-    cleaned(buffer);
-    return type;
+    module *m = f && !f->in_system ? module_at(caller) : 0;
+    answer part;
+    if (!m || map_find(&untyped, caller, block_size)) return 0;
+    say_unread(m);
+    if (!ask_one(reader_of(m), ASK_BLOCK, (u64[]){caller - 1 - m->base, block_size, offset, length}, 4, &part)) {
+        map_number(&untyped, caller, block_size);
+        return 0;
+    }
+    if (part.one > strlen(part.first) || strlen(part.first) >= size) return 0;
+    cleaned(strcpy(buffer, part.first));
+    return part.one;
 }
 
 int local_name(u64 function, u64 pc, u64 below, u64 above, u64 length, char *buffer, size_t size) {
     module *m = module_at(function);
-    symbol *s = m ? symbol_at(m, function - 1) : 0;
+    answer local;
     char own[200];
-    if (!s) return 0;
-    if (!m->members) m->members = read_members(m->path);
-    place_of_local at = {s->at - m->base, pc - 1 - m->base, below, above, length};
-    const char *inlined = add_local(m->members, at, buffer, size - sizeof own);
-    if (!inlined) return 0;
-    size_t used = strlen(buffer);
-    snprintf(buffer + used, size - used, " of %s", *inlined ? inlined : function_name(function - 1, own, sizeof own - 5));
+    if (!m) return 0;
+    say_unread(m);
+    if (!ask_one(reader_of(m), ASK_LOCAL, (u64[]){pc - 1 - m->base, below, above, length}, 4, &local)) return 0;
+    const char *inside = *local.second ? local.second : function_name(function - 1, own, sizeof own);
+    snprintf(buffer, size, "%.*s of %.199s", (int)(size - sizeof own - 5), local.first, inside);
     cleaned(buffer);
     return 1;
 }
@@ -312,65 +258,34 @@ void note_caller(u64 caller) { caller_number(caller); }
 
 static int by_number(const void *a, const void *b) { return *(u64 *)a < *(u64 *)b ? -1 : *(u64 *)a > *(u64 *)b; }
 
-/* In the same order in each run, for what a tool says of some addresses depends on those before. */
-static int write_addresses(FILE *f, module *m) {
-    u64 *found = zeroed(callers.count + 1, sizeof *found), count = 0;
+/* The addresses of the callers in a module, sorted. */
+static u64 *addresses_in(module *m, u64 *count) {
+    u64 *found = zeroed(callers.count + 1, sizeof *found);
+    *count = 0;
     for (u64 i = 0; i < callers.capacity; i++) {
         u64 caller = callers.entries[i].a;
-        if (callers.entries[i].value && caller && module_at(caller) == m) found[count++] = caller - m->base - 1;
+        if (callers.entries[i].value && caller && module_at(caller) == m) found[(*count)++] = caller - m->base - 1;
     }                                  /* the call, not where it returns to */
-    qsort(found, count, sizeof *found, by_number);
-    for (u64 i = 0; i < count; i++) fprintf(f, "%lx\n", found[i]);
-    free(found);
-    return count > 0;
-}
-
-static int is_address(const char *line) {
-    return !strncmp(line, "0x", 2) && line[2 + strspn(line + 2, "0123456789abcdef")] == '\n';
-}
-
-/* Reads on to the end of a place that begins with this line, as "path:12 (discriminator 3)", and cuts what is behind its number.
-   The path may have any byte. */
-static void read_place(FILE *f, char *place) {
-    size_t count = strlen(place);
-    char *colon;
-    while ((!(colon = strrchr(place, ':')) || !strchr("0123456789?", colon[1])) && fgets(place + count, LINE_BYTES - count, f))
-        count += strlen(place + count);
-    if (colon) colon[1 + strcspn(colon + 1, " \n")] = 0;
-}
-
-static int has_line(const char *place) {
-    const char *colon = strrchr(place, ':');
-    return colon && strncmp(place, "??:", 3) && strtoul(colon + 1, 0, 10);
-}
-
-static void note_file_of(char *place) {
-    char *colon = strrchr(place, ':');
-    *colon = 0;
-    note_source(place);
-    *colon = ':';
+    qsort(found, *count, sizeof *found, by_number);
+    return found;
 }
 
 /* "path:12", with the path as sources are named. */
-static char *location_of(const char *place) {
-    const char *colon = strrchr(place, ':');
-    char *path = copy(place), text[2 * LINE_BYTES];
-    path[colon - place] = 0;
-    int length = snprintf(text, sizeof text, "%s%s", source_name(path), colon);
-    free(path);
+static char *location_of(const char *path, u64 line) {
+    char text[2 * MOST_TEXT];
+    int length = snprintf(text, sizeof text, "%s:%lu", source_name(path), line);
     return copy(cleaned(length > PLACE_BYTES ? text + length - PLACE_BYTES : text));
 }
 
-static inlined_frame *new_frame(const char *function, const char *location, int has_line) {
+static inlined_frame *new_frame(const char *function, const char *location, u64 line) {
     inlined_frame *f = zeroed(1, sizeof *f);
-    *f = (inlined_frame){.function = function, .location = location, .has_line = has_line};
+    *f = (inlined_frame){.function = function, .location = location, .line = line};
     return f;
 }
 
 /* A function's name without what the compiler adds for its parts and copies: "f.cold", "f(int) [clone .part.0]". */
 static char *function_part(char *name) {
     static const char *const added[] = {".cold", ".part.", ".isra.", ".constprop.", ".lto_priv."}, clone[] = " [clone ";
-    name[strcspn(name, "\n")] = 0;
     for (size_t i = 0; i < sizeof added / sizeof *added; i++) {
         char *at = strstr(name, added[i]), *before = at ? at - strlen(clone) : 0;
         if (at) *(before > name && !strncmp(before, clone, strlen(clone)) ? before : at) = 0;
@@ -378,45 +293,39 @@ static char *function_part(char *name) {
     return name;
 }
 
-/* Two lines for each frame, of its function and of its place, after one with the address. */
-static void read_frames(FILE *f, module *m) {
-    char function[LINE_BYTES], place[LINE_BYTES];
+static inlined_frame *frame_of(const module *m, const answer *a) {
+    int is_named = a->two || !in_system(m->path);            /* else the name may be a neighbour's */
+    u64 line = *a->second && a->two < UINT32_MAX ? a->two : 0;
+    inlined_frame *f = new_frame(is_named ? cleaned(function_part(copy(a->first))) : "", line ? copy(a->second) : 0, line);
+    if (line && !m->is_late) note_source(a->second);
+    f->in_system = in_system(m->path);
+    f->in_system_file = f->in_system || (line && in_system(a->second));
+    return f;
+}
+
+/* The frames of some callers in a module, with the paths of their files. */
+static void read_frames(module *m, const u64 *addresses, u64 count) {
     inlined_frame **next = 0;
-    while (fgets(function, sizeof function, f)) {
-        if (is_address(function)) {
-            u32 number = map_find(&callers, strtoull(function, 0, 16) + m->base + 1, 0);
-            next = number ? &places[number].frames : 0;
-            continue;
+    answer a;
+    u64 number = 0, frames = 0;
+    ask(reader_of(m), ASK_FRAMES, addresses, count);
+    while (next_answer(m->reader, &a)) {
+        int is_first = !next || a.one > number;
+        frames = is_first ? 1 : frames + 1;
+        if (a.one >= count || a.one < number || frames > MOST_INLINED) {
+            refuse_answer(m->reader);
+            return;
         }
-        if (!fgets(place, sizeof place, f) || !next) return;
-        read_place(f, place);
-        function_part(function);
-        int with_line = has_line(place);
-        int named = *function != '?' && (with_line || !in_system(m->path));   /* else the name may be a neighbour's */
-        *next = new_frame(named ? copy(cleaned(function)) : "", with_line ? copy(place) : 0, with_line);
-        if (with_line && !m->is_late) note_file_of(place);
-        (*next)->in_system = in_system(m->path);
-        (*next)->in_system_file = in_system(place) || (*next)->in_system;
+        if (is_first) next = &places[map_find(&callers, addresses[number = a.one] + m->base + 1, 0)].frames;
+        *next = frame_of(m, &a);
         next = &(*next)->outer;
     }
 }
 
-/* A function's name with lambdas as nm has them, where addr2line has 'lambda0'(int) or <lambda(int)>. */
+/* A function's name with lambdas as symbols have them, where gcc's debug information has <lambda(int)>. */
 static char *with_lambdas(const char *name) {
-    enum { BEFORE = sizeof a_lambda - 1 };     /* the bracket of its parameters */
-    char *text = copy(name), *to = text;
-    for (const char *at = text; *at; to++) {
-        const char *end = at + BEFORE - 1;
-        int is_lambda = (*at == '\'' || *at == '<') && !strncmp(at + 1, a_lambda + 1, BEFORE - 2);
-        if (is_lambda && *at == '\'') end += strspn(end, "0123456789") + 1;
-        if (is_lambda && *end == '(') {
-            memcpy(to, a_lambda, BEFORE - 1);
-            to += BEFORE - 1;
-            at = end;
-        }
-        *to = *at++;
-    }
-    *to = 0;
+    char *text = copy(name);
+    for (char *at = text; (at = strstr(at, "<lambda(")); at++) *at = *a_lambda;
     return text;
 }
 
@@ -433,28 +342,20 @@ static void name_lambda(inlined_frame *f) {
     free(text);
 }
 
-/* Has a tool tell of the callers in a module. */
 static void ask_for_lines(module *m) {
-    const char *words[] = {"llvm-addr2line", "-aifC", "-e", m->path, 0};
-    u64 bytes = size_of_module(m->path);
+    u64 count, *addresses = addresses_in(m, &count);
     m->asked = 1;
-    if (!bytes) return;
-    FILE *addresses = tmpfile();
-    if (!addresses) die("cannot write to " P_tmpdir ": %s", strerror(errno));
-    if (write_addresses(addresses, m) && (!in_system(m->path) || may_have_lines(m->path))) {
-        if (fflush(addresses) || ferror(addresses)) die("cannot write to " P_tmpdir ": %s", strerror(errno));
-        rewind(addresses);
-        tool t = run_tool(words, fileno(addresses), bytes);
-        if (!t.process) {
-            end_tool(t);
-            *words = "addr2line";
-            t = run_tool(words, fileno(addresses), bytes);
-            say_missing(t, *words);
-        }
-        read_frames(t.output, m);
-        end_tool(t);
-    }
-    fclose(addresses);
+    for (u64 k = 0; k < count; k += MOST_NUMBERS) read_frames(m, addresses + k, count - k < MOST_NUMBERS ? count - k : MOST_NUMBERS);
+    free(addresses);
+}
+
+static void note_sources_of(module *m) {
+    answer source;
+    u64 count = 0;
+    ask(reader_of(m), ASK_SOURCES, 0, 0);
+    while (next_answer(m->reader, &source))
+        if (count++ < MOST_SOURCES) note_source(source.first);
+        else refuse_answer(m->reader);
 }
 
 static char *address_place(u64 caller) {
@@ -477,9 +378,9 @@ static void find_place(u64 caller, u32 number) {
     module *m = module_at(caller);
     inlined_frame *chosen = 0;
     for (inlined_frame *f = places[number].frames; f; f = f->outer) {
-        f->location = f->has_line ? location_of(f->location) : address_place(caller);
-        if (f->has_line && !f->in_system_file) name_lambda(f);
-        if (f->has_line && (!chosen || (chosen->in_system_file && !f->in_system_file))) chosen = f;
+        f->location = f->line ? location_of(f->location, f->line) : address_place(caller);
+        if (f->line && !f->in_system_file) name_lambda(f);
+        if (f->line && (!chosen || (chosen->in_system_file && !f->in_system_file))) chosen = f;
     }
     char *address = chosen ? 0 : address_place(caller);
     places[number].text = line_end(chosen ? chosen->location : address);
@@ -501,14 +402,25 @@ static void find_asked_places(void) {
     }
 }
 
+static int has_own_lines(module *m) {
+    answer yes;
+    return ask_one(reader_of(m), ASK_OWN_LINES, 0, 0, &yes);
+}
+
+static int has_callers(const module *m) {
+    for (u64 i = 0; i < callers.capacity; i++)
+        if (callers.entries[i].value && callers.entries[i].a && module_at(callers.entries[i].a) == m) return 1;
+    return 0;
+}
+
 /* A library of the system whose lines are in a file of their own, and the recorder's, is late: it is asked when a frame of it is
    shown, and mostly none is. Its source files aren't the program's, so the names of those don't hang on it. */
 void find_places(void) {
     places = zeroed(callers.count + 1, sizeof *places);
     places[0].text = line_end("");
     for (module *m = modules; m < modules + module_count; m++) {
-        if (!in_system(m->path) && !is_recorder(m)) note_sources_of(m->path);
-        m->is_late = is_recorder(m) || (m > modules && in_system(m->path) && !has_own_lines(m->path));
+        if (!in_system(m->path) && !is_recorder(m)) note_sources_of(m);
+        m->is_late = is_recorder(m) || (m > modules && in_system(m->path) && !(has_callers(m) && has_own_lines(m)));
         if (!m->is_late) ask_for_lines(m);
     }
     find_asked_places();
@@ -544,7 +456,7 @@ inlined_frame *outermost(inlined_frame *f) {
     return f;
 }
 
-/* By their symbols, for addr2line names one function in several ways. */
+/* By their symbols. */
 int in_one_function(u64 caller, u64 other) {
     module *m = module_at(caller);
     symbol *s = m ? symbol_at(m, caller - 1) : 0, *o = m && module_at(other) == m ? symbol_at(m, other - 1) : 0;

@@ -10,6 +10,7 @@
        use COUNT WORD VARIABLE LOCAL THREAD LOCATION STACK LOCK..     WORD is r, w, a (written atomically) or f (freed); STACK a number
                                                                       of the file of stacks, or 0
        event NUMBER-IN-PAGE NUMBER-IN-RUN
+       part NUMBER-IN-PAGE                                      between this event and the one before it some may be missing
        events COUNT-IN-PAGE                                     at the end */
 #define _GNU_SOURCE
 #include <errno.h>
@@ -172,6 +173,12 @@ void note_written(u64 number, u64 in_page) {
     if (!uses_file) return;
     while (wanted_at < wanted_count && wanted[wanted_at] < number) wanted_at++;
     if (wanted_at < wanted_count && wanted[wanted_at] == number) fprintf(uses_file, "event\t%lu\t%lu\n", in_page, number);
+}
+
+void note_part(u64 in_page) {
+    static u64 last;
+    if (uses_file && in_page != last) fprintf(uses_file, "part\t%lu\n", in_page + 1);
+    last = in_page;
 }
 
 /* ---- the locks that a thread holds, those that the program has ---- */

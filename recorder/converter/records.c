@@ -78,7 +78,8 @@ static int is_good(u64 i) {
     if (operation == OP_SIZE) return i > 0 && size_follows(i - 1) && !size_follows(i);
     if (is_access(i) && size_of(i) > 16 && !(records[i].what >> 54 & IS_RANGE)) return 0;
     if (size_follows(i) && (operation_of(i + 1) != OP_SIZE || size_of(i) >= MAX_SIZE)) return 0;
-    if (operation == OP_FRAME || operation == OP_DEPTH) return size_of(i) <= MOST_FRAMES;
+    if (operation == OP_FRAME) return size_of(i) < MOST_FRAMES;
+    if (operation == OP_CONTEXT) return size_of(i) <= 1;
     if (operation == OP_NAME) return size_of(i) == 0 || size_of(i) == NAME_PIECE;
     return (operation != OP_FORK && operation != OP_JOIN) || address_of(i) < THREAD_NUMBERS;
 }

@@ -67,16 +67,10 @@ static void sort_sources(void) {
     sorted_count = source_count;
 }
 
-static u64 sum_of(const char *text, u64 factor) {
-    u64 sum = factor;
-    while (*text) sum = (sum ^ (unsigned char)*text++) * factor;
-    return sum;
-}
-
 void note_source(const char *path) {
-    static map met;                    /* by two sums of a path */
+    static map met;
     char *normal = normal_path(path);
-    if (*normal && map_number(&met, sum_of(normal, 0x100000001b3), sum_of(normal, 0x9E3779B97F4A7C15)) > source_count) {
+    if (*normal && map_text(&met, normal) > source_count) {
         GROW(sources, source_count, source_capacity);
         sources[source_count++] = normal;
     } else free(normal);

@@ -47,9 +47,9 @@ typedef struct { u64 caller, function, way, own, place; } call;         /* place
    of what has a name. */
 typedef struct { u64 event; u32 number, depth; } foreign;
 typedef struct {
-    call *calls;                       /* the outermost first; further in than `depth` are those that were met before */
-    u32 *nodes, known, owned;          /* of how many of the first the node is known, and the own place */
-    u32 told_depth, depth;             /* by the records before; of the present one */
+    call *calls;                       /* the outermost first; further in than `length` are those that were met before */
+    u32 *contexts, *nodes, known, owned;                     /* of how many of the first the node is known, and the own place */
+    u32 told, in, length, depth;       /* its context by the records before; that of `calls`, with its depth; of the present record */
     u64 way, caller;                   /* of the present one */
     u64 end;                           /* of its stack */
     foreign *foreign;                  /* since its last record */
@@ -61,11 +61,18 @@ typedef struct {
 /* function: what was called, by a place in it; of an event 0. A way has a node of its own. */
 typedef struct { u64 caller, function; u32 outer; uint8_t used, is_way; } node;
 
+/* A record OP_FRAME, with its number as the index; 0 has no function. */
+typedef struct { call call; u64 record, own_function; u32 outer, depth; uint8_t is_sought; } context;
+
 static int with_stacks, has_calls;
 static FILE *file;
 static const char *path;
 static calls_of_thread stacks[THREADS];
 static u64 told_way, has_way;          /* of which record; the passes pass over some */
+static u64 has_context;                /* the same of a context that is told for one alone */
+static u32 told_context;
+static context *contexts;
+static u64 context_count, context_capacity;
 static node *nodes;                    /* from 1 */
 static u64 node_count, node_capacity, nodes_written;
 static map node_map;
@@ -79,8 +86,7 @@ static u64 free_count, free_capacity;
 static FILE *lines;                    /* of atomics and locals, in memory */
 static char *lines_text;
 static size_t lines_bytes;
-static map sites;                      /* of a caller and a function */
-static u64 *site_places, site_count, site_capacity, told_place;
+static u64 told_place;
 static int has_place;
 
 static void cannot_write(void) { die("cannot write to %s: %s", path, strerror(errno)); }
@@ -95,14 +101,18 @@ void open_stacks(const char *path_) {
 }
 
 /* ---- the stack of each thread, as the record tells it ---- */
+/* As a record OP_PLACE has it. A function that seems to take more or less room than at the first call from there doesn't: then its return
+   address was left by another call. */
 static u64 place_at(u64 caller, u64 function) {
+    static map sites;
+    static u64 *sizes, count, capacity;
+    if (!has_place) return 0;
     u32 number = map_number(&sites, caller, function);
-    if (number > site_count) {
-        GROW(site_places, site_count, site_capacity);
-        site_places[site_count++] = 0;
+    if (number > count) {
+        GROW(sizes, count, capacity);
+        sizes[count++] = told_place >> PLACE_BITS;
     }
-    if (has_place) site_places[number - 1] = told_place;
-    return site_places[number - 1];
+    return told_place >> PLACE_BITS == sizes[number - 1] ? told_place : 0;
 }
 
 /* A piece or an object on a stack: its name now, and how many records the stack's thread had at the last access by another one. */
@@ -140,26 +150,93 @@ static void leave_functions(calls_of_thread *s) {
     s->records++;
 }
 
+/* Of the functions of a context, those further out than so many. */
+static u32 outer_context(u32 number, u64 depth) {
+    while (contexts[number].depth > depth) number = contexts[number].outer;
+    return number;
+}
+
+/* In the first pass. */
+static void note_frame(u64 i) {
+    u32 *told = &stacks[thread_of(i)].told, outer = context_count ? outer_context(*told, size_of(i)) : 0;
+    for (int k = !context_count; k >= 0; k--) {              /* before the first one that without a function */
+        GROW(contexts, context_count, context_capacity);
+        contexts[context_count++] = (context){.record = i};
+    }
+    *told = context_count - 1;
+    contexts[*told].call = (call){.caller = caller_of(i), .function = address_of(i)};
+    contexts[*told].outer = outer;
+    contexts[*told].depth = contexts[outer].depth + 1;
+}
+
+static u32 context_of_frame(u64 i) {
+    u64 low = 1, high = context_count - 1;
+    while (low < high) {
+        u64 k = (low + high) / 2;
+        if (contexts[k].record < i) low = k + 1;
+        else high = k;
+    }
+    return low;
+}
+
+/* That a record tells. */
+static u32 context_of(u64 i) {
+    if (operation_of(i) == OP_FRAME) return context_of_frame(i);
+    return address_of(i) < context_count ? address_of(i) : 0;
+}
+
+/* The outermost of its functions that is the program's own. */
+u64 own_function(u64 i) {
+    char name[NAME_BYTES];
+    u32 number = context_of(i);
+    u64 found = 0;
+    for (u32 k = number; k; k = contexts[k].outer) {
+        if (contexts[k].is_sought && contexts[k].own_function) found = contexts[k].own_function;
+        if (contexts[k].is_sought) break;
+        if (own_function_name(contexts[k].call.function, name, sizeof name)) found = contexts[k].call.function;
+    }
+    if (number) contexts[number].own_function = found;
+    if (number) contexts[number].is_sought = 1;
+    return found;
+}
+
 static void meet_frame(calls_of_thread *s, u64 i) {
-    u64 d = size_of(i);
-    while (s->count <= d) {
-        u64 capacity = s->capacity;
+    call *c = &contexts[s->told = context_of_frame(i)].call;
+    c->way = s->way;
+    c->place = place_at(c->caller, c->function);
+}
+
+/* The thread is in the functions of a context. */
+static void enter(calls_of_thread *s, u32 number) {
+    u32 before = s->length;
+    if (s->in == number) return;
+    s->in = number;
+    s->length = contexts[number].depth;
+    while (s->count < s->length) {
+        u64 capacity = s->capacity, capacity_too = s->capacity;
         GROW(s->calls, s->count, s->capacity);
         GROW(s->nodes, s->count, capacity);
+        GROW(s->contexts, s->count, capacity_too);
         s->calls[s->count++] = (call){0};
     }
-    s->calls[d] = (call){caller_of(i), address_of(i), s->way, 0, place_at(caller_of(i), address_of(i))};
+    u32 d = s->length;
+    for (; d && (d > before || s->contexts[d - 1] != number); number = contexts[number].outer) {
+        s->contexts[--d] = number;
+        s->calls[d] = contexts[number].call;
+    }
     if (s->lowest > d) s->lowest = d;
     if (s->known > d) s->known = d;
     if (s->owned > d) s->owned = d;
-    s->told_depth = d + 1;
 }
 
 void note_call(u64 i) {
-    if (operation_of(i) == OP_DEPTH || operation_of(i) == OP_PLACE) return;
+    if (operation_of(i) == OP_CONTEXT && !size_of(i)) stacks[thread_of(i)].told = context_of(i);
+    if (operation_of(i) == OP_CONTEXT || operation_of(i) == OP_PLACE) return;
     note_caller(caller_of(i));
-    has_calls |= operation_of(i) == OP_FRAME;
-    if (operation_of(i) == OP_FRAME && with_stacks) note_caller(address_of(i));
+    if (operation_of(i) != OP_FRAME) return;
+    has_calls = 1;
+    note_frame(i);
+    if (with_stacks) note_caller(address_of(i));
 }
 
 void meet_call(u64 i) {
@@ -175,11 +252,16 @@ void meet_call(u64 i) {
     if (operation == OP_FRAME) meet_frame(s, i);
     if (operation != OP_WAY) has_place = operation == OP_PLACE;
     if (operation == OP_START) s->end = address_of(i) + size_of(i);
-    s->caller = operation < OP_FRAME || operation > OP_DEPTH ? caller_of(i) : 0;
-    if (operation == OP_DEPTH) s->told_depth = size_of(i);
-    u64 inside = depth_inside(i), depth = inside == DEPTH_BEFORE ? s->told_depth : inside;
-    s->depth = depth < s->count ? depth : s->count;
-    if (operation < OP_FRAME || operation == OP_DEPTH) leave_functions(s);
+    int is_once = operation == OP_CONTEXT && size_of(i);
+    if (is_once) {
+        told_context = context_of(i);
+        has_context = i + 1;
+    } else if (operation == OP_CONTEXT) s->told = context_of(i);
+    if (context_count) enter(s, has_context == i ? told_context : s->told);
+    s->caller = operation < OP_FRAME || operation > OP_CONTEXT ? caller_of(i) : 0;
+    u64 inside = depth_inside(i);
+    s->depth = inside != DEPTH_BEFORE && inside < s->length ? inside : s->length;
+    if (operation < OP_FRAME || (operation == OP_CONTEXT && !is_once)) leave_functions(s);
 }
 
 /* A way is one only if it lies in the function that was entered last. */
@@ -238,10 +320,9 @@ u32 stack_at(u32 t, u64 caller) {
 void forget_calls(void) {
     for (u32 t = 0; t < thread_bound(); t = next_thread(t)) {
         calls_of_thread *s = &stacks[t];
-        s->count = s->known = s->owned = s->told_depth = s->depth = s->last = 0;
+        s->count = s->known = s->owned = s->told = s->in = s->length = s->depth = s->last = 0;
     }
-    has_way = has_place = 0;
-    for (u64 k = 0; k < site_count; k++) site_places[k] = 0;
+    has_way = has_place = has_context = 0;
 }
 
 /* ---- locals ---- */
@@ -291,7 +372,7 @@ static void note_in_block(u64 at, u32 block_number, u64 length) {
     static map met;
     u64 caller = allocated_by(block_number);
     inlined_frame *f = caller && !is_of_system(caller) ? frames_of(caller) : 0;
-    if (!f || !f->in_system_file || f->in_system || map_number(&met, at, block_number) <= in_block_count) return;
+    if (!f || f->in_system || map_number(&met, at, block_number) <= in_block_count) return;
     GROW(in_blocks, in_block_count, in_block_capacity);
     in_blocks[in_block_count++] = (in_block){.at = at, .length = length, .block = block_number};
 }
@@ -462,7 +543,7 @@ static u32 frame_number(inlined_frame *f) {
     static u32 frame_count;
     if (f->number) return f->number;
     fprintf(file, "%s %s\t%s\n", f->in_system_file ? "system-frame" : "frame", f->function, f->location);
-    if (!f->in_system_file && f->has_line) note_line(f->location);
+    if (!f->in_system_file && f->line) note_line(f->location);
     return f->number = ++frame_count;
 }
 
@@ -483,7 +564,7 @@ static u32 called_in(u32 k) {
 
 /* Of the recorder's own nothing is shown, of a way only what is one, and of what called the outermost function only the program's own. */
 static int is_outermost(const node *n) { return !n->outer && n->function; }
-static int is_shown(const node *n, const inlined_frame *f) { return !is_outermost(n) || (!f->in_system && f->has_line); }
+static int is_shown(const node *n, const inlined_frame *f) { return !is_outermost(n) || (!f->in_system && f->line); }
 
 /* Null where none would be shown: they aren't asked for then. */
 static inlined_frame *frames_to_show(const node *n, u32 outer) {

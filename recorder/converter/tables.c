@@ -4,7 +4,7 @@
 #include <stdio.h>
 #include <stdlib.h>
 #include <sys/mman.h>
-#include "converter.h"
+#include "tables.h"
 
 const char *program_name = "shb-std";
 int failed_status = 2;
@@ -18,9 +18,9 @@ void die(const char *format, ...) {
     exit(failed_status);
 }
 
-void bad_words(void) {
+void bad_words(const char *which, const char *why) {
     failed_status = 3;
-    die("bad command line; %s --help says more", program_name);
+    die("%s%s; %s --help says more", which, why, program_name);
 }
 
 /* A long array is in large pages where the system has them: fewer faults, and fewer pages to look up. The whole mapping is,
@@ -77,3 +77,11 @@ u32 map_number(map *m, u64 a, u64 b) {
     if (!found->value) *found = (map_entry){a, b, ++m->count};
     return found->value;
 }
+
+static u64 sum_of(const char *text, u64 factor) {
+    u64 sum = factor;
+    while (*text) sum = (sum ^ (unsigned char)*text++) * factor;
+    return sum;
+}
+
+u32 map_text(map *m, const char *text) { return map_number(m, sum_of(text, 0x100000001b3), sum_of(text, 0x9E3779B97F4A7C15)); }

@@ -1,8 +1,12 @@
 /* What the lines of code that frames are at have as text, as sums: a line that was changed is known as another one by whoever sees
    traces of both, and nothing that stands in a file is told. */
+#include <fcntl.h>
 #include <stdlib.h>
 #include <string.h>
-#include "dwarf.h"
+#include <sys/mman.h>
+#include <sys/stat.h>
+#include <unistd.h>
+#include "converter.h"
 
 enum { MOST_SOURCE = 64 << 20 };       /* bytes of a source file */
 typedef struct { const char *location; u64 line; } wanted;
@@ -59,6 +63,21 @@ static u64 sum_of_line(const uint8_t *from, const uint8_t *end) {
     return sum;
 }
 
+typedef struct { const uint8_t *at, *end; } bytes;
+
+/* Of a regular file: a device or FIFO may have no end. */
+static bytes map_source(const char *path) {
+    struct stat status;
+    int f = open(path, O_RDONLY | O_NONBLOCK | O_CLOEXEC);
+    bytes found = {0};
+    if (f < 0) return found;
+    int is_read = !fstat(f, &status) && S_ISREG(status.st_mode) && status.st_size > 0 && status.st_size <= MOST_SOURCE;
+    uint8_t *text = is_read ? mmap(0, status.st_size, PROT_READ, MAP_PRIVATE, f, 0) : MAP_FAILED;
+    if (text != MAP_FAILED) found = (bytes){text, text + status.st_size};
+    close(f);
+    return found;
+}
+
 /* Of a source file, by its name in locations: a line "line LOCATION TAB SUM" for each of its lines that a frame is at. */
 void write_sums(FILE *file, const char *name, const char *path) {
     if (!location_count) return;
@@ -66,14 +85,14 @@ void write_sums(FILE *file, const char *name, const char *path) {
     is_sorted = 1;
     u64 k = first_of(name), line = 1;
     if (k == location_count || !is_of(&locations[k], name)) return;
-    bytes text = map_module(path);
+    bytes text = map_source(path);
     const uint8_t *at = text.at;
-    for (; at && text.end - text.at <= MOST_SOURCE && at < text.end && k < location_count && is_of(&locations[k], name); line++) {
+    for (; at < text.end && k < location_count && is_of(&locations[k], name); line++) {
         const uint8_t *end = memchr(at, '\n', text.end - at);
         if (!end) end = text.end;
         for (; k < location_count && is_of(&locations[k], name) && locations[k].line <= line; k++)
             if (locations[k].line == line) fprintf(file, "line %s\t%016lx\n", locations[k].location, sum_of_line(at, end));
         at = end + (end < text.end);
     }
-    unmap_module(text);
+    if (text.at) munmap((void *)text.at, text.end - text.at);
 }

@@ -11,7 +11,7 @@ static uint64_t size_in_last(uint64_t size) {
 }
 static uint64_t write_at(uint64_t size, uint64_t caller) { return caller | (uint64_t)OP_WRITE << 48 | size_in_last(size) << 54; }
 static int is_write_of(uint64_t last, uint64_t size) {
-    uint64_t inside = last >> 54;      /* of a quick hook with the depth */
+    uint64_t inside = last >> 54;      /* of a quick hook with a depth */
     return is_write(last) && (inside & IS_RANGE ? inside : inside % (1 << LOGARITHM_BITS)) == size_in_last(size);
 }
 
@@ -40,18 +40,16 @@ static void note_write(void *p, uint64_t size, uint64_t caller) {
     leave(t);
 }
 
-void note_access(enum operation operation, uint64_t address, uint64_t size, uint64_t caller) {
+__attribute__((noinline)) void note_access(enum operation operation, uint64_t address, uint64_t size, uint64_t caller) {
     if (operation == OP_READ) note_read((void *)address, size, caller);
     else note_write((void *)address, size, caller);
 }
 
-/* The rest of a quick hook of a cell with a table of keys, or with several readers. */
+/* The rest of a quick hook of a use that is new in its cell, or isn't in the line in which most are. */
 void hold_elsewhere(thread *t, cell *c, uint64_t what, uint64_t address) {
-    int is_readers = c->owner == READERS && operation_of(what) == OP_READ;
-    uint64_t reader = is_readers ? reader_of(t->serial, t->number) : 0, use = slot_of_use(what, reader);
-    int is_known = (is_readers || c->owner == t->serial) && cell_uses[use].what == what && cell_uses[use].before == reader;
-    uint64_t *key = is_known ? find_key(c, use) : 0;
-    int is_held = key && hold_quickly(t, key, key_now(t, use), what);
+    cell_use use = {what, kind_in(c, what, t->kind, t->reader)};
+    uint64_t *word = word_of_use(c, address, t->serial, t->number, use);
+    int is_held = word && hold_quickly(t, word, operation_of(what), what);
     end_quick_hook(t);
     if (t->deferred) deliver_deferred(t);
     if (!is_held) note_access(operation_of(what), address, 1 << (what >> 54) % (1 << LOGARITHM_BITS), what & LOW_48_BITS);

@@ -70,9 +70,13 @@ static void note_where_made(fiber *new, uint64_t caller, uint64_t function) {
     thread *t = self;
     if (!t || !records_calls) return;
     uint32_t end = t->depth < MOST_FRAMES ? t->depth : MOST_FRAMES, from = end > MOST_OUTER ? end - MOST_OUTER : 0;
-    while (from < end) new->frames[new->depth++] = t->frames[from++];
-    new->frames[new->depth++] = (frame){.caller = caller, .function = function};
-    for (uint32_t d = 0; d < new->depth; d++) new->frames[d].stack = ~0ull;
+    for (; from <= end; from++) {
+        frame *f = &new->frames[new->depth];
+        context like = from < end ? *t->frames[from].in : (context){.caller = caller, .function = function};
+        enter_context(f, new->depth ? f[-1].in : context_at(t, 0), like);
+        f->stack = ~0ull;
+        new->depth++;
+    }
 }
 PUBLIC void *__tsan_create_fiber(unsigned flags) {
     size_t size = MOST_FRAMES * sizeof(frame);
@@ -94,8 +98,7 @@ static void take_functions_of(fiber *next) {
     if (!t) return;
     *(fiber *)__tsan_get_current_fiber() = (fiber){t->frames, t->depth};
     t->frames = next->frames;
-    t->depth = next->depth;
-    forget_recorded_frames(t);
+    set_depth(t, next->depth);
 }
 PUBLIC void __tsan_switch_to_fiber(void *next, unsigned flags) {
     if (!(flags & NO_ORDER)) {
@@ -110,7 +113,7 @@ PUBLIC void __tsan_switch_to_fiber(void *next, unsigned flags) {
    function is jumped to: a context may be taken up again when the call that saved it is over. */
 #define SWITCHES_CONTEXT(name, words, ...) \
     PUBLIC __attribute__((optimize("optimize-sibling-calls"))) int name words { \
-        if (self && !running) self->depth = 0; \
+        if (self && !running) set_depth(self, 0); \
         return REAL(name)(__VA_ARGS__); \
     }
 SWITCHES_CONTEXT(swapcontext, (ucontext_t *from, const ucontext_t *to), from, to)

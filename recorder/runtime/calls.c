@@ -1,10 +1,12 @@
 /* The functions that each thread is in, for the call stacks of its accesses.  The compiler has each function call a hook as it
-   begins and as it ends (also where an exception leaves it).  These write nothing: the record gets a frame before the
-   thread's next record, and only where it hasn't the same one at the same depth from before.  So a loop that calls a
-   function again and again records its frame once. */
+   begins and as it ends (also where an exception leaves it).  A *context* is a function with those further out: a node of a tree
+   that all threads share, found again by its call.  So a hook moves a pointer and writes nothing: the record gets a context, with
+   a number, before its first access, and later the number. */
 #define _GNU_SOURCE
 #include <setjmp.h>
+#include <sys/mman.h>
 #include "runtime.h"
+#include "cells.h"
 
 int records_calls = 1;
 
@@ -19,67 +21,133 @@ uint64_t way_to(const thread *t, uint32_t depth, uint64_t caller) {
     return instrumented(way) ? way : 0;
 }
 
-/* ---- where functions lie on the stack: mostly it hangs on the call alone, and is recorded once for each ---- */
-enum { SITES = 1 << 14, MOST_PLACES = 8, NEAR = 512, NEAR_END = 1 << 14, PAGE = 4096 };
-#define MOVES (~0ull)                  /* the extent of a frame whose place isn't known, whatever it is */
-typedef struct { uint64_t caller, function, extent, place, size, changes, unused[2]; } site;     /* caller: of this record */
-static site sites[SITES];              /* each is the first call's that comes to it; with the turn */
-static uint64_t this_record = 1ull << 48;
+/* ---- the tree ---- */
+enum { MOST_KEPT = KINDS, MOST_CONTEXTS = MOST_KEPT / 8 * 7, BUCKETS = 1 << 17, MOST_EXTENTS = 8 };       /* the rest is for kinds */
+#define MOVES (~0ull)                  /* an extent that isn't known, whatever it is */
+#define NO_EXTENT (~0ull - 1)          /* that of a kind */
+static context kept[MOST_KEPT];        /* the first is that of no function, and stands for none */
+static _Atomic uint32_t kept_count = 1, buckets[BUCKETS];
 
-void forget_places(void) { this_record += 1ull << 48; }
+context *context_at(const thread *t, uint32_t depth) { return depth ? t->frames[depth - 1].in : kept; }
 
+void set_depth(thread *t, uint32_t depth) {
+    t->depth = depth;
+    t->in = context_at(t, recordable_depth(t));
+    t->kind = t->in->kind;
+}
+
+int is_kept_context(const context *c) { return c >= kept && c < kept + MOST_KEPT; }
+
+static int is_call(const context *c, const context *of) {
+    return c->outer == of->outer && c->caller == of->caller && c->function == of->function && c->way == of->way;
+}
+
+static _Atomic uint32_t *bucket_of(const context *c) {
+    return &buckets[((uint64_t)c->outer + c->caller * 3 + c->function * 5) * 0x9E3779B97F4A7C15u >> 47];
+}
+
+/* The one that is there, or 0; of a call with many extents that which stands for all, as `new` does then. */
+static uint32_t find_context(context *new) {
+    int count = 0;
+    for (uint32_t k = atomic_load(bucket_of(new)); k; k = kept[k].next) {
+        if (!is_call(&kept[k], new)) continue;
+        if (kept[k].extent == new->extent || kept[k].extent == MOVES) return k;
+        count++;
+    }
+    if (count >= MOST_EXTENTS) new->extent = MOVES;
+    return 0;
+}
+
+/* Others may add one of the same call meanwhile, which is as good. 0 where there is no room. */
+static uint32_t add_context(const context *new) {
+    uint32_t most = new->extent == NO_EXTENT ? MOST_KEPT : MOST_CONTEXTS;
+    uint32_t k = atomic_load(&kept_count) < most ? atomic_fetch_add(&kept_count, 1) : MOST_KEPT;
+    if (k >= MOST_KEPT) return 0;
+    kept[k] = *new;
+    kept[k].next = atomic_load(bucket_of(new));
+    while (!atomic_compare_exchange_weak(bucket_of(new), &kept[k].next, k)) ;
+    return k;
+}
+
+/* ---- kinds of contexts ---- */
+/* The location of an access is its own, or that of the innermost call which is in the program's own code. So where two contexts have the same
+   calls, each where it comes first from within, all locations are the same: they are of one *kind*, however deep a recursion is. A kind is
+   in the tree too, as a list: its first call, with the function that this is in, and the rest as what is further out. */
+static int is_call_of(const context *kind, const context *call) {
+    return kind->caller == call->caller && kind->function == call->function && kind->way == call->way;
+}
+
+/* Null where there is no room. */
+static context *kind_with(context *rest, const context *call) {
+    context kind = {.outer = rest, .caller = call->caller, .function = call->function, .way = call->way, .extent = NO_EXTENT};
+    uint32_t k = rest ? find_context(&kind) : 0;
+    if (rest && !k) k = add_context(&kind);
+    return k ? &kept[k] : 0;
+}
+
+/* The call is in it, once. */
+static context *kind_without(const context *kind, const context *call) {
+    return is_call_of(kind, call) ? kind->outer : kind_with(kind_without(kind->outer, call), kind);
+}
+
+static uint64_t kind_of(const context *c) {
+    const context call = {.caller = c->caller, .function = c->outer->function, .way = c->way};
+    context *rest = c->outer->kind == NO_KIND ? 0 : &kept[c->outer->kind >> KIND_AT], *k = rest;
+    while (k && k != kept && !is_call_of(k, &call)) k = k->outer;
+    context *kind = kind_with(k == kept ? rest : k ? kind_without(rest, &call) : 0, &call);
+    return kind ? (uint64_t)(kind - kept) << KIND_AT : NO_KIND;
+}
+
+/* The function in the frame is called as `new` says, in those of `outer`. Where there is no room for a context the frame has its own, a
+   new one at each call. */
+void enter_context(frame *f, context *outer, context new) {
+    f->own = (context){outer, new.caller, new.function, new.way, new.extent, NO_KIND, NOT_RECORDED, outer->depth + 1, 0, 0, 0};
+    uint32_t k = is_kept_context(outer) ? find_context(&f->own) : 0;
+    if (!k) f->own.kind = kind_of(&f->own);
+    if (!k && is_kept_context(outer)) k = add_context(&f->own);
+    if (k && outer->inner) kept[outer->inner].after = k;
+    if (k) outer->inner = k;
+    f->in = k ? &kept[k] : &f->own;
+}
+
+void forget_contexts(thread *t) {
+    uint32_t count = kept_count < MOST_KEPT ? kept_count : MOST_KEPT;
+    for (uint32_t k = 1; k < count; k++) kept[k].number = NOT_RECORDED;
+    for (uint32_t d = 0; t && d < recordable_depth(t); d++) t->frames[d].own.number = NOT_RECORDED;
+    if (!t) return;
+    t->told = kept;
+    set_depth(t, t->depth);
+}
+
+void unlock_contexts(void) { munlock(kept, sizeof kept); }
+
+/* ---- where functions lie on the stack ---- */
 /* By the return address, which stands once near the stack pointer of the function further out. In the same page: what is
-   below may be no memory, where the two functions have stacks of their own. */
-static uint64_t found_place(const thread *t, uint32_t depth) {
+   below may be no memory, where the two functions have stacks of their own. 0 where it isn't known. */
+uint64_t place_of_frame(const thread *t, uint32_t depth) {
+    enum { NEAR = 512, NEAR_END = 1 << 14, PAGE = 4096 };
     const frame *f = &t->frames[depth];
-    uint64_t outer = f->stack + f->extent, top = (uint64_t)t->stack + t->stack_size, found = 0;
-    if (f->stack < (uint64_t)t->stack || f->stack >= outer || outer > top || f->extent >> PLACE_BITS) return 0;
+    uint64_t outer = f->stack + f->in->extent, top = (uint64_t)t->stack + t->stack_size, found = 0;
+    if (f->in->extent >> PLACE_BITS || f->stack < (uint64_t)t->stack || f->stack >= outer || outer > top) return 0;
     uint64_t low = depth ? outer - NEAR : outer - NEAR_END, page = (outer - 1) & ~(PAGE - 1ull);
     if (depth && low < page) low = page;
     if (low < f->stack) low = f->stack;
     for (uint64_t at = outer - sizeof at; at >= low; at -= sizeof at)
-        if (*(uint64_t *)at == f->caller) {
+        if (*(uint64_t *)at == f->in->caller) {
             if (found) return 0;
             found = at + sizeof at;
         }
     return found ? (outer - found) | (found - f->stack) << PLACE_BITS : 0;
 }
 
-/* Of a call whose place changes again and again it isn't known. A function that seems to take more or less room than before
-   doesn't: then its return address was left by another call. */
-static __attribute__((noinline)) int is_changed(thread *t, uint32_t depth, site *s, uint64_t *place) {
-    frame *f = &t->frames[depth];
-    uint64_t caller = f->caller | this_record;
-    if (s->caller >> 48 != caller >> 48) *s = (site){.caller = caller, .function = f->function};
-    if (s->caller != caller || s->function != f->function || s->changes == MOST_PLACES) f->extent = MOVES;
-    if (f->extent == MOVES) return 0;
-    uint64_t before = s->place;
-    s->extent = f->extent;
-    *place = ++s->changes < MOST_PLACES ? found_place(t, depth) : 0;
-    if (!s->size) s->size = *place >> PLACE_BITS;
-    if (*place >> PLACE_BITS != s->size) *place = 0;
-    s->place = *place;
-    if (s->changes == MOST_PLACES) f->extent = MOVES;
-    return *place != before;
+/* ---- entering and leaving functions ---- */
+static __attribute__((noinline)) void enter_elsewhere(thread *t, uint32_t depth, uint64_t caller, uint64_t function, uint64_t extent) {
+    context new = {.caller = caller, .function = function, .way = way_to(t, depth, caller), .extent = extent};
+    enter_context(&t->frames[depth], context_at(t, depth), new);
 }
 
-int has_new_place(thread *t, uint32_t depth, uint64_t *place) {
-    const frame *f = &t->frames[depth];
-    site *s = &sites[(f->caller ^ f->function >> 4) % SITES];
-    int is_known = s->caller == (f->caller | this_record) && s->function == f->function && s->extent == f->extent;
-    return !is_known && is_changed(t, depth, s, place);
-}
-
-static __attribute__((noinline)) void set_frame(thread *t, uint32_t depth, uint64_t caller, uint64_t function, uint64_t extent) {
-    frame *f = &t->frames[depth];
-    uint64_t way = way_to(t, depth, caller);
-    int is_same = f->caller == caller && f->function == function && f->way == way;
-    if (is_same && (f->extent == extent || f->extent == MOVES)) return;
-    f->caller = caller | NOT_RECORDED;
-    f->function = function;
-    f->way = way;
-    f->extent = extent;
-    if (t->first_new > depth) t->first_new = depth;
+static int is_entered(const context *c, uint64_t caller, uint64_t function, uint64_t extent) {
+    return c->caller == caller && c->function == function && !c->way && (c->extent == extent || c->extent == MOVES);
 }
 
 /* A function whose stack pointer isn't further out than this one's was left without its hook: an exception came through code
@@ -95,46 +163,42 @@ PUBLIC void __tsan_func_entry(void *caller) {
         while (depth && t->frames[depth - 1].stack <= stack) depth--;
         frame *f = &t->frames[depth];
         uint64_t extent = (depth ? f[-1].stack : (uint64_t)t->stack + t->stack_size) - stack;
-        if (f->caller != (uint64_t)caller || f->function != CALLER || f->way || f->extent != extent)
-            set_frame(t, depth, (uint64_t)caller, CALLER, extent);
+        context *outer = depth ? f[-1].in : kept;
+        uint32_t k = outer->inner;
+        if (!is_entered(&kept[k], (uint64_t)caller, CALLER, extent)) k = kept[k].after;
+        if (is_entered(&kept[k], (uint64_t)caller, CALLER, extent)) {
+            outer->inner = k;
+            f->in = &kept[k];
+        } else enter_elsewhere(t, depth, (uint64_t)caller, CALLER, extent);
         f->stack = stack;
     }
-    t->depth = depth + 1;
+    set_depth(t, depth + 1);
 }
 
 PUBLIC void __tsan_func_exit(void) {
     thread *t = self;
     if (!t) return;
     end_copy(t);
-    if (t->depth) t->depth--;
-}
-
-void forget_recorded_frames(thread *t) {
-    for (uint32_t d = 0; d < MOST_FRAMES && t->frames[d].function; d++) t->frames[d].caller |= NOT_RECORDED;
-    t->first_new = 0;
-    t->recorded_depth = 0;
+    if (t->depth) set_depth(t, t->depth - 1);
 }
 
 /* A handler of a signal, which may come in the middle of a hook: the frame that the hook may be about to fill is kept. The
    handler may have a stack of its own. */
-frame push_frame(thread *t, uint64_t caller, uint64_t function) {
-    frame old = {0};
-    if (!records_calls) return old;
+interrupted push_frame(thread *t, uint64_t caller, uint64_t function) {
+    frame *f = &t->frames[t->depth];
+    interrupted before = {t->depth < MOST_FRAMES ? *f : (frame){0}, t->depth};
+    if (!records_calls) return before;
     if (t->depth < MOST_FRAMES) {
-        old = t->frames[t->depth];
-        set_frame(t, t->depth, caller, function, MOVES);
-        t->frames[t->depth].stack = ~0ull;
+        enter_elsewhere(t, t->depth, caller, function, MOVES);
+        f->stack = ~0ull;
     }
-    t->depth++;
-    return old;
+    set_depth(t, t->depth + 1);
+    return before;
 }
 
-void pop_frame(thread *t, uint32_t depth, frame old) {
-    t->depth = depth;
-    if (depth >= MOST_FRAMES) return;
-    t->frames[depth] = old;
-    if (old.function) t->frames[depth].caller |= NOT_RECORDED;
-    if (t->first_new > depth) t->first_new = depth;
+void pop_frame(thread *t, const interrupted *before) {
+    set_depth(t, before->depth);
+    if (t->depth < MOST_FRAMES) t->frames[t->depth] = before->innermost;
 }
 
 /* ---- longjmp leaves functions without their hooks ---- */
@@ -151,8 +215,10 @@ static void leave_functions(jmp_buf buffer) {
     thread *t = self;
     uint64_t to = saved_stack(buffer);
     if (!t || to - (uint64_t)t->stack >= t->stack_size || t->frames != t->own_frames) return;
-    while (t->depth && (t->depth > MOST_FRAMES || t->frames[t->depth - 1].stack < to
-                        || t->frames[t->depth - 1].stack - (uint64_t)t->stack >= t->stack_size)) t->depth--;
+    uint32_t depth = t->depth;
+    while (depth && (depth > MOST_FRAMES || t->frames[depth - 1].stack < to
+                     || t->frames[depth - 1].stack - (uint64_t)t->stack >= t->stack_size)) depth--;
+    set_depth(t, depth);
 }
 
 /* Looked up before a handler of a signal may ask for them. */

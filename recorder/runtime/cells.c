@@ -10,8 +10,8 @@
    one of a certain thread's. A write, an atomic access, an access of several cells or a free ends that phase.
 
    What is lost? Nothing that a race or its place needs:
-     - of accesses that are the same (thread, kind, place, bytes) and have no conflicting one of another thread between
-       them, the first and the last stand for all;
+     - of accesses that are the same (thread, kind, place with the calls that tell its location, bytes) and have no
+       conflicting one of another thread between them, the first and the last stand for all;
      - in the first phase of a variable, when no other thread had used it yet, the last alone does: each race of an
        earlier one with what comes behind has the same place as one of the last;
      - a variable that one thread alone uses has no race.
@@ -42,7 +42,7 @@ static uint64_t use_count, readers_count, memory_left, memory_of_keys;         /
 static char *chunks[CHUNKS];
 static uint64_t chunk_count;
 static struct pool { char *chunk; uint64_t left; } cell_pool, key_pool;        /* a chunk, and how much of it is left */
-static uint64_t *free_tables[MOST_LOG + 1];                  /* of keys, by the logarithm of their number; each leads to another one */
+static key_line *free_tables[MOST_LOG + 1];                  /* by their log_lines; each leads to another one */
 
 /* ---- memory ---- */
 static void *new_memory(uint64_t bytes) {
@@ -85,6 +85,7 @@ static void *memory_from(struct pool *pool, uint64_t bytes) {
         char *chunk = memory_left >= CHUNK_BYTES && chunk_count < CHUNKS ? new_memory(CHUNK_BYTES) : 0;
         if (!chunk) return 0;
         memory_left -= CHUNK_BYTES;
+        syscall(SYS_madvise, chunk, CHUNK_BYTES, MADV_HUGEPAGE);       /* all of it gets used, and at random */
         pool->chunk = chunks[chunk_count++] = chunk;
         pool->left = CHUNK_BYTES;
     }
@@ -99,57 +100,72 @@ static void *out_of_memory(void) {
 }
 
 /* ---- keys ---- */
-static uint64_t *keys_of(cell *c) { return c->log_keys ? (uint64_t *)c->keys[0] : c->keys; }
-static int key_count(const cell *c) { return c->log_keys ? 1 << c->log_keys : KEYS; }
+typedef struct { uint32_t *use; uint64_t *word; } key;
 
-static uint64_t *new_table(int log) {
-    uint64_t bytes = sizeof(uint64_t) << log, *keys = free_tables[log];
-    if (keys) {
-        free_tables[log] = (uint64_t *)keys[0];
-        memset(keys, 0, bytes);
-        return keys;
+static key key_in(key_line *line, int k) { return (key){&line->uses[k], &line->words[k]}; }
+static int key_count(const cell *c) { return c->log_lines ? KEYS_OF_LINE << (c->log_lines - 1) : KEYS; }
+static key key_at(cell *c, int k) {
+    return c->log_lines ? key_in((key_line *)c->words[0] + k / KEYS_OF_LINE, k % KEYS_OF_LINE) : (key){&c->uses[k], &c->words[k]};
+}
+static int is_held(key key) { return *key.use && *key.word & POSITIONS; }
+
+static key_line *new_table(int log) {
+    uint64_t bytes = sizeof(key_line) << (log - 1);
+    key_line *table = free_tables[log];
+    if (table) {
+        free_tables[log] = (key_line *)table->words[0];
+        memset(table, 0, bytes);
+        return table;
     }
-    keys = memory_of_keys >= bytes ? memory_from(&key_pool, bytes) : 0;
-    if (keys) memory_of_keys -= bytes;
-    return keys;
+    table = memory_of_keys >= bytes ? memory_from(&key_pool, bytes) : 0;
+    if (table) memory_of_keys -= bytes;
+    return table;
 }
 
 static void free_table(cell *c) {
-    if (!c->log_keys) return;
-    uint64_t *keys = keys_of(c);
-    keys[0] = (uint64_t)free_tables[c->log_keys];
-    free_tables[c->log_keys] = keys;
-    c->log_keys = 0;
+    if (!c->log_lines) return;
+    key_line *table = (key_line *)c->words[0];
+    table->words[0] = (uint64_t)free_tables[c->log_lines];
+    free_tables[c->log_lines] = table;
+    c->log_lines = 0;
 }
 
-static void insert_in_table(uint64_t *keys, int log, uint64_t key) {
-    uint64_t mask = (1 << log) - 1, k = key >> POSITION_BITS & mask;
-    while (keys[k]) k = (k + 1) & mask;
-    keys[k] = key;
+/* Of a use that isn't there. */
+static key free_key(cell *c, uint32_t use) {
+    if (!c->log_lines) return key_at(c, c->used);
+    for (key_line *line = line_of_use(c, use);; line = next_line(c, line))
+        for (int k = 0; k < KEYS_OF_LINE; k++)
+            if (!line->uses[k]) return key_in(line, k);
+}
+
+static uint64_t *insert_key(cell *c, uint32_t use, uint64_t word) {
+    key free = free_key(c, use);
+    c->used++;
+    *free.use = use;
+    *free.word = word;
+    return free.word;
 }
 
 /* Gives the cell a table, or one of twice the size. */
 static int grow_keys(cell *c) {
-    int log = c->log_keys ? c->log_keys + 1 : LEAST_LOG;
-    uint64_t *table = log <= MOST_LOG ? new_table(log) : 0, *keys = keys_of(c);
+    int log = c->log_lines + 1;
+    key_line *table = log <= MOST_LOG ? new_table(log) : 0;
+    cell grown = *c;
     if (!table) return 0;
+    grown.words[0] = (uint64_t)table;
+    grown.words[1] = (sizeof(key_line) << (log - 1)) - sizeof(key_line);
+    grown.log_lines = log;
+    grown.used = 0;
     for (int k = 0, count = key_count(c); k < count; k++)
-        if (keys[k]) insert_in_table(table, log, keys[k]);
+        if (*key_at(c, k).use) insert_key(&grown, *key_at(c, k).use, *key_at(c, k).word);
     free_table(c);
-    memset(c->keys, 0, sizeof c->keys);
-    c->keys[0] = (uint64_t)table;
-    c->log_keys = log;
+    *c = grown;
     return 1;
 }
 
-/* Is there one? A quarter of a table stays free. */
-static int has_free_key(cell *c) { return c->used < (c->log_keys ? 3 << (c->log_keys - 2) : KEYS) || grow_keys(c); }
-
-static void insert_key(cell *c, uint64_t key) {
-    if (c->log_keys) insert_in_table(keys_of(c), c->log_keys, key);
-    else c->keys[c->used] = key;
-    c->used++;
-}
+/* A fifth of a table stays free. */
+static int is_full(const cell *c) { return c->used >= (c->log_lines ? (KEYS_OF_LINE - 1) << (c->log_lines - 1) : KEYS); }
+static int has_free_key(cell *c) { return !is_full(c) || grow_keys(c); }
 
 /* ---- pages ---- */
 /* Null where nothing of it is known; with `make` where there is no memory. */
@@ -198,33 +214,32 @@ static int has_freed(const cell_page *page) {
 }
 
 /* ---- uses ---- */
+static int has_reader(uint64_t from) { return from << (64 - KIND_AT) >> (64 - KIND_AT + GRAINS_BEFORE) != 0; }
+
 /* The number of a use, which gets one; or 0. */
-static uint64_t number_of_use(uint64_t what, uint64_t before) {
-    uint64_t slot = slot_of_use(what, before);
-    int is_readers = before >> GRAINS_BEFORE != 0;
-    while (slot < FIRST_USE || (cell_uses[slot].what && (cell_uses[slot].what != what || cell_uses[slot].before != before)))
-        slot = (slot + 1) % USE_SLOTS;
+static uint32_t number_of_use(cell_use use) {
+    uint32_t slot = slot_of_use(use.what, use.from);
+    while (!slot || (cell_uses[slot].what && !is_same(cell_uses[slot], use))) slot = (slot + 1) % USE_SLOTS;
     if (cell_uses[slot].what) return slot;
-    if (use_count == MOST_USES || (is_readers && readers_count == MOST_OF_READERS)) return 0;
+    if (use_count == MOST_USES || (has_reader(use.from) && readers_count == MOST_OF_READERS)) return 0;
     use_count++;
-    readers_count += is_readers;
-    cell_uses[slot] = (cell_use){what, before};
+    readers_count += has_reader(use.from);
+    cell_uses[slot] = use;
     return slot;
 }
 
 /* ---- phases ---- */
-static void put_held(const cell *c, uint64_t key, uint64_t address) {
-    const cell_use *use = &cell_uses[key >> POSITION_BITS];
-    uint64_t byte = use->what >> FIRST_BYTE & (GRAIN - 1), before = use->before % (1 << GRAINS_BEFORE);
+static void put_held(const cell *c, key key, uint64_t address) {
+    const cell_use *use = &cell_uses[*key.use];
+    uint64_t byte = use->what >> FIRST_BYTE & (GRAIN - 1), before = use->from % (1 << GRAINS_BEFORE);
     uint64_t first = (address / GRAIN - before) * GRAIN + byte;
-    uint16_t number = c->owner == READERS ? use->before >> GRAINS_BEFORE : c->number;
-    put_late((struct record){first | (uint64_t)number << 48, use->what ^ byte << FIRST_BYTE}, key & POSITIONS);
+    uint16_t number = c->owner == READERS ? use->from >> GRAINS_BEFORE : c->number;
+    put_late((struct record){first | (uint64_t)number << 48, use->what ^ byte << FIRST_BYTE}, *key.word);
 }
 
 static void put_all_held(cell *c, uint64_t address) {
-    const uint64_t *keys = keys_of(c);
     for (int k = 0, count = key_count(c); k < count; k++)
-        if (keys[k] & POSITIONS) put_held(c, keys[k], address);
+        if (is_held(key_at(c, k))) put_held(c, key_at(c, k), address);
 }
 
 static void begin_phase(cell_page *page, cell *c, uint64_t address, uint32_t serial, uint16_t number) {
@@ -237,72 +252,97 @@ static void begin_phase(cell_page *page, cell *c, uint64_t address, uint32_t ser
 }
 
 /* Now and then it takes the place of an older one. Does it? */
-static int replace_key(cell *c, uint64_t address, uint64_t key) {
+static int replace_key(cell *c, uint64_t address, uint32_t use, uint64_t word) {
     static unsigned overflows;
     if (++overflows % OVERFLOWS) return 0;
-    uint64_t *old = &keys_of(c)[c->log_keys ? key >> POSITION_BITS & (key_count(c) - 1) : overflows / OVERFLOWS % KEYS];
-    if (!*old) return 0;
-    if (*old & POSITIONS) put_held(c, *old, address);
-    *old = key;
+    unsigned which = overflows / OVERFLOWS % (c->log_lines ? KEYS_OF_LINE : KEYS);
+    key old = c->log_lines ? key_in(line_of_use(c, use), which) : key_at(c, which);
+    if (!*old.use) return 0;
+    if (is_held(old)) put_held(c, old, address);
+    *old.use = use;
+    *old.word = word;
     return 1;
 }
 
 /* The owner's first use of this kind, in this phase or since it was forgotten. Is it held back? */
-static int hold_new(cell *c, uint64_t address, uint64_t use, uint64_t position) {
-    uint64_t key = use << POSITION_BITS | (c->is_first ? position : 0);
-    if (!has_free_key(c)) return replace_key(c, address, key) && c->is_first;
-    insert_key(c, key);
+static int hold_new(cell *c, uint64_t address, uint32_t use, uint64_t word) {
+    if (!c->is_first) word = 0;
+    if (!has_free_key(c)) return replace_key(c, address, use, word) && c->is_first;
+    insert_key(c, use, word);
     return c->is_first;
 }
 
-static int is_read(uint64_t what) { return (what >> 48 & 3) == OP_READ; }
-
 /* Of the cell's owner, or of one of its readers. Is it held back? At most one comes late. */
-static int hold_in_cell(cell *c, uint64_t address, cell_use use, uint64_t position) {
+static int hold_in_cell(cell *c, uint64_t address, cell_use use, uint64_t word) {
     if (!is_read(use.what)) c->is_only_read = 0;
-    uint64_t number = position ? number_of_use(use.what, use.before) : 0, *key = number ? find_key(c, number) : 0;
-    if (key) *key = number << POSITION_BITS | position;
-    return key || (number && hold_new(c, address, number, position));
+    uint32_t number = word ? number_of_use(use) : 0;
+    uint64_t *held = number ? find_word(c, number) : 0;
+    if (held) *held = word;
+    return held || (number && hold_new(c, address, number, word));
+}
+
+/* A use that comes for the first time in a first phase, which may begin with it. */
+static uint64_t *add_use(cell *c, uint64_t address, uint32_t serial, uint16_t number, uint32_t use) {
+    cell_page *page = page_at(address, 0);
+    if (!c->owner && !is_freed(page, address)) {
+        begin_phase(page, c, address, serial, number);
+        c->is_only_read = 1;
+    }
+    if (c->owner != serial || !c->is_first || is_full(c)) return 0;
+    if (!is_read(cell_uses[use].what)) c->is_only_read = 0;
+    return insert_key(c, use, 0);
+}
+
+uint64_t *word_of_use(cell *c, uint64_t address, uint32_t serial, uint16_t number, cell_use use) {
+    uint32_t slot = slot_of_use(use.what, use.from);
+    if (!is_same(cell_uses[slot], use)) return 0;
+    uint64_t *word = c->owner == serial || c->owner == READERS ? find_word(c, slot) : 0;
+    return word ? word : add_use(c, address, serial, number, slot);
 }
 
 /* ---- phases of several readers ---- */
 /* The uses of its one reader get that reader; or it is 0, where there is no room for them. */
 static int give_to_readers(cell *c) {
-    uint64_t *keys = keys_of(c), reader = reader_of(c->owner, c->number), old[MOST_KEYS];
+    uint64_t reader = reader_of(c->owner, c->number), words[MOST_KEYS];
+    uint32_t new[MOST_KEYS];
     if (c->owner == READERS) return 1;
-    int count = key_count(c), used = 0;
-    for (int k = 0; k < count; k++) {
-        const cell_use *use = &cell_uses[keys[k] >> POSITION_BITS];
-        if (!keys[k]) continue;
-        uint64_t number = use->before ? 0 : number_of_use(use->what, reader);
-        if (!number) return 0;
-        old[used++] = number << POSITION_BITS | (keys[k] & POSITIONS);
+    int used = 0;
+    for (int k = 0, count = key_count(c); k < count; k++) {
+        key old = key_at(c, k);
+        if (!*old.use) continue;
+        cell_use use = cell_uses[*old.use];
+        int is_of_one = use.from << (64 - KIND_AT) == 0;
+        use.from |= reader;
+        new[used] = is_of_one && reader ? number_of_use(use) : 0;
+        words[used] = *old.word;
+        if (!new[used++]) return 0;
     }
-    memset(keys, 0, count * sizeof *keys);
+    for (int k = 0, count = key_count(c); k < count; k++) *key_at(c, k).use = 0;
     c->used = 0;
-    for (int k = 0; k < used; k++) insert_key(c, old[k]);
+    for (int k = 0; k < used; k++) insert_key(c, new[k], words[k]);
     c->owner = READERS;
     return 1;
 }
 
 /* May another thread read it in this phase? */
 static int is_for_readers(cell *c, uint32_t serial, cell_use use) {
-    return c->owner && c->owner != serial && c->is_only_read && is_read(use.what) && number_of_use(use.what, use.before) && give_to_readers(c);
+    return c->owner && c->owner != serial && c->is_only_read && is_read(use.what) && has_reader(use.from) && number_of_use(use) && give_to_readers(c);
 }
 
 /* ---- accesses ---- */
-static int hold_in_one(uint32_t serial, struct record r, uint64_t address, uint64_t position) {
+static int hold_in_one(uint32_t serial, struct record r, uint64_t kind, uint64_t word) {
+    uint64_t address = r.where & LOW_48_BITS;
     cell_page *page = page_at(address, 1);
     cell *c = cell_in(page, address);
     if (!c) return 0;
-    cell_use use = {what_of_use(r.what, address), reader_of(serial, r.where >> 48)};
-    if (is_for_readers(c, serial, use)) return hold_in_cell(c, address, use, position);
+    cell_use use = {what_of_use(r.what, address), kind | reader_of(serial, r.where >> 48)};
+    if (is_for_readers(c, serial, use)) return hold_in_cell(c, address, use, word);
     if (c->owner != serial) {
         begin_phase(page, c, address, serial, r.where >> 48);
         c->is_only_read = 1;
     }
-    use.before = 0;
-    return hold_in_cell(c, address, use, position);
+    use.from = kind;
+    return hold_in_cell(c, address, use, word);
 }
 
 /* By an access of several, or a free: after it others aren't its readers alone. */
@@ -342,28 +382,30 @@ static void use_range(uint32_t serial, uint16_t number, uint64_t address, uint64
     }
 }
 
-static cell_use use_at(struct record r, uint64_t address, uint64_t at) {
-    return (cell_use){what_of_use(r.what, address), at / GRAIN - address / GRAIN};
+static cell_use use_at(struct record r, uint64_t kind, uint64_t at) {
+    uint64_t address = r.where & LOW_48_BITS;
+    return (cell_use){what_of_use(r.what, address), kind | (at / GRAIN - address / GRAIN)};
 }
 
 /* Is the cell there in its first phase, of this thread, with a key for this? */
 static int may_hold(uint64_t address, uint32_t serial, cell_use use) {
     cell_page *page = page_at(address, 1);
     cell *c = cell_in(page, address);
-    uint64_t number = number_of_use(use.what, use.before);
+    uint32_t number = number_of_use(use);
     if (!c || !number) return 0;
     if (c->owner ? c->owner != serial || !c->is_first : is_freed(page, address)) return 0;
-    return find_key(c, number) || has_free_key(c);
+    return find_word(c, number) || has_free_key(c);
 }
 
 /* It is held back where each of its cells can: so it is whole when one of them puts it. */
-static int hold_in_several(uint32_t serial, struct record r, uint64_t address, uint64_t end, uint64_t position) {
-    int is_held = position && end - address / GRAIN * GRAIN <= MOST_RANGE;
+static int hold_in_several(uint32_t serial, struct record r, uint64_t end, uint64_t kind, uint64_t word) {
+    uint64_t address = r.where & LOW_48_BITS;
+    int is_held = word && end - address / GRAIN * GRAIN <= MOST_RANGE;
     for (uint64_t at = address; at < end && is_held; at = at / GRAIN * GRAIN + GRAIN)
-        is_held = may_hold(at, serial, use_at(r, address, at));
+        is_held = may_hold(at, serial, use_at(r, kind, at));
     use_range(serial, r.where >> 48, address, end);
     for (uint64_t at = address; at < end && is_held; at = at / GRAIN * GRAIN + GRAIN)
-        hold_in_cell(find_cell(at), at, use_at(r, address, at), position);
+        hold_in_cell(find_cell(at), at, use_at(r, kind, at), word);
     return is_held;
 }
 
@@ -439,7 +481,7 @@ static uint64_t count_held(const cell_page *page, uint32_t serial, uint64_t addr
     for (unsigned w = first / 64; w <= last / 64; w++)
         for (uint64_t used = bits_between(w, first, last) & page->used[w]; used; used &= used - 1) {
             cell *c = &cells[64 * w + __builtin_ctzll(used)];
-            for (int k = 0, most = c->owner != serial ? key_count(c) : 0; k < most; k++) count += (keys_of(c)[k] & POSITIONS) != 0;
+            for (int k = 0, most = c->owner != serial ? key_count(c) : 0; k < most; k++) count += is_held(key_at(c, k));
         }
     return count;
 }
@@ -457,7 +499,7 @@ uint64_t count_late(uint32_t serial, struct record r, uint64_t bytes) {
     return count;
 }
 
-int hold_back(uint32_t serial, struct record r, uint64_t bytes, uint64_t position) {
+int hold_back(uint32_t serial, struct record r, uint64_t bytes, uint64_t kind, uint64_t word) {
     enum operation operation = operation_of(r);
     uint64_t address = r.where & LOW_48_BITS, end = address + bytes;
     uint16_t number = r.where >> 48;
@@ -465,7 +507,7 @@ int hold_back(uint32_t serial, struct record r, uint64_t bytes, uint64_t positio
     if (operation == OP_FREE) free_range(serial, number, address, end);
     else if (operation == OP_ALLOC || operation == OP_START) renew(address, end);
     else if (is_used_by_all(operation)) use_range(USED_BY_ALL, 0, address, end);
-    else if (is_plain_access(operation) && address / GRAIN == (end - 1) / GRAIN) return hold_in_one(serial, r, address, position);
-    else if (is_plain_access(operation)) return hold_in_several(serial, r, address, end, position);
+    else if (is_plain_access(operation) && address / GRAIN == (end - 1) / GRAIN) return hold_in_one(serial, r, kind, word);
+    else if (is_plain_access(operation)) return hold_in_several(serial, r, end, kind, word);
     return 0;
 }

@@ -4,20 +4,26 @@
 
 #pragma GCC visibility push(hidden)
 
-enum { KEYS = 7 };                     /* with these a cell is a line of the processor's cache */
+enum { KEYS = 2 };                     /* with these a cell has 32 bytes */
+enum { KEYS_OF_LINE = 5 };             /* with these a line of a table has 64 */
 
-/* What is known of 8 bytes of memory. A key is a use (below), and the position at which the owner made it last (POSITION_BITS), or 0
-   where that one is recorded. */
+/* What is known of 8 bytes of memory. A key is a use (below), or 0, and a word: the position at which the owner made it last
+   (POSITION_BITS), or 0 where that one is recorded, and above it the number of the context that it was made in. */
 typedef struct {
     uint32_t owner;                    /* the serial number of the thread that alone used it lately, or 0, or READERS */
     uint16_t number;                   /* of that thread in the record */
-    uint8_t is_first : 1;              /* no thread used it before this phase */
-    uint8_t is_only_read : 1;          /* in this phase */
-    uint8_t log_keys : 6;              /* not 0: it has a table of so many keys (the logarithm), to which the first word here leads */
-    uint8_t used;                      /* how many keys it has */
-    uint64_t keys[KEYS];
+    uint16_t is_first : 1;             /* no thread used it before this phase */
+    uint16_t is_only_read : 1;         /* in this phase */
+    uint16_t log_lines : 4;            /* not 0: it has a table of 1 << (log_lines - 1) lines of keys */
+    uint16_t used : 10;                /* how many keys it has */
+    uint32_t uses[KEYS];
+    uint64_t words[KEYS];              /* of a table the first leads to it, and the second has the bytes from its first line to its last */
 } cell;
-enum { LEAST_LOG = 4, MOST_LOG = 8, MOST_KEYS = 1 << MOST_LOG };
+typedef struct {                       /* the keys from the first on; where one is free the search for a use ends */
+    uint64_t words[KEYS_OF_LINE];
+    uint32_t uses[KEYS_OF_LINE], unused;
+} key_line;
+enum { MOST_LOG = 7, MOST_KEYS = KEYS_OF_LINE << (MOST_LOG - 1) };
 #define POSITIONS ((1ull << POSITION_BITS) - 1)
 
 enum { GRAIN = 8, CELL_PAGE = 4096, CELLS_OF_PAGE = CELL_PAGE / GRAIN, ADDRESS_BITS = 47, REGION_BITS = 30 };
@@ -27,16 +33,26 @@ enum { REGIONS = 1 << (ADDRESS_BITS - REGION_BITS), PAGES_OF_REGION = (1 << REGI
 /* An owner that stands for all threads that read the cell in a phase without a write: then each use has its reader. */
 #define READERS (~0u - 1)
 
-/* A use is an access of a kind, at a place, of certain bytes of the cell's. It is known by its slot in a table, which is above what a
-   pointer to keys has in the place of a use.
-   `what` is that of the record, and the byte in the first cell stands in bits of the operation, of which an access needs two.
-   `before` is how many cells come before this one (GRAINS_BEFORE bits), and the reader or 0. */
-typedef struct { uint64_t what, before; } cell_use;
-enum { FIRST_BYTE = 50, GRAINS_BEFORE = 6 };
-enum { USE_SLOTS = 1 << 18, FIRST_USE = 1 << (ADDRESS_BITS - POSITION_BITS) };
+/* A use is an access of a kind, at a place, of certain bytes of the cell's, in contexts of one kind (calls.c). It is known by its slot in a
+   table, of which the first is none's.
+   `what` is that of a record that tells no depth, and the byte in the first cell stands in bits of the operation, of which an access
+   needs two. `from` is the kind of its context and the reader or 0, or the kind and how many cells come before this one. */
+typedef struct { uint64_t what, from; } cell_use;
+enum { FIRST_BYTE = 50, GRAINS_BEFORE = 6, NUMBER_BITS = 16, SERIAL_BITS = 24, KIND_AT = GRAINS_BEFORE + NUMBER_BITS + SERIAL_BITS };
+enum { KINDS = 1 << (64 - KIND_AT), USE_SLOTS = 1 << 18 };
+#define OF_ALL_DEPTHS ((uint64_t)DEPTH_BEFORE << (54 + LOGARITHM_BITS))
+#define NO_KIND (~0ull)                /* no use is of that */
 
-static inline uint64_t reader_of(uint32_t serial, uint16_t number) { return ((uint64_t)serial << 16 | number) << GRAINS_BEFORE; }
-static inline uint64_t what_of_use(uint64_t what, uint64_t address) { return what | address % GRAIN << FIRST_BYTE; }
+/* 0 for a thread that can't be one: so many were there before. */
+static inline uint64_t reader_of(uint32_t serial, uint16_t number) {
+    return serial >> SERIAL_BITS ? 0 : ((uint64_t)serial << NUMBER_BITS | number) << GRAINS_BEFORE;
+}
+static inline int is_range(uint64_t what) { return (what >> 54 & IS_RANGE) != 0; }
+static inline int is_same(cell_use one, cell_use other) { return one.what == other.what && one.from == other.from; }
+static inline int is_read(uint64_t what) { return (what >> 48 & 3) == OP_READ; }
+static inline uint64_t what_of_use(uint64_t what, uint64_t address) {
+    return what | address % GRAIN << FIRST_BYTE | (is_range(what) ? 0 : OF_ALL_DEPTHS);
+}
 
 /* What is known of a page of memory. Of a page that is whole all is in a phase of one owner, with cells or without. A cell has a bit
    in `used` where it isn't zeros. One of zeros has a bit in `freed` where it was freed since it was new: no phase of it is a first one. */
@@ -66,12 +82,20 @@ void limit_cells(uint64_t bytes);      /* takes no more than so many from here o
 /* A record that is to be made now, of a thread with this serial number, which no other has. `bytes` is how many it accesses; of
    OP_ALLOC and OP_START how many are new. */
 uint64_t count_late(uint32_t serial, struct record r, uint64_t bytes);         /* at most so many late ones come before it */
-/* Is it held back? Then the position is used. With NO_POSITION it isn't. Puts late ones. */
-int hold_back(uint32_t serial, struct record r, uint64_t bytes, uint64_t position);
-/* The program's, or a test's: records what was held back at a position. */
-void put_late(struct record r, uint64_t position);
+/* Is it held back? Then the word's position is used, and it was made in a context of this kind. With NO_POSITION it isn't. Puts late ones. */
+int hold_back(uint32_t serial, struct record r, uint64_t bytes, uint64_t kind, uint64_t word);
+/* The word of a use in a cell, by its owner or one of its readers: it is held back by a new word. Null where it may not be, where that needs
+   a record or memory, or the use has no number yet. */
+uint64_t *word_of_use(cell *c, uint64_t address, uint32_t serial, uint16_t number, cell_use use);
+/* The program's, or a test's: records what was held back, with its word. */
+void put_late(struct record r, uint64_t word);
 
 #define NO_POSITION 0
+
+/* What a use has that is made in a context of this kind, by the thread that the reader is. */
+static inline uint64_t kind_in(const cell *c, uint64_t what, uint64_t kind, uint64_t reader) {
+    return c->owner == READERS && is_read(what) ? kind | reader : kind;
+}
 
 static inline cell *find_cell(uint64_t address) {
     const cell_region *region = cell_regions[address >> REGION_BITS];
@@ -80,19 +104,34 @@ static inline cell *find_cell(uint64_t address) {
 }
 
 /* Where the search for a use begins; most stand there. */
-static inline uint64_t slot_of_use(uint64_t what, uint64_t before) {
-    return (what + before * 0xD6E8FEB86659FD93u) * 0x9E3779B97F4A7C15u >> 46;
+static inline uint32_t slot_of_use(uint64_t what, uint64_t from) { return (what + from) * 0x9E3779B97F4A7C15u >> 46; }
+
+static inline key_line *line_of_use(const cell *c, uint32_t use) { return (key_line *)(c->words[0] + (use * sizeof(key_line) & c->words[1])); }
+static inline key_line *next_line(const cell *c, const key_line *line) {
+    return (key_line *)(c->words[0] + (((uint64_t)line - c->words[0] + sizeof *line) & c->words[1]));
 }
 
-/* The key of a use, or null. A table has keys that are 0. */
-static inline uint64_t *find_key(cell *c, uint64_t use) {
-    if (c->log_keys) {
-        uint64_t *keys = (uint64_t *)c->keys[0], mask = (1 << c->log_keys) - 1, k = use & mask;
-        while (keys[k] && keys[k] >> POSITION_BITS != use) k = (k + 1) & mask;
-        return keys[k] ? &keys[k] : 0;
-    }
-    for (int k = 0; k < KEYS; k++)
-        if (c->keys[k] >> POSITION_BITS == use) return &c->keys[k];
+static inline uint64_t *find_in_line(key_line *line, uint32_t use) {
+#pragma GCC unroll 5
+    for (int k = 0; k < KEYS_OF_LINE; k++)
+        if (line->uses[k] == use) return &line->words[k];
     return 0;
+}
+
+/* The word of a use, or null; and also where it isn't in the line in which most are. */
+static inline uint64_t *find_near(cell *c, uint32_t use) {
+    if (c->log_lines) return find_in_line(line_of_use(c, use), use);
+#pragma GCC unroll 7
+    for (int k = 0; k < KEYS; k++)
+        if (c->uses[k] == use) return &c->words[k];
+    return 0;
+}
+
+/* The word of a use, or null. */
+static inline uint64_t *find_word(cell *c, uint32_t use) {
+    uint64_t *word = find_near(c, use);
+    if (word || !c->log_lines) return word;
+    for (key_line *line = line_of_use(c, use); !word && line->uses[KEYS_OF_LINE - 1];) word = find_in_line(line = next_line(c, line), use);
+    return word;
 }
 #pragma GCC visibility pop

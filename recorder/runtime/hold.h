@@ -12,16 +12,17 @@ void hold_elsewhere(thread *t, cell *c, uint64_t what, uint64_t address);
 
 static inline enum operation operation_of(uint64_t what) { return what >> 48 & 3; }
 
-/* The key of a use that is made now. */
-static inline uint64_t key_now(const thread *t, uint64_t use) { return use << POSITION_BITS | (t->base + t->steps + 1); }
+/* The word of a use that is made now. */
+static inline uint64_t word_now(const thread *t) { return (uint64_t)t->in->number << POSITION_BITS | (t->base + t->steps); }
 
 /* Is it held back? A read right after the same one isn't: a loop of these may wait for another thread (note_spin). */
-static inline int hold_quickly(thread *t, uint64_t *key, uint64_t new, uint64_t what) {
-    if (operation_of(what) == OP_READ && *key + 1 == new) return 0;
-    *key = new;
+static inline int hold_quickly(thread *t, uint64_t *word, enum operation operation, uint64_t what) {
+    uint64_t new = word_now(t);
+    if (operation == OP_READ && *word + 1 == new) return 0;
+    *word = new;
     t->last = what;
     t->steps++;
-    changes += operation_of(what) == OP_WRITE;
+    changes += operation == OP_WRITE;
     return 1;
 }
 
@@ -37,7 +38,7 @@ static inline int may_be_quick(const thread *t, uint64_t address, uint64_t size)
 }
 
 static inline int is_usual(const thread *t) {
-    return t->steps < t->limit && t == quick_holder && t->depth <= t->first_new && t->depth < DEPTH_BEFORE;
+    return t->steps < t->limit && t == quick_holder && is_numbered(t->in);
 }
 
 static inline __attribute__((always_inline))
@@ -47,19 +48,17 @@ void hook(enum operation operation, uint64_t address, uint64_t size, uint64_t ca
     t->inside = 1;                     /* so no handler of a signal comes, which may change all that is read below */
     BARRIER();
     cell *c = is_usual(t) && address < CELL_ADDRESSES ? find_cell(address) : 0;
-    uint64_t what = what_of_use(caller, size < GRAIN ? address : 0) + ((uint64_t)operation << 48)
-        + ((uint64_t)__builtin_ctzl(size) << 54) + ((uint64_t)t->depth << (54 + LOGARITHM_BITS)), use = slot_of_use(what, 0);
-    if (c && (c->owner != t->serial || c->log_keys)) return hold_elsewhere(t, c, what, address);
-    uint64_t key = key_now(t, use);
-    if (c && cell_uses[use].what == what) {
-#pragma GCC unroll 7
-        for (int k = 0; k < KEYS; k++)
-            if (!((c->keys[k] ^ key) >> POSITION_BITS)) {
-                if (!hold_quickly(t, &c->keys[k], key, what)) break;
-                end_quick_hook(t);
-                if (__builtin_expect(t->deferred, 0)) deliver_deferred(t);
-                return;
-            }
+    uint64_t what = caller + what_of_use((uint64_t)operation << 48 | (uint64_t)__builtin_ctzl(size) << 54, size < GRAIN ? address : 0);
+    if (c) {
+        uint64_t from = t->kind, *word = 0;
+        int is_of_readers = c->owner == READERS && operation == OP_READ;
+        if (is_of_readers) from |= t->reader;
+        uint32_t use = slot_of_use(what, from);
+        if ((c->owner == t->serial || is_of_readers) && cell_uses[use].what == what && cell_uses[use].from == from) word = find_near(c, use);
+        if (!word || !hold_quickly(t, word, operation, what)) return hold_elsewhere(t, c, what, address);
+        end_quick_hook(t);
+        if (__builtin_expect(t->deferred, 0)) deliver_deferred(t);
+        return;
     }
     end_quick_hook(t);
     note_access(operation, address, size, caller);

@@ -7,60 +7,17 @@
 #include <threads.h>
 #include <time.h>
 #include <unistd.h>
-#include "runtime.h"
+
+#include "ordering.h"
 
 typedef const struct timespec *deadline;
 
-/* ---- the shapes of the calls below; r is what the real call gives ---- */
-enum { MOST_TRIES = 8 };
-/* A call that may sleep in a replay, where the list has it: with the turn. Handlers of signals run in it, also for those that came before
-   in the hook, for it may be them that it waits for. */
-#define SLEEPING(t, call) ({ \
-    (t)->inside = 0; \
-    if ((t)->deferred) deliver_deferred(t); \
-    __typeof__(call) result_ = (call); \
-    (t)->inside = 1; \
-    end_quick(t); \
-    result_; \
-})
-/* TAKES: it may wait; recorded after it, if it was done.  The quick form is tried first, for it needs no hand-over.  In a
-   replay it is busy where it was then; else the one that has it may be about to give it. */
 #define TAKES(name, operation, object, busy, quick, done, parameters, arguments) \
-    PUBLIC int name parameters { \
-        thread *t = enter(MAY_YIELD); \
-        if (!t) return REAL(name) arguments; \
-        int r = 0, is_busy, n = 0; \
-        do { \
-            is_busy = was_unusual(t); \
-            if (!is_busy) r = is_replaying ? SLEEPING(t, REAL(name) arguments) : quick; \
-            if (!is_busy && busy) is_busy = note_unusual(t); \
-        } while (is_busy && n++ < MOST_TRIES && let_another_run(t)); \
-        if (is_busy) r = waits_for_list(t) ? SLEEPING(t, REAL(name) arguments) : BLOCKING(t, REAL(name) arguments); \
-        if (done) put(t, operation, object, 0, CALLER); \
-        leave(t); \
-        return r; \
-    }
-/* TRIES: as TAKES, but never waits. */
+    TAKES_BY(int, name, operation, object, REAL(name) arguments, busy, quick, done, parameters)
 #define TRIES(name, operation, object, busy, done, parameters, arguments) \
-    PUBLIC int name parameters { \
-        thread *t = enter(MAY_YIELD); \
-        if (!t) return REAL(name) arguments; \
-        int is_busy = was_unusual(t), r = is_busy ? (busy) : REAL(name) arguments; \
-        if (done) put(t, operation, object, 0, CALLER); \
-        else note_spin(t, CALLER); \
-        if (!is_busy && !(done)) note_unusual(t); \
-        leave(t); \
-        return r; \
-    }
-/* GIVES: recorded before it; never waits. */
+    TRIES_BY(int, name, operation, object, REAL(name) arguments, busy, done, parameters)
 #define GIVES(name, operation, object, size, parameters, arguments) \
-    PUBLIC int name parameters { \
-        thread *t = enter(MAY_YIELD); \
-        if (t) put(t, operation, object, size, CALLER); \
-        int r = REAL(name) arguments; \
-        if (t) leave(t); \
-        return r; \
-    }
+    GIVES_BY(int, name, operation, object, size, REAL(name) arguments, parameters)
 /* BEGINS: makes an object; while there are threads that is a write of it, too. */
 #define BEGINS(name, operation, object, size, parameters, arguments) \
     PUBLIC int name parameters { \
@@ -133,17 +90,6 @@ BEGINS(mtx_init, OP_LOCK_INIT, m, 0, (mtx_t *m, int type), (m, type))
 ENDS(void, mtx_destroy, mtx_t)
 
 /* ---- conditions: the mutex is given up and taken again; a signal orders nothing by itself ---- */
-struct waking { thread *t; void *mutex; uint64_t caller; int result; };
-
-static void has_woken(void *waking_) {                       /* also where the wait was cancelled */
-    struct waking *waking = waking_;
-    waking->t->inside = 1;
-    take_turn(waking->t);
-    if (waking->result) note_unusual(waking->t);
-    put(waking->t, OP_LOCK, waking->mutex, 0, waking->caller);
-    leave(waking->t);
-}
-
 /* In a replay it wakes when the list says so, as a thread may that nobody woke; it has the turn and the mutex then.  0 where
    there is no replay. */
 static int wakes_by_list(thread *t, void *mutex) {
@@ -158,7 +104,6 @@ static int wakes_by_list(thread *t, void *mutex) {
     PUBLIC int name parameters { \
         thread *t = enter(MAY_YIELD); \
         if (!t) return REAL(name) arguments; \
-        struct waking waking = {t, m, CALLER, 0}; \
         put(t, OP_USE, c, 0, CALLER); \
         put(t, OP_UNLOCK, m, 0, CALLER); \
         if (wakes_by_list(t, m)) { \
@@ -167,12 +112,7 @@ static int wakes_by_list(thread *t, void *mutex) {
             leave(t); \
             return r; \
         } \
-        pthread_cleanup_push(has_woken, &waking); \
-        give_turn(t); \
-        leave(t); \
-        waking.result = REAL(name) arguments; \
-        pthread_cleanup_pop(1); \
-        return waking.result; \
+        return SLEEPING_WITHOUT(t, m, OP_LOCK, r != 0, REAL(name) arguments); \
     }
 WAITS(pthread_cond_wait, (pthread_cond_t *c, pthread_mutex_t *m), (c, m))
 WAITS(pthread_cond_timedwait, (pthread_cond_t *c, pthread_mutex_t *m, deadline d), (c, m, d))

@@ -14,9 +14,17 @@
 enum { MAX_MODULES = 256 };
 struct module modules[MAX_MODULES];
 int module_count;
-static struct module openmp;           /* the code of clang's OpenMP library */
 
-int tells_its_own_order(uint64_t caller) { return caller >= openmp.low && caller < openmp.high; }
+/* Libraries whose order is recorded at their calls, or told by archer: what they use within is no object of the program's. */
+static const char *const own_orders[] = {"/libomp.", "/libiomp5.", "/libQt5Core.", "/libQt6Core.", "/libglib-2."};
+enum { OWN_ORDERS = sizeof own_orders / sizeof *own_orders };
+static struct module with_own_order[OWN_ORDERS];
+
+int tells_its_own_order(uint64_t caller) {
+    for (int i = 0; i < OWN_ORDERS; i++)
+        if (caller >= with_own_order[i].low && caller < with_own_order[i].high) return 1;
+    return 0;
+}
 
 static void note_module(struct dl_phdr_info *info, struct module m) {
     char path[PATH_MAX] = "", line[PATH_MAX + 64];
@@ -60,7 +68,8 @@ static int see_module(struct dl_phdr_info *info, size_t size, void *unused) {
         if (info->dlpi_phdr[i].p_type == PT_DYNAMIC) hooks = imports_hooks(info, &info->dlpi_phdr[i]);
     note_module(info, m);
     const char *slash = strrchr(info->dlpi_name, '/');
-    if (slash && (!strncmp(slash, "/libomp.", 8) || !strncmp(slash, "/libiomp5.", 10))) openmp = m;
+    for (int i = 0; slash && i < OWN_ORDERS; i++)
+        if (!strncmp(slash, own_orders[i], strlen(own_orders[i]))) with_own_order[i] = m;
     if (hooks && (own < m.low || own >= m.high) && !instrumented(m.low) && module_count < MAX_MODULES) modules[module_count++] = m;
     return 0;
 }
@@ -85,6 +94,39 @@ void *next_symbol(const char *name) {
 static uint64_t module_with(void *p) {
     Dl_info info;
     return p && dladdr(p, &info) ? (uint64_t)info.dli_fbase : 0;
+}
+
+/* ---- functions of libraries that the program may have by dlopen, so that they aren't behind this one ---- */
+typedef struct { const char *at[MAX_MODULES]; int count; } module_names;
+
+static int add_name(struct dl_phdr_info *info, size_t size, void *names_) {
+    module_names *names = names_;
+    if (*info->dlpi_name && names->count < MAX_MODULES) names->at[names->count++] = info->dlpi_name;
+    return 0;
+}
+
+static void *found_in(const char *module, const char *name) {
+    void *handle = dlopen(module, RTLD_LAZY | RTLD_NOLOAD), *p = handle ? dlsym(handle, name) : 0;
+    if (handle) REAL(dlclose)(handle);
+    return module_with(p) == module_with((void *)found_in) ? 0 : p;
+}
+
+void *library_symbol(const char *name) {
+    void *p = next_symbol(name);
+    thread *t = self && !self->inside ? self : 0;
+    module_names names = {.count = 0};
+    if (t) t->inside = 1;
+    if (!p) dl_iterate_phdr(add_name, &names);
+    for (int i = 0; i < names.count && !p; i++) p = found_in(names.at[i], name);
+    if (t) leave(t);
+    return p;
+}
+
+void *needed_symbol(const char *name) {
+    void *p = library_symbol(name);
+    if (p) return p;
+    tell("shb recorder: no library has %s\n", name);
+    _exit(127);                        /* as the loader does */
 }
 
 int is_behind_the_c_library(void) {

@@ -21,6 +21,7 @@ int stall_seconds;
 static char *header;
 static struct record *records;
 static uint64_t written, most_records;
+static uint32_t contexts;              /* of the record so far */
 uint64_t changes = 1;
 static _Atomic uint64_t room;          /* records that the file has disk space for */
 static int in_memory;                  /* it has no file yet */
@@ -94,45 +95,51 @@ static void add(const thread *t, enum operation operation, uint64_t where, uint6
     if (size >= SIZE_FOLLOWS) records[written++] = (struct record){size, (uint64_t)OP_SIZE << 48};
 }
 
-/* The functions that the thread is in, where the record hasn't them. */
-static uint32_t recordable_depth(const thread *t) { return t->depth < MOST_FRAMES ? t->depth : MOST_FRAMES; }
-
-static int room_of_frames(const thread *t) {
+/* How many of the functions that the thread is in are contexts that are recorded. */
+static uint32_t count_recorded(const thread *t) {
     uint32_t depth = recordable_depth(t);
-    return t->first_new < depth ? 4 * (depth - t->first_new) : 0;
+    while (depth && context_at(t, depth)->number == NOT_RECORDED) depth--;
+    return depth;
 }
 
-static void add_frames(thread *t) {
-    uint32_t depth = recordable_depth(t);
-    for (uint32_t d = t->first_new; d < depth; d++) {
-        frame *f = &t->frames[d];
-        if (!(f->caller & NOT_RECORDED)) continue;
-        uint64_t place;
-        f->caller &= ~NOT_RECORDED;
-        if (has_new_place(t, d, &place)) add(t, OP_PLACE, place, 0, 0);
-        if (f->way) add(t, OP_WAY, 0, 0, f->way);
-        add(t, OP_FRAME, f->function, d, f->caller);
-        t->recorded_depth = d + 1;
+static int room_of_contexts(const thread *t) {
+    uint32_t count = recordable_depth(t) - count_recorded(t);
+    return count ? 4 * count + 1 : 0;
+}
+
+static void note_told(thread *t, const context *c) { t->told = is_kept_context(c) ? c : 0; }
+
+/* Tells the record that the thread is in so many of its functions, where it hasn't these; or these alone. */
+static void tell_context(thread *t, uint32_t depth, int is_exact) {
+    const context *now = context_at(t, depth), *c = t->told;
+    while (c && c->depth > depth && !is_exact) c = c->outer;
+    if (c == now) return;
+    add(t, OP_CONTEXT, now->number, 0, 0);
+    note_told(t, now);
+}
+
+static void add_contexts(thread *t) {
+    uint32_t depth = recordable_depth(t), d = count_recorded(t);
+    if (d < depth) tell_context(t, d, 0);
+    for (; d < depth; d++) {
+        context *c = t->frames[d].in;
+        uint64_t place = place_of_frame(t, d);
+        if (place) add(t, OP_PLACE, place, 0, 0);
+        if (c->way) add(t, OP_WAY, 0, 0, c->way);
+        add(t, OP_FRAME, c->function, d, c->caller);
+        c->number = ++contexts;
+        note_told(t, c);
     }
-    t->first_new = MOST_FRAMES;
-}
-
-static void add_depth(thread *t) {
-    uint32_t depth = recordable_depth(t);
-    if (t->recorded_depth != depth) add(t, OP_DEPTH, 0, depth, 0);
-    t->recorded_depth = depth;
 }
 
 static int is_plain(enum operation operation) { return operation == OP_READ || operation == OP_WRITE; }
 
-/* What stands in the place of the size. The depth stands there too, or is told before. */
-static uint64_t inside_of(thread *t, enum operation operation, uint64_t size) {
-    if (is_plain(operation) && size <= 16 && !(size & (size - 1))) {
-        uint32_t depth = recordable_depth(t);
-        if (depth >= DEPTH_BEFORE) add_depth(t);
-        return __builtin_ctzl(size) | (depth < DEPTH_BEFORE ? depth : DEPTH_BEFORE) << LOGARITHM_BITS;
-    }
-    add_depth(t);
+static int has_depth_inside(enum operation operation, uint64_t size) { return is_plain(operation) && size <= 16 && !(size & (size - 1)); }
+
+/* What stands in the place of the size, with the depth where that is known by it. */
+static uint64_t inside_of(const thread *t, enum operation operation, uint64_t size) {
+    uint32_t depth = t->depth < DEPTH_BEFORE ? t->depth : DEPTH_BEFORE;
+    if (has_depth_inside(operation, size)) return __builtin_ctzl(size) | depth << LOGARITHM_BITS;
     if (is_plain(operation)) size += IS_RANGE;
     return size < SIZE_FOLLOWS ? size : SIZE_FOLLOWS;
 }
@@ -147,8 +154,8 @@ static int has_room(uint64_t count, uint64_t more) {
 /* Afterwards t has the turn, its functions are recorded and there is room for so many records, and of the file's for more, or it
    answers 0.  The thread may sleep in grow, and then the turn may be taken over: so it is asked for after that. */
 static int make_room_and_more(thread *t, uint64_t count, uint64_t more) {
-    int of_frames = room_of_frames(t);
-    count += of_frames;
+    int of_contexts = room_of_contexts(t);
+    count += of_contexts;
     for (;;) {
         if (!keep_turn(t)) take_turn(t);
         if (!recording) return 0;
@@ -159,7 +166,7 @@ static int make_room_and_more(thread *t, uint64_t count, uint64_t more) {
         if (written + count + more <= atomic_load(&room)) break;
         grow();
     }
-    if (of_frames) add_frames(t);
+    if (of_contexts) add_contexts(t);
     return 1;
 }
 
@@ -172,17 +179,18 @@ static inline int is_repeated(thread *t, enum operation operation, struct record
         changes++;
         return 0;
     }
+    const context *context = context_at(t, recordable_depth(t));
     for (int i = 0; i < RECENT_READS; i++) {
         struct read *recent = &t->recent[i];
-        if (recent->where == r.where && recent->what == r.what && recent->changes == changes) return 1;
+        if (recent->where == r.where && recent->what == r.what && recent->changes == changes && recent->context == context) return 1;
     }
-    t->recent[t->next_recent++ % RECENT_READS] = (struct read){r.where, r.what, changes};
+    t->recent[t->next_recent++ % RECENT_READS] = (struct read){r.where, r.what, changes, context};
     return 0;
 }
 
 /* ---- what is held back (cells.c) ---- */
 void put_late(struct record r, uint64_t position) {
-    records[written++] = (struct record){position, (uint64_t)OP_LATE << 48};
+    records[written++] = (struct record){position & POSITIONS, position >> POSITION_BITS | (uint64_t)OP_LATE << 48};
     records[written++] = r;
 }
 
@@ -193,20 +201,23 @@ static uint64_t positions_left(void) {
     return (1 << ORDER_BITS) - 1 - last_position % (1 << ORDER_BITS);
 }
 
-/* That of an access that is made now. */
-static uint64_t position_now(void) { return positions_left() ? last_position + 1 : NO_POSITION; }
+/* That of an access that is made now, with its context. */
+static uint64_t position_now(const thread *t) {
+    int is_known = is_numbered(t->in) && t->kind != NO_KIND;
+    return is_known && positions_left() ? (uint64_t)t->in->number << POSITION_BITS | (last_position + 1) : NO_POSITION;
+}
 
 /* A quick hook puts nothing, but behind one of a write may be that of the copy's read. Each of its steps is a position, and so is the
    step of the hook behind them. */
 uint64_t begin_quick(thread *t) {
     uint64_t left = others && has_cells && has_room(ROOM_OF_COPY, ROOM_OF_LATE) ? positions_left() : 0;
-    t->base = last_position - t->steps;
+    t->base = last_position + 1 - t->steps;
     return left ? left - 1 : 0;
 }
 
 void end_quick(thread *t) {
     if (!t->limit) return;
-    last_position = t->base + t->steps;
+    last_position = t->base + t->steps - 1;
     t->kept = t->steps;
     t->limit = 0;
 }
@@ -236,7 +247,7 @@ static uint64_t room_of_late(const thread *t, enum operation operation, const vo
    it looks again. After a write hook there may be that of the copy's read, which must not sleep. */
 static int make_room_for(thread *t, enum operation operation, const volatile void *address, uint64_t bytes) {
     uint64_t count = operation == OP_WRITE ? ROOM_OF_COPY : ROOM, more = operation == OP_WRITE && has_cells ? ROOM_OF_LATE : 0;
-    if (!room_of_frames(t) && has_room(count + most_room_of_late(operation, bytes), more)) return 1;
+    if (!room_of_contexts(t) && has_room(count + most_room_of_late(operation, bytes), more)) return 1;
     for (uint64_t late = 0, found; make_room_and_more(t, count + late, more); late = found) {
         found = room_of_late(t, operation, address, bytes);
         if (found <= late) return 1;
@@ -253,7 +264,7 @@ void make_room_of_copy(thread *t, const void *to, const void *from, uint64_t siz
 }
 
 static int is_held_back(thread *t, enum operation operation, struct record r, uint64_t bytes) {
-    if (!has_cells || !hold_back(t->serial, r, bytes, is_plain(operation) ? position_now() : NO_POSITION)) return 0;
+    if (!has_cells || !hold_back(t->serial, r, bytes, t->kind, is_plain(operation) ? position_now(t) : NO_POSITION)) return 0;
     last_position++;
     return 1;
 }
@@ -270,10 +281,16 @@ void put(thread *t, enum operation operation, const volatile void *address, uint
         return;
     }
     if (is_repeated(t, operation, r)) return;
+    tell_context(t, recordable_depth(t), inside >> LOGARITHM_BITS == DEPTH_BEFORE || !has_depth_inside(operation, size));
     uint64_t way = is_plain(operation) ? 0 : way_to(t, t->depth, caller);
     if (way) add(t, OP_WAY, 0, 0, way);
     records[written++] = r;
     if (inside == SIZE_FOLLOWS) records[written++] = (struct record){size, (uint64_t)OP_SIZE << 48};
+}
+
+/* The record of another thread, which makes no more. */
+void put_of(thread *t, const thread *ended, enum operation operation, const volatile void *object, uint64_t caller) {
+    if (make_room(t, 1)) add(ended, operation, (uint64_t)object, 0, caller);
 }
 
 /* The system keeps no more of a thread's name than MOST_NAME bytes. */
@@ -385,11 +402,11 @@ int leave_recording(void) {
     int going_on = has_number() && use_map(mmap(0, map_bytes(), PROT_READ | PROT_WRITE,
                                                 MAP_PRIVATE | MAP_ANONYMOUS | MAP_NORESERVE, -1, 0));
     if (going_on) strcpy(header, parents);
-    written = 0;
+    written = contexts = 0;
     has_strangers = is_half_told = 0;
     end_cells();
     if (going_on) begin_cells(most_cells);
-    forget_places();
+    forget_contexts(self);
     changes++;                         /* the new record has no read */
     atomic_store(&room, STEP_BYTES / sizeof *records);
     munmap(parents, map_bytes());
@@ -444,6 +461,7 @@ int limit_record(uint64_t addresses) {
 void unlock_record(void) {
     if (header) munlock(header, map_bytes());
     unlock_cells();
+    unlock_contexts();
 }
 
 /* After the recording has ended: gives the room back, but for a page or two in which another thread's last record may be

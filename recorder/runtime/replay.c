@@ -1,10 +1,11 @@
 /* The order of turns: a list of them that is written beside the record, and one that the process is to follow.
 
    A *step* of a thread is where it may lose the turn: a hook, before its record; a call that may block; a lock that is
-   busy.  Each thread counts its own, and what of its accesses is recorded changes nothing of them.  An entry of the list has a
-   thread's number and how many steps it had made when another thread got the turn; a turn that a thread gave and got back
-   is one with that before.  Who gets a lock that several want is a matter of microseconds: so where a thread didn't get one at
-   once, or a wait ended otherwise than most do, a further entry has its steps so far and UNUSUAL.
+   busy; the end of another thread's start, in which it may have slept.  Each thread counts its own, and what of its accesses
+   is recorded changes nothing of them.  An entry of the list has a thread's number and how many steps it had made when
+   another thread got the turn; a turn that a thread gave and got back is one with that before.  Who gets a lock that several
+   want is a matter of microseconds: so where a thread didn't get one at once, or a wait ended otherwise than most do, a
+   further entry has its steps so far and UNUSUAL.
 
    PATH.turns has HEADER bytes of text (TURNS_MAGIC, "command WORD WORD..", and where the recording ended "whole COUNT SUM",
    hexadecimal, by which a copy that was cut or changed is known), and the entries of 8 bytes, until one of zeros or the
@@ -23,7 +24,7 @@
 #include <unistd.h>
 #include "runtime.h"
 
-#define TURNS_MAGIC "shb-turns 1\n"
+#define TURNS_MAGIC "shb-turns 2\n"
 enum { HEADER = 4096, STEP_BYTES = 1 << 20, MOST_BYTES = 128 << 20, FEW = 1 << 15 };
 
 #define UNUSUAL (1ull << 47)

@@ -10,26 +10,40 @@
 #define PUBLIC __attribute__((visibility("default")))
 #define CALLER ((uint64_t)__builtin_return_address(0))
 
-/* A function that a thread is in. NOT_RECORDED stands beside the caller where the record hasn't this one at its depth. */
-typedef struct {
+/* The functions that a thread is in are a node of a tree (calls.c): the innermost one, and the node of those further out. */
+typedef struct context {
+    struct context *outer;
     uint64_t caller, function, way;    /* way: as way_to gives it */
-    uint64_t stack, extent;            /* its stack pointer; how many bytes that is below the one further out */
+    uint64_t extent;                   /* how many bytes its stack pointer is below the one further out */
+    uint64_t kind;                     /* as cells.h has it in a use */
+    uint32_t number, depth;            /* in the record; how many functions it has */
+    uint32_t inner, after, next;       /* what was entered from here last, from the same one behind this; in its bucket */
+} context;
+#define NOT_RECORDED (~0u)             /* in the place of a number */
+
+/* A function that a thread is in. */
+typedef struct {
+    context *in;
+    uint64_t stack;                    /* its stack pointer */
+    context own;                       /* where there is no room for one that stays */
 } frame;
-#define NOT_RECORDED (1ull << 63)
 
 enum { RECENT_READS = 4 };             /* a loop that waits reads no more */
 
 typedef struct thread {
     /* What a quick hook uses is in one line of the processor's cache. */
-    uint32_t number;                   /* in the order of creation, from 0; or that of one that was joined */
     uint32_t serial;                   /* no other's ever, from 1 */
-    uint64_t steps;                    /* replay.c: so far */
-    uint64_t limit;                    /* hooks may be quick (hold.h) until it made so many steps; or 0 */
-    uint64_t base;                     /* then its steps and this are the position of the last access that was held back */
-    uint64_t last;                     /* its last hook: a read as read_at, a write as write_at, or 0 */
-    uint32_t depth, first_new;         /* how many functions it is in; no frame below this one is NOT_RECORDED */
     volatile char inside;              /* the recorder: hooks met now are not recorded */
     volatile char deferred;            /* a signal came meanwhile and waits for the end of the hook */
+    uint64_t steps;                    /* replay.c: so far */
+    uint64_t limit;                    /* hooks may be quick (hold.h) until it made so many steps; or 0 */
+    uint64_t base;                     /* then its steps and this are the position of the next access that is held back */
+    uint64_t last;                     /* its last hook: a read as read_at, a write as write_at, or 0 */
+    const context *in;                 /* the functions that it is in, the outermost MOST_FRAMES */
+    uint64_t kind;                     /* of that */
+    uint64_t reader;                   /* as cells.h has it in a use */
+    uint32_t number;                   /* in the order of creation, from 0; or that of one that was joined */
+    uint32_t depth;                    /* how many functions it is in */
     uint64_t kept;                     /* its steps when it was last seen to have the turn */
     uint64_t quick_from;               /* since so many steps its hooks may be quick */
     pid_t system_id;
@@ -39,7 +53,7 @@ typedef struct thread {
     char may_be_held;                  /* there */
     int quantum;                       /* hooks until it gives the turn to a waiter */
     int spins;                         /* how often in a row it made its last read */
-    struct read { uint64_t where, what, changes; } recent[RECENT_READS];    /* its last ones in the record */
+    struct read { uint64_t where, what, changes; const context *context; } recent[RECENT_READS];     /* its last ones in the record */
     unsigned next_recent;
     char joined;
     char idles;                        /* in a replay: it waits for what others are to do, so it is in no hurry */
@@ -52,7 +66,7 @@ typedef struct thread {
     void *stack;
     size_t stack_size;
     sigset_t mask;                     /* before a signal was deferred */
-    uint32_t recorded_depth;           /* how many functions it is in, as the record has it */
+    const context *told;               /* those that it is in, as the record has it; or null */
     frame *frames, own_frames[];       /* MOST_FRAMES, the outermost first; the second for all but fibers */
 } thread;
 
@@ -72,6 +86,7 @@ void end_thread(thread *t);            /* it is joined, and the record has that 
 int number_thread(thread *t);
 void wait_for_start(const thread *child);
 thread *thread_of(pthread_t handle);
+thread *newest_with(void *argument);   /* that isn't joined */
 thread *enter(enum yields yields);
 thread *enter_access(enum yields yields);                    /* to put one record, and nothing before */
 void leave(thread *t);
@@ -79,6 +94,7 @@ void deliver_deferred(thread *t);      /* the signals that came in its hook */
 void give_turn(thread *t);
 void take_turn(thread *t);
 int keep_turn(thread *t);
+void keep_turn_after_call(thread *t);
 int let_another_run(thread *t);        /* if it may help; says whether */
 int note_unusual(thread *t);           /* with the turn: what was asked for wasn't there, or the like; gives 1 */
 int was_unusual(thread *t);            /* with the turn, in a replay: it was so at this step; else 0 */
@@ -117,11 +133,18 @@ void add_unusual(const thread *t);
 /* calls.c: the functions that it is in. */
 extern int records_calls;              /* 0 where the user asks for none */
 uint64_t way_to(const thread *t, uint32_t depth, uint64_t caller);
-void forget_recorded_frames(thread *t);                      /* the record is another one, or the frames are */
-void forget_places(void);              /* the record is another one */
-int has_new_place(thread *t, uint32_t depth, uint64_t *place);   /* with the turn: is it to be recorded of this frame? */
-frame push_frame(thread *t, uint64_t caller, uint64_t function);       /* gives what lay there, for pop_frame */
-void pop_frame(thread *t, uint32_t depth, frame old);
+context *context_at(const thread *t, uint32_t depth);        /* of so many of the functions that it is in */
+void set_depth(thread *t, uint32_t depth);
+void enter_context(frame *f, context *outer, context new);
+void forget_contexts(thread *t);       /* the record is another one, and of this thread alone */
+void unlock_contexts(void);
+uint64_t place_of_frame(const thread *t, uint32_t depth);   /* as in a record OP_PLACE */
+int is_kept_context(const context *c); /* does it stay as it is? */
+typedef struct { frame innermost; uint32_t depth; } interrupted;
+interrupted push_frame(thread *t, uint64_t caller, uint64_t function);
+void pop_frame(thread *t, const interrupted *before);
+static inline int is_numbered(const context *c) { return c->number <= (1 << CONTEXT_BITS) - 1; }
+static inline uint32_t recordable_depth(const thread *t) { return t->depth < MOST_FRAMES ? t->depth : MOST_FRAMES; }
 
 /* file.c: the file of the record and its descriptor. */
 enum { COMMAND_BYTES = 1024 };         /* of the header's line with the command, with its end */
@@ -169,6 +192,7 @@ int make_room(thread *t, uint64_t count);
 void make_room_of_copy(thread *t, const void *to, const void *from, uint64_t size);
 void put(thread *t, enum operation operation, const volatile void *address, uint64_t size, uint64_t caller);
 void note(enum operation operation, const volatile void *object, uint64_t caller);
+void put_of(thread *t, const thread *ended, enum operation operation, const volatile void *object, uint64_t caller);
 void put_name(thread *t, const thread *named, const char *name);
 uint64_t begin_quick(thread *t);       /* with the turn, at the end of a hook: so many of its hooks may be quick now */
 void end_quick(thread *t);             /* with the turn; or under the guard, by the one who took it over */

@@ -18,10 +18,9 @@ static int from_the_code_itself(int signal) {
 /* It is called, as it were, from the instruction that it comes before. */
 static __attribute__((noinline)) void call_in_frame(thread *t, int signal, siginfo_t *info, void *context) {
     uint64_t next = ((ucontext_t *)context)->uc_mcontext.gregs[REG_RIP];
-    uint32_t depth = t->depth;
-    frame old = push_frame(t, next + 1, (uint64_t)call_in_frame + 1);
+    interrupted before = push_frame(t, next + 1, (uint64_t)call_in_frame + 1);
     handlers[signal].sa_sigaction(signal, info, context);
-    pop_frame(t, depth, old);
+    pop_frame(t, &before);
 }
 
 static void handle(int signal, siginfo_t *info, void *context) {

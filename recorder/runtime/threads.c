@@ -27,16 +27,15 @@ static uint64_t setting(const char *name, uint64_t otherwise) {
 }
 
 /* The thread's stack is new variables.  The main thread's is noted for its name alone. */
-static void note_stack(thread *t, uint64_t function) {
+static int find_stack(thread *t) {
     pthread_attr_t attributes;
     t->stack_size = 8 << 20;
     t->stack = (char *)__libc_stack_end - t->stack_size;
-    if (t->number) {
-        if (pthread_getattr_np(pthread_self(), &attributes)) return;
-        pthread_attr_getstack(&attributes, &t->stack, &t->stack_size);
-        pthread_attr_destroy(&attributes);
-    }
-    put(t, OP_START, t->stack, t->stack_size, function);
+    if (!t->number) return 1;
+    if (pthread_getattr_np(pthread_self(), &attributes)) return 0;
+    pthread_attr_getstack(&attributes, &t->stack, &t->stack_size);
+    pthread_attr_destroy(&attributes);
+    return 1;
 }
 
 static void begin_thread(thread *t, uint64_t function) {
@@ -45,15 +44,16 @@ static void begin_thread(thread *t, uint64_t function) {
     t->inside = 1;
     self = t;
     pthread_setspecific(at_exit, t);
+    int has_stack = find_stack(t);     /* it may sleep, so without the turn */
     take_turn(t);
-    note_stack(t, function);
+    if (has_stack) put(t, OP_START, t->stack, t->stack_size, function);
     leave(t);
 }
 
 static void thread_exits(void *t_) {   /* runs again in each round of destructors, until the last */
     thread *t = t_;
     if (++t->exit_rounds < PTHREAD_DESTRUCTOR_ITERATIONS) pthread_setspecific(at_exit, t);
-    t->depth = 0;                      /* of functions in C that pthread_exit left */
+    set_depth(t, 0);                   /* of functions in C that pthread_exit left */
     let_others_run();
 }
 
@@ -72,7 +72,6 @@ static void in_child(void) {
     is_unrecorded_child = 0;
     process = getpid();
     restart_turns(self);
-    forget_recorded_frames(self);
     self->inside = 1;
     put(self, OP_START, self->stack, self->stack_size, 0);
     leave(self);
@@ -94,7 +93,17 @@ __attribute__((destructor(101))) static void end(void) {
     if (is_own()) close_recording();
 }
 
+/* shb-record has this library loaded first in the program that it starts, and in none that this one starts: what they have there. */
+static void restore_preload(void) {
+    const char *others = getenv("SHB_PRELOAD");
+    if (!others) return;
+    if (*others) setenv("LD_PRELOAD", others, 1);
+    else unsetenv("LD_PRELOAD");
+    unsetenv("SHB_PRELOAD");
+}
+
 __attribute__((constructor(101))) static void begin(void) {
+    restore_preload();
     const char *path = getenv("SHB_RECORD");
     if (!path || !*path || process) return;
     process = getpid();
@@ -178,9 +187,25 @@ PUBLIC int execle(const char *path, const char *first, ...) {
 static void *run(void *t_) {
     thread *t = t_;
     begin_thread(t, t->c11_function ? (uint64_t)t->c11_function : (uint64_t)t->function);
+    pthread_sigmask(SIG_SETMASK, &t->mask, 0);
     void *result = t->c11_function ? (void *)(long)t->c11_function(t->argument) : t->function(t->argument);
     let_others_run();
     return result;
+}
+
+/* Starts the thread with all signals blocked, for a handler would run in it before it has begun. */
+static int start_blocked(thread *t, thread *child, pthread_t *created, const pthread_attr_t *attributes) {
+    pthread_attr_t *its = (pthread_attr_t *)attributes;      /* others have no turn, so it is changed and changed back */
+    sigset_t all, before;
+    sigfillset(&all);
+    pthread_sigmask(SIG_SETMASK, &all, &before);
+    int is_own = its && !pthread_attr_getsigmask_np(its, &child->mask);
+    if (is_own) pthread_attr_setsigmask_np(its, &all);
+    else child->mask = t->deferred ? t->mask : before;
+    int error = REAL(pthread_create)(created, attributes, run, child);
+    if (is_own) pthread_attr_setsigmask_np(its, &child->mask);
+    pthread_sigmask(SIG_SETMASK, &before, 0);
+    return error;
 }
 
 /* Records the fork and starts the thread, whose function and argument are in `start`; NOT_STARTED where it can't have a number.
@@ -202,9 +227,9 @@ static int create(thread *t, thread start, pthread_t *handle, const pthread_attr
     others++;
     put(t, OP_FORK, (void *)(uint64_t)child->number, 0, caller);
     pthread_t created;                 /* where the caller wants it only when it is known: others may read that */
-    int error = REAL(pthread_create)(&created, attributes, run, child);
+    int error = start_blocked(t, child, &created, attributes);
     if (!error) wait_for_start(child);
-    if (!keep_turn(t)) take_turn(t);   /* it may have slept again */
+    keep_turn_after_call(t);
     if (error) others--;
     else *handle = child->handle = created;
     return error;

@@ -32,6 +32,7 @@
 #include <time.h>
 #include <unistd.h>
 #include "runtime.h"
+#include "cells.h"
 
 #define NOBODY 0
 #define HOLDER(word) ((uint32_t)((word) >> 48))
@@ -379,6 +380,13 @@ int let_another_run(thread *t) {
     return gives;
 }
 
+/* After a call that was made with the turn and may have slept: a step, so that a replay can give the turn up where it was lost. */
+void keep_turn_after_call(thread *t) {
+    if (is_replaying && --t->quantum <= 0) give_turn(t);
+    else t->steps++;
+    if (!keep_turn(t)) take_turn(t);
+}
+
 /* ---- what hangs on microseconds, and not on the order of turns ---- */
 int note_unusual(thread *t) {
     lock_guard();
@@ -524,7 +532,6 @@ static thread *used_again(void) {
     if (!t) return 0;
     memset(t, 0, sizeof *t);
     t->frames = t->own_frames;
-    forget_recorded_frames(t);
     return t;
 }
 
@@ -543,8 +550,11 @@ int number_thread(thread *t) {         /* with the turn */
     if (thread_count <= MOST_STARTS) begin_slices();
     t->may_be_held = are_slices_short() && draw() & 1;
     t->serial = ++serials;
+    t->told = context_at(t, 0);
+    set_depth(t, t->depth);
     t->number = thread_count < THREAD_NUMBERS ? thread_count++ : joined_numbers[--joined_count];
     threads[t->number] = t;
+    t->reader = reader_of(t->serial, t->number);
     return 1;
 }
 
@@ -552,4 +562,11 @@ thread *thread_of(pthread_t handle) {  /* asked before a join: a handle is used 
     for (uint32_t i = thread_count; i-- > 0;)
         if (threads[i]->handle == handle && !threads[i]->joined) return threads[i];
     return 0;
+}
+
+thread *newest_with(void *argument) {  /* of what it runs; with the turn */
+    thread *newest = 0;
+    for (uint32_t i = 0; i < thread_count; i++)
+        if (threads[i]->argument == argument && !threads[i]->joined && (!newest || threads[i]->serial > newest->serial)) newest = threads[i];
+    return newest;
 }

@@ -27,7 +27,7 @@ from shb_record.results import Results
 from shb_record.running import REPLAYED, CannotRun, Run
 from shb_record.tables import tables_of
 
-MOST_PASSED = 8  # known races that are named
+MOST_PASSED, WAIT = 8, 10  # known races that are named; seconds
 RACES, STALE, CUT, FAILED, CANNOT_RUN, NOT_THERE = 66, 67, 124, 125, 126, 127
 BECOME_PARENT_OF_ORPHANS = 36  # of prctl
 USAGE = "shb-record [OPTION].. [--] PROGRAM [ARGUMENT].."
@@ -68,8 +68,8 @@ def parser_of_words():
     how_often.add_argument("--until-found", metavar="N", type=number(1),
                            help="run it at most N times, and end after the first run with a race that isn't known")
     parser.add_argument("--replay", metavar="RUN.turns",
-                        help="run it with the order of turns of an earlier run, whose list is in the folder of its results where it has a place "
-                        "that isn't known, as long as that fits. It prints after how many turns the list was left; from there on the run is like any other")
+                        help="run it with the order of turns of an earlier run, as long as that fits. A run with a place that isn't known leaves the "
+                        "list in the folder of its results. If the list is left, it prints after how many turns; from there on the run is like any other")
     parser.add_argument("--known", metavar="FILE", dest="known_path",
                         help="places to pass over, as unknown.places has them: on a line two locations, FILE:LINE, or functions, "
                         "FILE:FUNCTION(), in either order, and the variable, with tabs between; * stands for any text; a line that begins with "
@@ -81,9 +81,9 @@ def parser_of_words():
     parser.add_argument("--strip", metavar="DIR", help="name files below this folder by their paths from it (shb-std --help)")
     parser.add_argument("--window", metavar="N", type=number(0), default=MOST_EVENTS,
                         help="the most events of a page's trace (%(default)s)")
-    parser.add_argument("--wait", metavar="N", type=number(0), default=10,
-                        help="wait up to N seconds for processes that outlive the program (%(default)s), and for those that SIGINT or SIGTERM "
-                        "is passed on to, before they are killed")
+    parser.add_argument("--wait", metavar="N", type=number(0),
+                        help=f"wait up to N seconds for processes that outlive the program ({WAIT}), and for those that SIGINT or SIGTERM "
+                        "is passed on to, before they are killed. If it is given, what is shown after such a signal has N seconds too")
     parser.add_argument("--log", metavar="FILE", help="write to this file what otherwise goes to standard error, which then is the program's alone")
     parser.add_argument("--keep", action="store_true", help="keep the records (16 bytes per access)")
     parser.add_argument("words", metavar="PROGRAM", nargs=argparse.REMAINDER, help="the program, and the words that it is given")
@@ -111,6 +111,7 @@ def completed(options):
         options.seed = number(0)(os.environ.get("SHB_SEED") or "1")
     except argparse.ArgumentTypeError as fault:
         raise Refused(f"SHB_SEED: {fault}") from None
+    options.show, options.wait = options.wait, WAIT if options.wait is None else options.wait
     options.runs, options.until_found = options.runs or options.until_found or 1, bool(options.until_found)
     if options.replay:
         options.turns = turns.read(options.replay)
@@ -129,9 +130,9 @@ def record(options):
     results = Results(options.folder, shlex.join([options.program, *options.arguments]).replace("\n", "\\n"), options.replay)
     if options.replay:
         (results.work / REPLAYED).write_bytes(options.turns.content)
-    stops = Stops("shb-record: {}: what was recorded is still shown; another one ends at once, and keeps the record\n".format)
+    stops = Stops("shb-record: {}: what was recorded is still shown; another one ends at once, and keeps the record\n".format, options.show)
     ctypes.CDLL(None).prctl(BECOME_PARENT_OF_ORPHANS, 1, 0, 0, 0)
-    look, own, status = Look(options, results), 0, FAILED
+    look, own, status = Look(options, results, stops), 0, FAILED
     try:
         for number in range(1, options.runs + 1):
             run = Run(options, number, results.work)
@@ -152,9 +153,10 @@ def record(options):
     except (Refused, OSError) as fault:
         look.fail(fault)
     except KeyboardInterrupt:
-        look.fail(Refused("stopped at once"))
+        look.fail(Refused(f"stopped {counted(options.show, 'second')} after the signal (--wait)" if stops.is_late else "stopped at once"))
         results.keep_records()
     finally:
+        stops.close()
         status = status_of(look, own)
         is_recorded = bool(look.runs) or results.has_more()
         if is_recorded:

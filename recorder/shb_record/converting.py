@@ -1,7 +1,6 @@
 """From a record to traces."""
 
 import contextlib
-import hashlib
 import pathlib
 import re
 import shutil
@@ -78,7 +77,7 @@ def check_room(process, most_events):
 
 class Conversion:
     """Turns a record into the run's trace, for `shb scan`, and where that finds races into the trace of their page. `trace`, `uses` and
-    `stacks` are of that trace; `numbers` has its event for each event of a race there that it has."""
+    `stacks` are of that trace; `numbers` has for the events of a race those of that trace, if it has both in one part."""
 
     def __init__(self, process, options):
         self.process = process
@@ -91,14 +90,15 @@ class Conversion:
         self.size, self.notes, self.cuts = "", [], []  # known at the end: how much there is, what is said of it, what makes it a part
         self.numbers = {}
 
-    def places(self, scan):
-        """The places of the run. Where there are some the page's trace is there then."""
+    def places(self, scan, tell):
+        """The places of the run, which are given to `tell` first. Where there are some the page's trace is there then."""
         with tempfile.TemporaryFile() as said, subprocess.Popen(self.words, stdin=subprocess.PIPE, stdout=scan.descriptor, stderr=said, **APART) as ran:
             scan.begun()
             try:
                 places, fault = [], None
                 try:
                     places = scan.places()
+                    tell(self.process, places)
                 except Refused as its:
                     fault = its
                 with contextlib.suppress(BrokenPipeError):  # its status says how it ended
@@ -115,13 +115,13 @@ class Conversion:
         return places
 
     def numbers_of(self, places):
-        """The events of the page's trace that are those of races of the run; they have the same lines."""
+        """`numbers`; the events of the page's trace that are those of races of the run have the same lines."""
         try:
-            numbers = Uses(self.uses).events
+            uses = Uses(self.uses)
         except BadUses as fault:
             raise Contradiction(f"{self.process.name}: the file of uses {fault}") from None
-        wanted = {numbers[event]: access for place in places for race in place.variables.values()
-                  for event, access in zip(race.events, race.accesses) if event in numbers}
+        races = [race for place in places for race in place.variables.values()]
+        wanted = {uses.events[event]: access for race in races for event, access in zip(race.events, race.accesses) if event in uses.events}
         with open(self.trace, "rb") as trace:
             for number, line in enumerate(trace, 1):
                 access = wanted.pop(number, None)
@@ -129,7 +129,7 @@ class Conversion:
                     raise Contradiction(f"{self.process.name}: event {number:,} of the page's trace isn't that of `shb scan`")
         if wanted:
             raise Contradiction(f"{self.process.name}: the page's trace lacks {counted(len(wanted), 'event')} of `shb scan`")
-        return numbers
+        return {race.events: pair for race in races for pair in [uses.pair(*race.events)] if pair}
 
     def write_page(self, places, trace, uses, stacks):
         """Writes the trace of a page anew, around the races of these places."""
@@ -160,6 +160,7 @@ def lines_of(places):
 
 def order_of(record):
     """A sum of the threads and operations of a record, in their order: of two runs that do the same in other orders they differ."""
+    import hashlib  # takes its time, and most calls are of one run
     found = hashlib.sha256()
     with open(record, "rb") as file:
         file.seek(HEADER_BYTES)

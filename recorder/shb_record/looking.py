@@ -17,12 +17,13 @@ from shb_record.converting import CRASHED, KILLED, Conversion, check_room, order
 from shb_record.modules import Modules
 from shb_record.parts import ANALYSER, now, say
 from shb_record.places import Places
-from shb_record.running import cause
+from shb_record.running import PRELOADED, cause
 from shb_record.scanning import Contradiction, scanning
 from shb_record.second import Second, add_races, besides
 
 
 KINDS = {b"r": "read", b"w": "written"}
+LATE = "the C library comes before the recorder's"     # the end of such a record
 
 
 class Looked:
@@ -32,12 +33,12 @@ class Looked:
         self.process, self.conversion = process, Conversion(process, options)
         self.places, self.new, self.named, self.events = [], [], [], 0
         self.behind = []  # what a second look found behind known races
-        self.trace = self.scan = self.uses = self.stacks = None
+        self.trace = self.scan = self.uses = self.stacks = self.sources = None
 
 
 class Look:
-    def __init__(self, options, results):
-        self.options, self.results, self.started = options, results, now()[:-3]
+    def __init__(self, options, results, stops):
+        self.options, self.results, self.stops, self.started = options, results, stops, now()[:-3]
         self.places, self.pages, self.found = Places(options.known), [], {}
         self.runs = []  # of each run: the order of each process
         self.has_replayed, self.again = False, None  # did a process follow the list? the list of the first with an unknown place
@@ -61,7 +62,9 @@ class Look:
                 process.record.unlink()
         if not any(has_events):
             if self.is_cut:
-                raise Refused("nothing of the run was recorded")
+                words = shlex.join(["shb-record", "env", f"LD_PRELOAD={PRELOADED}", self.options.program, *self.options.arguments])
+                late = any(one and LATE in cut for one in looked for cut in one.conversion.cuts)
+                raise Refused("nothing of the run was recorded" + f"; for a module with hooks that the program loads later run `{words}`" * late)
             say(f"run {number}: {counted(len(found), 'recorded process', 'recorded processes')}, none with a second thread")
 
     def tried(self, do, process, looked):
@@ -102,7 +105,7 @@ class Look:
         check_room(process, self.options.window)
         conversion = looked.conversion
         with scanning(self.results.work) as scan:
-            looked.places = conversion.places(scan)
+            looked.places = conversion.places(scan, self.tell)
             looked.events = scan.events
             origin = Origin(None, process.program)
             if looked.events:
@@ -112,9 +115,18 @@ class Look:
                                                             for path in (conversion.trace, conversion.uses, conversion.stacks))
                 looked.scan = self.results.path(f"{process.base}.scan")
                 scan.copy(looked.scan)
-                origin = Origin(tables_in(looked.stacks), process.program)
+                tables = tables_in(looked.stacks)
+                self.modules.callers |= tables.files
+                looked.sources = tables.sources
+                origin = Origin(tables, process.program)
                 origin.add_modules(process.modules)
         looked.new, looked.named = self.places.add_new(process, looked.trace, origin, looked.places, conversion.numbers)
+
+    def tell(self, process, places):
+        """Says which places there are where the command was told to end: what comes then takes its time."""
+        if self.stops.first and places:
+            say(f"{process.name}: {counted(len(places), 'place')} with races:")
+            say_places((place, place.variables) for place in places)
 
     def look_again(self, process, looked):
         """Looks behind the known races of a process."""
@@ -128,7 +140,9 @@ class Look:
             looked.places = [*looked.places, *looked.behind]
             looked.conversion.write_page(looked.places, looked.trace, looked.uses, looked.stacks)
             add_races(looked.scan, looked.behind)
-            origin = Origin(tables_in(looked.stacks), process.program)
+            tables = tables_in(looked.stacks)
+            looked.sources = tables.sources
+            origin = Origin(tables, process.program)
             origin.add_modules(process.modules)
             new, _ = self.places.add_new(process, looked.trace, origin, looked.behind, looked.conversion.numbers, True)
             looked.new = [*looked.new, *new]
@@ -166,7 +180,7 @@ class Look:
     def show_places(self, process, looked, unknown):
         """The view's page and text of new places that aren't known, and what it found; where it fails, the new places alone."""
         numbers = looked.conversion.numbers
-        is_on_page = [any(all(map(numbers.get, one.place.variables[name].events)) for name in one.variables & one.place.variables.keys()) for one in unknown]
+        is_on_page = [any(one.place.variables[name].events in numbers for name in one.variables & one.place.variables.keys()) for one in unknown]
         show_apart([one for one, is_there in zip(unknown, is_on_page) if not is_there])
         if not any(is_on_page):
             return
@@ -174,22 +188,23 @@ class Look:
         notes = [f"{note[0].upper()}{note[1:]}." for note in [*first, *[process.replay] * bool(process.replay)]]
         again = [f"--turns={self.results.folder / f'{process.base}.turns'}",
                  f"--command={shlex.join([self.options.program, *self.options.arguments])}"] if process.record.with_suffix(".turns").exists() else []
-        only, behind, found = (self.results.work / name for name in ("new.places", "behind.places", "found.json"))
+        only, behind, unseen, found = (self.results.work / name for name in ("new.places", "behind.places", "unseen.calls", "found.json"))
         page = self.results.path(f"{process.base}.html")
         lines = b"".join(line for one in unknown for line in lines_of_new(one))
         only.write_bytes(lines)
+        unseen.write_bytes(b"".join(b"%b\t%b\n" % pair for pair in sorted(self.modules.calls(process.modules)) if not set(b"\t\n") & set(b"".join(pair))))
         behind.write_bytes(b"".join(line for one in unknown if one.place in looked.behind for line in lines_of_new(one)))
         words = [f"--title={process.command} ({process.name}, {self.started})", *(f"--note={note}" for note in notes),
                  "--recorded-source", "--stacks", looked.stacks, "--scan", looked.scan, "--uses", looked.uses,
                  *(f"--about={line}" for line in self.meaning()), *(f"--source={folder}" for folder in self.options.source),
-                 *again, "--text", "--no-notes", "--only", only, "--behind", behind, "--json", found, "--html", page, looked.trace]
+                 *again, "--text", "--no-notes", "--only", only, "--behind", behind, "--unseen", unseen, "--json", found, "--html", page, looked.trace]
         from shb_view.command import explain  # takes its time, and a run without a place does without
         if explain(list(map(os.fspath, words)), ANALYSER, sys.stderr, **APART):
             print(lines.decode(errors="backslashreplace"), end="", file=sys.stderr)
             return
         self.pages.append(page)
         self.found[process.name, looked.trace] = document = json.loads(found.read_text(encoding="ascii"))
-        self.sources[process.name, looked.trace] = tables_in(looked.stacks).sources
+        self.sources[process.name, looked.trace] = looked.sources
         self.notes.update(dict.fromkeys(note for note in document["notes"] if note not in notes))
 
 
@@ -197,9 +212,14 @@ def show_apart(unknown):
     """Says which places of the run no page shows."""
     if unknown:
         say(f"{counted(len(unknown), 'place')} of the run without a page, since their accesses are too far apart:")
-    for new in unknown:
-        for name in sorted(set(new.place.variables) & new.variables):
-            first, second = (f"{printable(access.location)} {KINDS[access.word]} by {printable(access.thread)}" for access in new.place.variables[name].accesses)
+    say_places((new.place, new.variables) for new in unknown)
+
+
+def say_places(found):
+    """Says of places and some of their variables a race each."""
+    for place, names in found:
+        for name in sorted(place.variables.keys() & names):
+            first, second = (f"{printable(access.location)} {KINDS[access.word]} by {printable(access.thread)}" for access in place.variables[name].accesses)
             say(f"  {printable(name)}: {first}, and {second}")
 
 

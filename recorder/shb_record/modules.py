@@ -1,19 +1,24 @@
 """The modules of the recorded programs: which have no hooks, and which no debug information."""
 
+import functools
+import itertools
 import mmap
 import os
 import re
 import struct
+import subprocess
 import typing
 
 from shb_common.files import open_regular
 from shb_common.printable import printable
+from shb_record.calls import calls_of, exports_of, files_of
 from shb_record.parts import LIBRARY
 
 # The C library's own, whose functions the recorder stands for, the loader, and the C++ library, whose templates have the hooks.
 OF_THE_SYSTEM = re.compile(rb"linux-vdso|linux-gate|ld-linux|ld-musl|lib(c|m|dl|rt|pthread|resolv|util|gcc_s|tsan|stdc\+\+|c\+\+|c\+\+abi)[.-]")
 MOST_NAMED = 6
 NEEDED, MOST_NAME = 1, 256  # of a section .dynamic; bytes
+LOADER = "/lib64/ld-linux-x86-64.so.2"
 
 
 class Modules:
@@ -21,23 +26,46 @@ class Modules:
 
     def __init__(self):
         self.kinds = {}     # by path: whether it has hooks, and whether debug information
+        self.callers = set()  # names of modules and files that stand in call stacks: what has them calls the program, or starts its threads
 
     def add(self, paths):
         for path in paths:
             if b"/" in path and not OF_THE_SYSTEM.match(os.path.basename(path)) and not path.startswith(bytes(LIBRARY)):
                 self.kinds.setdefault(path, None)
-        self.kinds.update((path, kind_of(path)) for path, kind in self.kinds.items() if kind is None)
+        self.kinds.update((path, read_in(path, kind_of)) for path, kind in self.kinds.items() if kind is None)
 
     def lines(self):
-        """A line on each kind of code of which less is seen. Modules that recorded code calls come first."""
+        """A line on each kind of code of which less is seen. Modules that recorded code calls, or that call it, come first."""
         bare = [path for path, kind in self.kinds.items() if kind and not kind.has_hooks]
         nameless = [path for path, kind in self.kinds.items() if kind and kind.has_hooks and not kind.has_names]
         called = set().union(*(kind.needs for kind in self.kinds.values() if kind and kind.has_hooks))
+        called |= {name for file, name in self.stand_for(self.kinds) if file in self.callers}
         if bare:
             yield (f"Code without -fsanitize=thread isn't seen: {named(bare, called)}. Nor are its locks and queues: races of what these order "
                    "are false. Build it with the flag.")
         if nameless:
             yield f"Without debug information (-g) locations are addresses: {named(nameless, called)}."
+
+    def calls(self, paths):
+        """Pairs of a function of these modules and the name of a module without hooks that it calls, but for calls that are recorded; and what
+        stands in call stacks for each module without hooks, with that."""
+        kinds = {path: self.kinds.get(path) for path in dict.fromkeys(paths)}
+        hooked = [path for path, kind in kinds.items() if kind and kind.has_hooks]
+        needed = set().union(*(kinds[path].needs for path in hooked))
+        recorded, of_module = read_in(bytes(LIBRARY / "libtsan.so"), exports_of) or set(), {}
+        for path, kind in kinds.items():
+            if kind and not kind.has_hooks and os.path.basename(path) in needed:
+                of_module.update(dict.fromkeys((read_in(path, exports_of) or set()) - recorded, os.path.basename(path)))
+        calls = set().union(*(read_in(path, calls_of) or () for path in hooked)) if of_module else ()
+        return {*self.stand_for(kinds), *((function, of_module[called]) for function, called in calls if called in of_module)}
+
+    def stand_for(self, paths):
+        """What stands in locations for modules without hooks, with their names: each itself, and its source files that no module with hooks
+        has too."""
+        known = [path for path in paths if self.kinds.get(path)]
+        files = {path: files_in(path) for path in known if not self.kinds[path].has_hooks}
+        others = set().union(*(files_in(path) for path in known if path not in files)) if any(files.values()) else set()
+        return {(file, name) for path in files for name in [os.path.basename(path)] for file in {name, *files[path] - others}}
 
 
 class Kind(typing.NamedTuple):
@@ -56,31 +84,53 @@ def named(paths, called):
     return ", ".join([*names[:MOST_NAMED], *more])
 
 
-def kind_of(path):
-    """What kind of module this is; nothing of what is no module."""
+def read_in(path, read):
+    """What is read in a module, from its content and its sections; nothing of what is no module."""
     try:
         with open_regular(path) as file, mmap.mmap(file.fileno(), 0, access=mmap.ACCESS_READ) as content:
-            sections = sections_of(content)
-            has_names = bool(sections.keys() & {b".debug_info", b".zdebug_info", b".gnu_debuglink"})
-            return Kind(content.find(b"__tsan_init") >= 0, has_names, frozenset(needs_of(content, sections)))
+            return read(content, sections_of(content))
     except (OSError, ValueError, struct.error):
         return None
 
 
+def kind_of(content, sections):
+    has_names = bool(sections.keys() & {b".debug_info", b".zdebug_info", b".gnu_debuglink"})
+    return Kind(content.find(b"__tsan_init") >= 0, has_names, frozenset(needs_of(content, sections)))
+
+
+@functools.lru_cache(maxsize=None)
+def files_in(path):
+    """The names of the source files of a module that isn't stripped."""
+    return read_in(path, files_of) or set()
+
+
+def is_behind(program, variables):
+    """Whether the loader, which has this environment, would put the recorder's library behind the C library: then no thread would be
+    seen. So it is where a library of a program without hooks has them."""
+    if not read_in(program, lambda _, sections: b".interp" in sections):
+        return False
+    try:
+        listed = subprocess.run([LOADER, "--list", program], env=variables, stdout=subprocess.PIPE, stderr=subprocess.DEVNULL).stdout
+    except OSError:
+        return False
+    names = [os.path.basename(line.split()[0]) for line in listed.splitlines() if line.strip()]
+    return any(name.startswith(b"libtsan.so") for name in itertools.dropwhile(lambda name: name != b"libc.so.6", names))
+
+
 def sections_of(content):
-    """Where the sections of an ELF file of 64 bits are, by their names, and how long they are."""
+    """By the names of the sections of an ELF file of 64 bits: their address, where they are in the file, and how long they are."""
     if content[:5] != b"\x7fELF\x02":
         raise ValueError
     start, = struct.unpack_from("<Q", content, 0x28)
     size, count, names = struct.unpack_from("<HHH", content, 0x3A)
     table = [struct.unpack_from("<IIQQQQ", content, start + size * number) for number in range(count)]
     text = content[table[names][4]:table[names][4] + table[names][5]] if names < count else b""
-    return {text[section[0]:].split(b"\0", 1)[0]: section[4:6] for section in table}
+    return {text[section[0]:].split(b"\0", 1)[0]: section[3:6] for section in table}
 
 
 def needs_of(content, sections):
     """The names of the modules that an ELF file says it needs."""
-    (start, size), (texts, _) = sections.get(b".dynamic", (0, 0)), sections.get(b".dynstr", (0, 0))
+    (_, start, size), (_, texts, _) = sections.get(b".dynamic", (0, 0, 0)), sections.get(b".dynstr", (0, 0, 0))
     for tag, value in struct.iter_unpack("<QQ", content[start:start + size // 16 * 16]):
         if tag == NEEDED:
-            yield content[texts + value:texts + value + MOST_NAME].split(b"\0", 1)[0]
+            yield os.path.basename(content[texts + value:texts + value + MOST_NAME].split(b"\0", 1)[0])

@@ -27,7 +27,7 @@ class Places(places.Places):
 
     def add_new(self, process, trace, origin, found, numbers, is_behind=False):
         """Takes the places of a process, and gives those that are new, or have a new variable; and all, each with its key and the names
-        of its variables in the trace and on the page. `numbers` has the events that the page's trace has, whose locals are known;
+        of its variables in the trace and on the page. `numbers` has the races that the page's trace has, whose locals are known;
         `is_behind` says that they were found behind known races."""
         in_run = [named(place, origin.tables, numbers) for place in found]
         before = {key: set(seen.variables) - seen.behind for key, seen in self.seen.items()}
@@ -75,8 +75,8 @@ def named(place, tables, numbers):
     """A place with its races by the names of their variables on the page; and these by those in the trace."""
     names, variables = {}, {}
     for raw, race in place.variables.items():
-        on_page = [numbers.get(event) for event in race.events]
-        local_of, events = (tables.local_of, tuple(on_page)) if all(on_page) else (tables.lasting, race.events)
+        on_page = numbers.get(race.events)
+        local_of, events = (tables.local_of, on_page) if on_page else (tables.lasting, race.events)
         names[raw] = name_of(race._replace(events=events), local_of)
         variables.setdefault(names[raw], race)
     return place._replace(variables=variables), names

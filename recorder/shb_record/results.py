@@ -15,8 +15,7 @@ from shb_record.parts import now, say
 LIST = "made-by-shb-record.txt"
 LIST_BEGIN = "# What shb-record made in this folder"
 TABLES = "unknown.places", "places.tsv", "places.json", "places.sarif", "index.html"
-OURS = re.compile(r"run\d+\.\d[\d-]*\.(rec|turns|std|scan|uses|stacks|report|html|windows(/(window-\d+\.(std|report|html)|windows\.tsv))?)"
-                  r"|work-\w+|places\.(tsv|json|sarif)|unknown\.places|index\.html")
+OURS = r"run\d+\.\d[\d-]*\.(rec|turns|std|scan|uses|stacks|html)|work-\w+|places\.(tsv|json|sarif)|unknown\.places|index\.html"
 
 
 class Results:
@@ -46,8 +45,8 @@ class Results:
         first, *names = self.list.read().splitlines() or [LIST_BEGIN]
         if not first.startswith(LIST_BEGIN):
             raise Refused(f"{self.folder / LIST} is there, and shb-record didn't make it")
-        kept = [name for name in names if spared and OURS.fullmatch(name) and is_same(self.folder / name, spared)]
-        removed = [name for name in reversed(names) if OURS.fullmatch(name) and name not in kept and remove(self.folder / name)]
+        kept = [name for name in names if spared and re.fullmatch(OURS, name) and is_same(self.folder / name, spared)]
+        removed = [name for name in reversed(names) if re.fullmatch(OURS, name) and name not in kept and remove(self.folder / name)]
         if removed:
             say(f"{self.folder}: the results of an earlier call are replaced{first[len(LIST_BEGIN):]}")
         return kept
@@ -108,15 +107,12 @@ def is_same(path, other):
 
 
 def remove(path):
-    """Deletes a file or folder of ours. Of a folder for windows only what was listed goes, and a folder of work that isn't
-    marked as ours stays, since anybody could have listed it. Gives whether a file was there."""
+    """Deletes a file or folder of ours. A folder of work that isn't marked as ours stays, since anybody could have listed it. Gives whether
+    a file was there."""
     if path.is_symlink() or path.is_file():
         path.unlink()
         return True
     if path.name.startswith("work-") and (path / LIST).is_file():
         shutil.rmtree(path, ignore_errors=True)
-    elif path.is_dir():
-        with contextlib.suppress(OSError):
-            path.rmdir()
     return False
 

@@ -12,17 +12,24 @@ import time
 from shb_common.faults import Refused
 from shb_common.stops import STOPS
 from shb_common.words import counted
+from shb_record.modules import is_behind
 from shb_record.parts import LIBRARY, say
 
+PRELOADED = "libtsan.so.2"      # of our folder, as gcc's own is called
 REPLAYED = "replayed.turns"  # in the folder of work: the list that is followed
 
 
 def environment(options, number, folder):
-    """Our library stands before gcc's own, under its name: so what was built for ThreadSanitizer is recorded as it is."""
+    """Our library stands before gcc's own, under its name: so what was built for ThreadSanitizer is recorded as it is. Where it would
+    come too late the program, and none that this one starts, has it loaded first; SHB_PRELOAD is what these have."""
     paths = [str(LIBRARY)] + [path for path in [os.environ.get("LD_LIBRARY_PATH")] if path]
     replay = {"SHB_REPLAY": str(folder / REPLAYED)} if options.replay else {}
-    return dict(os.environ, SHB_RECORD=str(folder / f"run{number}.%p.rec"), SHB_SEED=str(options.seed + number - 1),
-                LD_LIBRARY_PATH=":".join(paths), **replay)
+    variables = dict(os.environ, SHB_RECORD=str(folder / f"run{number}.%p.rec"), SHB_SEED=str(options.seed + number - 1),
+                     LD_LIBRARY_PATH=":".join(paths), **replay)
+    if is_behind(shutil.which(options.program), variables):
+        before = os.environ.get("LD_PRELOAD", "")
+        variables.update(LD_PRELOAD=f"{PRELOADED} {before}", SHB_PRELOAD=before)
+    return variables
 
 
 class CannotRun(Refused):
@@ -117,8 +124,7 @@ def cause(program):
             languages = [language for mark, language in MARKS.items() if content.find(mark) >= 0]
     if not has_hooks:
         return ("neither it nor a program that it started was compiled with -fsanitize=thread, or that one was started without this "
-                "command's environment (SHB_RECORD, LD_LIBRARY_PATH); if a plug-in of it was, run "
-                "`shb-record env LD_PRELOAD=libtsan.so.2 PROGRAM`")
+                f"command's environment (SHB_RECORD, LD_LIBRARY_PATH); if a plug-in of it was, run `shb-record env LD_PRELOAD={PRELOADED} PROGRAM`")
     if not has_library and languages:
         return f"it has code in {languages[0]}, whose compiler links ThreadSanitizer's own library; C and C++ programs are recorded"
     if not has_library:

@@ -32,18 +32,19 @@ def document(look, rows, entries, groups, status):
     summary = {"places": count(rows), "unknown": unknown, "behind": count(row for row in rows if row.state() == "behind"),
                "known": count(rows) - unknown, "stale": len(stale),
                "status": status, "runs": len(look.runs)}
-    return result.document("shb-record", summary, [entry(row, entries) for row in rows], stale=result.stale_of(stale),
+    return result.document("shb-record", summary, [entry(look, row, entries) for row in rows], stale=result.stale_of(stale),
                            notes=list(look.meaning()), groups=groups)
 
 
-def entry(row, entries):
-    """A row with the two accesses of its first race."""
+def entry(look, row, entries):
+    """A row with the two accesses of its first race, and the processes that have it."""
     process, trace = row.example
     reads = list(zip(row.race.events, row.race.accesses))
     if row.race.accesses[0].location != row.texts[0]:
         reads.reverse()
     found = result.entry_of(entries, row)
-    return result.entry(row, found, reads, process=process, trace=trace.name, **({"group": found["group"]} if found else {}))
+    return result.entry(row, found, reads, process=process, trace=trace.name, **({"group": found["group"]} if found else {}),
+                        processes=[name for name, _ in look.places.seen[row.key].traces])
 
 
 def log(look, rows, entries, status):
@@ -52,7 +53,7 @@ def log(look, rows, entries, status):
     for row in rows:
         process, trace = row.example
         found = result.entry_of(entries, row)
-        accesses = tuple(access_of(one, look.sources[row.example]) for one in entry(row, entries)["accesses"] if one.get("stacks")) if found else ()
+        accesses = tuple(access_of(one, look.sources[row.example]) for one in entry(look, row, entries)["accesses"] if one.get("stacks")) if found else ()
         alerts.append(sarif.Alert(row, without_numbers(found), "", os.fsencode(trace.relative_to(look.results.folder)), accesses, {"process": process}))
     notes = [("note", line) for line in look.meaning()]
     return sarif.log(alerts, sarif.Here(pathlib.Path.cwd()), notes, not look.has_failed and not look.is_cut, status)

@@ -9,7 +9,7 @@ import typing
 from shb_common.faults import Refused
 
 HEADER_BYTES, ENTRY_BYTES, MOST_BYTES = 4096, 8, 128 << 20
-HEADER = re.compile(rb"shb-turns 1\ncommand (?P<command>[^\n]*)\n(?:whole (?P<count>[0-9a-f]+) (?P<sum>[0-9a-f]+)\n)?\0*")
+HEADER = re.compile(rb"shb-turns 2\ncommand (?P<command>[^\n]*)\n(?:whole (?P<count>[0-9a-f]+) (?P<sum>[0-9a-f]+)\n)?\0*")
 
 
 class List(typing.NamedTuple):

@@ -1,8 +1,8 @@
 #!/usr/bin/env python3
-"""Gives shb-std changed records, and its reader of debug information changed modules, for some time, by clang's libFuzzer with its
-sanitizers.
+"""Gives shb-std changed records and changed answers of the reader of modules, and that reader changed modules, for some time, by clang's
+libFuzzer with its sanitizers.
 
-    fuzz.py SECONDS FOLDER [records|modules]
+    fuzz.py SECONDS FOLDER [records|answers|modules]
 
 Each has so many seconds. FOLDER gets the programs, the inputs by which a new way was gone, which a later call begins with, and what was
 found (crash-.., timeout-..). The last lines are libFuzzer's: how many inputs there were.
@@ -10,6 +10,7 @@ found (crash-.., timeout-..). The last lines are libFuzzer's: how many inputs th
 
 import pathlib
 import re
+import struct
 import subprocess
 import sys
 import tempfile
@@ -86,9 +87,19 @@ def modules():
                     yield program.read_bytes()
 
 
-LONGEST = {"records": 8192, "modules": 32768}
-WHAT = {"records": ([], sorted(SOURCES.glob("converter/*.c")), list(records())),
-        "modules": (["-DFUZZ_MODULES"], sorted(SOURCES.glob("converter/*.c")), modules())}
+def answers():
+    """Rows as readers give them, each followed by the end of an answer."""
+    end = struct.pack("<QQII", 0, 0, 0x7fffffff, 0)
+    for one, two, first, second in ((0, 0, b"/a/b.c", b""), (0, 3, b"f(int)", b"/a/b.c"), (0x5000, 64 << 2 | 1, b"main", b""), (7, 0, b"T[1].balance", b"")):
+        row = struct.pack("<QQII", one, two, len(first), len(second)) + first + second
+        yield (row + end) * 30
+        yield end + row * 3 + end
+
+
+LONGEST = {"records": 8192, "answers": 8192, "modules": 32768}
+CONVERTER, READER = sorted(SOURCES.glob("converter/*.c")), [*sorted(SOURCES.glob("reader/*.c")), SOURCES / "converter/tables.c"]
+WHAT = {"records": ([], CONVERTER, list(records())), "answers": (["-DFUZZ_ANSWERS"], CONVERTER, list(answers())),
+        "modules": (["-DFUZZ_MODULES", "-ldw", "-lelf"], READER, modules())}
 
 
 def build(name, folder):
@@ -98,7 +109,7 @@ def build(name, folder):
     for source in sources:
         objects.append(folder / f"{name}-{source.parent.name}-{source.stem}.o")
         subprocess.run(["clang", "-g", "-O1", "-w", "-Dmain=command", "-fsanitize=fuzzer-no-link", *SANITIZERS, "-c", source, "-o", objects[-1]], check=True)
-    subprocess.run(["clang", "-g", "-O1", "-w", *flags, "-fsanitize=fuzzer", *SANITIZERS, HERE / "fuzz_readers.c", *objects, "-o", folder / name], check=True)
+    subprocess.run(["clang", "-g", "-O1", "-w", "-fsanitize=fuzzer", *SANITIZERS, HERE / "fuzz_readers.c", *objects, *flags, "-o", folder / name], check=True)
     (folder / f"{name}-inputs").mkdir(exist_ok=True)
     for number, seed in enumerate(seeds):
         (folder / f"{name}-inputs" / f"seed-{number}").write_bytes(seed)
@@ -108,6 +119,10 @@ def build(name, folder):
 def main(seconds, folder, names):
     folder = pathlib.Path(folder).resolve()
     folder.mkdir(parents=True, exist_ok=True)
+    (folder / "module-reader").write_text('#!/bin/sh\nexec cat "$SHB_ANSWERS"\n')  # of "answers"
+    (folder / "module-reader").chmod(0o755)
+    header = (test_record.HEADER.rstrip(b"whole\0") + b"0 ffffff 0 /nowhere/a\n").ljust(65536 - 256, b"\0") + test_record.HEADER[-256:]
+    (folder / "record-of-answers").write_bytes(header + test_record.FRAMES + test_record.ENTRIES * 2)
     for name in names or WHAT:
         program = build(name, folder)
         subprocess.run([program, f"-max_total_time={seconds}", f"-max_len={LONGEST[name]}", "-timeout=300", "-print_final_stats=1", "-verbosity=1",

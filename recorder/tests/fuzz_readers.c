@@ -1,5 +1,6 @@
-/* libFuzzer's side of fuzz.py: each input is given to shb-std as a record, or to its reader of debug information as a module, in a process
-   of its own, for both are written to run once.  What the process counted of the ways that it went is added to the counts here. */
+/* libFuzzer's side of fuzz.py: each input is given to shb-std as a record, or as what the reader of a module answers, or to that reader as
+   a module, in a process of its own, for both are written to run once.  What the process counted of the ways that it went is added to the
+   counts here. */
 #define _GNU_SOURCE
 #include <fcntl.h>
 #include <signal.h>
@@ -12,7 +13,7 @@
 #include <unistd.h>
 #include "../record.h"
 #ifdef FUZZ_MODULES
-#include "../converter/members.h"
+#include "../reader/debug.h"
 #endif
 
 enum { SECONDS = 120, LONGEST = 1 << 16 };
@@ -61,22 +62,39 @@ static int prepare(const uint8_t *data, size_t size, char **words) {
     return 0;
 }
 
-/* Asks for a name in each variable, of locals of each function, and of blocks that it allocates. */
+static u64 given;
+static void take_text(const char *text) { given += strlen(text); }
+
+/* Asks for a name in each variable, of locals of each function, of blocks that it allocates, and of the frames at its code. */
 static int read_module(void) {
     enum { MOST = 64 };
     char name[NAME_BYTES];
-    note_sources_of(input);
-    struct members *m = read_members(input);
-    for (u64 k = 0; k < m->by_address.capacity && k < 16 * MOST; k++)
-        for (u64 offset = 0; m->by_address.entries[k].value && offset < MOST; offset += 4)
-            add_member(m, m->by_address.entries[k].a, offset, 4, name, sizeof name);
-    for (u64 k = 0; k < m->by_begin.capacity && k < 16 * MOST; k++)
-        for (u64 at = 0; m->by_begin.entries[k].value && at < MOST; at += 4) {
-            u64 function = m->by_begin.entries[k].a;
-            add_local(m, (place_of_local){function, function + at, at, at, 4}, name, sizeof name);
-            add_in_block(m, (place_in_block){function, function + at, MOST, at, 4}, name, sizeof name);
+    debug_frame frames[MOST];
+    struct debug *d = open_debug(input);
+    why_unread(d);
+    is_variable(d, "one");
+    for (u64 k = 0; k < d->symbol_count && k < 16 * MOST; k++) symbol_at(d, d->symbols[k].at);
+    each_source(d, take_text);
+    add_member(d, 1, 0, 4, name, sizeof name);               /* of none: all are read */
+    for (u64 k = 0; k < d->by_address.capacity && k < 16 * MOST; k++)
+        for (u64 offset = 0; d->by_address.entries[k].value && offset < MOST; offset += 4)
+            add_member(d, d->by_address.entries[k].a, offset, 4, name, sizeof name);
+    for (u64 k = 0; k < d->span_count && k < 16 * MOST; k++)
+        for (u64 at = 0; at < MOST; at += 4) {
+            u64 pc = d->spans[k].low + d->bias + at;
+            for (int n = frames_at(d, pc, frames, MOST); n-- > 0;) free(frames[n].function);
+            add_local(d, (place_of_local){pc, at, at, 4}, name, sizeof name);
+            add_in_block(d, (place_in_block){pc, MOST, at, 4}, name, sizeof name);
         }
     return 0;
+}
+#elif defined FUZZ_ANSWERS
+/* A record whose module has a reader that answers the input, whatever it is asked. */
+static int prepare(const uint8_t *data, size_t size, char **words) {
+    put(data, size, 0);
+    setenv("SHB_ANSWERS", input, 1);
+    words[0] = "shb-std", words[1] = "--stacks", words[2] = stacks, words[3] = "record-of-answers";
+    return 4;
 }
 #else
 /* The first byte says which options there are, the second how many bytes of the header come before the records. */
@@ -104,7 +122,7 @@ static int prepare(const uint8_t *data, size_t size, char **words) {
 
 static void run(const uint8_t *data, size_t size) {
     char *words[16] = {0};
-    int null = open("/dev/null", O_RDWR);
+    int null = openat(AT_FDCWD, "/dev/null", O_RDWR);        /* the reader's own open takes regular files alone */
     dup2(null, 0), dup2(null, 1), dup2(words_file, 2);
     alarm(SECONDS);
     atexit(end_process);

@@ -10,6 +10,7 @@ enum { MOST_BLOCKS = 1 << 16, MOST_HELD = (1 << ORDER_BITS) - 1 };
 static struct record *in, *out;
 static uint64_t count, written, held_there;
 static uint32_t serials[1 << 16], last_serial = 1 << 16;     /* of a thread with this number */
+static uint64_t contexts[1 << 16];     /* that it is in */
 static struct { uint64_t at, size; } blocks[MOST_BLOCKS];
 static uint64_t block_count;
 
@@ -18,8 +19,8 @@ static void add(struct record r) {
     held_there = 0;
 }
 
-void put_late(struct record r, uint64_t position) {
-    add((struct record){position, (uint64_t)OP_LATE << 48});
+void put_late(struct record r, uint64_t word) {
+    add((struct record){word & POSITIONS, word >> POSITION_BITS | (uint64_t)OP_LATE << 48});
     add(r);
 }
 
@@ -45,11 +46,27 @@ static uint64_t bytes_of(uint64_t i) {
     return operation <= OP_WRITE || operation == OP_ALLOC || operation == OP_START ? size_of(i) : 1;
 }
 
+/* As a quick hook holds it back. */
+static int is_held_quickly(uint64_t i, uint64_t bytes, uint64_t kind, uint64_t word) {
+    uint64_t address = in[i].where & LOW_48_BITS;
+    int is_plain = operation_of(in[i]) == OP_READ || operation_of(in[i]) == OP_WRITE;
+    cell *c = is_plain && address / GRAIN == (address + bytes - 1) / GRAIN ? find_cell(address) : 0;
+    uint16_t number = in[i].where >> 48;
+    cell_use use = {what_of_use(in[i].what, address), c ? kind_in(c, in[i].what, kind, reader_of(serials[number], number)) : 0};
+    uint64_t *held = c && word ? word_of_use(c, address, serials[number], number, use) : 0;
+    if (held) *held = word;
+    held_there += held != 0;
+    return held != 0;
+}
+
+/* The kind of a context is its number without the last bit. */
 static int is_held_back(uint64_t i, uint64_t bytes) {
-    uint64_t position = held_there == MOST_HELD ? NO_POSITION : written << ORDER_BITS | (held_there + 1);
+    uint64_t order = held_there + 1, context = contexts[in[i].where >> 48], kind = context >> 1 << KIND_AT;
+    uint64_t word = held_there == MOST_HELD ? NO_POSITION : context << POSITION_BITS | written << ORDER_BITS | order;
     uint32_t serial = serials[in[i].where >> 48];
+    if ((i + 2) % 3 && is_held_quickly(i, bytes, kind, word)) return 1;      /* as hooks, of which some are slow */
     uint64_t before = written, most = 2 * count_late(serial, in[i], bytes);
-    int is_held = hold_back(serial, in[i], bytes, position);
+    int is_held = hold_back(serial, in[i], bytes, kind, word);
     if (written - before > most) {
         fprintf(stderr, "%lu entries are late, and %lu at most were expected\n", written - before, most);
         exit(1);
@@ -62,6 +79,7 @@ static void step(uint64_t i) {
     enum operation operation = operation_of(in[i]);
     uint64_t address = in[i].where & LOW_48_BITS;
     if (operation == OP_FORK) serials[address] = ++last_serial;
+    if (operation == OP_CONTEXT) contexts[in[i].where >> 48] = address;
     if (operation == OP_ALLOC && block_count < MOST_BLOCKS) {
         blocks[block_count].at = address;
         blocks[block_count++].size = size_of(i);

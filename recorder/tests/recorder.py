@@ -36,13 +36,21 @@ def build_recorder(folder, *settings):
     """Builds the recorder from its sources in a new folder."""
     global BUILT
     copy = folder / "recorder"
-    shutil.copytree(SOURCES, copy, ignore=shutil.ignore_patterns("lib", "shb-std", "tests"))
+    shutil.copytree(SOURCES, copy, ignore=shutil.ignore_patterns("lib", "shb-std", "module-reader", "tests"))
     must(call("make", "-C", copy, *settings))
     for name in ("view", "common"):
         if not (folder / name).exists():
             (folder / name).symlink_to(SOURCES.parent / name)
     BUILT = BUILT or copy
     return copy
+
+
+def sanitized(folder, compiler="gcc"):
+    """The converter and its reader of modules, built so that they end at the first access that isn't allowed."""
+    flags = ["-g", "-O1", "-fsanitize=address,undefined", "-fno-sanitize-recover=all"]
+    must(call(compiler, *flags, *sorted(SOURCES.glob("converter/*.c")), "-o", folder / "shb-std"))
+    must(call(compiler, *flags, *sorted(SOURCES.glob("reader/*.c")), SOURCES / "converter/tables.c", "-ldw", "-lelf", "-o", folder / "module-reader"))
+    return folder / "shb-std"
 
 
 def build(source, option, program, built=None):

@@ -22,6 +22,11 @@ def read(thread, place, address=X, size=4):
     return entry(thread, "READ", address, place, size)
 
 
+def context(thread, number):
+    """Two of them, of which the first is even, are of one kind."""
+    return entry(thread, "CONTEXT", number, 0)
+
+
 OTHER_USES = [write(1, 0x300 + k) for k in range(15)]
 CASES = {  # what a record has behind FORKS, and what is left of it
     "of one thread": ([write(1, 0x201), read(1, 0x202), write(1, 0x201), write(1, 0x203, X + 4, 1)], []),
@@ -50,6 +55,15 @@ CASES = {  # what a record has behind FORKS, and what is left of it
     "parts of a cell": (
         [write(1, 0x201), write(1, 0x201, X + 4), read(2, 0x204, X + 6, 1)],
         [late(2, 1, write(1, 0x201)), late(2, 2, write(1, 0x201, X + 4)), read(2, 0x204, X + 6, 1)]),
+    "calls from two places": (
+        [context(1, 2), write(1, 0x201), context(1, 4), write(1, 0x201), context(1, 3), write(1, 0x201), write(2, 0x204)],
+        [context(1, 2), context(1, 4), context(1, 3), late(5, 1, write(1, 0x201), 3), late(4, 1, write(1, 0x201), 4), write(2, 0x204)]),
+    "a range in calls of one kind": (
+        [context(1, 2), write(1, 0x201, X, 16), context(1, 3), write(1, 0x201, X, 16), write(2, 0x204)],
+        [context(1, 2), context(1, 3), late(4, 1, write(1, 0x201, X, 16), 3), write(2, 0x204)]),
+    "calls of readers": (
+        [read(2, 0x204), context(1, 2), read(1, 0x201), context(1, 4), *[read(1, 0x201)] * 2, write(2, 0x205)],
+        [context(1, 2), context(1, 4), late(2, 1, read(2, 0x204)), late(3, 1, read(1, 0x201), 2), late(4, 2, read(1, 0x201), 4), write(2, 0x205)]),
     "more uses than keys": (
         [*OTHER_USES, write(2, 0x204)],
         [*OTHER_USES[7:14], late(2, 2, OTHER_USES[1]), late(2, 1, OTHER_USES[0]), late(9, 1, OTHER_USES[14]),
@@ -57,6 +71,14 @@ CASES = {  # what a record has behind FORKS, and what is left of it
     "an atomic access": (
         [write(2, 0x204), read(1, 0x201), entry(2, "ATOMIC_STORE", X, 0x205, 4), read(1, 0x201), read(1, 0x201)],
         [late(2, 1, write(2, 0x204)), read(1, 0x201), entry(2, "ATOMIC_STORE", X, 0x205, 4), read(1, 0x201)]),
+    "uses that other cells have": (
+        [write(1, 0x201), read(1, 0x202), read(2, 0x203), write(1, 0x201, X + 8), read(1, 0x202, X + 8), read(2, 0x203, X + 8), write(1, 0x201, X + 8),
+         read(1, 0x202, X + 8), write(2, 0x204, X + 8)],
+        [late(2, 1, write(1, 0x201)), late(2, 2, read(1, 0x202)), read(2, 0x203), late(7, 1, write(1, 0x201, X + 8)),
+         late(7, 2, read(1, 0x202, X + 8)), read(2, 0x203, X + 8), write(1, 0x201, X + 8), read(1, 0x202, X + 8), write(2, 0x204, X + 8)]),
+    "a write behind a read that another cell has": (
+        [write(1, 0x201), read(1, 0x202, X + 8), write(1, 0x201, X + 8), read(2, 0x203, X + 8), write(2, 0x203)],
+        [late(2, 2, read(1, 0x202, X + 8)), late(2, 3, write(1, 0x201, X + 8)), read(2, 0x203, X + 8), late(2, 1, write(1, 0x201)), write(2, 0x203)]),
     "a lock": ([write(1, 0x201), entry(2, "LOCK", X, 0x205)], [late(2, 1, write(1, 0x201)), entry(2, "LOCK", X, 0x205)]),
     "a range over two cells": (
         [*[write(1, 0x201, X, 16)] * 2, write(2, 0x204, X + 8), write(2, 0x205)],
@@ -88,6 +110,9 @@ CASES = {  # what a record has behind FORKS, and what is left of it
         [entry(1, "ALLOC", BLOCK, 0x201, 32), entry(1, "FREE", BLOCK, 0x202), *[write(2, 0x204, BLOCK + 8)] * 3, read(1, 0x203, BLOCK + 8)],
         [entry(1, "ALLOC", BLOCK, 0x201, 32), entry(1, "FREE", BLOCK, 0x202), write(2, 0x204, BLOCK + 8),
          late(5, 2, write(2, 0x204, BLOCK + 8)), read(1, 0x203, BLOCK + 8)]),
+    "a use that another cell has in a block that is freed unused": (
+        [write(2, 0x204), entry(1, "ALLOC", BLOCK, 0x201, 32), entry(1, "FREE", BLOCK, 0x202), write(2, 0x204, BLOCK + 8)],
+        [entry(1, "ALLOC", BLOCK, 0x201, 32), entry(1, "FREE", BLOCK, 0x202), write(2, 0x204, BLOCK + 8)]),
     "a range in a freed block": (
         [entry(1, "ALLOC", BLOCK, 0x201, 32), entry(1, "FREE", BLOCK, 0x202), *[write(2, 0x204, BLOCK, 16)] * 2],
         [entry(1, "ALLOC", BLOCK, 0x201, 32), entry(1, "FREE", BLOCK, 0x202), *[write(2, 0x204, BLOCK, 16)] * 2]),
@@ -118,22 +143,25 @@ CASES = {  # what a record has behind FORKS, and what is left of it
         [entry(0, "JOIN", 1, 0x103), entry(2, "FORK", 1, 0x204), late(2, 1, write(1, 0x201)), write(1, 0x201)]),
 }
 # What the threads of a record do: as in test_open, and blocks (B), and ranges over pages with accesses in them (G).
-WORDS = ["RW", "RWL", "RWA", "AR", "RAL", "RWLS", "RWLX", "RWLLLL", "RLLL", "WL", "RWB", "BL", "G", "GGL", "GL", "GLL"]
+WORDS = ["RW", "RWL", "RWA", "AR", "RAL", "RWLS", "RWLX", "RWLLLL", "RLLL", "WL", "RWB", "BL", "G", "GGL", "GL", "GLL", "RWC", "RLC"]
 FOUND_IN_DRAWN = 5  # of these faults so many are found in a few drawn records too, each of the others in a case
 FAULTS = {  # to plant: the file, what stands there, and what in its place
     "each phase counts as the first": ("cells.c", "int is_first = !c->owner && !is_freed(page, address);", "int is_first = 1;"),
     "the last use of a phase isn't recorded": ("cells.c", "    put_all_held(c, address);\n    free_table(c);\n", "    free_table(c);\n"),
-    "the position is that of the first use": ("cells.c", "    if (key) *key = number << POSITION_BITS | position;\n", ""),
-    "the position is where it is recorded": ("hold_back.c", "{position, (uint64_t)OP_LATE", "{written << ORDER_BITS | 1, (uint64_t)OP_LATE"),
+    "the position is that of the first use": ("cells.c", "    if (held) *held = word;\n", ""),
+    "the position is where it is recorded": ("hold_back.c", "{word & POSITIONS, ", "{written << ORDER_BITS | 1, "),
     "bytes of a cell are one use": (
         "cells.c", "cell_use use = {what_of_use(r.what, address),", "cell_use use = {r.what,"),
-    "a use that makes room isn't recorded": ("cells.c", "    if (*old & POSITIONS) put_held(c, *old, address);\n", ""),
+    "calls from two places are one use": ("cells.c", "    use.from = kind;\n", "    use.from = 0;\n"),
+    "calls from two places are one use of a reader": (
+        "cells.c", "kind | reader_of(serial, r.where >> 48)};", "reader_of(serial, r.where >> 48)};"),
+    "a use that makes room isn't recorded": ("cells.c", "    if (is_held(old)) put_held(c, old, address);\n", ""),
     "atomic accesses end no phase": ("cells.c", "(operation >= OP_ATOMIC_LOAD && operation <= OP_ATOMIC_UPDATE)", "0"),
     "a free ends no phase": ("cells.c", "if (operation == OP_FREE) free_range", "if (0) free_range"),
     "each page begins with a first phase": (
         "cells.c", "page->is_first = !cells && !page->is_whole && !has_freed(page);", "page->is_first = 1;"),
     "a page that was freed begins with a first phase": ("cells.c", " && !has_freed(page)", ""),
-    "a cell that was freed begins with a first phase": ("cells.c", "!c->owner && !is_freed(page, address)", "!c->owner"),
+    "a cell that was freed begins with a first phase": ("cells.c", "is_first = !c->owner && !is_freed(page, address)", "is_first = !c->owner"),
     "a range is held back where it was freed": ("cells.c", ": is_freed(page, address)) return 0", ": 0) return 0"),
     "a free leaves what nobody used": ("cells.c", "        page->freed[w] |= bits & ~page->used[w];\n", ""),
     "a free is of what nobody used alone": (
@@ -148,10 +176,17 @@ FAULTS = {  # to plant: the file, what stands there, and what in its place
     "a new block leaves its page whole": ("cells.c", "        if (page->is_whole) page->is_whole = 0;\n", ""),
     "a thread with the number of a joined one is the same": ("hold_back.c", "serials[address] = ++last_serial", "last_serial++"),
     "a range is held back in a later phase": ("cells.c", "c->owner != serial || !c->is_first :", "c->owner != serial :"),
-    "readers are one": ("cells.c", "reader_of(serial, r.where >> 48)};", "reader_of(1, 1)};"),
+    "readers are one": ("cells.c", "kind | reader_of(serial, r.where >> 48)};", "kind | reader_of(1, 1)};"),
     "a write leaves a phase of reads": ("cells.c", "    if (!is_read(use.what)) c->is_only_read = 0;\n", ""),
     "a free or a range leaves a phase of reads": ("cells.c", "    c->is_only_read = 0;\n}", "}"),
-    "a table grows without its keys": ("cells.c", "        if (keys[k]) insert_in_table(table, log, keys[k]);\n", "        ;\n"),
+    "a cell that was freed begins with a first phase in a quick hook": (
+        "cells.c", "if (!c->owner && !is_freed(page, address)) {", "if (!c->owner) {\n        page->freed[number_in_page(address) / 64] = 0;"),
+    "a use is new in a quick hook of a later phase": ("cells.c", "!c->is_first || is_full(c)) return 0;", "is_full(c)) return 0;"),
+    "a write in a quick hook leaves a phase of reads": ("cells.c", "    if (!is_read(cell_uses[use].what)) c->is_only_read = 0;\n", ""),
+    "a quick hook takes another thread's cell": ("cells.c", "if (c->owner != serial || !c->is_first", "if (!c->is_first"),
+    "a table grows without its keys": (
+        "cells.c", "        if (*key_at(c, k).use) insert_key(&grown, *key_at(c, k).use, *key_at(c, k).word);\n", "        ;\n"),
+    "the context is that of the first use": ("cells.c", "*held = word;", "*held = (*held & ~POSITIONS) | (word & POSITIONS);"),
     "a long block is new variables": ("cells.c", "    if (end - address >= MAX_BLOCK) return;\n", ""),
 }
 
@@ -167,6 +202,8 @@ class Drawn(test_open.Drawn):
             self.block(0x20000000 + 0x100 * self.draw.randrange(2))
         elif word == "G":
             self.page(0x30000000)
+        elif word == "C":
+            self.add("CONTEXT", self.draw.randrange(5))
         elif word in "RW":
             size = self.draw.choice(self.sizes)
             inside = self.draw.choice((0, 0, 2, 4)) if size < 8 else 0
@@ -203,7 +240,7 @@ class Cells(recorder.Case):
                 self.assertEqual(text.count(plant[1]), 1)
                 text = text.replace(plant[1], plant[2])
             text = text if has_tables else text.replace("log <= MOST_LOG ? new_table(log) : 0", "0")
-            (folder / path.name).write_text(text.replace("enum { KEYS = 7 }", f"enum {{ KEYS = {keys} }}"))
+            (folder / path.name).write_text(text.replace("enum { KEYS = 2 }", f"enum {{ KEYS = {keys} }}"))
         recorder.must(recorder.call("gcc", "-g", "-O1", "-w", folder / "cells.c", folder / "hold_back.c", "-o", folder / "hold_back"))
         return folder / "hold_back"
 
@@ -291,6 +328,11 @@ class Runs(recorder.Case):
         self.assertEqual(status, 124, said)
         self.assertIn("SHB_RECORDS is reached", said)
         self.assertRegex(said, r"\): \d\d,\d{3} records, ")
+
+    def test_more_contexts_than_are_kept(self):
+        status, said = self.recorded("deep", SHB_RECORDS="2000000")
+        self.assertEqual(status, 66, said)
+        self.assertIn("; 1 place with races", said)
 
     def test_a_crash_at_the_end(self):
         status, said = self.recorded("crash")

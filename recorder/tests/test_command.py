@@ -62,6 +62,53 @@ class Command(recorder.Case):
         self.assertRegex(text_of(self.folder / "status.shb" / "places.tsv"),  # main forks both, then each writes
                          r"\nstatus.c:9\tstatus.c:9\t1\tshared\tunknown\t\d+\t\d+\trun 1, process \d+\trun1\.\d+\.std\n$")
 
+    def host(self, *words):
+        """A program without hooks; its first word is run before it calls a library with hooks, which has a race."""
+        library = self.folder / "libraces.so"
+        recorder.must(recorder.call("gcc", "-w", "-g", "-O1", "-fsanitize=thread", "-shared", "-fPIC", "-Dmain=races",
+                                    recorder.PROGRAMS / "counter_race.c", "-o", library))
+        code, program = self.folder / "host.c", self.folder / "host"
+        code.write_text("""#include <dlfcn.h>
+#include <stdlib.h>
+__attribute__((weak)) int races(void);
+int main(int count, char **words) {
+    if (count > 1 && system(words[1])) return 1;
+    return races ? races() : ((int (*)(void))dlsym(dlopen(words[2], RTLD_NOW), "races"))();
+}
+""")
+        recorder.must(recorder.call("gcc", "-w", code, *words, f"-Wl,-rpath,{self.folder}", "-o", program))
+        return program, library
+
+    def test_a_library_with_hooks_of_a_program_without(self):
+        """The recorder's library comes first in the program, and in nothing that it starts."""
+        program, _ = self.host(f"-L{self.folder}", "-Wl,--no-as-needed", "-lraces")
+        for preloaded in ("", "libm.so.6"):
+            more = {"LD_PRELOAD": preloaded} if preloaded else {}
+            status, _, said = self.record(program, f'test "$LD_PRELOAD" = "{preloaded}" -a -z "$SHB_PRELOAD"', **more)
+            self.assertEqual((status, "Code without -fsanitize=thread isn't seen: host." in said), (66, True), said)
+            self.assertIn("counter_race.c:8\t", text_of(self.folder / "host.shb" / "places.tsv"))
+
+    def test_a_module_with_hooks_that_a_program_opens(self):
+        """No file tells that before; the command that records it is named."""
+        program, library = self.host()
+        status, _, said = self.record(program, "true", library)
+        again = f"shb-record env LD_PRELOAD=libtsan.so.2 {program} true {library}"
+        self.assertEqual((status, f"nothing of the run was recorded; for a module with hooks that the program loads later run `{again}`\n" in said),
+                         (125, True), said)
+        status, _, said = self.record(*again.split()[1:])
+        self.assertEqual(status, 66, said)
+
+    def test_programs_that_the_loader_does_not_load(self):
+        """They run once, as what they are."""
+        script, linked = self.folder / "script", self.folder / "linked"
+        script.write_text("#!/bin/sh\necho said >> out\n")
+        script.chmod(0o755)
+        recorder.must(recorder.call("gcc", "-xc", "-static", "-", "-o", linked, input=b'int main(void) { return puts("said") < 0; }'))
+        for program, out in ((script, ""), (linked, "said\n")):
+            status, said, told = self.record(program)
+            self.assertEqual((status, said, "left no record" in told), (125, out, True), told)
+        self.assertEqual(text_of(self.folder / "out"), "said\n")
+
     def test_code_where_the_sources_were_moved(self):
         """The debug information has the old paths."""
         sources, program = self.folder / "src", self.folder / "program"
@@ -91,6 +138,9 @@ class Command(recorder.Case):
         self.assertEqual(there, back[::-1])
         for shown in said, text_of(page):
             self.assertRegex(shown, r"2 places with races, in \d group")
+        numbers = re.findall(r"In the run the accesses are events ([\d,]+) and ([\d,]+): ", text_of(page))
+        races = re.findall(r"(?m)^race \d+: (\d+) (\d+)$", text_of(scan))
+        self.assertTrue(numbers and {tuple(number.replace(",", "") for number in pair) for pair in numbers} <= set(races), (numbers, races))
         self.assertIn(f"races with {there[1]}\n", said)
         self.assertIn("shb-record: 2 places with races;", said)
         self.assertNotIn("can't judge it", said)
@@ -469,7 +519,7 @@ class Command(recorder.Case):
         if not shutil.which("clang"):
             self.skipTest("clang isn't installed")
         help = self.record("--help")[1]
-        return re.search(r"link with (-fno-sanitize-link-runtime -L\S+ -ltsan)\.", help)[1].split()
+        return re.search(r"link\s+with\s+(-fno-sanitize-link-runtime\s+-L\S+\s+-ltsan)\.", help)[1].split()
 
     def test_clang_in_one_step(self):
         status, _, said = self.record(self.program("status.c", *self.flags_of_clang(), compiler="clang"), "0", "race")
@@ -547,8 +597,8 @@ class Command(recorder.Case):
     def test_files_that_it_did_not_make_stay(self):
         """Whatever their names; and none is written over."""
         program, folder = self.program(), self.folder / "mine"
-        (folder / "run3.1.windows").mkdir(parents=True)
-        mine = {folder / name for name in ("run1.2-notes.report", "run1.1.std", "run3.1.windows/window-0001.std")}
+        folder.mkdir()
+        mine = {folder / name for name in ("run1.2-notes.std", "run1.1.std", "run3.1.windows")}
         for path in mine:
             path.write_text("mine")
         for _ in range(2):
@@ -614,6 +664,14 @@ class Command(recorder.Case):
             self.assertEqual((answer.returncode, answer.stdout), (wanted, b""), command)
             self.assertTrue(answer.stderr, command)
 
+    def test_wrong_words_of_the_converter(self):
+        for words, why in (("", "no RECORD is named"), ("a b", "b is one word too many"), ("--nonsense a", "--nonsense isn't an option, or has no value"),
+                           ("-n 0 a", "0 isn't a number of events"), ("--uses u a", "--uses needs --only"), ("--page p a", "--page needs --only"),
+                           ("--scan --only r a", "--scan with --only needs --page")):
+            answer = recorder.call(recorder.BUILT / "shb-std", *words.split(), cwd=self.folder)
+            self.assertEqual((answer.returncode, answer.stdout), (3, b""), words)
+            self.assertEqual(answer.stderr.decode(), f"shb-std: {why}; shb-std --help says more\n")
+
     def test_versions(self):
         """Of every command but shb, whose words are fixed."""
         top = recorder.SOURCES.parent
@@ -645,7 +703,7 @@ class Command(recorder.Case):
         (home / "lib").symlink_to(recorder.BUILT / "lib")
         for name in ("view", "common"):
             (self.folder / name).symlink_to(recorder.SOURCES.parent / name)
-        (home / "shb-std").write_text("#!/bin/sh\nexec 0<&-\nprintf 'window-0001.std\\t1\\t2\\t0\\n'\nkill -KILL $$\n")
+        (home / "shb-std").write_text("#!/bin/sh\nexec 0<&-\nprintf 'main|w(x)|a.c:1\\n'\nkill -KILL $$\n")
         (home / "shb-std").chmod(0o755)
         status, _, said = self.record(self.program(), "0", "race", command=home / "shb-record")
         self.assertEqual(status, 125, said)
@@ -674,9 +732,9 @@ class Command(recorder.Case):
     def test_a_signal_ends_the_program_and_shows_it(self):
         """Sent to the command alone; the program, which hangs, has raced before. What ignores it is killed after --wait."""
         program = self.program("deadlock.c")
-        for number, how, own in ((signal.SIGTERM, "", 143), (signal.SIGINT, "", 130), (signal.SIGTERM, "trap '' TERM; ", 137)):
+        for number, how, own, wait in ((signal.SIGTERM, "", 143, []), (signal.SIGINT, "", 130, []), (signal.SIGTERM, "trap '' TERM; ", 137, ["--wait", "8"])):
             ready = self.folder / f"ready{own}"
-            words = ["--wait", "1", "sh", "-c", f"{how}exec {program} > {ready}"]
+            words = [*wait, "sh", "-c", f"{how}exec {program} > {ready}"]
             ran = subprocess.Popen([str(recorder.BUILT / "shb-record"), *words], cwd=self.folder, stderr=subprocess.PIPE,
                                    env={**os.environ, "SHB": str(recorder.SHB)},
                                    preexec_fn=lambda: signal.signal(signal.SIGINT, signal.SIG_DFL))
@@ -738,17 +796,31 @@ class Command(recorder.Case):
         self.assertEqual((status, "stopped at once" in said), (66, False), said)
         self.assertIn("run1.N.html", self.names())
 
-    def signalled(self, *numbers):
-        """Sends signals to the command when it begins a page."""
+    def test_a_page_that_takes_longer_than_is_waited_for(self):
+        """The places are there first."""
+        status, said = self.signalled("SIGTERM", words=("--wait", "2"), then="import time; time.sleep(1000)")
+        self.assertEqual((status, "1 place with races" in said), (66, True), said)
+        self.assertIn("shb-record: stopped 2 seconds after the signal (--wait)\n", said)
+        self.assertIn("run1.N.rec", self.names())
+
+    def test_places_are_told_first_after_a_signal(self):
+        status, _, said = self.stopped(["TERM"], "shb")
+        told = re.search(r"(?m)^shb-record: run 1, process \d+: 1 place with races:\nshb-record:   shared: status\.c:9 written by .*, and status\.c:9 written by .*$", said)
+        self.assertIsNotNone(told, said)
+        self.assertLess(told.end(), said.index("shb-record: page: "))
+        self.assertNotIn("1 place with races:\n", self.record(self.program(), "0", "race")[2])
+
+    def signalled(self, *numbers, words=(), then="pass"):
+        """Sends signals to the command when it begins a page, which does this then."""
         command = self.folder / "command"
         command.write_text("#!/usr/bin/env python3\nimport os, runpy, signal, sys\n"
                            f"sys.path[:0] = [{str(recorder.SOURCES.parent / 'view')!r}, {str(recorder.SOURCES.parent / 'common')!r}]\n"
                            "import shb_view.command\nmade = shb_view.command.explain\n"
                            "def explain(*words, **how):\n"
-                           f"    for name in {numbers!r}:\n        os.kill(os.getpid(), getattr(signal, name))\n    return made(*words, **how)\n"
+                           f"    for name in {numbers!r}:\n        os.kill(os.getpid(), getattr(signal, name))\n    {then}\n    return made(*words, **how)\n"
                            f"shb_view.command.explain = explain\nrunpy.run_path({str(recorder.BUILT / 'shb-record')!r}, run_name='__main__')\n")
         command.chmod(0o755)
-        status, _, said = self.record(self.program(), "0", "race", command=command)
+        status, _, said = self.record(*words, self.program(), "0", "race", command=command)
         return status, said
 
     def test_a_check_that_fails_whatever_else_is_found(self):
@@ -782,7 +854,7 @@ class Command(recorder.Case):
         shutil.copytree(recorder.BUILT / "lib", home, symlinks=True)
         shutil.copytree(recorder.SOURCES.parent / "common" / "shb_common", home / "shb_common")
         shutil.copytree(recorder.BUILT / "shb_record", home / "shb_record")
-        for name in ("shb-record", "shb-std"):
+        for name in ("shb-record", "shb-std", "module-reader"):
             shutil.copy(recorder.BUILT / name, home)
         (prefix / "bin" / "shb-record").symlink_to("../lib/shb/shb-record")
         (prefix / "bin" / "shb").symlink_to(recorder.SHB)

@@ -139,7 +139,7 @@ class MadeByHand(recorder.Case):
         local = END - gap + self.at + inside
         entries = [entry(0, "START", END - 8192, 0, 8192), entry(0, "FORK", 1, 0x101), entry(1, "START", 0x30000000, 0x500, 4096), before,
                    frames, entry(0, "WRITE", local, self.main + 20, 4), entry(1, "WRITE", local, 0x200, 4), behind]
-        header = b"shb-record 8\n0 ffffff 0 " + os.fsencode(self.program) + b"\n"
+        header = b"shb-record 9\n0 ffffff 0 " + os.fsencode(self.program) + b"\n"
         self.record.write_bytes(header.ljust(65536 - 256, b"\0") + b"whole".ljust(256, b"\0") + b"".join(entries))
 
     def names(self, converter=None):
@@ -157,8 +157,8 @@ class MadeByHand(recorder.Case):
 
     def test_a_function_that_is_left_names_nothing(self):
         local = END - 8 + self.at
-        name, again, left = "both_of_them.id of main", entry(0, "WRITE", local, self.main + 20, 4), entry(0, "DEPTH", 0, 0, 0)
-        elsewhere = self.entered(gap=16) + entry(0, "DEPTH", 0, 0, 1)
+        name, again, left = "both_of_them.id of main", entry(0, "WRITE", local, self.main + 20, 4), entry(0, "CONTEXT", 0, 0)
+        elsewhere = self.entered(gap=16) + entry(0, "CONTEXT", 2, 0)
         for behind, names in ((left + entry(1, "WRITE", local, 0x201, 4), [name, "-", "-"]),  # at the second it may have been left
                               (again + left + entry(1, "WRITE", local, 0x201, 4), [name, name, name, "-"]),
                               (again + elsewhere + entry(1, "WRITE", local, 0x202, 4), [name, name, name, "-"]),
@@ -176,15 +176,9 @@ class MadeByHand(recorder.Case):
         self.write(self.entered() + inner, 40, gap=8 + 200 + 16)
         self.assertEqual(self.names(), ["-"] * 2)
 
-    def converter(self):
-        found = self.folder / "shb-std"
-        recorder.must(recorder.call("gcc", "-g", "-O1", "-fsanitize=address,undefined", "-fno-sanitize-recover=all",
-                                    *sorted(recorder.SOURCES.glob("converter/*.c")), "-o", found))
-        return found
-
     def test_damaged_places(self):
         """A name is one of the local, or none is there."""
-        converter, draw = self.converter(), random.Random(5)
+        converter, draw = recorder.sanitized(self.folder), random.Random(5)
         numbers = (0, 1, 7, 8, 16, 199, 200, (1 << 24) - 1)
         for _ in range(60):
             frames = b"".join(self.entered(draw.choice(numbers), draw.choice(numbers), depth) for depth in range(draw.randrange(1, 4)))
@@ -201,7 +195,7 @@ class MadeByHand(recorder.Case):
             self.assertEqual([os.fsencode(name) for name in self.names()], [shown + b"+4 of main"] * 2)
 
     def test_damaged_debug_information(self):
-        converter, good = self.converter(), self.program.read_bytes()
+        converter, good = recorder.sanitized(self.folder), self.program.read_bytes()
         self.write(self.entered())
         names = set()
         for number, content in enumerate([good, *test_members.Damaged.damaged(self, good, test_members.sections(self.program))]):

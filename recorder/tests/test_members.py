@@ -44,30 +44,36 @@ class Members(recorder.Case):
 
 
 class Blocks(recorder.Case):
-    """What lies in a block that the C++ library allocates is named by the block's type; what isn't certain has no name."""
+    """What lies in a block is named by the block's type: by what the C++ library allocates, or by the line. What isn't certain has no name."""
 
-    def found(self, compiler, option):
+    def found(self, source, compiler, option):
         """By line, the names of what the threads access in blocks, without the blocks' numbers."""
-        source, program, record, path = recorder.PROGRAMS / "blocks.cc", self.folder / "app", self.folder / "app.rec", self.folder / "app.stacks"
+        program, record, path = self.folder / "app", self.folder / "app.rec", self.folder / "app.stacks"
         library = recorder.BUILT / "lib"
         linked = [f"-B{library}/"] if compiler == "g++" else ["-fno-sanitize-link-runtime", f"-L{library}", "-ltsan"]
         recorder.must(recorder.call(compiler, "-w", "-g", option, "-fsanitize=thread", "-pthread", source, *linked, "-o", program))
         recorder.must(recorder.call(program, env=recorder.settings(record)))
         trace = recorder.must(recorder.convert(record, "-a", "--stacks", path)).stdout
         names, found = Stacks(path, 0, len(trace.splitlines())).lasting_locals, {}
-        for variable, place in re.findall(rb"(?m)^T\d.*?\|(?:r|w|acq)\((blocks\.cc:\d+#[+\d]*)\)\|(.*)$", trace):
+        for variable, place in re.findall(rb"(?m)^T\d.*?\|(?:r|w|acq)\((%b:\d+#[+\d]*)\)\|(.*)$" % source.name.encode(), trace):
             found.setdefault(place.decode(), set()).add(re.sub(r"#\d+$", "", names.get(variable, b"-").decode()))
         return found
 
-    def test_by_type(self):
-        wanted = recorder.marked(recorder.PROGRAMS / "blocks.cc", "IS")
-        self.assertEqual(len(wanted), 13)
+    def check(self, source, count):
+        wanted = recorder.marked(source, "IS")
+        self.assertEqual(len(wanted), count)
         for compiler in ("g++", "clang++"):
             for option in ("-O0", "-O1", "-O2"):
                 if shutil.which(compiler):
                     with self.subTest(compiler=compiler, option=option):
-                        found = self.found(compiler, option)
+                        found = self.found(source, compiler, option)
                         self.assertEqual({place: found.get(place) for place in wanted}, wanted)
+
+    def test_by_type(self):
+        self.check(recorder.PROGRAMS / "blocks.cc", 13)
+
+    def test_by_the_line(self):
+        self.check(recorder.PROGRAMS / "allocated.cc", 9)
 
 
 class Damaged(recorder.Case):
@@ -81,7 +87,7 @@ class Damaged(recorder.Case):
             for step in (4, 8, 40):
                 entries += [entry(thread, "WRITE", at + k, 0x200 + thread, min(step, size - k))
                             for k in range(0, min(size, 200), step) for thread in (0, 1)]
-        header = b"shb-record 8\n0 ffffff 0 " + os.fsencode(program) + b"\n"
+        header = b"shb-record 9\n0 ffffff 0 " + os.fsencode(program) + b"\n"
         return header.ljust(65536 - 256, b"\0") + b"whole".ljust(256, b"\0") + b"".join(entries)
 
     def damaged(self, good, places):
@@ -96,9 +102,7 @@ class Damaged(recorder.Case):
 
     def setUp(self):
         super().setUp()
-        self.converter = self.folder / "shb-std"
-        sanitizers = "-fsanitize=address,undefined", "-fno-sanitize-recover=all"
-        recorder.must(recorder.call("gcc", "-g", "-O1", *sanitizers, *sorted(recorder.SOURCES.glob("converter/*.c")), "-o", self.converter))
+        self.converter = recorder.sanitized(self.folder)
 
     def test_damaged_types_of_blocks(self):
         """A name is there or not, and no access is made that isn't allowed."""

@@ -8,7 +8,7 @@ import struct
 
 import recorder
 
-HEADER = b"shb-record 8\n".ljust(65536 - 256, b"\0") + b"whole".ljust(256, b"\0")
+HEADER = b"shb-record 9\n".ljust(65536 - 256, b"\0") + b"whole".ljust(256, b"\0")
 DEFINED = re.search(r"enum operation \{(.*?)\n\};", (recorder.SOURCES / "record.h").read_text(), re.S)[1]
 OPERATIONS = re.findall(r"OP_\w+", re.sub(r"/\*.*?\*/", "", DEFINED))
 SIZE_FOLLOWS = 1023
@@ -115,9 +115,9 @@ class Canned(recorder.Case):
         self.assertIn(b"the trace is cut where its accesses of long ranges take too much work", answer.stderr)
 
 
-def late(before, which, access):
+def late(before, which, access, context=0):
     """What was held back, as the entry with this number was to come; which one of those held back there."""
-    return entry(0, "LATE", before << 12 | which, 0) + access
+    return entry(0, "LATE", before << 12 | which, context) + access
 
 
 LATE_ENTRIES = [  # held back before T1's first write, and behind its second, of which the same comes twice
@@ -330,7 +330,7 @@ def random_bytes(draw, count):
 
 
 FRAMES = b"".join([entry(0, "FRAME", 0x500, 0x100, 0), entry(0, "FRAME", 0x501, 0x101, 1), entry(1, "WAY", 0, 0x502),
-                   entry(1, "FRAME", 0x503, 0x102, 0), entry(0, "DEPTH", 0, 0, 1), entry(0, "DEPTH", 0, 0, 2000),
+                   entry(1, "FRAME", 0x503, 0x102, 0), entry(0, "CONTEXT", 1, 0), entry(0, "CONTEXT", 2000, 0, 1),
                    names(1, b"fifteen bytes.."), names(0, b"main"), entry(1, "NAME", 0x61, 0x62, 12), entry(5, "NAME", 0x61, 0x62, 12),
                    entry(6, "FRAME", 0x503, 0x102, 0), entry(6, "NAME", 0x61, 0x62, 12)])
 
@@ -346,7 +346,7 @@ def damaged_records():
         yield bytes(record)
     yield from (HEADER + random_bytes(draw, 16 * entries) for entries in range(20))
     yield random_bytes(draw, 70000)
-    yield b"shb-record 8\nffff 1 2 \n1 2\nx y z\n0 fff 0 --help\n0 ffffffffffff 0 /\n".ljust(65536, b"1") + ENTRIES
+    yield b"shb-record 9\nffff 1 2 \n1 2\nx y z\n0 fff 0 --help\n0 ffffffffffff 0 /\n".ljust(65536, b"1") + ENTRIES
 
 
 def damaged_programs(good):
@@ -363,13 +363,6 @@ def damaged_programs(good):
 
 
 class Damaged(recorder.Case):
-    def converter(self, compiler="gcc"):
-        """The converter, built so that it ends at the first access that isn't allowed."""
-        sanitizers = "-fsanitize=address,undefined", "-fno-sanitize-recover=all"
-        sources = sorted(recorder.SOURCES.glob("converter/*.c"))
-        recorder.must(recorder.call(compiler, "-g", "-O1", *sanitizers, *sources, "-o", self.folder / "shb-std"))
-        return self.folder / "shb-std"
-
     def convert(self, converter, record):
         answer = recorder.call(converter, "--stacks", self.folder / "app.stacks", record,
                                env={**os.environ, "ASAN_OPTIONS": "detect_leaks=0"})
@@ -381,7 +374,7 @@ class Damaged(recorder.Case):
         return answer.returncode
 
     def test_is_refused_or_converted_and_nothing_else(self):
-        converter, record, statuses = self.converter(), self.folder / "app.rec", []
+        converter, record, statuses = recorder.sanitized(self.folder), self.folder / "app.rec", []
         for number, damaged in enumerate(damaged_records()):
             record.write_bytes(damaged)
             with self.subTest(number):
@@ -390,9 +383,9 @@ class Damaged(recorder.Case):
         self.assertGreater(statuses.count(2), 20)
 
     def test_a_program_with_damaged_debug_information(self):
-        converter, record, program = self.converter(), self.folder / "app.rec", self.folder / "app"
+        converter, record, program = recorder.sanitized(self.folder), self.folder / "app.rec", self.folder / "app"
         recorder.must(recorder.call("gcc", "-g", *recorder.two_of_one_name(self.folder / "sources"), "-o", program, "-pthread"))
-        module = b"shb-record 8\n0 ffffff 0 " + os.fsencode(program) + b"\n"
+        module = b"shb-record 9\n0 ffffff 0 " + os.fsencode(program) + b"\n"
         record.write_bytes(module.ljust(65536 - 256, b"\0") + b"whole".ljust(256, b"\0") + ENTRIES)
         for number, damaged in enumerate(damaged_programs(program.read_bytes())):
             program.write_bytes(damaged)
@@ -403,9 +396,9 @@ class Damaged(recorder.Case):
         """clang's sanitizer knows what gcc's doesn't: that nothing may be added to a null pointer."""
         if not shutil.which("clang"):
             self.skipTest("clang isn't installed")
-        converter, record, program = self.converter("clang"), self.folder / "app.rec", self.folder / "app"
+        converter, record, program = recorder.sanitized(self.folder, "clang"), self.folder / "app.rec", self.folder / "app"
         recorder.must(recorder.call("gcc", "-g", *recorder.two_of_one_name(self.folder / "sources"), "-o", program, "-pthread"))
-        record.write_bytes((b"shb-record 8\n0 ffffff 0 " + os.fsencode(program) + b"\n").ljust(65536 - 256, b"\0")
+        record.write_bytes((b"shb-record 9\n0 ffffff 0 " + os.fsencode(program) + b"\n").ljust(65536 - 256, b"\0")
                            + b"whole".ljust(256, b"\0") + ENTRIES)
         program.write_bytes(program.read_bytes().replace(b".debug_line_str", b".debug_line_xxx"))
         self.assertEqual(self.convert(converter, record), 0)
@@ -462,7 +455,7 @@ class Damaged(recorder.Case):
     def test_a_record_of_another_version(self):
         path = self.folder / "app.rec"
         for version in (b"5", b"10"):
-            path.write_bytes(HEADER.replace(b"8", version, 1).ljust(65536, b"\0")[:65536])
+            path.write_bytes(HEADER.replace(b"9", version, 1).ljust(65536, b"\0")[:65536])
             answer = recorder.convert(path)
             self.assertEqual((answer.returncode, answer.stdout), (2, b""))
             self.assertIn(b"is a record of version " + version + b", by another version of the recorder", answer.stderr)

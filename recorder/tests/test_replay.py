@@ -67,6 +67,15 @@ class Replays(recorder.Case):
             traces.add(recorder.must(recorder.convert(self.folder / f"{name}.rec", "-a")).stdout)
         self.assertEqual(len(traces), 1)
 
+    def test_turns_that_were_lost_in_the_midst_of_a_hook(self):
+        """Where a thread is started, and where it begins; and again before its next step."""
+        program, runs = self.program("asleep.c"), {}
+        for seed in range(1, 5):
+            for name, how in ("first", {"SLEEPS": "1"}), ("second", {"SHB_REPLAY": str(self.folder / "first.turns")}):
+                ran = recorder.must(recorder.call(program, env={**self.settings(name, seed, **how), "SHB_SLICE": "5"}))
+                runs[name] = ran.stdout, ran.stderr, (self.folder / f"{name}.turns").read_bytes()[HEADER:]
+            self.assertEqual(runs["first"], runs["second"], f"seed {seed}")
+
     def test_a_program_that_changed(self):
         _, turns = self.run_it("first", 5, self.program())
         said, _ = self.run_it("again", 5, self.program("rare.c", "-DLONGER", folder="changed"), replay="first")

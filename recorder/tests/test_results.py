@@ -9,6 +9,26 @@ import recorder
 
 RACE = "#include <pthread.h>\n#include <unistd.h>\nstatic long hits;\nstatic void *work(void *u) {\n    hits++;\n    return u;\n}\nint main(void) {\n    pthread_t a, b;\n" \
        "    pthread_create(&a, 0, work, 0);\n    pthread_create(&b, 0, work, 0);\n    pthread_join(a, 0);\n    return pthread_join(b, 0);\n}\n"
+# Both processes have the race of line 6 with itself; the child has line 7, too.
+SHARED = """#include <pthread.h>
+#include <sys/wait.h>
+#include <unistd.h>
+static volatile long hits;
+static void *work(void *is_child) {
+    hits = 1;
+    if (is_child) hits = 2;
+    return 0;
+}
+int main(void) {
+    pid_t child = fork();
+    pthread_t a, b;
+    pthread_create(&a, 0, work, child ? 0 : &a);
+    pthread_create(&b, 0, work, child ? 0 : &a);
+    pthread_join(a, 0);
+    pthread_join(b, 0);
+    return child && wait(0) != child;
+}
+"""
 # As a daemon reads its configuration and forks: the block was allocated before.
 DAEMON = """#include <pthread.h>
 #include <stdlib.h>
@@ -43,6 +63,11 @@ int main(void) {
     return pthread_join(b, 0);
 }
 """
+# Each use but one holds the lock; that one is ordered by the join.
+ALMOST_LOCKED = "#include <pthread.h>\nstatic long hits;\nstatic pthread_mutex_t door = PTHREAD_MUTEX_INITIALIZER;\n" \
+                "static void *work(void *u) {\n    pthread_mutex_lock(&door);\n" + "    hits++;\n" * 6 + "    pthread_mutex_unlock(&door);\n    return u;\n}\n" \
+                "int main(void) {\n    pthread_t a, b;\n    pthread_create(&a, 0, work, 0);\n    pthread_create(&b, 0, work, 0);\n" \
+                "    pthread_join(a, 0);\n    pthread_join(b, 0);\n    hits = 0;\n    return 0;\n}\n"
 
 
 class Results(recorder.Case):
@@ -88,6 +113,15 @@ class Results(recorder.Case):
         self.assertIn(f'<a href="{page.name}">run 1, process ', text)
         self.assertIn("<li>hits: app.c:5 writes without a lock</li>", text)
 
+    def test_a_place_of_two_processes_is_in_the_groups_of_both(self):
+        self.assertEqual(self.record("-o", "out", self.build(SHARED))[0], 66)
+        document = json.loads((self.folder / "out" / "places.json").read_text())
+        parent, child = sorted(document["groups"], key=lambda group: len(group["pairs"]))
+        six, seven = "app.c:6", "app.c:7"
+        self.assertEqual([sorted(map(sorted, group["pairs"])) for group in (parent, child)], [[[six, six]], [[six, six], [six, seven], [seven, seven]]])
+        self.assertEqual({tuple(access["in_trace"] for access in place["accesses"]): set(place["processes"]) for place in document["places"]},
+                         {(six, six): {parent["process"], child["process"]}, (six, seven): {child["process"]}, (seven, seven): {child["process"]}})
+
     def test_a_stale_line_has_its_own_status_and_last_line(self):
         program, known = self.build(RACE), self.folder / "known"
         for text, words, wanted in (("a.c:1\ta.c:1\t*\n*\t*\thits\n", [], 0), ("a.c:1\ta.c:1\t*\n*\t*\thits\n", ["--fail-on-stale"], 67),
@@ -114,3 +148,19 @@ class Results(recorder.Case):
             self.assertTrue(run["tool"]["driver"]["version"])
             texts.append(re.sub(r"process \d+", "", json.dumps([result["message"], result["partialFingerprints"]])))
         self.assertEqual(*texts)
+
+    def test_what_did_not_race_is_not_said(self):
+        """There are no suspicions: no word, no file, no option, and nothing of them in the sources."""
+        program = self.build(ALMOST_LOCKED)
+        status, said = self.record("-o", "out", program)
+        document = json.loads((self.folder / "out" / "places.json").read_text())
+        self.assertEqual((status, document["places"], document["groups"]), (0, [], []))
+        files = {path.name: path.read_text(errors="replace") for path in (self.folder / "out").iterdir()}
+        self.assertEqual([name for name, text in files.items() if "hits" in text + name or "uspici" in text + name], [])
+        self.assertNotRegex(said, "hits|uspici")
+        status, said = self.record("--fail-on-suspicion", program)
+        self.assertEqual((status, "unrecognized arguments: --fail-on-suspicion" in said), (125, True))
+        paths = [path for folder in ("recorder", "view", "farm", "fix", "common") for path in (recorder.HERE.parents[1] / folder).rglob("*")]
+        sources = [path for path in paths if path.suffix in (".c", ".h", ".py", ".js") and "tests" not in path.parts]
+        self.assertGreater(len(sources), 100)
+        self.assertEqual([path for path in sources if b"uspici" in path.read_bytes()], [])

@@ -7,7 +7,7 @@ import struct
 import sys
 
 import recorder
-from test_record import BLOCK, HEADER, entry
+from test_record import BLOCK, HEADER, entry, late
 
 sys.path.insert(0, str(recorder.SOURCES.parent / "common"))
 from shb_common.stacks import Stacks, Tables  # noqa: E402
@@ -23,7 +23,7 @@ CANNED = [  # entries of a record, and for each event the calls of its stack, th
     (entry(0, "FRAME", 0x5000, 0x100, 0), []),
     (entry(0, "FRAME", 0x5100, 0x5010, 1), []),
     (entry(0, "ALLOC", BLOCK, 0x5110, 32), []),
-    (entry(0, "DEPTH", 0, 0, 1), []),
+    (entry(0, "CONTEXT", 1, 0), []),
     (entry(0, "FORK", 1, 0x5020), ["0x5020"]),
     (entry(1, "START", 0x30000000, 0x500, 4096), []),
     (entry(0, "FRAME", 0x5200, 0x5030, 1), []),
@@ -34,10 +34,16 @@ CANNED = [  # entries of a record, and for each event the calls of its stack, th
     (entry(0, "READ", BLOCK, 0x5310, 8), ["0x5310 0x5220 0x5030"]),
     (plain(0, "WRITE", BLOCK, 0x5060, 1), ["0x5060"]),  # that once
     (entry(0, "READ", BLOCK, 0x5320, 8), ["0x5320 0x5220 0x5030"]),
-    (entry(0, "DEPTH", 0, 0, 2), []),
+    (entry(0, "CONTEXT", 3, 0), []),
     (entry(0, "WRITE", BLOCK, 0x5230, 8), ["0x5230 0x5030"]),
-    (entry(0, "FRAME", 0x5400, 0x5050, 1) + entry(0, "DEPTH", 0, 0, 3), []),  # the third stays as it was
-    (entry(0, "WRITE", BLOCK, 0x5320, 8), ["0x5320 0x5220 0x5050"]),
+    (entry(1, "CONTEXT", 5, 0), []),  # another thread's
+    (entry(1, "WRITE", BLOCK, 0x5330, 8), ["0x5330 0x5220 0x5030"]),
+    (entry(1, "FRAME", 0x5400, 0x5050, 1), []),  # in the first of the functions that it is in
+    (entry(1, "WRITE", BLOCK, 0x5410, 8), ["0x5410 0x5050"]),
+    (entry(1, "CONTEXT", 0, 0), []),
+    (entry(1, "WRITE", BLOCK, 0x5070, 8), ["0x5070"]),
+    (entry(0, "CONTEXT", 6, 0), []),
+    (entry(0, "WRITE", BLOCK, 0x5420, 8), ["0x5420 0x5050"]),
 ]
 
 
@@ -81,6 +87,16 @@ class MadeByHand(recorder.Case):
             events = len(recorder.must(recorder.convert(self.record(), "--stacks", path, "-a")).stdout.splitlines())
             found = Stacks(path, 0, events)
             self.assertEqual(places(found, events), wanted[:events])
+
+    def test_an_access_that_is_late_has_its_own_context(self):
+        entries = [entry(0, "FORK", 1, 0x5000), entry(0, "FRAME", 0x5000, 0x100, 0), entry(0, "FRAME", 0x5100, 0x5010, 1),
+                   entry(1, "WRITE", BLOCK, 0x5120, 8), entry(0, "FRAME", 0x5200, 0x5020, 1), entry(0, "WRITE", BLOCK, 0x5210, 8),
+                   late(5, 1, plain(0, "READ", BLOCK, 0x5110, 63), 2), late(4, 1, plain(0, "READ", BLOCK, 0x5030, 63), 1),
+                   entry(0, "WRITE", BLOCK, 0x5220, 8)]
+        path = self.folder / "app.stacks"
+        self.record().write_bytes(HEADER + b"".join(entries))
+        events = len(recorder.must(recorder.convert(self.record(), "--stacks", path)).stdout.splitlines())
+        self.assertEqual(places(Stacks(path, 0, events), events), ["0x5000", "0x5120", "0x5030", "0x5110 0x5010", "0x5210 0x5020", "0x5220 0x5020"])
 
     def test_the_trace_is_the_same(self):
         _, trace = self.stacks()
@@ -205,9 +221,6 @@ class Programs(recorder.Case):
         return record
 
     def test_an_inlined_function_has_its_own_name(self):
-        """By llvm-addr2line: addr2line gives some the name of the function that they are in."""
-        if not shutil.which("llvm-addr2line"):
-            self.skipTest("llvm-addr2line isn't installed")
         source, path = recorder.PROGRAMS / "inlined.cc", self.folder / "app.stacks"
         numbers = {line.partition("// ")[2]: number for number, line in enumerate(source.read_text().splitlines(), 1)}
         for option in ("-O1", "-O2"):
@@ -217,30 +230,39 @@ class Programs(recorder.Case):
             self.assertEqual([name(frame) for frame in frames], ["look", "lambda"])
             self.assertEqual([frame.location.decode() for frame in frames], [f"inlined.cc:{numbers[it]}" for it in ("LOOK", "LAMBDA")])
 
-    def test_without_llvm_the_lines_are_the_same(self):
-        record, tools = self.recorded(recorder.PROGRAMS / "inlined.cc", "-O1"), self.folder / "tools"
-        tools.mkdir()
-        for tool in ("nm", "addr2line"):
-            (tools / tool).symlink_to(shutil.which(tool))
-        with_all = recorder.must(recorder.convert(record))
-        without = recorder.must(recorder.call(recorder.BUILT / "shb-std", record, env={**os.environ, "PATH": str(tools)}))
-        self.assertIn(b"|inlined.cc:", without.stdout)
-        self.assertEqual(without.stdout, with_all.stdout)
+    def test_a_part_of_a_function_that_stands_apart(self):
+        """Compilers put what handles exceptions elsewhere, as "catcher(long) [clone .cold]"."""
+        source, path = self.folder / "cold.cc", self.folder / "app.stacks"
+        source.write_text("#include <pthread.h>\nint shared;\nvoid __attribute__((noinline)) thrower(long n) { if (n) throw 1; }\n"
+                          "void __attribute__((noinline)) catcher(long n) {\n    try { thrower(n); } catch (int) { shared++; }\n}\n"
+                          "void *run(void *p) { catcher((long)&p); return p; }\n"
+                          "int main() {\n    pthread_t t;\n    pthread_create(&t, 0, run, 0);\n    shared++;\n    return pthread_join(t, 0);\n}\n")
+        record = self.recorded(source, "-O2")
+        self.assertIn(b"catcher(long) [clone .cold]", recorder.must(recorder.call("nm", "-C", self.folder / "program")).stdout)
+        recorder.must(recorder.convert(record, "--stacks", path))
+        self.assertIn("frame catcher(long)\tcold.cc:5\n", path.read_text(errors="replace"))
+
+    def test_no_program_of_the_path_is_needed(self):
+        record = self.recorded(recorder.PROGRAMS / "inlined.cc", "-O1")
+        answer = recorder.must(recorder.call(recorder.BUILT / "shb-std", record, env={"PATH": "/nowhere"}))
+        self.assertIn(b"|inlined.cc:", answer.stdout)
+        self.assertEqual(answer.stdout, recorder.must(recorder.convert(record)).stdout)
 
     def asked(self, source):
-        """The modules that a tool is asked of for the stacks of a program. Where a server may have debug information, libraries may have lines."""
-        record, log, tool = self.recorded(recorder.PROGRAMS / source, "-O1"), self.folder / "asked", self.folder / "tools" / "llvm-addr2line"
-        tool.parent.mkdir(exist_ok=True)
-        tool.write_text(f'#!/bin/sh\necho "$3" >> "{log}"\n')
-        tool.chmod(0o755)
+        """The modules that are read for the stacks of a program."""
+        record, log, folder = self.recorded(recorder.PROGRAMS / source, "-O1"), self.folder / "asked", self.folder / "tools"
+        folder.mkdir(exist_ok=True)
+        shutil.copy(recorder.BUILT / "shb-std", folder)
+        reader = folder / "module-reader"
+        reader.write_text(f'#!/bin/sh\necho "$1" >> "{log}"\nexec "{recorder.BUILT}/module-reader" "$1"\n')
+        reader.chmod(0o755)
         log.write_text("")
-        there = {**os.environ, "PATH": f"{tool.parent}:{os.environ['PATH']}", "DEBUGINFOD_URLS": "http://localhost:1"}
-        recorder.must(recorder.call(recorder.BUILT / "shb-std", "--stacks", self.folder / "app.stacks", record, env=there))
+        recorder.must(recorder.call(folder / "shb-std", "--stacks", self.folder / "app.stacks", record))
         return [os.path.basename(path) for path in log.read_text().splitlines()]
 
-    def test_no_tool_is_asked_of_libraries_without_a_frame(self):
-        """Of the C library where it calls the program back, as by qsort."""
-        self.assertEqual(self.asked("names.c"), ["program"])
+    def test_no_library_without_a_caller_is_read(self):
+        asked = self.asked("names.c")
+        self.assertEqual((asked[0], asked.count("program"), "libm.so.6" in asked), ("program", 1, False))
         self.assertIn("libc.so.6", self.asked("calls.c"))
 
     def test_code_of_headers_is_told_by_the_programs_own_lines(self):
@@ -258,3 +280,13 @@ class Programs(recorder.Case):
                 [block] = marked(allocated)
                 with self.subTest(option=option, block=allocated):
                     self.assertEqual(set(re.findall(rf"(?m)^.*\|w\({block}#\d+.*\)\|(.*)$", trace)), marked(used))
+
+    def test_each_call_of_a_function_of_a_header_is_a_place(self):
+        source, program, record = recorder.PROGRAMS / "filled.cc", self.folder / "program", self.folder / "app.rec"
+        lines = [f"filled.cc:{number}" for number, line in enumerate(source.read_text().splitlines(), 1) if line.endswith("// FILL")]
+        pairs = {tuple(sorted((one, other))) for one in lines for other in lines}
+        for option in ("-O0", "-O2"):
+            recorder.build(source, option, program)
+            for seed in range(1, 4):
+                recorder.must(recorder.call(program, env=recorder.settings(record, seed)))
+                self.assertEqual(recorder.places(recorder.must(recorder.convert(record)).stdout), pairs, (option, seed))

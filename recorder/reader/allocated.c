@@ -1,0 +1,95 @@
+/* The type of what a call in the program's own code allocates, by the text of its line: one `new NAME`, or one `sizeof(NAME)`, where a type
+   of that name and size is in the unit. Debug information doesn't tell it. */
+#include <ctype.h>
+#include <fcntl.h>
+#include <stdio.h>
+#include <stdlib.h>
+#include <string.h>
+#include "debug.h"
+
+enum { LINE_BYTES = 512 };
+
+/* Reads a line of a file; 0 where it isn't there. What is in texts and behind `//` is blanked. */
+static int read_line(const char *path, int number, char *line) {
+    int f = open(path, O_RDONLY), found = 0;
+    FILE *file = f < 0 ? 0 : fdopen(f, "r");
+    while (file && found < number && fgets(line, LINE_BYTES, file)) found += strchr(line, '\n') != 0;
+    if (file) fclose(file);
+    char quote = 0;
+    for (char *p = line; found == number && *p; p++) {
+        if (!quote && p[0] == '/' && p[1] == '/') *p = 0;
+        else if (quote && p[0] == '\\' && p[1]) *p++ = ' ';
+        else if (quote || *p == '"' || *p == '\'') {
+            int is_end = quote == *p;
+            quote = is_end ? 0 : quote ? quote : *p;
+            *p = ' ';
+        }
+    }
+    return found == number;
+}
+
+static int is_of_word(char c) { return isalnum((unsigned char)c) || c == '_'; }
+
+/* What is behind the only one of a word in a line; null where there is none, or several. */
+static const char *behind_only(const char *line, const char *word) {
+    const char *found = 0;
+    size_t length = strlen(word);
+    for (const char *at = line; (at = strstr(at, word)); at += length) {
+        if ((at > line && is_of_word(at[-1])) || is_of_word(at[length])) continue;
+        if (found) return 0;
+        found = at + length;
+    }
+    return found;
+}
+
+/* The last part of a type's name "struct a::Entry" that ends before one of these. */
+static int read_name(const char *at, const char *ends, char *name) {
+    size_t length = 0;
+    at += strspn(at, " \t(");
+    if (!strncmp(at, "struct ", 7)) at += 7;
+    for (; is_of_word(*at) || (at[0] == ':' && at[1] == ':'); at++) {
+        if (*at != ':') name[length++] = *at;
+        else length = 0, at++;
+    }
+    name[length] = 0;
+    at += strspn(at, " \t\n");
+    return length && strchr(ends, *at) != 0;
+}
+
+/* The types of a name and a size in an entry's children. */
+typedef struct { const char *name; u64 size; int count; Dwarf_Die found; const void *last; } search;
+
+static void look_in(search *s, Dwarf_Die *in, int depth) {
+    Dwarf_Die e, type;
+    if (depth > MOST_STEPS) return;
+    for (int more = first_entry(in, &e, &s->last); more; more = next_entry(&e, &s->last)) {
+        int tag = dwarf_tag(&e), is_type = is_structure(&e) || tag == DW_TAG_typedef;
+        const char *name = is_type ? dwarf_diename(&e) : 0;
+        type = e;
+        u64 size = name && !strcmp(name, s->name) && plain_type(&type) && is_structure(&type) ? size_of_type(&type) : 0;
+        if (size && s->size % size == 0 && (!s->count || s->found.addr != type.addr)) {
+            s->count++;
+            s->found = dwarf_diename(&type) ? type : e;
+        }
+        if (may_have_types(tag)) look_in(s, &e, depth + 1);
+    }
+}
+
+/* Of a template? A name in it may be that of an argument. */
+static int is_of_template(const char *function) { return memchr(function, '<', strcspn(function, "(")) != 0; }
+
+int type_by_text(struct debug *d, u64 pc, u64 size, Dwarf_Die *type) {
+    debug_frame frames[MOST_INLINED];
+    char line[LINE_BYTES], name[LINE_BYTES];
+    Dwarf_Die unit;
+    int count = frames_at(d, pc, frames, MOST_INLINED), is_told = count && frames->function && !is_of_template(frames->function);
+    for (int k = 0; k < count; k++) free(frames[k].function);
+    if (!is_told || !frames->path || frames->line <= 0 || strstr(frames->path, "/include/c++/")) return 0;
+    if (!find_unit(d, pc, &unit) || !read_line(frames->path, frames->line, line)) return 0;
+    const char *created = behind_only(line, "new"), *sized = behind_only(line, "sizeof");
+    if (!created == !sized || !read_name(created ? created : sized, created ? "({;,)" : ")", name)) return 0;
+    search s = {.name = name, .size = size};
+    look_in(&s, &unit, 0);
+    *type = s.found;
+    return s.count == 1 && (!created || size_of_type(type) == size);
+}

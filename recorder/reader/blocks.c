@@ -1,0 +1,185 @@
+/* Names of what lies in blocks of the heap: in what the C++ library allocates by the function that does so, for what it gives has a type;
+   in others by the line. */
+#include <stdio.h>
+#include <stdlib.h>
+#include <string.h>
+#include "debug.h"
+
+/* The innermost function that has this code, also where it is inlined. */
+static Dwarf_Die innermost(struct debug *d, Dwarf_Die function, u64 pc) {
+    Dwarf_Die scopes[MOST_STEPS];
+    return scopes[scopes_at(function, pc - d->bias, scopes, MOST_STEPS) - 1];
+}
+
+/* The type of the first argument of a template; 0 where there is none. */
+static int first_argument(Dwarf_Die *of, Dwarf_Die *type) {
+    Dwarf_Die e;
+    for (int more = !dwarf_child(of, &e); more; more = !dwarf_siblingof(&e, &e))
+        if (dwarf_tag(&e) == DW_TAG_template_type_parameter) return type_of(&e, type);
+    return 0;
+}
+
+static int origin_of(Dwarf_Die *function) {
+    Dwarf_Attribute a;
+    Dwarf_Die to;
+    if (!dwarf_attr(function, DW_AT_abstract_origin, &a) && !dwarf_attr(function, DW_AT_specification, &a)) return 0;
+    if (!dwarf_formref_die(&a, &to)) return 0;
+    *function = to;
+    return 1;
+}
+
+/* What a function of the C++ library's gives so many bytes for: T of `T *allocate(size_t)` and of `make_unique<T>()`; 0 of any other. */
+static int allocated_type(Dwarf_Die function, u64 size, Dwarf_Die *type) {
+    static const char unique[] = "make_unique";
+    int has_argument = 0, steps = 0;
+    Dwarf_Die argument, pointer;
+    const char *name = dwarf_diename(&function);
+    if (!name) return 0;
+    if (!strcmp(name, "allocate") && type_of(&function, &pointer))
+        return dwarf_tag(&pointer) == DW_TAG_pointer_type && type_of(&pointer, type);
+    do has_argument = first_argument(&function, &argument);
+    while (!has_argument && ++steps < MOST_STEPS && origin_of(&function));
+    if (!has_argument || strncmp(name, unique, strlen(unique))) return 0;
+    *type = argument;
+    return dwarf_tag(&argument) == DW_TAG_array_type || size_of_type(&argument) == size;
+}
+
+/* Adds a type's name with those of the namespaces and classes that it is in: "bank::Account". 0 where it has none. */
+static int add_type_name(Dwarf_Die *type, text *to) {
+    Dwarf_Attribute a;
+    Dwarf_Die named = *type, scope, e, next;
+    if (dwarf_attr(type, DW_AT_specification, &a)) dwarf_formref_die(&a, &named);
+    const char *before = "";
+    const void *last = 0;
+    int more = dwarf_diecu(&named, &scope, 0, 0) && first_entry(&scope, &e, &last);
+    for (int depth = 0; more && depth < MOST_STEPS;) {
+        const void *at = last;
+        next = e;
+        int is_in = !next_entry(&next, &at) || (const char *)next.addr > (const char *)named.addr;
+        if ((const char *)e.addr > (const char *)named.addr) return 0;
+        if (!is_in) {
+            e = next;
+            last = at;
+            continue;
+        }
+        int tag = dwarf_tag(&e);
+        const char *name = dwarf_diename(&e);
+        int has_name = name && (tag == DW_TAG_namespace || tag == DW_TAG_structure_type || tag == DW_TAG_class_type || tag == DW_TAG_typedef);
+        if (has_name) add_name(to, before, name, 0);
+        if (has_name) before = "::";
+        if (e.addr == named.addr) return has_name;
+        scope = e;
+        more = first_entry(&scope, &e, &last);
+        depth++;
+    }
+    return 0;
+}
+
+static int is_of_cxx_library(const char *type) { return !strncmp(type, "std::", 5) || !strncmp(type, "__gnu_cxx::", 11); }
+
+/* Does the C++ library keep another type's object in this one? */
+static int is_buffer(const char *name) { return name && (!strncmp(name, "__aligned_membuf<", 17) || !strncmp(name, "__aligned_buffer<", 17)); }
+
+/* Are several members of this type? Then one of it isn't told by the type alone. */
+static int has_two_of(Dwarf_Die *of, Dwarf_Die *type) {
+    Dwarf_Die e, other;
+    int found = 0;
+    u64 place;
+    for (int more = !dwarf_child(of, &e); more; more = !dwarf_siblingof(&e, &e))
+        found += dwarf_tag(&e) == DW_TAG_member && place_of_member(&e, &place) && type_of(&e, &other) && other.addr == type->addr;
+    return found > 1;
+}
+
+/* Goes on to the program's own type that has these bytes, from one of the C++ library's, as a node of a list is; adds its name. 0
+   where there is none. */
+static int find_own_type(Dwarf_Die *type, u64 *offset, u64 length, text *to) {
+    Dwarf_Die named = *type;
+    if (dwarf_tag(&named) == DW_TAG_typedef && plain_type(type) && !dwarf_diename(type)) return add_type_name(&named, to);
+    for (int steps = 0; steps < MOST_STEPS; steps++) {
+        text begin = *to;
+        Dwarf_Die member, of;
+        u64 place;
+        if (!plain_type(type) || !is_structure(type) || !add_type_name(type, to)) return 0;
+        if (!is_of_cxx_library(begin.at)) return 1;
+        *to = begin;
+        if (is_buffer(dwarf_diename(type))) {
+            if (!first_argument(type, &of)) return 0;
+            *type = of;
+            continue;
+        }
+        if (!member_with(type, *offset, length, &member, &place) || !type_of(&member, &of) || has_two_of(type, &of)) return 0;
+        *offset -= place;
+        *type = of;
+    }
+    return 0;
+}
+
+/* The elements of a block of so many bytes. Before those of `new T[n]`, where T has a destructor, stands their number; what may be
+   either isn't known. */
+typedef struct { u64 begin, size; } elements;
+static elements elements_of(Dwarf_Die *type, u64 size) {
+    enum { COUNT = 8 };
+    elements found = {0};
+    int is_array = dwarf_tag(type) == DW_TAG_array_type;
+    if (is_array && !type_of(type, type)) return found;
+    u64 one = size_of_type(type);
+    if (!one || (is_array && COUNT % one == 0)) return found;
+    if (size % one == 0) found.size = one;
+    else if (is_array && size > COUNT && (size - COUNT) % one == 0) found = (elements){COUNT, one};
+    return found;
+}
+
+/* The type of what a call allocates, with no address where that isn't certain. Each is looked for once. */
+static Dwarf_Die allocated_at(struct debug *d, const place_in_block *at) {
+    u32 number = map_number(&d->by_call, at->pc, 0);
+    if (number > d->call_count) {
+        Dwarf_Die function, type = {0};
+        int is_known = find_function(d, at->pc, &function)
+            && (allocated_type(innermost(d, function, at->pc), at->size, &type) || type_by_text(d, at->pc, at->size, &type));
+        if (!is_known) type.addr = 0;
+        GROW(d->calls, d->call_count, d->call_capacity);
+        d->calls[d->call_count++] = type;
+    }
+    return d->calls[number - 1];
+}
+
+static named_part find_part(Dwarf_Die type, u64 offset, u64 length) {
+    char name[NAME_BYTES] = "";
+    text to = {name, sizeof name, 0};
+    if (!find_own_type(&type, &offset, length, &to)) return (named_part){0};
+    named_part found = {.type = strndup(name, to.at - name)};
+    char *rest = to.at;
+    to.rest = offset;
+    add_members(type, offset, length, &to);
+    if (to.rest) snprintf(to.at, to.room, "+%lu", to.rest);
+    found.rest = strdup(rest);
+    if (!found.type || !found.rest) die("out of memory");
+    return found;
+}
+
+/* Of a type, the names of what lies so far inside. */
+static named_part part_of(struct debug *d, Dwarf_Die type, u64 offset, u64 length) {
+    u32 number = map_number(&d->by_part, (u64)type.addr, offset << 32 | length);
+    if (number > d->part_count) {
+        GROW(d->parts, d->part_count, d->part_capacity);
+        d->parts[d->part_count++] = find_part(type, offset, length);
+    }
+    return d->parts[number - 1];
+}
+
+int has_type(struct debug *d, place_in_block at) { return allocated_at(d, &at).addr != 0; }
+
+size_t add_in_block(struct debug *d, place_in_block at, char *buffer, size_t size) {
+    Dwarf_Die type = allocated_at(d, &at);
+    if (!type.addr) return 0;
+    elements all = elements_of(&type, at.size);
+    if (!all.size || at.offset < all.begin) return 0;
+    u64 offset = (at.offset - all.begin) % all.size;
+    if (at.length > all.size - offset) return 0;
+    named_part part = part_of(d, type, offset, at.length);
+    if (!part.type) return 0;
+    char index[24] = "";
+    if (at.size - all.begin > all.size) snprintf(index, sizeof index, "[%lu]", (at.offset - all.begin) / all.size);
+    snprintf(buffer, size, "%s%s%s", part.type, index, part.rest);
+    return strlen(part.type);
+}

@@ -1,0 +1,360 @@
+/* Modules, as libdw reads them: the code of their functions, lines, and what is inlined. */
+#define _GNU_SOURCE
+#include <fcntl.h>
+#include <stdio.h>
+#include <stdlib.h>
+#include <string.h>
+#include <unistd.h>
+#include <elfutils/libdwelf.h>
+#include "debug.h"
+
+/* ---- what isn't read ---- */
+static int has_section(Elf *elf, const char *name) {
+    size_t names;
+    if (elf_getshdrstrndx(elf, &names)) return 0;
+    for (Elf_Scn *s = 0; (s = elf_nextscn(elf, s));) {
+        GElf_Shdr header;
+        const char *found = gelf_getshdr(s, &header) && header.sh_type != SHT_NOBITS ? elf_strptr(elf, names, header.sh_name) : 0;
+        if (found && !strcmp(found, name)) return 1;
+    }
+    return 0;
+}
+
+static Elf *own_file(struct debug *d) {
+    GElf_Addr bias;
+    return d->file ? dwfl_module_getelf(d->file, &bias) : 0;
+}
+
+int has_own_lines(struct debug *d) {
+    Elf *elf = own_file(d);
+    return elf && (has_section(elf, ".debug_line") || has_section(elf, ".zdebug_line"));
+}
+
+static int has_typed_code(struct debug *d, int *typed) {
+    int has = 0;
+    for (u64 k = 0; k < d->unit_count && !(has && *typed); k++) {
+        Dwarf_Die e;
+        for (int more = !dwarf_child(&d->units[k].whole, &e); more; more = !dwarf_siblingof(&e, &e)) {
+            if (dwarf_tag(&e) != DW_TAG_subprogram) continue;
+            has |= dwarf_hasattr(&e, DW_AT_high_pc) || dwarf_hasattr(&e, DW_AT_ranges);
+            *typed |= dwarf_hasattr(&e, DW_AT_type);
+        }
+    }
+    return has;
+}
+
+/* Does the entry name a type in a unit of its own that the library doesn't find? */
+static int lacks_type(Dwarf_Die *e, unsigned attribute) {
+    Dwarf_Die to;
+    Dwarf_Attribute a;
+    return dwarf_attr(e, attribute, &a) && dwarf_whatform(&a) == DW_FORM_ref_sig8 && !dwarf_formref_die(&a, &to);
+}
+
+/* As 0.188 in split files. */
+static int lacks_types(struct debug *d) {
+    for (u64 k = 0; k < d->unit_count; k++) {
+        Dwarf_Die e;
+        if (d->units[k].whole.addr == d->units[k].linked.addr) continue;
+        for (int more = !dwarf_child(&d->units[k].whole, &e); more; more = !dwarf_siblingof(&e, &e))
+            if (lacks_type(&e, DW_AT_signature) || lacks_type(&e, DW_AT_type)) return 1;
+    }
+    return 0;
+}
+
+static int has_package(struct debug *d) {
+    char path[MOST_TEXT];
+    snprintf(path, sizeof path, "%s.dwp", d->path);
+    return !access(path, F_OK);
+}
+
+static const char no_debug_information[] = "isn't there (no -g); lines are addresses too: compile with -g";
+
+/* Of a file that has debug information, and of all that it names. */
+static const char *why_in_part(struct debug *d) {
+    Elf *elf = dwarf_getelf(d->dwarf);
+    int typed = 0, has_shared = dwarf_getalt(d->dwarf) != 0, has_code = has_typed_code(d, &typed);
+    if (!has_shared && has_section(elf, ".debug_sup")) return "is in part in a file that this version of libdw doesn't read (dwz --dwarf-5)";
+    if (d->is_alien || (!has_shared && has_section(elf, ".gnu_debugaltlink")))
+        return "is in part in a file that isn't there, or not of this build (dwz -m)";
+    if (d->is_in_objects) return "is in object files that this version of libdw doesn't read (-gsplit-dwarf=single)";
+    if (d->lacks_split && has_package(d)) return "is in a package that this version of libdw doesn't read (.dwp)";
+    if (d->lacks_split) return "is in other files that aren't there, not of this build, or of a form that this version of libdw doesn't read (-gsplit-dwarf)";
+    if (lacks_types(d)) return "has types that this version of libdw doesn't read (-gsplit-dwarf -fdebug-types-section)";
+    return !has_code ? no_debug_information : typed ? 0 : "has no types (-g1)";
+}
+
+const char *why_unread(struct debug *d) {
+    Elf *elf = own_file(d);
+    read_units(d);
+    if (!elf) return 0;
+    int has_info = has_section(elf, ".debug_info") || has_section(elf, ".zdebug_info");
+    if (has_info && !d->unit_count) return "can't be read: it is too large, damaged, or compressed in a form that isn't known (-gz)";
+    if (!d->dwarf) return has_section(elf, ".gnu_debuglink") ? "is in a file that isn't there (.gnu_debuglink)" : no_debug_information;
+    return why_in_part(d);
+}
+
+/* The library finds what several files have in common by its name alone. */
+static int is_of_other_build(Dwarf *dwarf) {
+    const char *name;
+    const void *wanted, *found;
+    Dwarf *shared = dwarf_getalt(dwarf);
+    ssize_t length = shared ? dwelf_dwarf_gnu_debugaltlink(dwarf, &name, &wanted) : 0;
+    return shared && (length <= 0 || dwelf_elf_gnu_build_id(dwarf_getelf(shared), &found) != length || memcmp(wanted, found, length));
+}
+
+/* ---- modules ---- */
+struct debug *open_debug(const char *path) {
+    static char *folders;              /* as the debuggers' */
+    static const Dwfl_Callbacks callbacks = {.find_elf = dwfl_build_id_find_elf, .find_debuginfo = dwfl_standard_find_debuginfo,
+                                             .debuginfo_path = &folders};
+    struct debug *d = zeroed(1, sizeof *d);
+    d->path = path;
+    int f = strchr(path, '/') ? open(path, O_RDONLY) : -1;
+    if (f < 0) return d;
+    d->session = dwfl_begin(&callbacks);
+    if (!d->session) die("out of memory");
+    dwfl_report_begin(d->session);
+    d->file = dwfl_report_elf(d->session, path, path, f, 0, 1);           /* it closes the file */
+    dwfl_report_end(d->session, 0, 0);
+    if (!d->file) close(f);
+    return d;
+}
+
+/* Of a library of the system it may be large, and mostly isn't asked for. */
+static void read_dwarf(struct debug *d) {
+    Dwarf_Addr bias = 0;
+    d->dwarf = d->file ? dwfl_module_getdwarf(d->file, &bias) : 0;
+    d->bias = bias;
+    d->is_alien = d->dwarf && is_of_other_build(d->dwarf);
+}
+
+static int by_low(const void *a, const void *b) {
+    const u64 *x = a, *y = b;          /* of a span or of code */
+    return *x < *y ? -1 : *x > *y;
+}
+
+static void note_spans(struct debug *d, Dwarf_Die *die, u64 number) {
+    Dwarf_Addr base, low, high;
+    for (ptrdiff_t at = 0; (at = dwarf_ranges(die, at, &base, &low, &high)) > 0;) {
+        if (!low || low >= high) continue;                   /* code that the linker left out */
+        GROW(d->spans, d->span_count, d->span_capacity);
+        d->spans[d->span_count++] = (span){low, high, number};
+    }
+}
+
+static void note_code(unit *u, Dwarf_Die *die) {
+    Dwarf_Addr base, low, high;
+    for (ptrdiff_t at = 0; (at = dwarf_ranges(die, at, &base, &low, &high)) > 0;) {
+        if (!low || low >= high) continue;
+        GROW(u->functions, u->count, u->capacity);
+        u->functions[u->count++] = (code){low, high, *die};
+    }
+}
+
+static int is_behind(const Dwarf_Die *e, const void **last) {
+    if ((const char *)e->addr <= (const char *)*last) return 0;
+    *last = e->addr;
+    return 1;
+}
+
+int first_entry(Dwarf_Die *in, Dwarf_Die *e, const void **last) { return !dwarf_child(in, e) && is_behind(e, last); }
+int next_entry(Dwarf_Die *e, const void **last) { return !dwarf_siblingof(e, e) && is_behind(e, last); }
+
+/* As functions in a lambda's type. */
+int may_have_types(int tag) {
+    return tag == DW_TAG_subprogram || tag == DW_TAG_namespace || tag == DW_TAG_structure_type || tag == DW_TAG_class_type
+        || tag == DW_TAG_union_type || tag == DW_TAG_lexical_block || tag == DW_TAG_module;
+}
+
+static void find_functions(unit *u, Dwarf_Die *in, const void **last, int depth) {
+    Dwarf_Die e;
+    if (depth > MOST_STEPS) return;
+    for (int more = first_entry(in, &e, last); more; more = next_entry(&e, last)) {
+        int tag = dwarf_tag(&e);
+        if (tag == DW_TAG_subprogram) note_code(u, &e);
+        if (may_have_types(tag)) find_functions(u, &e, last, depth + 1);
+    }
+}
+
+static void index_functions(unit *u) {
+    if (u->is_indexed) return;
+    u->is_indexed = 1;
+    const void *last = 0;
+    find_functions(u, &u->whole, &last, 0);
+    if (u->count) qsort(u->functions, u->count, sizeof *u->functions, by_low);
+}
+
+/* Does a unit whose split file isn't found name an object file for it? */
+static int is_in_object(Dwarf_Die *unit) {
+    Dwarf_Attribute a;
+    int has_name = dwarf_attr(unit, DW_AT_dwo_name, &a) || dwarf_attr(unit, DW_AT_GNU_dwo_name, &a);
+    const char *name = has_name ? dwarf_formstring(&a) : 0;
+    return name && strlen(name) > 2 && !strcmp(name + strlen(name) - 2, ".o");
+}
+
+void read_units(struct debug *d) {
+    if (d->has_units++) return;
+    read_dwarf(d);
+    if (!d->dwarf) return;
+    uint8_t kind;
+    Dwarf_Half version;
+    Dwarf_Die die, split;
+    for (Dwarf_CU *cu = 0; !dwarf_get_units(d->dwarf, cu, &cu, &version, &kind, &die, &split);) {
+        if (kind != DW_UT_compile && kind != DW_UT_skeleton) continue;
+        int is_lacking = kind == DW_UT_skeleton && !split.addr;
+        d->lacks_split |= is_lacking;
+        d->is_in_objects |= is_lacking && is_in_object(&die);
+        u64 before = d->span_count, number = d->unit_count;
+        GROW(d->units, d->unit_count, d->unit_capacity);
+        d->units[d->unit_count++] = (unit){.linked = die, .whole = split.addr ? split : die};
+        note_spans(d, &die, number);
+        if (d->span_count > before) continue;
+        unit *u = &d->units[number];   /* it doesn't tell where its code is */
+        index_functions(u);
+        for (u64 k = 0; k < u->count; k++) {
+            GROW(d->spans, d->span_count, d->span_capacity);
+            d->spans[d->span_count++] = (span){u->functions[k].low, u->functions[k].high, number};
+        }
+    }
+    if (d->span_count) qsort(d->spans, d->span_count, sizeof *d->spans, by_low);
+}
+
+u64 count_up_to(const void *entries, u64 count, size_t size, u64 most) {
+    u64 low = 0, high = count;
+    while (low < high) {
+        u64 middle = (low + high) / 2;
+        if (*(const u64 *)((const char *)entries + middle * size) <= most) low = middle + 1;
+        else high = middle;
+    }
+    return low;
+}
+
+static unit *unit_with(struct debug *d, u64 pc) {
+    u64 k = count_up_to(d->spans, d->span_count, sizeof *d->spans, pc);
+    return k && pc < d->spans[k - 1].high ? &d->units[d->spans[k - 1].unit] : 0;
+}
+
+static unit *find_code(struct debug *d, u64 pc, Dwarf_Die *function) {
+    unit *u = unit_with(d, pc);
+    *function = (Dwarf_Die){0};
+    if (!u) return 0;
+    index_functions(u);
+    u64 k = count_up_to(u->functions, u->count, sizeof *u->functions, pc);
+    if (k && pc < u->functions[k - 1].high) *function = u->functions[k - 1].at;
+    return u;
+}
+
+int find_function(struct debug *d, u64 pc, Dwarf_Die *function) {
+    read_units(d);
+    return !d->is_alien && find_code(d, pc - d->bias, function) && function->addr;
+}
+
+int find_unit(struct debug *d, u64 pc, Dwarf_Die *whole) {
+    Dwarf_Die function;
+    read_units(d);
+    const unit *u = d->is_alien ? 0 : find_code(d, pc - d->bias, &function);
+    if (u) *whole = u->whole;
+    return u != 0;
+}
+
+int has_code(const struct debug *d, Dwarf_Die *die, u64 pc) { return dwarf_haspc(die, pc - d->bias) > 0; }
+
+/* ---- lines ---- */
+/* A path that is told from the folder of the compilation, whole: a copy where it isn't the same. */
+static const char *whole_path(unit *u, const char *path) {
+    Dwarf_Attribute a;
+    const char *folder = path && *path != '/' && dwarf_attr(&u->linked, DW_AT_comp_dir, &a) ? dwarf_formstring(&a) : 0;
+    char *whole;
+    if (!folder) return path;
+    if (asprintf(&whole, "%s/%s", folder, path) < 0) die("out of memory");
+    return whole;
+}
+
+static char *name_of_function(Dwarf_Die *die) {
+    Dwarf_Attribute a;
+    const char *linked = 0, *name = 0;
+    if (dwarf_attr_integrate(die, DW_AT_linkage_name, &a) || dwarf_attr_integrate(die, DW_AT_MIPS_linkage_name, &a)) linked = dwarf_formstring(&a);
+    if (!linked) name = dwarf_diename(die);
+    return linked || name ? demangled(linked ? linked : name) : 0;
+}
+
+int scopes_at(Dwarf_Die function, u64 pc, Dwarf_Die *scopes, int most) {
+    Dwarf_Die scope = function, e;
+    int count = 0;
+    scopes[count++] = function;
+    for (int steps = 0, found = 1; found && steps < MOST_STEPS; steps++) {
+        found = 0;
+        for (int more = !dwarf_child(&scope, &e); more && !found; more = found || !dwarf_siblingof(&e, &e)) {
+            int tag = dwarf_tag(&e);
+            found = (tag == DW_TAG_lexical_block || tag == DW_TAG_inlined_subroutine) && dwarf_haspc(&e, pc) > 0;
+            if (found && tag == DW_TAG_inlined_subroutine && count < most) scopes[count++] = e;
+            if (found) scope = e;
+        }
+    }
+    return count;
+}
+
+static u64 number_of(Dwarf_Die *die, unsigned attribute) {
+    Dwarf_Attribute a;
+    Dwarf_Word number = 0;
+    return dwarf_attr(die, attribute, &a) && !dwarf_formudata(&a, &number) ? number : 0;
+}
+
+static int frames_by_lines(struct debug *d, u64 pc, debug_frame *frames, int most) {
+    Dwarf_Die function, scopes[MOST_STEPS];
+    read_units(d);
+    u64 at = pc - d->bias;
+    unit *u = find_code(d, at, &function);
+    if (!u) return 0;
+    int count = function.addr ? scopes_at(function, at, scopes, most < MOST_STEPS ? most : MOST_STEPS) : 0;
+    Dwarf_Line *line = dwarf_getsrc_die(&u->linked, at);
+    debug_frame f = {0};
+    if (line) {
+        f.path = whole_path(u, dwarf_linesrc(line, 0, 0));
+        dwarf_lineno(line, &f.line);
+    }
+    if (!count) {
+        frames[0] = f;
+        return line != 0;
+    }
+    Dwarf_Files *files = 0;
+    size_t file_count = 0;
+    if (count > 1) dwarf_getsrcfiles(&u->whole, &files, &file_count);
+    for (int k = count; k-- > 0;) {
+        f.function = d->is_alien ? 0 : name_of_function(&scopes[k]);
+        frames[count - 1 - k] = f;
+        if (!k) break;
+        u64 number = number_of(&scopes[k], DW_AT_call_file);
+        f = (debug_frame){.path = number < file_count ? whole_path(u, dwarf_filesrc(files, number, 0, 0)) : 0,
+            .line = number_of(&scopes[k], DW_AT_call_line)};
+    }
+    return count;
+}
+
+/* The outermost function has the name that it is linked by. */
+int frames_at(struct debug *d, u64 pc, debug_frame *frames, int most) {
+    int count = frames_by_lines(d, pc, frames, most);
+    const symbol *s = symbol_at(d, pc);
+    if (!s || (count && !s->is_function)) return count;
+    if (!count) frames[count++] = (debug_frame){0};
+    free(frames[count - 1].function);
+    frames[count - 1].function = s->is_function ? demangled(s->linked) : 0;
+    return count;
+}
+
+void each_source(struct debug *d, void (*give)(const char *path)) {
+    map given = {0};                   /* most units have the same headers */
+    read_units(d);
+    for (u64 k = 0; k < d->unit_count; k++) {
+        Dwarf_Files *files;
+        size_t count = 0;
+        if (dwarf_getsrcfiles(&d->units[k].linked, &files, &count)) continue;
+        for (size_t n = 0; n < count && given.count < MOST_SOURCES; n++) {
+            const char *told = dwarf_filesrc(files, n, 0, 0), *path = whole_path(&d->units[k], told);
+            u64 before = given.count;
+            if (path && map_text(&given, path) > before) give(path);
+            if (path != told) free((char *)path);
+        }
+    }
+    free(given.entries);
+}

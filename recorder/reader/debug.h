@@ -1,0 +1,96 @@
+/* Debug information of a module, and its symbols, as libdw of the elfutils reads them. Addresses are those of the module's file. */
+#include <dwarf.h>
+#include <elfutils/libdw.h>
+#include <elfutils/libdwfl.h>
+#include "../converter/tables.h"
+#include "../converter/answers.h"
+
+enum { MOST_STEPS = 64, MOST_DIMENSIONS = 8 };
+
+typedef struct { u64 at, size; const char *linked; char *name; int is_twice, is_function; } symbol;      /* name: null until it is asked for */
+
+typedef struct { u64 low, high; Dwarf_Die at; } code;        /* of a function */
+/* Its entry in the linked file, and where all of it is (-gsplit-dwarf); its functions, sorted, once one was asked for. */
+typedef struct { Dwarf_Die linked, whole; code *functions; u64 count, capacity; int is_indexed; } unit;
+typedef struct { u64 low, high, unit; } span;
+typedef struct { char *type, *rest; } named_part;            /* "Account", ".balance"; null where there is no such type */
+
+struct debug {
+    const char *path;
+    Dwfl *session;
+    Dwfl_Module *file;
+    Dwarf *dwarf;                      /* or null */
+    u64 bias;                          /* what addresses are here more than in the debug information */
+    unit *units;
+    u64 unit_count, unit_capacity;
+    span *spans;                       /* the code of units, sorted */
+    u64 span_count, span_capacity;
+    symbol *symbols;                   /* sorted */
+    u64 symbol_count, symbol_capacity;
+    int has_symbols, has_doubles, has_units, has_variables;  /* are they read? Of variables: 1 those outside of functions, 2 all */
+    uint8_t lacks_split, is_in_objects, is_alien;            /* units that are in other files, in object files; a file of another build */
+    map by_address;                    /* the numbers of variables */
+    Dwarf_Die *variables;
+    u64 variable_count, variable_capacity;
+    map by_call, by_part;              /* the numbers of what calls allocate, and of what lies inside of that */
+    Dwarf_Die *calls;                  /* types */
+    named_part *parts;
+    u64 call_count, call_capacity, part_count, part_capacity;
+};
+
+/* symbols.c */
+char *demangled(const char *name);     /* a copy, also of a name that isn't mangled */
+const symbol *symbol_at(struct debug *d, u64 address);       /* with its name; null where there is none */
+int is_variable(struct debug *d, const char *name);          /* has one this name? */
+
+/* debug.c */
+struct debug *open_debug(const char *path);
+void read_units(struct debug *d);
+const char *why_unread(struct debug *d);                     /* what of it isn't read, or null */
+int has_own_lines(struct debug *d);    /* in the module's file itself */
+/* The first child of an entry, and the next one: in a file that isn't what it should be, only those behind all met before, so that
+   none is met often. */
+int first_entry(Dwarf_Die *in, Dwarf_Die *e, const void **last);
+int next_entry(Dwarf_Die *e, const void **last);
+int find_function(struct debug *d, u64 pc, Dwarf_Die *function);         /* that has this code; 0 where none is known */
+int find_unit(struct debug *d, u64 pc, Dwarf_Die *whole);    /* the same */
+int may_have_types(int tag);           /* may an entry have functions or types in it? */
+int has_code(const struct debug *d, Dwarf_Die *die, u64 pc);
+/* A function, and what is inlined in it at a place in the code, the outermost first; addresses are as the debug information has them. */
+int scopes_at(Dwarf_Die function, u64 pc, Dwarf_Die *scopes, int most);
+/* How many of some entries are at most this, by the u64 that they are sorted by and begin with. */
+u64 count_up_to(const void *entries, u64 count, size_t size, u64 most);
+/* The frames at a place in the code, the innermost first; what isn't known is null, and 0. */
+typedef struct { char *function; const char *path; int line; } debug_frame;
+int frames_at(struct debug *d, u64 pc, debug_frame *frames, int most);
+void each_source(struct debug *d, void (*give)(const char *path));
+
+/* members.c */
+/* The same type without typedefs and qualifiers; 0 where there is none. */
+int plain_type(Dwarf_Die *type);
+int type_of(Dwarf_Die *of, Dwarf_Die *type);                 /* plain */
+u64 size_of_type(Dwarf_Die *type);     /* in bytes; 0 where it isn't known */
+/* The member, or the base class, that has all of these bytes, and where it begins; 0 where there is none. */
+int member_with(Dwarf_Die *of, u64 offset, u64 length, Dwarf_Die *member, u64 *place);
+int place_of_member(Dwarf_Die *member, u64 *place);
+int is_structure(Dwarf_Die *type);
+
+/* A text that is written, and what is in it behind its last name: so many bytes. */
+typedef struct { char *at; size_t room; u64 rest; } text;
+void add_name(text *to, const char *before, const char *name, u64 rest);
+void add_members(Dwarf_Die type, u64 offset, u64 length, text *to);
+/* Adds what lies at an offset of the variable that is at an address, in so many bytes: ".head", "[3]", "+4". */
+void add_member(struct debug *d, u64 address, u64 offset, u64 length, char *buffer, size_t size);
+/* The same of the local of a function that is at `pc`, that lies so many bytes below the end of its return address, and above its stack
+   pointer, with its name before it; gives the name of the function that it is inlined from, or "", and null where no local is known. */
+typedef struct { u64 pc, below, above, length; } place_of_local;
+const char *add_local(struct debug *d, place_of_local at, char *buffer, size_t size);
+
+/* allocated.c: the type of so many bytes that a call in the program's own code allocates; 0 where that isn't certain. */
+int type_by_text(struct debug *d, u64 pc, u64 size, Dwarf_Die *type);
+
+/* blocks.c: what lies so far inside of a block of so many bytes that the call at `pc` allocated:
+   "bank::Account.balance", or with its element "Account[3].balance". Gives the length of the type's name, 0 where no type is certain. */
+typedef struct { u64 pc, size, offset, length; } place_in_block;
+size_t add_in_block(struct debug *d, place_in_block at, char *buffer, size_t size);
+int has_type(struct debug *d, place_in_block at);            /* is that of the whole block certain? */

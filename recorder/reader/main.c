@@ -1,0 +1,125 @@
+/* module-reader: tells shb-std what a module's symbols and debug information say, as libdw of the elfutils reads them.
+
+   A module may be any file, made to take memory or time without end, or to break libdw. So this is a process of its own for each
+   module, with limits of both; it opens regular files alone, and what it answers is checked by who asks. */
+#define _GNU_SOURCE
+#include <errno.h>
+#include <fcntl.h>
+#include <signal.h>
+#include <stdarg.h>
+#include <stdio.h>
+#include <stdlib.h>
+#include <string.h>
+#include <sys/prctl.h>
+#include <sys/resource.h>
+#include <sys/stat.h>
+#include <unistd.h>
+#include "debug.h"
+
+enum { SECONDS = 120, TIMES = 16 };        /* of processor time; of memory so many times the module's size, and this: */
+#define BYTES (512ul << 20)
+
+/* libdw opens by this whatever path a module has in it. A device or FIFO may have no end. */
+int open(const char *path, int flags, ...) {
+    struct stat status;
+    va_list arguments;
+    va_start(arguments, flags);
+    int f = openat(AT_FDCWD, path, flags | O_NONBLOCK | O_CLOEXEC, flags & (O_CREAT | O_TMPFILE) ? va_arg(arguments, mode_t) : 0);
+    va_end(arguments);
+    if (f < 0 || (!fstat(f, &status) && S_ISREG(status.st_mode))) return f;
+    close(f);
+    errno = EACCES;
+    return -1;
+}
+int open64(const char *path, int flags, ...) __attribute__((alias("open")));
+
+/* Where it is asked for a signal, that comes before the end. */
+static void limit(int resource, u64 most, u64 end) {
+    struct rlimit limits;
+    if (getrlimit(resource, &limits)) return;
+    if (limits.rlim_cur > most) limits.rlim_cur = most;
+    if (limits.rlim_max > end) limits.rlim_max = end;
+    setrlimit(resource, &limits);
+}
+
+/* Memory beside what it has when it begins; beside a file with holes, which may be of any size, no more than the machine has. */
+static void limit_itself(const char *path) {
+    struct stat status;
+    u64 pages = 0, page = sysconf(_SC_PAGESIZE), all = sysconf(_SC_PHYS_PAGES) * page, size = stat(path, &status) ? 0 : status.st_size;
+    FILE *own = fopen("/proc/self/statm", "r");
+    if (!own || fscanf(own, "%lu", &pages) != 1) pages = 0;
+    if (own) fclose(own);
+    u64 bytes = pages * page + BYTES + (size < all / TIMES ? TIMES * size : size + all);
+    limit(RLIMIT_AS, bytes, bytes);
+    limit(RLIMIT_CPU, SECONDS, SECONDS + 1);
+    limit(RLIMIT_CORE, 0, 0);
+    prctl(PR_SET_PDEATHSIG, SIGKILL);
+}
+
+static void answer(u64 one, u64 two, const char *first, const char *second) {
+    row r = {one, two, strnlen(first, MOST_TEXT), strnlen(second, MOST_TEXT)};
+    fwrite(&r, sizeof r, 1, stdout);
+    fwrite(first, 1, r.first, stdout);
+    fwrite(second, 1, r.second, stdout);
+}
+
+static void answer_symbol(struct debug *d, u64 address) {
+    const symbol *s = symbol_at(d, address);
+    if (s) answer(s->at, s->size << SYMBOL_FLAGS | (s->is_function ? SYMBOL_IS_FUNCTION : 0) | (s->is_twice ? SYMBOL_IS_TWICE : 0), s->name, "");
+}
+
+static void answer_frames(struct debug *d, const u64 *addresses, u64 count) {
+    debug_frame frames[MOST_INLINED];
+    for (u64 k = 0; k < count; k++) {
+        int found = frames_at(d, addresses[k], frames, MOST_INLINED);
+        for (int n = 0; n < found; n++) {
+            const debug_frame *f = &frames[n];
+            answer(k, f->path && f->line > 0 ? f->line : 0, f->function ? f->function : "", f->path ? f->path : "");
+            free(frames[n].function);
+        }
+    }
+}
+
+static void give_source(const char *path) { answer(0, 0, path, ""); }
+
+static void answer_request(struct debug *d, const request *r, const u64 *numbers) {
+    char name[NAME_BYTES] = "";
+    const char *text;
+    size_t length;
+    place_in_block block;
+    switch ((enum request_kind)r->kind) {
+    case ASK_SYMBOL: answer_symbol(d, numbers[0]); break;
+    case ASK_VARIABLE: if (is_variable(d, (const char *)numbers)) answer(0, 0, "", ""); break;
+    case ASK_FRAMES: answer_frames(d, numbers, r->count); break;
+    case ASK_SOURCES: each_source(d, give_source); break;
+    case ASK_OWN_LINES: if (has_own_lines(d)) answer(0, 0, "", ""); break;
+    case ASK_UNREAD: if ((text = why_unread(d))) answer(0, 0, text, ""); break;
+    case ASK_MEMBER:
+        add_member(d, numbers[0], numbers[1], numbers[2], name, sizeof name);
+        answer(0, 0, name, "");
+        break;
+    case ASK_LOCAL:
+        text = add_local(d, (place_of_local){numbers[0], numbers[1], numbers[2], numbers[3]}, name, sizeof name);
+        if (text) answer(0, 0, name, text);
+        break;
+    case ASK_BLOCK:
+        block = (place_in_block){numbers[0], numbers[1], numbers[2], numbers[3]};
+        length = add_in_block(d, block, name, sizeof name);
+        if (has_type(d, block)) answer(length, 0, name, "");
+    }
+}
+
+int main(int count, char **words) {
+    static u64 numbers[MOST_NUMBERS + 1];  /* the last one ends a text */
+    static const row end = {.first = END_ROW};
+    request r;
+    if (count != 2) return 3;
+    limit_itself(words[1]);
+    struct debug *d = open_debug(words[1]);
+    while (fread(&r, sizeof r, 1, stdin) == 1 && r.count <= MOST_NUMBERS && fread(numbers, sizeof *numbers, r.count, stdin) == r.count) {
+        answer_request(d, &r, numbers);
+        fwrite(&end, sizeof end, 1, stdout);
+        if (fflush(stdout)) break;
+    }
+    _exit(0);
+}

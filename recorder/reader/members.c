@@ -1,0 +1,257 @@
+/* Members of a program's variables, by its debug information: "queue+8" is "queue.head" (what isn't told stays a number of
+   bytes), and locals of its functions. */
+#include <stdio.h>
+#include <stdlib.h>
+#include <string.h>
+#include "debug.h"
+
+/* ---- variables ---- */
+static u64 address_of_variable(Dwarf_Die *die) {
+    Dwarf_Attribute a, number;
+    Dwarf_Op *operations;
+    Dwarf_Addr address = 0;
+    size_t count;
+    if (!dwarf_attr(die, DW_AT_location, &a) || dwarf_getlocation(&a, &operations, &count) || count != 1) return 0;
+    if (operations->atom == DW_OP_addr) return operations->number;
+    int is_numbered = operations->atom == DW_OP_addrx || operations->atom == DW_OP_GNU_addr_index;
+    return is_numbered && !dwarf_getlocation_attr(&a, operations, &number) && !dwarf_formaddr(&number, &address) ? address : 0;
+}
+
+static void note_variable(struct debug *d, Dwarf_Die *e) {
+    u64 address = address_of_variable(e);
+    if (!address || map_number(&d->by_address, address + d->bias, 0) <= d->variable_count) return;
+    GROW(d->variables, d->variable_count, d->variable_capacity);
+    d->variables[d->variable_count++] = *e;
+}
+
+static void find_variables(struct debug *d, Dwarf_Die *in, int also_in_functions, const void **last, int depth) {
+    Dwarf_Die e;
+    if (depth > MOST_STEPS) return;
+    for (int more = first_entry(in, &e, last); more; more = next_entry(&e, last)) {
+        int tag = dwarf_tag(&e), is_in_function = tag == DW_TAG_subprogram || tag == DW_TAG_lexical_block || tag == DW_TAG_inlined_subroutine;
+        if (tag == DW_TAG_variable) note_variable(d, &e);
+        if (tag == DW_TAG_namespace || (also_in_functions && is_in_function)) find_variables(d, &e, also_in_functions, last, depth + 1);
+    }
+}
+
+/* Those in functions are read when one isn't among the others. */
+static u32 variable_at(struct debug *d, u64 address) {
+    u32 number = 0;
+    read_units(d);
+    for (int many = 1; !(number = map_find(&d->by_address, address, 0)) && many <= 2; many++) {
+        if (d->has_variables >= many) continue;
+        d->has_variables = many;
+        for (u64 k = 0; k < d->unit_count; k++) {
+            const void *last = 0;
+            find_variables(d, &d->units[k].whole, many > 1, &last, 0);
+        }
+    }
+    return number;
+}
+
+/* ---- what lies at an offset of a type ---- */
+static int follow(Dwarf_Die *die, unsigned attribute) {
+    Dwarf_Attribute a;
+    Dwarf_Die to;
+    if (!dwarf_attr_integrate(die, attribute, &a) || !dwarf_formref_die(&a, &to)) return 0;
+    *die = to;
+    return 1;
+}
+
+int plain_type(Dwarf_Die *type) {
+    for (int steps = 0; steps < MOST_STEPS; steps++) {
+        int tag = dwarf_tag(type), is_only_named = tag == DW_TAG_typedef || tag == DW_TAG_const_type || tag == DW_TAG_volatile_type
+            || tag == DW_TAG_atomic_type || tag == DW_TAG_restrict_type;
+        if (dwarf_hasattr(type, DW_AT_signature)) {
+            if (!follow(type, DW_AT_signature)) return 0;
+        } else if (!is_only_named) return 1;
+        else if (!follow(type, DW_AT_type)) return 0;
+    }
+    return 0;
+}
+
+int type_of(Dwarf_Die *of, Dwarf_Die *type) {
+    *type = *of;
+    return follow(type, DW_AT_type) && plain_type(type);
+}
+
+/* How many elements an array has in each of its dimensions; 0 of none that is told. */
+static int read_dimensions(Dwarf_Die *array, u64 *counts) {
+    int found = 0;
+    Dwarf_Die e;
+    for (int more = !dwarf_child(array, &e); more && found < MOST_DIMENSIONS; more = !dwarf_siblingof(&e, &e)) {
+        Dwarf_Attribute a;
+        Dwarf_Word number;
+        if (dwarf_tag(&e) != DW_TAG_subrange_type) break;
+        counts[found] = 0;
+        if (dwarf_attr(&e, DW_AT_count, &a) && !dwarf_formudata(&a, &number)) counts[found] = number;
+        else if (dwarf_attr(&e, DW_AT_upper_bound, &a) && !dwarf_formudata(&a, &number)) counts[found] = number + 1;
+        found++;
+    }
+    return found;
+}
+
+u64 size_of_type(Dwarf_Die *type) {
+    u64 size = 1, counts[MOST_DIMENSIONS];
+    Dwarf_Die e = *type;
+    int is_known = plain_type(&e);
+    for (int steps = 0; is_known && dwarf_tag(&e) == DW_TAG_array_type && steps < MOST_STEPS; steps++) {
+        for (int k = read_dimensions(&e, counts); k-- > 0;) size *= counts[k];
+        is_known = type_of(&e, &e);
+    }
+    int own = is_known ? dwarf_bytesize(&e) : -1, tag = dwarf_tag(&e);
+    if (own < 0 && (tag == DW_TAG_pointer_type || tag == DW_TAG_reference_type || tag == DW_TAG_rvalue_reference_type)) own = 8;
+    return is_known && own > 0 ? size * own : 0;
+}
+
+/* Names of the C and C++ library's own members say little. */
+static int is_reserved(const char *name) { return *name == '_' && (name[1] == '_' || (name[1] >= 'A' && name[1] <= 'Z')); }
+
+int is_structure(Dwarf_Die *type) { return dwarf_tag(type) == DW_TAG_structure_type || dwarf_tag(type) == DW_TAG_class_type; }
+
+/* A number, or in DWARF 2 what is added to where the whole begins. */
+int place_of_member(Dwarf_Die *member, u64 *place) {
+    Dwarf_Attribute a;
+    Dwarf_Word number;
+    Dwarf_Op *operations;
+    size_t count;
+    int tag = dwarf_tag(member);
+    if ((tag != DW_TAG_member && tag != DW_TAG_inheritance) || !dwarf_attr(member, DW_AT_data_member_location, &a)) return 0;
+    if (!dwarf_formudata(&a, &number)) *place = number;
+    else if (!dwarf_getlocation(&a, &operations, &count) && count == 1 && operations->atom == DW_OP_plus_uconst) *place = operations->number;
+    else return 0;
+    return 1;
+}
+
+int member_with(Dwarf_Die *of, u64 offset, u64 length, Dwarf_Die *member, u64 *place) {
+    for (int more = !dwarf_child(of, member); more; more = !dwarf_siblingof(member, member)) {
+        Dwarf_Die type;
+        if (!place_of_member(member, place) || dwarf_hasattr(member, DW_AT_bit_size) || !type_of(member, &type)) continue;
+        u64 size = size_of_type(&type);
+        if (offset >= *place && length <= size && offset - *place <= size - length) return 1;
+    }
+    return 0;
+}
+
+void add_name(text *to, const char *before, const char *name, u64 rest) {
+    int count = snprintf(to->at, to->room, "%s%.200s", before, name);
+    for (char *p = to->at; *p; p++)
+        if (*p == '|' || (unsigned char)*p < ' ') *p = '!';
+    count = (size_t)count < to->room ? count : (int)to->room - 1;
+    to->at += count;
+    to->room -= count;
+    to->rest = rest;
+}
+
+/* Adds the indices of the element of an array that has all of these bytes, where there is one; else those of its row. */
+static int add_indices(Dwarf_Die *array, Dwarf_Die *of, u64 *offset, u64 length, text *to) {
+    u64 counts[MOST_DIMENSIONS], stride = size_of_type(of), strides[MOST_DIMENSIONS];
+    int dimensions = read_dimensions(array, counts);
+    for (int k = dimensions; k-- > 0; stride *= counts[k]) strides[k] = stride;
+    for (int k = 0; k < dimensions; k++) {
+        char index[24];
+        if (!strides[k] || *offset % strides[k] + length > strides[k]) return 0;
+        snprintf(index, sizeof index, "[%lu]", *offset / strides[k]);
+        *offset %= strides[k];
+        add_name(to, "", index, *offset);
+    }
+    return dimensions > 0;
+}
+
+void add_members(Dwarf_Die type, u64 offset, u64 length, text *to) {
+    for (int steps = 0; steps < MOST_STEPS && plain_type(&type); steps++) {
+        Dwarf_Die member;
+        u64 place;
+        if (dwarf_tag(&type) == DW_TAG_array_type) {
+            Dwarf_Die element;
+            if (!type_of(&type, &element) || !add_indices(&type, &element, &offset, length, to)) return;
+            type = element;
+            continue;
+        }
+        if (!is_structure(&type) || !member_with(&type, offset, length, &member, &place)) return;
+        const char *name = dwarf_diename(&member);
+        if (name && is_reserved(name)) return;
+        offset -= place;
+        if (!type_of(&member, &type)) return;
+        if (name && *name) add_name(to, ".", name, offset);
+    }
+}
+
+void add_member(struct debug *d, u64 address, u64 offset, u64 length, char *buffer, size_t size) {
+    text to = {buffer, size, offset};
+    u32 number = variable_at(d, address);
+    Dwarf_Die type;
+    if (number && !d->is_alien && type_of(&d->variables[number - 1], &type)) add_members(type, offset, length, &to);
+    if (to.rest) snprintf(to.at, to.room, "+%lu", to.rest);
+}
+
+/* ---- locals ---- */
+/* What is looked for, and the one that was found; of several none is certain. */
+typedef struct {
+    struct debug *d;
+    place_of_local at;
+    Dwarf_Die function;
+    int found;
+    Dwarf_Die type;
+    u64 offset;
+    const char *name, *inlined;
+    const void *last;                  /* entry that was met */
+} search;
+
+enum { FRAME_POINTER = 6, STACK_POINTER = 7 };
+
+/* The only operation of a location at the place in the code; 0 where it isn't a plain one. */
+static int plain_location(const search *s, Dwarf_Die *die, unsigned attribute, Dwarf_Op *found) {
+    Dwarf_Attribute a;
+    Dwarf_Op *operations;
+    size_t count;
+    if (!dwarf_attr(die, attribute, &a) || dwarf_getlocation_addr(&a, s->at.pc - s->d->bias, &operations, &count, 1) != 1 || count != 1) return 0;
+    *found = *operations;
+    return 1;
+}
+
+/* How far behind the begin of a variable the place that is looked for lies; -1 where that isn't told. */
+static u64 offset_in(search *s, Dwarf_Die *variable) {
+    enum { SAVED = 16 };               /* the return address, and the frame pointer that points there */
+    Dwarf_Op at, base;
+    if (!plain_location(s, variable, DW_AT_location, &at)) return -1ull;
+    if (at.atom == DW_OP_breg0 + STACK_POINTER) return s->at.above - at.number;
+    if (at.atom != DW_OP_fbreg || !plain_location(s, &s->function, DW_AT_frame_base, &base)) return -1ull;
+    if (base.atom == DW_OP_call_frame_cfa) return -s->at.below - at.number;
+    if (base.atom == DW_OP_reg0 + FRAME_POINTER) return SAVED - s->at.below - at.number;
+    return base.atom == DW_OP_reg0 + STACK_POINTER ? s->at.above - at.number : -1ull;
+}
+
+static void look_at(search *s, Dwarf_Die *variable, const char *inlined) {
+    Dwarf_Die type;
+    u64 offset = offset_in(s, variable), size = offset != -1ull && type_of(variable, &type) ? size_of_type(&type) : 0;
+    if (offset >= size || s->at.length > size - offset) return;
+    s->found++;
+    s->type = type;
+    s->offset = offset;
+    s->name = dwarf_diename(variable);
+    s->inlined = inlined;
+}
+
+static void look_in(search *s, Dwarf_Die *scope, const char *inlined, int depth) {
+    Dwarf_Die e;
+    for (int more = first_entry(scope, &e, &s->last); more; more = next_entry(&e, &s->last)) {
+        int tag = dwarf_tag(&e);
+        if (tag == DW_TAG_variable || tag == DW_TAG_formal_parameter) look_at(s, &e, inlined);
+        if ((tag != DW_TAG_lexical_block && tag != DW_TAG_inlined_subroutine) || depth >= MOST_STEPS || !has_code(s->d, &e, s->at.pc)) continue;
+        const char *name = tag == DW_TAG_inlined_subroutine ? dwarf_diename(&e) : inlined;
+        look_in(s, &e, name ? name : "", depth + 1);
+    }
+}
+
+const char *add_local(struct debug *d, place_of_local at, char *buffer, size_t size) {
+    search s = {.d = d, .at = at};
+    if (!find_function(d, at.pc, &s.function)) return 0;
+    look_in(&s, &s.function, "", 0);
+    if (s.found != 1 || !s.name || !*s.name) return 0;
+    text to = {buffer, size, s.offset};
+    add_name(&to, "", s.name, s.offset);
+    add_members(s.type, s.offset, at.length, &to);
+    if (to.rest) snprintf(to.at, to.room, "+%lu", to.rest);
+    return s.inlined;
+}

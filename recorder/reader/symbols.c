@@ -1,0 +1,78 @@
+/* A module's symbols, and what their names are in the program's source. */
+#include <dlfcn.h>
+#include <stdlib.h>
+#include <string.h>
+#include "debug.h"
+
+/* A copy, also of a name that isn't mangled; it is so where the C++ library isn't on the machine. */
+char *demangled(const char *name) {
+    typedef char *demangle(const char *name, char *buffer, size_t *length, int *status);
+    static demangle *of_library;
+    static int is_asked;
+    int status, is_mangled = !strncmp(name, "_Z", 2);
+    if (is_mangled && !is_asked++) {
+        void *library = dlopen("libstdc++.so.6", RTLD_NOW);
+        of_library = library ? (demangle *)dlsym(library, "__cxa_demangle") : 0;
+    }
+    char *text = is_mangled && of_library ? of_library(name, 0, 0, &status) : 0;
+    if (!text && !(text = strdup(name))) die("out of memory");
+    return text;
+}
+
+static void take_symbol(struct debug *d, int number) {
+    GElf_Sym s;
+    GElf_Addr at;
+    GElf_Word section;
+    const char *name = dwfl_module_getsym_info(d->file, number, &s, &at, &section, 0, 0);
+    int type = GELF_ST_TYPE(s.st_info), is_function = type == STT_FUNC || type == STT_GNU_IFUNC;
+    if (!name || !*name || !s.st_size || section == SHN_UNDEF || section == SHN_ABS || section == SHN_COMMON) return;
+    if (!is_function && type != STT_OBJECT && type != STT_NOTYPE) return;
+    GROW(d->symbols, d->symbol_count, d->symbol_capacity);
+    d->symbols[d->symbol_count++] = (symbol){s.st_value, s.st_size, name, 0, 0, is_function};
+}
+
+static int by_address(const void *a, const void *b) {        /* of several at one address, the last by its name is found */
+    const symbol *x = a, *y = b;
+    return x->at < y->at ? -1 : x->at > y->at ? 1 : strcmp(x->linked, y->linked);
+}
+
+static void read_symbols(struct debug *d) {
+    if (d->has_symbols++) return;
+    int count = d->file ? dwfl_module_getsymtab(d->file) : 0;
+    for (int k = 1; k < count; k++) take_symbol(d, k);
+    if (d->symbol_count) qsort(d->symbols, d->symbol_count, sizeof *d->symbols, by_address);
+}
+
+static const char *name_of(symbol *s) { return s->name ? s->name : (s->name = demangled(s->linked)); }
+
+static int by_name(const void *a, const void *b) { return strcmp(name_of(*(symbol **)a), name_of(*(symbol **)b)); }
+
+/* Variables of one name, static in several files. */
+static void mark_doubles(struct debug *d) {
+    if (d->has_doubles++) return;
+    symbol **sorted = zeroed(d->symbol_count + 1, sizeof *sorted);
+    u64 count = 0;
+    for (u64 k = 0; k < d->symbol_count; k++)
+        if (!d->symbols[k].is_function) sorted[count++] = &d->symbols[k];
+    qsort(sorted, count, sizeof *sorted, by_name);
+    for (u64 k = 1; k < count; k++)
+        if (!strcmp(name_of(sorted[k]), name_of(sorted[k - 1]))) sorted[k]->is_twice = sorted[k - 1]->is_twice = 1;
+    free(sorted);
+}
+
+const symbol *symbol_at(struct debug *d, u64 address) {
+    read_symbols(d);
+    u64 k = count_up_to(d->symbols, d->symbol_count, sizeof *d->symbols, address);
+    symbol *s = k ? &d->symbols[k - 1] : 0;
+    if (!s || address - s->at >= s->size) return 0;
+    name_of(s);
+    if (!s->is_function) mark_doubles(d);
+    return s;
+}
+
+int is_variable(struct debug *d, const char *name) {
+    read_symbols(d);
+    for (u64 k = 0; k < d->symbol_count; k++)
+        if (!d->symbols[k].is_function && !strcmp(name_of(&d->symbols[k]), name)) return 1;
+    return 0;
+}

@@ -1,0 +1,80 @@
+/* GLib's locks, conditions, queues and one-time initializations. Its threads are POSIX', which are seen as such. */
+#define _GNU_SOURCE
+#include <sys/syscall.h>
+#include <time.h>
+#include <unistd.h>
+#include "libraries.h"
+
+typedef int gboolean;
+
+TRIES_LOCK(gboolean, g_mutex_trylock, OP_LOCK)
+LOCKS(g_mutex_lock, g_mutex_trylock, OP_LOCK)
+UNLOCKS(g_mutex_unlock, OP_UNLOCK)
+
+/* These are a POSIX lock within, which would be seen besides where the call waits for it. So the call never does. */
+static int waits_a_little(void) {
+    struct timespec little = {0, 50000};
+    return syscall(SYS_nanosleep, &little, 0);
+}
+#define LOCKS_BY_TRYING(name, try, operation) \
+    PUBLIC void name(void *m) { \
+        thread *t = enter(MAY_YIELD); \
+        if (!t) return REAL(name)(m); \
+        while (!REAL(try)(m)) BLOCKING(t, waits_a_little()); \
+        put(t, operation, m, 0, CALLER); \
+        leave(t); \
+    }
+TRIES_LOCK(gboolean, g_rec_mutex_trylock, OP_LOCK)
+LOCKS_BY_TRYING(g_rec_mutex_lock, g_rec_mutex_trylock, OP_LOCK)
+UNLOCKS(g_rec_mutex_unlock, OP_UNLOCK)
+TRIES_LOCK(gboolean, g_rw_lock_reader_trylock, OP_READ_LOCK)
+TRIES_LOCK(gboolean, g_rw_lock_writer_trylock, OP_WRITE_LOCK)
+LOCKS_BY_TRYING(g_rw_lock_reader_lock, g_rw_lock_reader_trylock, OP_READ_LOCK)
+LOCKS_BY_TRYING(g_rw_lock_writer_lock, g_rw_lock_writer_trylock, OP_WRITE_LOCK)
+UNLOCKS(g_rw_lock_reader_unlock, OP_RW_UNLOCK)
+UNLOCKS(g_rw_lock_writer_unlock, OP_RW_UNLOCK)
+
+#define WAITS(type, name, real, ...) \
+    WAITS_BY(type, name, OP_LOCK, OP_UNLOCK, REAL(g_mutex_unlock)(m), REAL(g_mutex_trylock)(m), REAL(g_mutex_lock)(m), real, (__VA_ARGS__))
+WAITS(void, g_cond_wait, DONE(REAL(g_cond_wait)(c, m)) + 1, void *c, void *m)
+WAITS(gboolean, g_cond_wait_until, REAL(g_cond_wait_until)(c, m, until), void *c, void *m, int64_t until)
+WAKES(g_cond_signal)
+WAKES(g_cond_broadcast)
+
+/* ---- queues: what is taken out comes after all that was put in before ---- */
+#define TAKES_ITEM(name, real, quick, parameters) TAKES_BY(void *, name, OP_WAIT, q, real, !r, quick, r, parameters)
+TRIES_BY(void *, g_async_queue_try_pop, OP_WAIT, q, REAL(g_async_queue_try_pop)(q), 0, r, (void *q))
+TRIES_BY(void *, g_async_queue_try_pop_unlocked, OP_WAIT, q, REAL(g_async_queue_try_pop_unlocked)(q), 0, r, (void *q))
+TAKES_ITEM(g_async_queue_pop, REAL(g_async_queue_pop)(q), REAL(g_async_queue_try_pop)(q), (void *q))
+TAKES_ITEM(g_async_queue_pop_unlocked, REAL(g_async_queue_pop_unlocked)(q), REAL(g_async_queue_try_pop_unlocked)(q), (void *q))
+TAKES_ITEM(g_async_queue_timeout_pop, REAL(g_async_queue_timeout_pop)(q, time), REAL(g_async_queue_try_pop)(q), (void *q, uint64_t time))
+TAKES_ITEM(g_async_queue_timeout_pop_unlocked, REAL(g_async_queue_timeout_pop_unlocked)(q, time),
+           REAL(g_async_queue_try_pop_unlocked)(q), (void *q, uint64_t time))
+POSTS(g_async_queue_push, q, (void *q, void *item), (q, item))
+POSTS(g_async_queue_push_unlocked, q, (void *q, void *item), (q, item))
+POSTS(g_async_queue_push_front, q, (void *q, void *item), (q, item))
+POSTS(g_async_queue_push_front_unlocked, q, (void *q, void *item), (q, item))
+typedef int (*comparison)(const void *, const void *, void *);
+POSTS(g_async_queue_push_sorted, q, (void *q, void *item, comparison f, void *more), (q, item, f, more))
+POSTS(g_async_queue_push_sorted_unlocked, q, (void *q, void *item, comparison f, void *more), (q, item, f, more))
+
+/* ---- once: the macros of the first read the word themselves ---- */
+READS_WORD(gboolean, g_once_init_enter, p, REAL(g_once_init_enter)(p), !r, (void *p))
+READS_WORD(gboolean, g_once_init_enter_pointer, p, REAL(g_once_init_enter_pointer)(p), !r, (void *p))
+WRITES_WORD(g_once_init_leave, p, (void *p, size_t value), (p, value))
+WRITES_WORD(g_once_init_leave_pointer, p, (void *p, void *value), (p, value))
+
+static __thread struct { void *(*function)(void *); void *flag; } once;
+static void *run_once(void *argument) {
+    void *flag = once.flag, *r = once.function(argument);    /* the function may come to another once */
+    note(OP_POST, flag, CALLER);
+    return r;
+}
+PUBLIC void *g_once_impl(void *flag, void *(*function)(void *), void *argument) {
+    let_others_run();
+    once.function = function;
+    once.flag = flag;
+    void *r = REAL(g_once_impl)(flag, run_once, argument);
+    note(OP_WAIT, flag, CALLER);
+    return r;
+}

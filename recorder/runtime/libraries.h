@@ -1,0 +1,58 @@
+/* Locks and queues of libraries that have no hooks, as their exported functions are called. Nothing of such a library is needed here: its
+   functions have the C names that they are exported by, and what they are called on is an address. */
+#pragma once
+#include "ordering.h"
+
+/* modules.c: the function of a library, wherever the loader has it; 0 where none has it, or the program ends. */
+void *library_symbol(const char *name);
+void *needed_symbol(const char *name);
+#undef REAL
+#define REAL(f) ({ \
+    static __typeof__(&f) real_; \
+    if (!real_) real_ = (__typeof__(&f))needed_symbol(#f); \
+    real_; \
+})
+#define DONE(call) ({ call; 0; })      /* of a call that gives nothing */
+
+#define LOCKS(name, try, operation) TAKES_BY(void, name, operation, m, DONE(REAL(name)(m)), r, !REAL(try)(m), 1, (void *m))
+#define TRIES_LOCK(type, name, operation) TRIES_BY(type, name, operation, m, REAL(name)(m), 0, r, (void *m))
+#define UNLOCKS(name, operation) GIVES_BY(void, name, operation, m, 0, DONE(REAL(name)(m)), (void *m))
+#define POSTS(name, object, parameters, arguments) GIVES_BY(void, name, OP_POST, object, 0, DONE(REAL(name) arguments), parameters)
+/* A wait on the condition c, without the lock m. In a replay it wakes when the list says so, and takes the lock with the turn; where it had
+   no more time it has none left either (as locks.c has it). */
+#define WAITS_BY(type, name, taken, released, give, try, take, real, parameters) \
+    PUBLIC type name parameters { \
+        thread *t = enter(MAY_YIELD); \
+        if (!t) return (type)(real); \
+        put(t, OP_USE, c, 0, CALLER); \
+        put(t, released, m, 0, CALLER); \
+        if (!is_replaying) return (type)!SLEEPING_WITHOUT(t, m, taken, r, !(real)); \
+        give; \
+        waits_for_list(t); \
+        if (!(try)) BLOCKING(t, DONE(take)); \
+        int r = was_unusual(t) ? SLEEPING(t, real) : 1; \
+        put(t, taken, m, 0, CALLER); \
+        leave(t); \
+        return (type)r; \
+    }
+#define WAKES(name) GIVES_BY(void, name, OP_USE, c, 0, DONE(REAL(name)(c)), (void *c))
+
+/* A word that the library makes ready by a store with release, and reads with acquire. Lines of a header use it too, so of code with hooks
+   these are atomic accesses. Of other code they aren't recorded, for it may use the word otherwise. */
+enum { WORD = sizeof(void *), WORD_READ = WORD | __ATOMIC_ACQUIRE << ATOMIC_SIZE_BITS, WORD_WRITTEN = WORD | __ATOMIC_RELEASE << ATOMIC_SIZE_BITS };
+#define READS_WORD(type, name, p, real, done, parameters) \
+    PUBLIC type name parameters { \
+        thread *t = instrumented(CALLER) ? enter(MAY_YIELD) : 0; \
+        if (!t) return (type)(real); \
+        __typeof__(real) r = BLOCKING(t, real); \
+        if (done) put(t, OP_ATOMIC_LOAD, p, WORD_READ, CALLER); \
+        leave(t); \
+        return (type)r; \
+    }
+#define WRITES_WORD(name, p, parameters, arguments) \
+    PUBLIC void name parameters { \
+        thread *t = instrumented(CALLER) ? enter(MAY_YIELD) : 0; \
+        if (t) put(t, OP_ATOMIC_STORE, p, WORD_WRITTEN, CALLER); \
+        REAL(name) arguments; \
+        if (t) leave(t); \
+    }

@@ -1,0 +1,79 @@
+/* The shapes of the calls that order threads: each is recorded and passed on. A call that takes something (a lock, a token) is
+   recorded after it, one that gives something before it; a call that may wait does so without the turn. `real` is the call itself, and r
+   what it gives; where it gives nothing, `real` gives a number beside. */
+#pragma once
+#include "runtime.h"
+
+enum { MOST_TRIES = 8 };
+/* A call that may sleep in a replay, where the list has it: with the turn. Handlers of signals run in it, also for those that came before
+   in the hook, for it may be them that it waits for. */
+#define SLEEPING(t, call) ({ \
+    (t)->inside = 0; \
+    if ((t)->deferred) deliver_deferred(t); \
+    __typeof__(call) result_ = (call); \
+    (t)->inside = 1; \
+    end_quick(t); \
+    result_; \
+})
+/* It may wait; recorded after it, if it was done. The quick form is tried first, for it needs no hand-over. In a replay it is
+   busy where it was then; else the one that has it may be about to give it. */
+#define TAKES_BY(type, name, operation, object, real, busy, quick, done, parameters) \
+    PUBLIC type name parameters { \
+        thread *t = enter(MAY_YIELD); \
+        if (!t) return (type)(real); \
+        __typeof__(real) r = 0; \
+        int is_busy, tries = 0; \
+        do { \
+            is_busy = was_unusual(t); \
+            if (!is_busy) r = is_replaying ? SLEEPING(t, real) : quick; \
+            if (!is_busy && busy) is_busy = note_unusual(t); \
+        } while (is_busy && tries++ < MOST_TRIES && let_another_run(t)); \
+        if (is_busy) r = waits_for_list(t) ? SLEEPING(t, real) : BLOCKING(t, real); \
+        if (done) put(t, operation, object, 0, CALLER); \
+        leave(t); \
+        return (type)r; \
+    }
+/* The same, but never waits. */
+#define TRIES_BY(type, name, operation, object, real, busy, done, parameters) \
+    PUBLIC type name parameters { \
+        thread *t = enter(MAY_YIELD); \
+        if (!t) return real; \
+        int is_busy = was_unusual(t); \
+        type r = is_busy ? (busy) : (real); \
+        if (done) put(t, operation, object, 0, CALLER); \
+        else note_spin(t, CALLER); \
+        if (!is_busy && !(done)) note_unusual(t); \
+        leave(t); \
+        return r; \
+    }
+/* Recorded before it; never waits. */
+#define GIVES_BY(type, name, operation, object, size, real, parameters) \
+    PUBLIC type name parameters { \
+        thread *t = enter(MAY_YIELD); \
+        if (t) put(t, operation, object, size, CALLER); \
+        __typeof__(real) r = real; \
+        if (t) leave(t); \
+        return (type)r; \
+    }
+
+/* A wait without the lock that was given up for it, which is recorded as taken again behind it, also where the wait was cancelled. */
+struct waking { thread *t; void *lock; enum operation taken; uint64_t caller; int unusual; };
+static inline void has_woken(void *waking_) {
+    struct waking *waking = waking_;
+    waking->t->inside = 1;
+    take_turn(waking->t);
+    if (waking->unusual) note_unusual(waking->t);
+    put(waking->t, waking->taken, waking->lock, 0, waking->caller);
+    leave(waking->t);
+}
+#define SLEEPING_WITHOUT(t, lock, taken, is_unusual, call) ({ \
+    struct waking waking = {t, lock, taken, CALLER, 0}; \
+    __typeof__(call) r; \
+    pthread_cleanup_push(has_woken, &waking); \
+    give_turn(t); \
+    leave(t); \
+    r = (call); \
+    waking.unusual = is_unusual; \
+    pthread_cleanup_pop(1); \
+    r; \
+})

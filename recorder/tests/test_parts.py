@@ -1,0 +1,66 @@
+"""A page's trace of several parts: what a page shows of one has nothing of another."""
+
+import json
+import re
+import sys
+
+import recorder
+from shb_common.uses import Uses
+from test_open import planted
+from test_record import HEADER, LOCK, entry
+
+SPANS = "enum { CONTEXT = 2000, SHORT_RUN = 20000, ONE_TRACE = 200000, SPARSE = 4 };"
+X, Y, Z, OTHER_LOCK = 0x5000, 0x6000, 0x7000, LOCK + 0x100
+
+
+def write(thread, address, place):
+    return entry(thread, "WRITE", address, place, 4)
+
+
+def read(thread, address, place):
+    return entry(thread, "READ", address, place, 4)
+
+
+def under(thread, lock, place, *inside):
+    return b"".join((entry(thread, "LOCK", lock, place), *inside, entry(thread, "UNLOCK", lock, place + 1)))
+
+
+BEGIN = entry(0, "FORK", 1, 0x101) + entry(0, "FORK", 2, 0x102)
+BETWEEN = b"".join(under(1 + number % 2, OTHER_LOCK, 0x300 + 2 * (number % 2)) for number in range(20))
+READ_ALONE = (  # thread 2 reads X before thread 1 writes it, and later what it wrote itself
+    BEGIN, read(2, X, 0x201), write(1, X, 0x202), under(1, LOCK, 0x203), under(2, LOCK, 0x205), write(2, X, 0x207), BETWEEN,
+    read(2, X, 0x201), write(1, Y, 0x208), write(2, Y, 0x209))
+FAR_APART = (  # the race of Z is from the first part to the second
+    BEGIN, write(1, X, 0x201), write(2, X, 0x202), write(1, Z, 0x203), b"".join(entry(2, "LOCK", OTHER_LOCK, 0x300) + write(2, 0x8000, 0x302) + entry(2, "UNLOCK", OTHER_LOCK, 0x303) for _ in range(60)),
+    under(1, OTHER_LOCK, 0x304, read(1, 0x8000, 0x306)), write(2, Z, 0x204), write(1, Y, 0x205), write(2, Y, 0x206))
+
+
+class Parts(recorder.Case):
+    def explained(self, entries, *options):
+        """The view's document and text of a record whose page has spans of a few events."""
+        converter = planted(self.folder / "converter", "page.c", SPANS, "enum { CONTEXT = 2, SHORT_RUN = 4, ONE_TRACE = 20, SPARSE = 4 };")
+        record, page, scan, found = (self.folder / name for name in ("app.rec", "page.std", "page.scan", "found.json"))
+        record.write_bytes(HEADER + b"".join(entries))
+        whole = recorder.must(recorder.call(converter, "--scan", record)).stdout
+        scan.write_bytes(recorder.must(recorder.call(recorder.SHB, "scan", "--variables", input=whole)).stdout)
+        races = re.findall(rb"^race \d+: (\d+) (\d+)\nfirst .*?\|[rw]\((.*?)\)", scan.read_bytes(), re.M)
+        uses = self.folder / "page.uses"
+        page.write_bytes(recorder.must(recorder.call(converter, "--only", "/dev/stdin", "--uses", uses, *options, record,
+                                                     input=b"".join(b"%b %b %b\n" % race for race in races))).stdout)
+        view = recorder.SOURCES.parent / "view" / "shb-view"
+        text = recorder.must(recorder.call(sys.executable, view, "--all", "--text", "--json", found, "--scan", scan, "--uses", uses, page)).stdout.decode()
+        self.uses, self.races = Uses(uses), {name.decode(): (int(first), int(second)) for first, second, name in races}
+        return json.loads(found.read_text()), re.split(r"(?m)^(?=\d+\. )", text)
+
+    def test_nothing_of_another_part_is_shown(self):
+        _, sections = self.explained(READ_ALONE)
+        self.assertEqual(sorted(self.races), ["0x5000", "0x6000"])
+        [of_x], [of_y] = ([section for section in sections if re.match(rf"\d+\. {name}: ", section)] for name in self.races)
+        self.assertNotIn("read what", of_x)
+        self.assertNotIn("0x202", of_y[of_y.index("Before the accesses:"):])
+
+    def test_a_race_from_one_part_to_another_is_on_no_page(self):
+        document, _ = self.explained(FAR_APART, "-n", "40")
+        self.assertEqual({name: bool(self.uses.pair(*race)) for name, race in self.races.items()}, {"0x5000": True, "0x6000": True, "0x7000": False})
+        self.assertTrue(all(event in self.uses.events for event in self.races["0x7000"]))
+        self.assertEqual({variable["name"] for place in document["places"] for variable in place["variables"]}, {"0x5000", "0x6000"})
