@@ -21,10 +21,10 @@ ABOUT = """\
 Analyses all traces in a folder and below, and joins what was found: one row per
 two locations that race, whichever comes first, with their variables and the
 number of traces that have them. A place is such a pair in one order. A trace is
-NAME.std, NAME.std.gz or NAME.std.xz; links within the folder are followed. Each trace
-ends as a file in OUT/outcomes, put in place whole and last. To resume, or when
-traces or the program have changed, run the same command again: it makes what
-isn't there yet."""
+NAME.std, NAME.std.gz or NAME.std.xz; links within the folder are followed. Each
+trace ends as a file in OUT/outcomes, put in place whole and last. To resume, or
+when traces or the program have changed, run the same command again: it makes
+what isn't there yet."""
 NOTES = """\
 Files in OUT:
   places.txt      the places as text, which is also printed; then the traces
@@ -41,28 +41,30 @@ Files in OUT:
                   'shb scan', which has no schedules
 
 Known places:
-  On a line two locations, or functions as FILE:FUNCTION(), in either order, and
-  the variable, with tabs between; * stands for any text, and \\* for the sign
-  itself. A line with two fields applies to every variable. Empty lines, and lines
-  that begin with #, are skipped; \\# begins a field with this sign. Functions
-  are known if the recorder's NAME.stacks is beside NAME.std. Lines that
-  match nothing are reported.
+  On a line two locations, or functions as FILE:FUNCTION(), in either order,
+  and the variable, with tabs between; * stands for any text, and \\* for the
+  sign itself. A line with two fields applies to every variable. Empty lines,
+  and lines that begin with #, are skipped; \\# begins a field with this sign.
+  Functions are known if the recorder's NAME.stacks is beside NAME.std. Lines
+  that match nothing are reported.
 
 Exit status:
   The first that applies:
   3  wrong command line
-  4  no trace, or a folder, a file or an engine failed; the reason is on standard
-     error
+  4  no trace, or a folder, a file or an engine failed; the reason is on
+     standard error
   2  a trace has no outcome: it is missing
   1  there is a place that isn't known; with --fail-on-stale also: a line of
      the known places matched nothing
   5  a trace was refused, or memory, time or size didn't suffice
   6  a file of call stacks is damaged
   0  none of these
-  Several may be true. A script asks for one by its line in OUT/facts.tsv, a name,
-  a tab and a number: traces, reports, refused, missing, damaged (call stacks),
-  places, unknown, known, stale (lines of known places), unreported (places whose
-  full report is missing), and with --since new, gone, same. For example
+
+  Several may be true. A script asks for one by its line in OUT/facts.tsv, a
+  name, a tab and a number: traces, reports, refused, missing, damaged (call
+  stacks), places, unknown, known, stale (lines of known places), unreported
+  (places whose full report is missing), and with --since new, gone, same. For
+  example
       awk '$1 == "refused" && $2 > 0 { bad = 1 } END { exit bad }' out/facts.tsv
 
 Environment:

@@ -110,7 +110,7 @@ def unpack_here(opener, trace, text):
                 text.write(part)
         text.flush()
     except (EOFError, zlib.error, lzma.LZMAError, gzip.BadGzipFile) as fault:
-        return BAD, str(fault)
+        return BAD, str(fault).partition(" (b'")[0]  # without the bytes that it begins with
     except OSError as fault:
         return (TOO_LONG, "") if fault.errno == errno.EFBIG else (BAD, fault.strerror or str(fault))
     except MemoryError:

@@ -5,7 +5,7 @@ import subprocess
 import tempfile
 import typing
 
-from shb_common.analyser import FULL, HEAD, LIST, REFUSED, SCAN, Run, rewound
+from shb_common.analyser import HEAD, REFUSED, SCAN, Run, rewound
 from shb_common.faults import Refused
 from shb_common.refused import line_and_hint, without_note
 from shb_common.report import BadReport, Report
@@ -76,10 +76,6 @@ class Analyser:
             self.write(SCAN, listed)
             for race, accesses in Report(listed).races():
                 take(race, *accesses)
-
-    def write_places(self, with_schedules, file):
-        """Writes the report of one race of each place."""
-        self.write(FULL if with_schedules else LIST, file)
 
     def write(self, words, file):
         """Writes the report of a command to an open file."""

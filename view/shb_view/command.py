@@ -1,17 +1,16 @@
 """The words of the command, its files and its statuses."""
 
-import contextlib
 import os
 import sys
-import traceback
 
 from shb_common.commands import Parser
 from shb_common.faults import Refused
+from shb_common.files import put, temporary_file
 from shb_common.progress import Progress
 from shb_common.report import BadReport
 from shb_common.standard import faults_of, open_standard_files, words_of, write_texts
 from shb_view import result, text
-from shb_view.output import new_file
+from shb_view.names import readable
 from shb_view.page import page_parts
 from shb_view.stacks import Damaged
 from shb_view.view import make_view
@@ -41,8 +40,9 @@ def arguments(words, program):
                         help="a note on the trace, shown below the title; may be given again")
     parser.add_argument("--about", metavar="TEXT", action="append", default=[],
                         help="a fact on the trace, such as that a library wasn't recorded; may be given again")
-    parser.add_argument("--no-notes", action="store_true", help="leave out of the text what is to know of the trace; --json has it as `notes`")
-    parser.add_argument("--behind", metavar="FILE", help="those of these places that were found behind known races")
+    parser.add_argument("--no-notes", action="store_true", help="leave the notes out of the text; --json has them as `notes`")
+    parser.add_argument("--behind", metavar="FILE", help="a file like that of --only: places that were found behind known races")
+    parser.add_argument("--unseen", metavar="FILE", help="what calls code without -fsanitize=thread, or is such code: on a line a function, a file or a module, a tab, and the module")
     parser.add_argument("--turns", metavar="FILE", help="the list of turns that `shb-record --replay` runs the trace's interleaving again with")
     parser.add_argument("--command", metavar="WORDS", default="", help="the program of --turns and its arguments, as a shell takes them")
     parser.add_argument("--json", metavar="FILE", help="write the places to this file, for programs (docs/FORMATS.md has the form)")
@@ -55,7 +55,7 @@ def arguments(words, program):
     parser.add_argument("--shb", metavar="PROGRAM", default=os.environ.get("SHB") or program, help="the `shb` to run")
     parser.add_argument("trace", metavar="TRACE", help="a trace, as `shb` reads it")
     parser.add_argument("report", metavar="REPORT", nargs="?",
-                        help="a report of it (- is standard input) to explain, in place of one that `shb` makes")
+                        help="a report of it (- is standard input) to explain, in place of one that `shb` makes; `shb` is asked for the trace's counts all the same")
     found = parser.parsed(words)
     if bool(found.scan) != bool(found.uses) or found.scan and found.report:
         parser.error("--scan and --uses go together, and without a REPORT")
@@ -67,23 +67,30 @@ def show(options, progress, out):
     wants_text = options.text or not (options.html or options.json)
     if wants_text and not out:
         raise Refused("standard output is closed")
-    inputs = [options.trace, options.report or options.trace]
-    with new_file(options.html, inputs) if options.html else contextlib.nullcontext() as page:
-        view = make_view(options, progress)
-        if page:
-            with faults_of(options.html):
-                page.writelines(map(str.encode, page_parts(view)))
-    if options.json:
-        with new_file(options.json, inputs) as file, faults_of(options.json):
-            file.write(result.document(view))
+    makers = {options.html: lambda view: "".join(page_parts(view)).encode(), options.json: result.document}
+    files = [path for path in makers if path]
+    for path in files:
+        try_target(path, [options.trace, options.report or options.trace])
+    view = make_view(options, progress)
+    for path in files:
+        with faults_of(path):
+            put(path, makers[path](view))
     progress.clear()
     if wants_text:
-        write_texts((f"{line}\n" for line in text.text_lines(view, text.Colours(is_coloured(out)), options.all, not options.no_notes)), out)
+        is_coloured = out.isatty() and not os.environ.get("NO_COLOR") and os.environ.get("TERM") != "dumb"
+        write_texts((f"{line}\n" for line in text.text_lines(view, text.Colours(is_coloured), options.all, not options.no_notes)), out)
     return 1 if view.verdict.is_good is False else 0
 
 
-def is_coloured(out):
-    return out.isatty() and not os.environ.get("NO_COLOR") and os.environ.get("TERM") != "dumb"
+def try_target(path, inputs):
+    """Refuses a file to be written that is an input, no file, or in a folder that takes none."""
+    for other in inputs:
+        if os.path.exists(path) and os.path.exists(other) and os.path.samefile(path, other):
+            raise Refused(f"the page would take the place of {readable(os.fsencode(other))}")
+    if os.path.exists(path) and not os.path.isfile(path):
+        raise Refused(f"{readable(os.fsencode(path))} isn't a regular file")
+    with faults_of(path), temporary_file(os.path.dirname(os.path.abspath(path))):
+        pass
 
 
 def explain(words, program, out, **how):
@@ -103,6 +110,7 @@ def explain(words, program, out, **how):
     except MemoryError:
         status, said = 2, "out of memory"
     except Exception:
+        import traceback  # takes its time, and this is for a fault of the view alone
         status, said = 2, traceback.format_exc().rstrip()  # 1, with which Python would end, says that the report is bad
     finally:
         progress.clear()

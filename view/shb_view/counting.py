@@ -1,7 +1,6 @@
 """The first pass over a trace: how often each line accesses the racing variables, in which threads and under which locks; and for
 the accesses that may be shown, the events right before them."""
 
-import array
 import collections
 import typing
 
@@ -10,18 +9,17 @@ from shb_common.report import BadReport
 from shb_common.variables import without_end
 from shb_view.groups import name_parts
 from shb_view.held import MOST_COUNTED, Held, called
-from shb_view.trace import CHANGED, OPENS, fields_of
+from shb_view.trace import CHANGED, OPENS, event_of
 
 BEFORE = 6  # events of a thread right before its access
 MOST_KINDS = 200_000  # accesses that are told apart: by group, line, thread, word and locks held
 
 
 class Noted(typing.NamedTuple):
-    """What is known of an access: the events of its thread right before it, and the locks held, as `Held.newest` has them."""
+    """What is known of an access: the events of its thread right before it, and the newest locks held, each with its acquire."""
 
     before: typing.Sequence[int]
     locks: typing.Tuple[typing.Tuple[bytes, int], ...]
-    held: int
 
 
 class Access(typing.NamedTuple):
@@ -40,7 +38,7 @@ class Kinds:
         """`gathered` has the atomic of a variable that stands for what a thread wrote to it, and names of locals."""
         self.gathered, self.stacks, self.locks = gathered, stacks, stacks.lasting_locals
         self.atomics, self.locals = gathered.atomics, gathered.locals
-        self.racing = {self.in_trace(variable) for variable, _ in gathered.racing}
+        self.racing = set(map(self.in_trace, gathered.races))
 
     def of(self, number, word, variable):
         """The word of `words.KINDS` for an event."""
@@ -80,10 +78,9 @@ class Counting:
         are those of the whole run where the trace is a part of it."""
         self.uses = uses
         self.groups, self.wanted, self.access_kinds = groups, wanted, kinds
-        self.lines, self.reads = kinds.gathered.lines, kinds.gathered.reads
-        self.racing_reads = racing_reads(kinds.gathered) if uses is not None else {}
-        self.racing = set().union(*kinds.gathered.racing.values())
-        self.bare = set()  # those of the racing events whose thread holds no lock
+        self.lines = kinds.gathered.lines
+        self.reads, self.racing_reads = racing_reads(kinds.gathered.races)
+        self.racing = kinds.gathered.events_of(groups)
         # By group, how many accesses there are of each kind: its location (None where lines aren't told apart any more),
         # thread, word of `words.KINDS`, the names of the locks held (None where they aren't counted), and the variable (not of a free).
         self.counts = collections.defaultdict(dict)
@@ -93,15 +90,14 @@ class Counting:
         self.recent = collections.defaultdict(lambda: collections.deque(maxlen=BEFORE))  # by thread: its last events
         self.before = {}  # by group and thread: its last access
         self.writes = {}  # by variable: its last write, and the thread and location of that
-        self.callers = collections.defaultdict(collections.Counter)  # by variable and location, of a run: its stacks, each with whether no lock is held
+        # By variable and location: the stacks of the racing accesses, or of a run of all accesses, each with whether no lock is held.
+        self.callers = collections.defaultdict(collections.Counter)
         self.seen = set()  # the locations of races where the second access reads what the first wrote
-        self.forks = {}  # by thread
-        self.names = {}  # each thread's name once
+        self.forks, self.joined = {}, {}  # by thread; by a join its thread's last event
 
     def read(self, trace, events):
         """Takes all events of the trace; there have to be so many."""
         self.take_all(trace)
-        self.held.clear()
         if self.uses is not None:
             self.take_uses()
         if trace.count() != events:
@@ -111,64 +107,71 @@ class Counting:
 
     def take_all(self, trace):
         groups, recent = {word + name + b")": group for name, group in self.groups.items() for word in (b"r(", b"w(")}, self.recent
-        for first, lines in trace.batches("counting accesses"):
-            for number, line in enumerate(lines, first):
-                try:
-                    thread, operation, _ = line.split(b"|", 2)
-                except ValueError:
-                    thread, operation, _ = fields_of(line)
-                if operation[1] != OPENS:
-                    self.held[thread].take(operation, number)
-                    if operation.startswith(b"fork("):
-                        self.forks[operation[5:-1]] = number
-                elif operation in groups:
-                    self.access(number, without_end(line), operation, groups[operation])
-                recent[thread].append(number)
+        for number, thread, operation, line in trace.events("counting accesses"):
+            if number in trace.parts:
+                self.begin_part()
+            if operation[1] != OPENS:
+                self.held[thread].take(operation, number)
+                if operation.startswith(b"fork("):
+                    self.forks[operation[5:-1]] = number
+                elif operation.startswith(b"join(") and recent.get(operation[5:-1]):
+                    self.joined[number] = recent[operation[5:-1]][-1]
+            elif operation in groups:
+                self.access(number, without_end(line), groups[operation])
+            recent[thread].append(number)
 
-    def access(self, number, line, operation, group):
-        """Counts an access to a variable of the group."""
-        variable, word = operation[2:-1], operation[:1]
+    def begin_part(self):
+        """What came right before isn't known."""
+        for of_part in (self.recent, self.before, self.writes):
+            of_part.clear()
+
+    def access(self, number, line, group):
+        """Takes an access to a variable of the group."""
+        thread, word, variable, location = event_of(line)
         if number in self.lines:
             self.found += 1
             if self.lines[number] != line:
                 raise BadReport(f"the report is of another trace: it has another line for event {number}")
-        thread, _, *location = line.split(b"|", 2)
         if word == b"w":
-            self.writes[variable] = number, thread, b"".join(location)
+            self.writes[variable] = number, thread, location
         elif variable in self.writes:
-            self.see(number, variable, thread, b"".join(location))
+            self.see(number, variable, thread, location)
         if not self.access_kinds.is_in_life(number, variable):
             return
-        held = self.held[thread]
-        if number in self.racing and not held.locks:
-            self.bare.add(number)
+        held, stacks = self.held[thread], self.access_kinds.stacks
         if number in self.wanted:
-            self.noted[number] = Noted(array.array("I", self.recent[thread]), *held.newest())
-        if self.uses is not None:
-            return
-        counts, thread = self.counts[group], self.names.setdefault(thread, thread)
-        word = self.access_kinds.of(number, word, variable)
-        of = b"" if word == b"f" else self.access_kinds.in_trace(variable)
-        kind = (location[0] if location else b"", thread, word, held.names(), of)
-        access = Access(number, variable, kind, self.access_kinds.stacks.free_of(number) if word == b"f" else None)
+            self.noted[number] = Noted(tuple(self.recent[thread]), held.newest()[0])
+        if self.uses is None:
+            word, of = self.access_kinds.of(number, word, variable), self.access_kinds.in_trace(variable)
+            if number in self.racing and stacks.numbers:
+                self.callers[of, location][stacks.numbers[number - 1], not held.locks] += 1
+            self.count(group, Access(number, variable, (location, thread, word, held.names(), b"" if word == b"f" else of),
+                                     stacks.free_of(number) if word == b"f" else None))
+
+    def count(self, group, access):
+        """Counts an access, but for what is of the same one as the event before it: a free writes each variable of the block, and a plain
+        read of an atomic reads what each thread wrote. An atomic write reads what plain accesses write."""
+        counts, kind = self.counts[group], access.kind
+        _, thread, word, *_ = kind
         last, self.before[group, thread] = self.before.get((group, thread)), access
-        if last and self.is_part(access, last, kind, thread):
+        is_next = last is not None and self.recent[thread][-1] == last.number
+        if word == b"f" and last and access.free == last.free:
             return
-        if last and kind[2] == b"a" and last.kind == (*kind[:2], b"r", *kind[3:]) and self.is_next(last, thread):
-            counts[last.kind] -= 1  # an atomic write reads what plain accesses write
-        if kind not in counts:
-            if self.kinds == MOST_KINDS:
-                kind = (None, b"", word, None, b"")
-            else:
-                self.kinds += 1
+        if is_next and word == b"r" and kind == last.kind and access.variable in self.access_kinds.atomics and access.variable != last.variable:
+            return
+        if is_next and word == b"a" and last.kind == (*kind[:2], b"r", *kind[3:]):
+            counts[last.kind] -= 1
+        if kind not in counts and self.kinds == MOST_KINDS:
+            kind = (None, b"", word, None, b"")
+        elif kind not in counts:
+            self.kinds += 1
         counts[kind] = counts.get(kind, 0) + 1
 
     def see(self, number, variable, thread, location):
         """Takes a read of what a racing write wrote. Of a scan one race of a variable at a place is known, and stands for others there."""
         write, writer, written = self.writes[variable]
-        if write in self.reads.get(number, ()):
-            self.seen.add(self.reads[number][write])
-        elif writer != thread and (written, location) in self.racing_reads.get(variable, ()):
+        stands = self.uses is not None and writer != thread and (variable, written, location) in self.racing_reads
+        if stands or (write, number) in self.reads:
             self.seen.add((written, location))
 
     def take_uses(self):
@@ -190,23 +193,10 @@ class Counting:
                 count = max(count - before, 0)
             self.counts[group][kind] = self.counts[group].get(kind, 0) + count
 
-    def is_next(self, last, thread):
-        """Whether an access is the event before the present one in its thread."""
-        return bool(self.recent[thread]) and self.recent[thread][-1] == last.number
 
-    def is_part(self, access, last, kind, thread):
-        """Whether the event is of the access that the event before it is of: a free writes each variable of the block, and a plain read
-        of an atomic reads what each thread wrote."""
-        if access.free is not None:
-            return access.free == last.free
-        is_read = access.variable in self.access_kinds.atomics and kind[2] == b"r" and kind == last.kind
-        return is_read and access.variable != last.variable and self.is_next(last, thread)
-
-
-def racing_reads(gathered):
-    """By variable: the locations of writes and reads that race, whichever comes first."""
-    found = {}
-    for (variable, place), words in gathered.words.items():
-        if words != (b"w", b"w"):
-            found.setdefault(variable, set()).add(place if words[0] == b"w" else place[::-1])
-    return found
+def racing_reads(races):
+    """Of races by variable and place: the pairs of events whose second one reads; and the locations of each variable's writes and reads,
+    whichever comes first."""
+    found = [(variable, place, race) for variable, its in races.items() for place, races in its.items() for race in races]
+    return ({race[:2] for _, _, race in found if race.words[1] == b"r"},
+            {(variable, *(place if race.words[0] == b"w" else place[::-1])) for variable, place, race in found if b"r" in race.words})

@@ -16,7 +16,7 @@ NUMBERS = re.compile(rb"(?<=#)[0-9]+|(?<=\[)[0-9]+(?=\])")  # of a block, and of
 
 
 # The forms, in the order in which they are tried, each with a number: the least is shown first and in the first colour.
-RANKS = {"published": 0, "freed": 0, "plain": 1, "uncounted": 3, "read-lock": 1, "without": 1, "sometimes": 2, "apart": 2, "no-lock": 3, "ordered": 5}
+RANKS = {"published": 0, "freed": 0, "plain": 1, "uncounted": 3, "read-lock": 1, "without": 1, "sometimes": 2, "apart": 2, "no-lock": 3, "mixed": 3, "ordered": 5}
 
 
 class Site:
@@ -243,7 +243,7 @@ def without(sites, racing, lock, locks, whole):
     """Racing lines that don't hold a lock which all others, or all others that race, hold at each access. Where they hold other locks,
     that more lines have this one says that it is theirs too."""
     lacking, holding = [site for site in racing if site.lacks(lock)], [site for site in sites if not site.lacks(lock)]
-    if not is_rule(lacking, holding, set().union(*(site.variables for site in racing)), lock, locks):
+    if not is_rule(lacking, holding, set().union(*(site.variables for site in racing)), lock):
         return None
     scope = scope_of([site for site in sites if site.lacks(lock) and not site.partners], lacking, holding)
     who = {"writes": ["every write"], "reads": ["every read"], "all": ["every other access"],
@@ -261,11 +261,11 @@ def without(sites, racing, lock, locks, whole):
     return Fact("without", said, tag, [sentence], ["hold ", *name, " at ", *lines, "."], lock)
 
 
-def is_rule(lacking, holding, variables, lock, locks):
-    """Whether lines that hold a lock say of those that lack it that they should: each variable has the lock somewhere, what some readers
+def is_rule(lacking, holding, variables, lock):
+    """Whether lines that hold a lock say of those that lack it that they should: each variable is used with it, what some readers
     alone hold is no rule, and the others hold no lock, or hold this one at times, or are fewer."""
     holders = set().union(*(site.variables for site in holding))
-    if not lacking or not holding or not variables <= holders or not variables <= set(locks.of(lock)):
+    if not lacking or not holding or not variables <= holders:
         return False
     if not any(site.writes() for site in holding) and any(site.reads() for site in lacking):
         return False

@@ -15,13 +15,11 @@ NAME = re.compile(rb"(?P<base>.*?)(?P<block>#[0-9]+)?" + INSIDE + rb"(?P<of>(?: 
 
 
 class Pair:
-    """Two lines that race, whichever comes first. `orders` has how many races each of its places has, `listed` is how many of
-    these the report has, and `closest` the one of these whose events are closest in the trace."""
+    """Two lines that race, whichever comes first. `orders` has how many races each of its places has, and `closest` is the listed one
+    whose events are closest in the trace."""
 
-    __slots__ = ("locations", "orders", "listed", "closest")
-
-    def __init__(self, locations, race):
-        self.locations, self.orders, self.listed, self.closest = locations, {}, 0, race
+    def __init__(self, locations, race, orders=()):
+        self.locations, self.closest, self.orders = locations, race, dict(orders)
 
     @property
     def races(self):
@@ -39,9 +37,6 @@ class Group(typing.NamedTuple):
 
     def races(self):
         return sum(pair.races for pair in self.pairs)
-
-    def listed(self):
-        return sum(pair.listed for pair in self.pairs)
 
     def count(self):
         """How many places it has."""
@@ -65,13 +60,14 @@ def distance(race):
 
 
 class Between(typing.NamedTuple):
-    """A race that was read: its events, the threads of the first and the second, and its variable."""
+    """A race that was read: its events, the threads of the first and the second, its variable, and whether each reads or writes."""
 
     first: int
     second: int
     giver: bytes
     taker: bytes
     variable: bytes
+    words: typing.Tuple[bytes, bytes]
 
 
 class Gathered:
@@ -84,30 +80,22 @@ class Gathered:
         self.above = {}  # by location pair or variable: another one of its group
         self.joined = set()  # pairs of accesses whose lines and variable are of one group by it
         self.lines = {}  # the line of each event that is named
-        self.texts = {}  # each line once
-        self.racing = {}  # by variable and location: the events of the races that were read
-        self.reads = {}  # by a read: the writes before it that it races with, each with the locations of both
         self.races = {}  # by variable, by place: the races that were read
         self.variables = {}  # by place: how many races each variable has, by its name in the trace
-        self.words = {}  # by variable and place: whether the first race there reads or writes first, and then
 
     def share(self, race, first, second, races=1):
         """Takes the variable of two racing accesses that aren't shown themselves. They count as so many races."""
-        by_variable = self.variables.setdefault((first.location, second.location), {})
+        place = first.location, second.location
+        by_variable = self.variables.setdefault(place, {})
         by_variable[first.name] = by_variable.get(first.name, 0) + races
-        self.words.setdefault((first.name, (first.location, second.location)), (first.word, second.word))
         if (first, second) not in self.joined:
             self.joined.add((first, second))
             atomic = atomic_of(first, second)
             if atomic:
                 self.atomics[first.name] = atomic
-            self.join(tuple(sorted((first.location, second.location))), atomic or first.name)
-        its = Between(race.first, race.second, first.thread, second.thread, self.atomics.get(first.name, first.name))
-        self.races.setdefault(first.name, {}).setdefault((first.location, second.location), {})[its] = None
-        self.racing.setdefault((first.name, first.location), set()).add(race.first)
-        self.racing.setdefault((second.name, second.location), set()).add(race.second)
-        if second.word == b"r":
-            self.reads.setdefault(race.second, {})[race.first] = first.location, second.location
+            self.above[self.top(atomic or first.name)] = self.top(tuple(sorted(place)))
+        its = Between(race.first, race.second, first.thread, second.thread, self.atomics.get(first.name, first.name), (first.word, second.word))
+        self.races.setdefault(first.name, {}).setdefault(place, {})[its] = None
 
     def add(self, race, first, second, places):
         """Takes a race and its accesses; `places` has how many races each place has, if that is known; it is empty where they aren't counted."""
@@ -115,11 +103,9 @@ class Gathered:
         locations = tuple(sorted(place))
         pair = self.pairs.setdefault(locations, Pair(locations, race))
         pair.orders[place] = pair.orders.get(place, 0) + (places.pop(place, 0) if places is not None else 1)
-        pair.listed += 1
         pair.closest = min(pair.closest, race, key=distance)
         self.share(race, first, second, 1 if places is None else 0)
-        for number, line in ((race.first, race.first_line), (race.second, race.second_line)):
-            self.lines[number] = self.texts.setdefault(line, line)
+        self.lines.update({race.first: race.first_line, race.second: race.second_line})
 
     def races_of(self, names):
         """By place: the races of these variables that were read."""
@@ -129,6 +115,10 @@ class Gathered:
                 found.setdefault(place, []).extend(races)
         return {place: sorted(races) for place, races in found.items()}
 
+    def events_of(self, names):
+        """The events of these races."""
+        return {event for races in self.races_of(names).values() for race in races for event in race[:2]}
+
     def top(self, one):
         """What stands for the group of a pair or a variable."""
         above = self.above
@@ -136,16 +126,13 @@ class Gathered:
             above[one] = one = above[above[one]]
         return one
 
-    def join(self, pair, variable):
-        self.above[self.top(variable)] = self.top(pair)
-
     def name_locals(self, stacks):
         """Takes the names of locals: of a variable that is the same one at all events of its races."""
         found = {}
-        for (name, _), events in self.racing.items():
+        for name in self.races:
             variable = self.atomics.get(name, name)
             if variable in stacks.locals:
-                found.setdefault(variable, set()).update(stacks.local_of(variable, event) for event in events)
+                found.setdefault(variable, set()).update(stacks.local_of(variable, event) for event in self.events_of([name]))
         self.locals = {variable: names.pop() for variable, names in found.items() if len(names) == 1 and b"" not in names}
 
     def groups(self):
@@ -156,7 +143,7 @@ class Gathered:
         for name in self.above:
             if isinstance(name, bytes):
                 found[self.top(name)][1].append(self.locals.get(name, name))
-        for name in dict.fromkeys(name for name, _ in self.racing):
+        for name in self.races:
             found[self.top(self.atomics.get(name, name))][2].append(name)
         return [Group(tuple(pairs), tuple(dict.fromkeys(variables)), tuple(names)) for pairs, variables, names in found.values()]
 
@@ -174,22 +161,16 @@ def object_of(group):
     return things.pop() if is_known else None
 
 
-def group_name(view, group):
-    """What a group is about, as parts."""
-    name, more = common_name(group.variables)
-    return [Code(name), *[f" {more}"] * bool(more)]
-
-
 def common_name(variables):
-    """What stands for some variables: a name, or the part that they share, and words on how many there are."""
+    """What stands for some variables, as parts: a name, or the part that they share, and words on how many there are."""
     if len(variables) == 1:
-        return variables[0], ""
+        return [Code(variables[0])]
     parts = [name_parts(variable) for variable in variables]
     bases, blocks, insides = ({part[name] or b"" for part in parts} for name in ("base", "block", "inside"))
     functions = {part["of"] for part in parts}
     if len(bases) > 1 or len(functions) > 1:
-        return variables[0], f"and {len(variables) - 1} more"
+        return [Code(variables[0]), f" and {len(variables) - 1} more"]
     if len(insides) == 1:
-        return bases.pop() + insides.pop(), f"({len(variables)} blocks)"
+        return [Code(bases.pop() + insides.pop()), f" ({len(variables)} blocks)"]
     shared = bases.pop() + functions.pop() + (blocks.pop() if len(blocks) == 1 else b"")
-    return shared, f"({len(variables)} variables)"
+    return [Code(shared), f" ({len(variables)} variables)"]

@@ -15,11 +15,6 @@ def read_lock(name):
     return found[1] if found else None
 
 
-def is_lock(name):
-    """Whether the program has such a lock."""
-    return b"@" not in name or STAND_IN.fullmatch(name) is None
-
-
 def called(lock, locals):
     """A lock as the program has it: one on a stack by the local that it is."""
     base, sign, rest = lock.partition(b"@")
@@ -38,27 +33,17 @@ class Held:
     def take(self, operation, event):
         """Takes an acquire or a release; other operations change nothing."""
         word, _, lock = operation[:-1].partition(b"(")
-        if word == b"acq":
-            self.acquire(lock, event)
-        elif word == b"rel":
-            self.release(lock)
-
-    def acquire(self, lock, event):
+        if word not in (b"acq", b"rel"):
+            return
         lock = called(lock, self.locals)
-        nest = self.locks.get(lock)
-        if nest is not None:
-            nest[1] += 1
-        elif is_lock(lock):
+        if lock in self.locks and not (word == b"rel" and self.is_last_release(lock)):
+            self.locks[lock][1] += 1 if word == b"acq" else -1
+            return
+        self.kept_names = self.kept_newest = None
+        if word == b"rel":
+            self.locks.pop(lock, None)
+        elif b"@" not in lock or not STAND_IN.fullmatch(lock):
             self.locks[lock] = [event, 1]
-            self.kept_names = self.kept_newest = None
-
-    def release(self, lock):
-        lock = called(lock, self.locals)
-        if self.is_last_release(lock):
-            del self.locks[lock]
-            self.kept_names = self.kept_newest = None
-        elif lock in self.locks:
-            self.locks[lock][1] -= 1
 
     def is_last_release(self, lock):
         """Whether one release more makes the lock free."""

@@ -27,11 +27,6 @@ def element(tag, /, *parts, **attributes):
     return Markup(f"<{tag}{given}>") if tag in VOID else Markup(f"<{tag}{given}>{joined(parts)}</{tag}>")
 
 
-def code(name, most):
-    """A name of the trace."""
-    return element("code", short(name, most))
-
-
 def with_commands(text):
     """Words of our own, with what stands between backticks as code."""
     return joined(element("code", part) if number % 2 else part for number, part in enumerate(text.split("`")))
@@ -39,4 +34,4 @@ def with_commands(text):
 
 def marked(parts, most):
     """Parts of `words`, the names as code."""
-    return joined(code(part, most) if isinstance(part, Code) else part for part in parts)
+    return joined(element("code", short(part, most)) if isinstance(part, Code) else part for part in parts)

@@ -1,7 +1,6 @@
 """Names as they are shown. A name is any bytes. What is shown of it is safe in a terminal, and two names look the same only where
 they are the same: what doesn't print, what can't be seen and what isn't UTF-8 is written as an escape, and so is a backslash."""
 
-import bisect
 import functools
 import re
 import unicodedata
@@ -9,8 +8,7 @@ import unicodedata
 MOST_MARKS = 3  # combining marks that stay with one character
 MOST_BYTES = 4 * (MOST_MARKS + 1)  # of what takes a column
 # Ranges of letters and marks that print as nothing: Unicode's Default_Ignorable_Code_Point, and the empty Braille pattern.
-UNSEEN = [(0x34F, 0x34F), (0x115F, 0x1160), (0x17B4, 0x17B5), (0x180B, 0x180F), (0x2800, 0x2800), (0x3164, 0x3164),
-          (0xFE00, 0xFE0F), (0xFFA0, 0xFFA0), (0xE0100, 0xE01EF)]
+UNSEEN = re.compile("[\u034f\u115f\u1160\u17b4\u17b5\u180b-\u180f\u2800\u3164\ufe00-\ufe0f\uffa0\U000e0100-\U000e01ef]")
 ISOLATE, END = "\u2068", "\u2069"  # around a name with letters that are read from right to left
 
 
@@ -89,15 +87,10 @@ def characters(name):
 
 def is_seen(character):
     """Whether the character is shown as it is. Marks print where there is a character before them."""
-    if character == "\\" or is_unseen(character):
+    if character == "\\" or UNSEEN.match(character):
         return False
     return unicodedata.category(character).startswith("M") or (
         character.isprintable() and unicodedata.is_normalized("NFC", character))
-
-
-def is_unseen(character):
-    at = bisect.bisect(UNSEEN, (ord(character), 0x110000)) - 1
-    return at >= 0 and ord(character) <= UNSEEN[at][1]
 
 
 def escape(character):

@@ -11,16 +11,16 @@ from shb_common.locations import line_of
 from shb_common.stacks import bare
 from shb_common.words import counted
 from shb_view.facts import RANKS
-from shb_view.groups import group_name
+from shb_view.groups import common_name
 from shb_view.issue import issue_lines, order_text
-from shb_view.markup import Markup, code, element, joined, marked, with_commands
+from shb_view.markup import Markup, element, joined, marked, with_commands
 from shb_view.names import code_line, readable, short
 from shb_view.picture import picture
 from shb_view.source import excerpt
 from shb_view.stacks import frame_parts, origins
 from shb_view.text import chosen_sections
-from shb_view.words import (VERBS, MOST_SITES, MOST_VARIABLES, NO_LOCK, Code, accesses_text, listed, lock_parts, lock_words, notes_of,
-                            partner_parts, place, seen_parts, share, summary, thread_parts, told_of)
+from shb_view.words import (VERBS, MOST_SITES, NO_LOCK, Code, about, accesses_text, listed, lock_parts, lock_words, notes_of, partner_parts, place,
+                            share, summary, thread_parts)
 
 HERE = pathlib.Path(__file__).resolve().parent
 NAME, LINE = 80, 240  # columns
@@ -78,8 +78,8 @@ def header(view):
 
 def group_row(view, number, section, tag):
     """A group's row, and its text."""
-    tag = element("span", tag, class_=f"tag {tag}") if tag else ""
-    cells = {"no": number, "var": marked(group_name(view, section.group), NAME), "fact": joined([marked(section.fact.tag, NAME), tag]),
+    tags = [element("span", word, class_=f"tag {word.split()[0]}") for word in [*[tag] * bool(tag), *["perhaps ordered"] * bool(section.unseen)]]
+    cells = {"no": number, "var": marked(common_name(section.group.variables), NAME), "fact": joined([marked(section.fact.tag, NAME), *tags]),
              "at": marked([place(blamed(section))], NAME), "races": counted(section.group.races() or section.group.count(), "race" if section.group.races() else "place")}
     cells = [element("span", cell, class_=name) for name, cell in cells.items()]
     return element("details", element("summary", joined(cells, " ")), element("pre", "\n".join(issue_lines(view, section))),
@@ -119,23 +119,16 @@ def told(parts, most=NAME):
 
 
 def group_data(view, section, tables):
-    names = section.group.variables
-    about = [*told_of(section), *seen_parts(section), *[["Variables: ", *listed([[Code(name)] for name in names], MOST_VARIABLES)]] * (len(names) > 1)]
-    sites = [[told([place(site.location)] if site.location is not None else ["further lines"]), line_text(view, site.location), accesses_text(site),
+    sites = [[told([place(site.location)] if site.location is not None else ["further lines"]), code_line(view.source.code(site.location) or b"", LINE), accesses_text(site),
               told(thread_parts(site) if site.location is not None else []),
               [[kind, told(parts)] for kind, parts in lock_words(site)], told(partner_parts(site)), bool(site.partners)]
              for site in section.sites[:MOST_SITES]]
     sides = [side_data(view, section, access, tables) for access in section.window.accesses]
-    return {"about": list(map(told, about)), "sides": sides, "note": order_text(view, section.window),
+    return {"about": list(map(told, about(section))), "sides": sides, "note": order_text(view, section.window),
             "picture": picture(section.window, view.kinds), "again": again(view, section), "sites": sites,
             "more": max(0, len(section.sites) - MOST_SITES),
             "stacks": other_stacks(section, {side["stack"] for side in sides}, tables),
             "origins": [[told(parts), tables.add(frames)] for parts, frames in origins(view, section)[:MOST_ORIGINS]]}
-
-
-def line_text(view, location):
-    line = view.source.code(location)
-    return "" if line is None else code_line(line, LINE)
 
 
 def side_data(view, section, access, tables):

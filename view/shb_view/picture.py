@@ -141,7 +141,7 @@ def event_data(window, kinds, event, drawn, at):
     name = short(shown.named.name, TEXT - 9) if shown.named.name else ""
     others = [lock for lock in drawn.unnamed(at) if lock != name] if at < drawn.last else []
     number = f"{at - drawn.last + 1}  " if at >= drawn.last else ""
-    return [event, drawn.events[at], drawn.y[at], drawn.text(at), f"{number}{WORDS.get(word, readable_word(word))} {name}".rstrip(),
+    return [event, drawn.events[at], drawn.y[at], drawn.text(at), f"{number}{WORDS[word]} {name}".rstrip(),
             f"{location} · {event}" + (f" · holds {', '.join(others)}" if others else ""), tip(shown)]
 
 
@@ -164,10 +164,6 @@ def bars_of(window, events, lanes):
             top = bars[acquire].top if acquire in bars else rows.get(acquire, rows[event] - STUB)
             bars[acquire] = Bar(lanes[shown.event.thread], short(lock, TEXT), top, rows[event] + (0 if shown.freed == lock else STUB))
     return list(bars.values())
-
-
-def readable_word(word):
-    return word.decode("ascii", "backslashreplace")
 
 
 def needed(window, events):

@@ -2,7 +2,7 @@
 
 from shb_common import result
 from shb_common.programs import naming
-from shb_view.handed import MOST_RACES
+from shb_view.group_facts import races_looked_at
 from shb_view.issue import flat
 from shb_view.words import KINDS, notes_of, told_of
 
@@ -14,7 +14,7 @@ def document(view):
     pairs = [(number, section, pair) for number, section in enumerate(view.sections, 1) for pair in section.group.pairs]
     origin, names = naming(view.stacks, {location for _, _, pair in pairs for location in pair.locations})
     places = [{**entry(view, section, pair, origin, names), "group": number} for number, section, pair in pairs]
-    summary = {**({} if view.of_scan else {"races": view.races}), "places": view.pairs, "groups": view.groups, **view.counts._asdict()}
+    summary = {**({} if view.of_scan else {"races": view.made.races}), "places": view.pairs, "groups": view.groups, **view.made.counts._asdict()}
     notes = [*view.notes, *notes_of(view), *view.about]
     return result.document("shb-view", summary, places, title=view.title, notes=notes, groups=[group_entry(view, section) for section in view.sections])
 
@@ -39,11 +39,12 @@ def entry(view, section, pair, origin, names):
 
 
 def group_entry(view, section):
-    """The fact of a group, with the variables and the races that were looked at; of variables on stacks the locals that they are."""
+    """The fact of a group, with its pairs of lines, the variables and the races that were looked at; of variables on stacks the locals that they are."""
     names, locals = section.group.names, view.kinds.locals
-    races = sorted(race[:2] for its in view.gathered.races_of(names).values() for race in its[:MOST_RACES])
-    return {"form": section.fact.form, "group": [result.text(name) for name in names], **section.fact.said,
-            "locals": {result.text(name): result.text(locals[name]) for name in names if name in locals}, "all_races": races}
+    unseen = {"perhaps_ordered_by": list(map(result.text, section.unseen))} if section.unseen else {}
+    return {"form": section.fact.form, "group": [result.text(name) for name in names], **section.fact.said, **unseen,
+            "locals": {result.text(name): result.text(locals[name]) for name in names if name in locals}, "all_races": races_looked_at(section.group, view.kinds),
+            "pairs": [list(map(result.text, pair)) for pair in sorted(section.group.places())]}
 
 
 def site_entry(site):

@@ -72,12 +72,11 @@ class Source:
         found = self.place(location) if location else None
         return found.line().strip() if found and found.line() is not None else None
 
-    def has_files(self):
-        return bool(self.folders or self.recorded)
-
     def missing(self, locations):
         """How many files of these locations are found and how many are newer than the trace, in words; nothing where all are as they
-        should be."""
+        should be, or no sources are asked for."""
+        if not self.folders and not self.recorded:
+            return
         places = {found[0]: self.place(location) for location in locations for found in [line_of(location)] if found}
         found = [place for place in places.values() if place and place.lines]
         newer = sum(place.is_newer for place in found)

@@ -1,11 +1,12 @@
 """What is shown of call stacks."""
 
-import os
+import collections
+import itertools
 
 from shb_common.known import OFFSET
-from shb_common.stacks import BadStacks, Stacks, bare
+from shb_common.locations import parts_of
+from shb_common.stacks import bare
 from shb_common.words import counted
-from shb_view.names import readable
 from shb_view.words import Code, listed, lock_parts, place
 
 MOST_NAMED = 3  # threads or blocks with one stack
@@ -17,12 +18,26 @@ class Damaged(Exception):
     """The words say what is wrong with a file beside the trace: with its call stacks or its places."""
 
 
-def stacks_of(path, events):
-    """The stacks of a trace with so many events, from a file."""
-    try:
-        return Stacks(path, 0, events)
-    except BadStacks as fault:
-        raise Damaged(f"{readable(os.fsencode(path))} {fault}") from None
+def unseen_calls(path):
+    """By a function's name: the modules without hooks that it calls, and by that of such a module: itself; from a file."""
+    found = collections.defaultdict(set)
+    with open(path, "rb") as file:
+        for line in file:
+            name, _, module = line.rstrip(b"\n").partition(b"\t")
+            found[name].add(module)
+    return found
+
+
+def perhaps_ordered(sites, callers, stacks, calls):
+    """The modules without hooks that may order the accesses: of each racing line some function in whose call it was come to calls them or is
+    theirs, or they started a thread."""
+    found = []
+    for site in [site for site in sites if site.partners]:
+        frames = {frame for (its, _), _ in callers.get(site.location, ()) for frame in its}
+        started = {frame for thread in site.threads for frame in stacks.of_thread(thread)[:1]}
+        names = {bare(frame.function) for frame in frames} | {parts_of(frame.location)[0] for frame in frames | started}
+        found.append(set().union(*(calls.get(name, ()) for name in names)))
+    return sorted(set.intersection(*found)) if found else []
 
 
 def origins(view, section):
@@ -58,15 +73,10 @@ def caller_lines(frames, most):
     if not own:
         more = [[f"({counted(len(frames) - 1, 'more function')} of the system's headers or libraries)"]] * (len(frames) > 1)
         return [*map(frame_parts, frames[:1]), *more]
-    found, hidden = [], []
-    for frame in frames[own[0]:own[-1] + 1]:
-        if frame.in_system:
-            hidden.append(frame_parts(frame))
-            continue
-        if len(hidden) > 1:
-            hidden = [[f"({counted(len(hidden), 'function')} of the system's headers or libraries)"]]
-        found += [*hidden, frame_parts(frame)]
-        hidden = []
+    found = []
+    for in_system, its in itertools.groupby(frames[own[0]:own[-1] + 1], lambda frame: frame.in_system):
+        lines = list(map(frame_parts, its))
+        found += [[f"({counted(len(lines), 'function')} of the system's headers or libraries)"]] if in_system and len(lines) > 1 else lines
     if len(found) > most:
         found = [*found[:most - 1], [f"({len(found) - most + 1:,} more)"]]
     return found

@@ -3,12 +3,12 @@
 import collections
 
 from shb_common.words import counted
-from shb_view.groups import group_name
+from shb_view.groups import common_name
 from shb_view.issue import issue_lines
 from shb_view.names import code_line, columns, padded, short
 from shb_view.stacks import caller_lines, origins
-from shb_view.words import (MOST_SITES, MOST_VARIABLES, Code, accesses_text, flat_in, listed, lock_words, notes_of, operation_text,
-                            partner_parts, place, races_text, seen_parts, share, summary, thread_parts, told_of)
+from shb_view.words import (MOST_SITES, about, accesses_text, flat_in, lock_words, notes_of, partner_parts, place, races_text,
+                            share, summary, thread_parts)
 
 NAME = 80  # columns of a name or a location
 LINE = 100  # columns of a line of code
@@ -20,16 +20,7 @@ class Colours:
     """Colours of a terminal, or none."""
 
     def __init__(self, is_coloured):
-        self.is_coloured = is_coloured
-
-    def coded(self, code, text):
-        return f"\x1b[{code}m{text}\x1b[0m" if self.is_coloured else text
-
-    def bold(self, text):
-        return self.coded("1", text)
-
-    def red(self, text):
-        return self.coded("31", text)
+        self.bold, self.red = (f"\x1b[{code}m{{}}\x1b[0m".format if is_coloured else str for code in ("1", "31"))
 
 
 flat = flat_in(NAME)
@@ -67,11 +58,9 @@ def chosen_sections(view):
 
 
 def section_lines(view, number, section, colours):
-    name = flat(group_name(view, section.group))
+    name = flat(common_name(section.group.variables))
     yield colours.bold(f"{number}. {name}: {flat(section.fact.tag)}") + f" ({races_text(section.group)})"
-    yield from (f"   {flat(parts)}" for parts in [*told_of(section), *seen_parts(section)])
-    if len(section.group.variables) > 1:
-        yield f"   Variables: {flat(listed([[Code(name)] for name in section.group.variables], MOST_VARIABLES))}"
+    yield from (f"   {flat(parts)}" for parts in about(section))
     for site in section.sites[:MOST_SITES]:
         yield from site_lines(view, section, site, colours)
     if len(section.sites) > MOST_SITES:
@@ -115,7 +104,7 @@ def window_lines(window):
     """The events before the accesses of the race that is shown of a group."""
     yield f"   Before the accesses: {'nothing' if not window.before else ''}".rstrip()
     rows = [window.events[event] for event in window.before]
-    texts = [(str(row.number), short(row.event.thread, NAME), operation_text(row.named, NAME)) for row in rows]
+    texts = [(str(row.number), short(row.event.thread, NAME), short(b"%b(%b)" % row.named[1:3] if row.named.name else row.named.word, NAME)) for row in rows]
     widths = [max(map(columns, column)) for column in zip(*texts)]
     for row, (number, thread, operation) in zip(rows, texts):
         location = flat([place(row.event.location)])

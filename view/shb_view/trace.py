@@ -63,10 +63,10 @@ class Found(typing.NamedTuple):
 
 
 class Trace:
-    """A trace's file, read from its beginning as often as is asked for."""
+    """A trace's file, read from its beginning as often as is asked for. Before the events of `parts` some may be missing."""
 
-    def __init__(self, file, progress):
-        self.file, self.progress = file, progress
+    def __init__(self, file, progress, parts=()):
+        self.file, self.progress, self.parts = file, progress, frozenset(parts)
         self.size = os.fstat(file.fileno()).st_size
         self.marks = []  # of each batch: how many events, lines and bytes are before it
 
@@ -85,6 +85,16 @@ class Trace:
             yield events + 1, lines
             events += len(lines)
             self.progress.step(doing, place, self.size)
+
+    def events(self, doing):
+        """The number of each event, its thread, its operation, and its line with its end."""
+        for first, lines in self.batches(doing):
+            for number, line in enumerate(lines, first):
+                try:
+                    thread, operation, _ = line.split(b"|", 2)
+                except ValueError:
+                    thread, operation, _ = fields_of(line)
+                yield number, thread, operation, line
 
     def count(self):
         """How many events were read."""

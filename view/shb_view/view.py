@@ -9,26 +9,27 @@ import tempfile
 import typing
 
 from shb_common import known
+from shb_common.analyser import FULL, LIST
 from shb_common.faults import Refused
 from shb_common.limits import MOST_TEXT
 from shb_common.report import BadReport, Counts, Report, in_order
 from shb_common.programs import naming
 from shb_common.result import text
 from shb_common.standard import faults_of
-from shb_common.stacks import Stacks
+from shb_common.stacks import BadStacks, Stacks
 from shb_common.uses import BadUses, Uses
 from shb_common.variables import without_block
 from shb_common.words import counted
 from shb_view.analyser import MOST_LISTED, Analyser, Verdict
 from shb_view.counting import Counting, Kinds
-from shb_view.facts import RANKS, Fact, Site, fact_of, sites_of
-from shb_view.groups import Gathered, Group, object_of
-from shb_view.handed import handed, published
+from shb_view.facts import RANKS
+from shb_view.group_facts import Facts, Section, merged_groups
+from shb_view.groups import Gathered
 from shb_view.names import by_numbers, readable
 from shb_view.source import Source
-from shb_view.stacks import Damaged, stacks_of
+from shb_view.stacks import Damaged, perhaps_ordered, unseen_calls
 from shb_view.trace import CHANGED, Trace, warnings
-from shb_view.windows import Window, make_windows
+from shb_view.windows import make_windows
 
 MOST_GROUPS = 200
 MOST_REPORT = 100_000_000  # bytes of a report with schedules that the view asks for
@@ -38,71 +39,6 @@ NOT_ASKED = Verdict(None, "The report wasn't checked (--check does it).")
 OWN = Verdict(None, "")  # `check` finds each report of `shb` good
 TOO_LONG = Verdict(None, "No schedules were made, since they would take over 100 MB.")
 NO_SCHEDULES = Verdict(None, "The report has no schedules, so `shb check` can't judge it.")
-
-
-class Section(typing.NamedTuple):
-    """A group, as it is shown."""
-
-    group: Group
-    sites: typing.List[Site]
-    fact: Fact
-    window: typing.Optional[Window]
-    callers: dict  # by racing line: the stacks of its racing accesses, as `callers_of` gives them, each with how many have it
-    seen: typing.List[typing.Tuple[bytes, bytes]]  # lines of races where the second reads what the first wrote
-    is_behind: bool = False  # found behind known races
-
-
-class View(typing.NamedTuple):
-    """All that is shown. `races` is how many the trace has, `listed` how many of these a given report has. `pairs` and `groups` are
-    how many there are, `sections` those that are shown. of a sample (`is_sample`) one race of each variable at each place
-    is known. `of_scan` says that the races are one of each variable at each place of a run,
-    which aren't counted, and `counts` those of the run. `notes` are what the caller said of the trace, `about` what it said of the
-    recorder; `only` are the places whose groups the text has, or None for all, and
-    `behind` those that were found behind known races."""
-
-    title: str
-    counts: Counts
-    races: int
-    listed: int
-    pairs: int
-    groups: int
-    sections: typing.List[Section]
-    verdict: Verdict
-    is_sample: bool
-    of_scan: bool
-    source: Source
-    notes: typing.List[str]
-    about: typing.List[str]
-    stacks: Stacks
-    kinds: Kinds
-    gathered: Gathered
-    only: typing.Optional[known.Known]
-    behind: typing.Optional[known.Known]
-    turns: str
-    command: str
-
-    def variables(self, pair):
-        """The variables that race at two lines, each with how many races it has where they are counted."""
-        found = {}
-        for place in pair.orders:
-            for name, races in self.gathered.variables.get(place, {}).items():
-                name = text(without_block(self.kinds.name(name)))
-                found[name] = found.get(name, 0) + races
-        return [{"name": name, **({} if self.of_scan or self.is_sample else {"races": races})} for name, races in sorted(found.items())]
-
-
-    def groups_at(self, places):
-        """The numbers, from 0, of the groups that are shown and have a place of a file of known places."""
-        origin, names = naming(self.stacks, set().union(*(section.group.locations() for section in self.sections)))
-        return {number for number, section in enumerate(self.sections)
-                if any(is_at(places, origin, names, pair, section.group) for pair in section.group.places())}
-
-
-def is_at(places, origin, names, pair, group):
-    """Whether two lines with one of the group's variables are among some places."""
-    sides = [names.side(origin.location(location)) for location in pair]
-    sides = [side._replace(names=(*side.names, known.written(location))) for side, location in zip(sides, pair)]
-    return any([places.has(sides, name) for name in {*map(without_block, group.variables), *group.names}])
 
 
 class Given(typing.NamedTuple):
@@ -121,7 +57,10 @@ class Given(typing.NamedTuple):
 
 
 class Subject(typing.NamedTuple):
-    """The races of a trace with so many events; `counts` of it, or of the run that it is a part of; and of that the uses, or None."""
+    """The races of a trace with so many events: how many it has, and how many of these a given report has. Of a sample (`is_sample`) one race
+    of each variable at each place is known. Of a scan the races are one of each variable at each place of a run, which aren't counted; it has
+    the `uses` in the run, and `counts` are the run's. `in_run` has by an event of the trace that of the run, of those that race; at `parts`
+    parts of the trace begin."""
 
     given: Given
     counts: Counts
@@ -130,6 +69,57 @@ class Subject(typing.NamedTuple):
     is_sample: bool
     events: int
     uses: typing.Optional[list]
+    in_run: dict = {}
+    parts: typing.Sequence[int] = ()
+
+
+class View(typing.NamedTuple):
+    """All that is shown. `pairs` and `groups` are how many there are, `sections` those that are shown. `notes` are what the caller said of the
+    trace, `about` what it said of the recorder; `only` are the places whose groups the text has, or None for all."""
+
+    title: str
+    made: Subject
+    pairs: int
+    groups: int
+    sections: typing.List[Section]
+    source: Source
+    notes: typing.List[str]
+    about: typing.List[str]
+    stacks: Stacks
+    kinds: Kinds
+    only: typing.Optional[known.Known]
+    turns: str
+    command: str
+
+    @property
+    def of_scan(self):
+        return self.made.uses is not None
+
+    @property
+    def verdict(self):
+        return self.made.given.verdict
+
+    def variables(self, pair):
+        """The variables that race at two lines, each with how many races it has where they are counted."""
+        found = {}
+        for place in pair.orders:
+            for name, races in self.kinds.gathered.variables.get(place, {}).items():
+                name = text(without_block(self.kinds.name(name)))
+                found[name] = found.get(name, 0) + races
+        return [{"name": name, **({} if self.of_scan or self.made.is_sample else {"races": races})} for name, races in sorted(found.items())]
+
+    def groups_at(self, places):
+        """The numbers, from 0, of the groups that are shown and have a place of a file of known places."""
+        origin, names = naming(self.stacks, set().union(*(section.group.locations() for section in self.sections)))
+        return {number for number, section in enumerate(self.sections)
+                if any(is_at(places, origin, names, pair, section.group) for pair in section.group.places())}
+
+
+def is_at(places, origin, names, pair, group):
+    """Whether two lines with one of the group's variables are among some places."""
+    sides = [names.side(origin.location(location)) for location in pair]
+    sides = [side._replace(names=(*side.names, known.written(location))) for side, location in zip(sides, pair)]
+    return any([places.has(sides, name) for name in {*map(without_block, group.variables), *group.names}])
 
 
 def make_view(options, progress):
@@ -137,21 +127,21 @@ def make_view(options, progress):
     with contextlib.ExitStack() as stack:
         file = stack.enter_context(open_regular(options.trace))
         gathered = Gathered()
-        made = scanned(options, gathered, progress, stack) if options.scan else analysed(options, file, gathered, progress, stack)
-        stacks = stacks_of(options.stacks, made.events) if options.stacks else Stacks()
+        made = scanned(options, gathered, stack) if options.scan else analysed(options, file, gathered, progress, stack)
+        with damage_of(options.stacks):
+            stacks = Stacks(options.stacks, 0, made.events)
         gathered.name_locals(stacks)
         groups = gathered.groups()
         kinds = Kinds(gathered, stacks)
-        count, sections = make_sections(options, kinds, made, Trace(file, progress), groups)
+        count, sections = make_sections(options, kinds, made, Trace(file, progress, made.parts), groups)
         title = readable(os.fsencode(options.title or os.path.basename(options.trace)))
         pairs = sum(group.count() for group in groups)
         source = Source(options.source, os.fstat(file.fileno()).st_mtime, stacks.sources if options.recorded_source else {})
         notes, about = ([readable(os.fsencode(line)) for line in lines] for lines in (options.note, options.about))
-        found = View(title, made.counts, made.races, made.listed, pairs, count, sections, made.given.verdict, made.is_sample, bool(options.scan),
-                    source, [*notes, *warnings(options.trace)], about, stacks, kinds, gathered,
-                     *(places_of(path) if path else None for path in (options.only, options.behind)),
-                    readable(os.fsencode(options.turns)) if options.turns else "", readable(os.fsencode(options.command)))
-        behind = found.groups_at(found.behind) if options.behind else ()
+        turns = readable(os.fsencode(options.turns)) if options.turns else ""
+        found = View(title, made, pairs, count, sections, source, [*notes, *warnings(options.trace)], about, stacks, kinds, places_of(options.only),
+                     turns, readable(os.fsencode(options.command)))
+        behind = found.groups_at(places_of(options.behind)) if options.behind else ()
         return found._replace(sections=[section._replace(is_behind=number in behind) for number, section in enumerate(sections)])
 
 
@@ -169,34 +159,42 @@ def analysed(options, file, gathered, progress, stack):
     return Subject(given, head.counts, head.count, listed if options.report else head.count, is_sample, head.counts.events, None)
 
 
-def scanned(options, gathered, progress, stack):
-    """The races of a scan with both accesses in the trace, by their numbers there."""
-    try:
+def scanned(options, gathered, stack):
+    """The races of a scan with both accesses in one part of the trace, by their numbers there."""
+    with damage_of(options.uses):
         uses = Uses(options.uses)
-    except BadUses as fault:
-        raise Damaged(f"{readable(os.fsencode(options.uses))} {fault}") from None
     file, listed = stack.enter_context(open(options.scan, "rb")), 0
     with faults_of(options.scan):
         scan = Report(file)
         for race, accesses in scan.races():
-            first, second = (uses.events.get(event) for event in (race.first, race.second))
-            if first and second:
+            pair = uses.pair(race.first, race.second)
+            if pair:
                 listed += 1
-                gathered.add(race._replace(first=first, second=second), *accesses, {})
-    return Subject(Given(options.scan, file, OWN, None), scan.counts, listed, listed, False, uses.count, uses.uses)
+                gathered.add(race._replace(first=pair[0], second=pair[1]), *accesses, {})
+    in_run = {in_page: event for event, in_page in uses.events.items()}
+    return Subject(Given(options.scan, file, OWN, None), scan.counts, listed, listed, False, uses.count, uses.uses, in_run, uses.parts)
+
+
+@contextlib.contextmanager
+def damage_of(path):
+    """Faults of a file beside the trace are said with its name."""
+    try:
+        yield
+    except known.BadLine as fault:
+        raise Damaged(f"--only: {fault}") from None
+    except (BadStacks, BadUses) as fault:
+        raise Damaged(f"{readable(os.fsencode(path))} {fault}") from None
 
 
 def places_of(path):
-    """The places of a file of known places."""
-    try:
-        return known.read(path)
-    except known.BadLine as fault:
-        raise Damaged(f"--only: {fault}") from None
+    """The places of a file of known places, or None without one."""
+    with damage_of(path):
+        return known.read(path) if path else None
 
 
 def open_regular(path):
-    """A file that can be read as often as is needed."""
-    if not stat.S_ISREG(os.stat(path).st_mode):
+    """A file that can be read as often as is needed, which - as a name of standard input isn't."""
+    if path == "-" or not stat.S_ISREG(os.stat(path).st_mode):
         raise Refused(f"{readable(os.fsencode(path))} isn't a regular file: the trace is read more than once")
     return open(path, "rb")
 
@@ -206,7 +204,7 @@ def own_report(analyser, head, stack):
     file = stack.enter_context(tempfile.TemporaryFile())
     with_schedules = len(head.places) * head.counts.events * NUMBER <= MOST_REPORT
     if head.count:
-        analyser.write_places(with_schedules, file)
+        analyser.write(FULL if with_schedules else LIST, file)
     return Given("a file for the report of `shb`", file, OWN if with_schedules else TOO_LONG, head.places)
 
 
@@ -270,7 +268,8 @@ def make_sections(options, kinds, made, trace, groups):
         counting.read(trace, made.events)
         found = merged_groups(groups, counting.counts, Facts(kinds, "trace" if made.uses is None else "run"))
         first = sorted(found, key=lambda it: (RANKS[it.fact.form], -(it.group.races() or sum(it.counts.values()))))[:MOST_GROUPS]
-        sections = [make_section(it, counting) for it in first]
+        calls = unseen_calls(options.unseen) if options.unseen else {}
+        sections = [make_section(it, counting, calls) for it in first]
         if options.html or options.all:
             windows = make_windows(trace, [section.group.closest() for section in sections], counting, made.given.order)
             sections = [section._replace(window=window) for section, window in zip(sections, windows)]
@@ -279,78 +278,23 @@ def make_sections(options, kinds, made, trace, groups):
     return len(found), sections
 
 
-class Found(typing.NamedTuple):
-    """A group with its counts, its lines and its fact."""
-
-    group: Group
-    counts: dict
-    sites: typing.List[Site]
-    fact: Fact
-
-
-class Facts:
-    """Makes facts of groups. `whole` is what they are of: a trace or a run."""
-
-    def __init__(self, kinds, whole):
-        self.kinds, self.whole = kinds, whole
-        self.pairs = handed(kinds.stacks.uses, len(kinds.stacks.free_starts) > 0, kinds.stacks.lasting_locals)
-
-    def of(self, group, counts):
-        sites, locks = sites_of(group, counts)
-        races = self.kinds.gathered.races_of(group.names)
-        by = published(races, self.pairs, lambda event: self.kinds.stacks.free_of(event) is not None) if self.pairs else ()
-        return Found(group, counts, sites, fact_of(sites, locks, self.whole, by))
-
-
-def merged_groups(groups, counts, facts):
-    """The groups, those of one object as one where the same threads race in it and the same is missing."""
-    found = {}
-    for number, group in enumerate(groups):
-        one, thing = facts.of(group, counts[number]), object_of(group)
-        racing = frozenset((thread, thread in site.writers) for site in one.sites if site.partners for thread in site.threads)
-        uses = tuple((use.name, use.location) for use in one.fact.uses)
-        key = (thing, one.fact.form, one.fact.lock, uses, racing) if thing else number
-        found.setdefault(key, []).append(one)
-    return [parts[0] if len(parts) == 1 else facts.of(*merged(parts)) for parts in found.values()]
-
-
-def merged(parts):
-    """Several groups as one, and their counts."""
-    return Group(*(sum(fields, ()) for fields in zip(*(part.group for part in parts)))), joined_counts([part.counts for part in parts])
-
-
-def joined_counts(counts):
-    """Counts of several groups of one object as those of one group. A free is a free of all its variables."""
-    found = {}
-    for one in counts:
-        for kind, count in one.items():
-            found[kind] = max(found.get(kind, 0), count) if kind[2] == b"f" else found.get(kind, 0) + count
-    return found
-
-
-def make_section(found, counting):
+def make_section(found, counting, calls):
     """A group as it is shown, but for its window."""
     places, kinds = found.group.places(), counting.access_kinds
     seen = sorted((pair for pair in counting.seen if tuple(sorted(pair)) in places), key=lambda pair: list(map(by_numbers, pair)))
-    return Section(found.group, found.sites, found.fact, None, callers_of(found.group, counting), seen)
+    callers = callers_of(found.group, counting)
+    return found._replace(callers=callers, seen=seen, unseen=perhaps_ordered(found.sites, callers, kinds.stacks, calls) if calls else [])
 
 
 def callers_of(group, counting):
-    """The stacks of the racing accesses of each racing line, or of a run those of all accesses of the variables there, each with whether
-    it is told that no lock is held: where that is so at some of them."""
+    """The stacks of a group's racing lines, as the counting has them, each with whether it is told that no lock is held: where that is so at
+    some accesses of its line."""
     kinds, found = counting.access_kinds, {}
     for location in group.locations():
         stacks = collections.Counter()
-        if counting.uses is None:
-            events = set().union(*(kinds.gathered.racing.get((variable, location), ()) for variable in group.names))
-            stacks.update((kinds.stacks.of_event(event), event in counting.bare) for event in sorted(events) if kinds.stacks.numbers)
-        else:
-            for variable in {kinds.in_trace(name) for name in group.names}:
-                for (stack, is_bare), count in counting.callers[variable, location].items():
-                    stacks[kinds.stacks.stack(stack), is_bare] += count
+        for variable in dict.fromkeys(map(kinds.in_trace, group.names)):
+            for (stack, is_bare), count in counting.callers[variable, location].items():
+                stacks[kinds.stacks.stack(stack), is_bare] += count
         is_told = len({is_bare for _, is_bare in stacks}) > 1
-        found[location] = collections.Counter()
-        for (frames, is_bare), count in stacks.items():
-            found[location][frames, is_bare and is_told] += count
-        found[location] = found[location].most_common()
+        found[location] = [((frames, is_bare and is_told), count) for (frames, is_bare), count in stacks.most_common()]
     return found

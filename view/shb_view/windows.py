@@ -5,7 +5,7 @@ import typing
 
 from shb_common.report import Race
 from shb_view.held import Held, called
-from shb_view.trace import OPENS, Event, event_of, fields_of, line_of
+from shb_view.trace import OPENS, Event, event_of, line_of
 
 SOURCES = {b"acq": b"rel", b"r": b"w"}  # what an operation waits for or sees
 
@@ -67,18 +67,15 @@ class Moments:
 
     def read(self, trace):
         wanted, tracked, last, end = self.wanted, self.tracked, self.last, max(self.wanted, default=0)
-        for first, lines in trace.batches("reading what comes before"):
-            for number, line in enumerate(lines, first):
-                try:
-                    thread, operation, _ = line.split(b"|", 2)
-                except ValueError:
-                    thread, operation, _ = fields_of(line)
-                if number in wanted or operation in tracked:
-                    self.note(number, thread, operation)
-                if operation[1] != OPENS:
-                    self.held[thread].take(operation, number)
-                last[thread] = number
-            if first + len(lines) > end:
+        for number, thread, operation, _ in trace.events("reading what comes before"):
+            if number in trace.parts:
+                self.latest.clear()
+            if number in wanted or operation in tracked:
+                self.note(number, thread, operation)
+            if operation[1] != OPENS:
+                self.held[thread].take(operation, number)
+            last[thread] = number
+            if number >= end:
                 break
 
     def note(self, number, thread, operation):
@@ -103,8 +100,7 @@ def make_windows(trace, races, counting, order):
     forks = {access: counting.forks.get(thread, 0) for access, thread in accesses.items()}
     acquires = {acquire for access in accesses for _, acquire in counting.noted[access].locks}
     events = {number: event_of(found.line) for number, found in trace.find(before).items()}
-    joined = {number: counting.recent[event.name][-1] for number, event in events.items()
-              if event.word == b"join" and counting.recent.get(event.name)}
+    joined = {number: counting.joined[number] for number in events if number in counting.joined}
     wanted = {*accesses, *before, *filter(None, forks.values()), *acquires, *joined.values()}
     sources = {number: b"%b(%b)" % (SOURCES[event.word], event.name) for number, event in events.items() if event.word in SOURCES}
     moments = Moments(wanted, sources, counting.access_kinds.locks)

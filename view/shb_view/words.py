@@ -31,12 +31,6 @@ def lock_name(lock):
     return ["its own lock ", Code(OF_BLOCK.sub(b"", lock))] if isinstance(lock, Own) else [Code(lock)]
 
 
-def operation_text(event, most):
-    """An event's operation in so many columns."""
-    operation = event.word + b"(" + event.name + b")" if event.name else event.word
-    return short(operation, most)
-
-
 def place(location):
     """A location as a part."""
     return Code(location) if location else "(no location)"
@@ -108,10 +102,10 @@ def partner_parts(site):
 
 def summary(view):
     """How much the report and the trace have."""
-    size = ", ".join(counted(count, name[:-1]) for name, count in view.counts._asdict().items())
+    size = ", ".join(counted(count, name[:-1]) for name, count in view.made.counts._asdict().items())
     if view.of_scan:
         return f"{counted(view.pairs, 'place')} with races, in {counted(view.groups, 'group')}", size
-    races = counted(view.races, "race") if view.listed == view.races else f"{view.listed:,} of {counted(view.races, 'race')}"
+    races = counted(view.made.races, "race") if view.made.listed == view.made.races else f"{view.made.listed:,} of {counted(view.made.races, 'race')}"
     lines = f" at {counted(view.pairs, 'place')}, in {counted(view.groups, 'group')}" if view.groups else ""
     return f"{races}{lines}", size
 
@@ -120,17 +114,19 @@ def notes_of(view):
     """What the reader has to know of the report."""
     if view.verdict.is_good:
         yield f"shb check: {view.verdict.words}"
-    elif view.verdict.is_good is None and view.races and view.verdict.words:
+    elif view.verdict.is_good is None and view.made.races and view.verdict.words:
         yield view.verdict.words
-    if not view.races:
+    if not view.made.counts.events:
+        yield "The trace has no events."
+    elif not view.made.races:
         yield "Any two conflicting accesses are ordered in this trace. A run with another interleaving may have races."
     if view.sections and view.stacks.numbers:
         yield f"Counts are those of the {'whole run' if view.of_scan else 'trace'}. The recorder omits repeats: a loop may count as two accesses."
-    if view.listed < view.races:
+    if view.made.listed < view.made.races:
         yield "The report doesn't list all races of the trace; the counts are the report's."
-    if view.is_sample:
+    if view.made.is_sample:
         yield "The trace has too many races to look at each. Call stacks are those of one race of each variable at each place."
-    if view.source.has_files() and view.sections:
+    if view.sections:
         shown = [site.location for section in view.sections for site in section.sites[:MOST_SITES] if site.location]
         yield from view.source.missing(shown)
 
@@ -145,10 +141,19 @@ def seen_parts(section):
         yield [place(reader), " read what ", *listed(writers, MOST_SOME), f" {verb}. This racy read may hide other races: fix it and run again."]
 
 
+def about(section):
+    """All that is said of a group before its lines, each as parts."""
+    names = section.group.variables
+    variables = [["Variables: ", *listed([[Code(name)] for name in names], MOST_VARIABLES)]] * (len(names) > 1)
+    return [*told_of(section), *seen_parts(section), *variables]
+
+
 def told_of(section):
     """What is said of a group's fact, each as parts: its sentences, and what would order the accesses."""
     behind = [["Found behind known races, which were passed over: real if these are harmless."]] * section.is_behind
-    return [*behind, *section.fact.sentences, *[["Remedy: ", *section.fact.remedy]] * bool(section.fact.remedy)]
+    unseen = [["Perhaps ordered: code of both sides calls, or is called by, ", *listed([[Code(module)] for module in section.unseen], MOST_SOME),
+               ", whose locks and queues aren't seen."]] * bool(section.unseen)
+    return [*behind, *unseen, *section.fact.sentences, *[["Remedy: ", *section.fact.remedy]] * bool(section.fact.remedy)]
 
 
 def races_text(group):

@@ -1,0 +1,114 @@
+"""The facts of groups. One whose variables differ has a part for those that are alike."""
+
+import typing
+
+from shb_common.result import text
+from shb_view.facts import RANKS, Fact, Site, fact_of, sites_of
+from shb_view.groups import Group, Pair, object_of
+from shb_view.handed import MOST_RACES, handed, published
+from shb_view.windows import Window
+from shb_view.words import Code, listed
+
+MOST_NAMED = 3  # variables in a sentence
+
+
+class Section(typing.NamedTuple):
+    """A group with its counts, its lines and its fact, and what else is shown of it."""
+
+    group: Group
+    counts: dict
+    sites: typing.List[Site]
+    fact: Fact
+    window: typing.Optional[Window] = None
+    callers: dict = {}  # by racing line: the stacks of its racing accesses, as `callers_of` gives them, each with how many have it
+    seen: typing.Sequence[typing.Tuple[bytes, bytes]] = ()  # lines of races where the second reads what the first wrote
+    unseen: typing.Sequence[bytes] = ()  # modules without hooks that may order its accesses
+    is_behind: bool = False  # found behind known races
+
+
+class Facts:
+    """Makes facts of groups. `whole` is what they are of: a trace or a run."""
+
+    def __init__(self, kinds, whole):
+        self.kinds, self.whole = kinds, whole
+        self.pairs = handed(kinds.stacks.uses, len(kinds.stacks.free_starts) > 0, kinds.stacks.lasting_locals)
+
+    def of(self, group, counts):
+        """What holds of a group: of each of its variables in the same form, or of its parts."""
+        found = self.of_all(group, counts)
+        parts = self.parts(found) if len(group.variables) > 1 else ()
+        return found._replace(fact=self.mixed(parts)) if len(parts) > 1 else found
+
+    def of_all(self, group, counts):
+        """What holds of a group's counts, whichever variable they are of."""
+        sites, locks = sites_of(group, counts)
+        races = self.kinds.gathered.races_of(group.names)
+        by = published(races, self.pairs, lambda event: self.kinds.stacks.free_of(event) is not None) if self.pairs else ()
+        return Section(group, counts, sites, fact_of(sites, locks, self.whole, by))
+
+    def parts(self, found):
+        """The variables of a group, those of which the same is said together; none where all have the group's form."""
+        names, counts, alike = {}, {}, {}
+        for name in found.group.names:
+            names.setdefault(self.kinds.in_trace(name), []).append(name)
+        for kind, count in found.counts.items():
+            for variable in [kind[4]] if kind[4] else names:     # a free is one of all
+                counts.setdefault(variable, {})[kind] = count
+        alone = {variable: self.of_all(part_of(found.group, its, self.kinds), counts.get(variable, {})) for variable, its in names.items()}
+        if {one.fact.form for one in alone.values()} == {found.fact.form}:
+            return ()
+        for variable, one in alone.items():
+            alike.setdefault((one.fact.form, str(one.fact.tag)), []).append(variable)
+        joined = [self.of_all(part_of(found.group, sum((names[one] for one in its), []), self.kinds), joined_counts([counts.get(one, {}) for one in its]))
+                  for its in alike.values()]
+        are_alike = all(one.fact.form == form for one, (form, _) in zip(joined, alike))
+        return sorted(joined if are_alike else alone.values(), key=lambda one: RANKS[one.fact.form])
+
+    def mixed(self, parts):
+        """What is said of a group whose variables differ: of each part its fact."""
+        names = [listed([[Code(name)] for name in one.group.variables], MOST_NAMED) for one in parts]
+        said = [{"form": one.fact.form, "group": list(map(text, one.group.names)), **one.fact.said, "all_races": races_looked_at(one.group, self.kinds),
+                 "pairs": [list(map(text, pair)) for pair in sorted(one.group.places())]} for one in parts]
+        sentences = [[*its, ": ", *sentence] for its, one in zip(names, parts) for sentence in one.fact.sentences]
+        remedy = [part for its, one in zip(names, parts) if one.fact.remedy for part in ("Of ", *its, ": ", *one.fact.remedy, " ")][:-1]
+        first = parts[0].fact
+        return first._replace(form="mixed", said={"parts": said}, tag=[*first.tag, " (", *names[0], "; others differ)"], sentences=sentences, remedy=remedy,
+                              uses=sum((one.fact.uses for one in parts), ()))
+
+
+def races_looked_at(group, kinds):
+    """The races that a fact is of, as pairs of events."""
+    return sorted(race[:2] for its in kinds.gathered.races_of(group.names).values() for race in its[:MOST_RACES])
+
+
+def part_of(group, names, kinds):
+    """A group's races of some of its variables, by their names in the trace."""
+    pairs, gathered = [], kinds.gathered
+    for pair in group.pairs:
+        races = {place: [gathered.variables[place][name] for name in names if name in gathered.variables.get(place, ())] for place in pair.orders}
+        orders = {place: sum(its) for place, its in races.items() if its}
+        if orders:
+            pairs.append(Pair(pair.locations, pair.closest, orders))
+    return Group(tuple(pairs), tuple(dict.fromkeys(map(kinds.name, names))), tuple(names))
+
+
+def merged_groups(groups, counts, facts):
+    """The groups, those of one object as one where the same threads race in it and the same is missing."""
+    found = {}
+    for number, group in enumerate(groups):
+        one, thing = facts.of(group, counts[number]), object_of(group)
+        racing = frozenset((thread, thread in site.writers) for site in one.sites if site.partners for thread in site.threads)
+        uses = tuple((use.name, use.location) for use in one.fact.uses)
+        key = (thing, one.fact.form, one.fact.lock, uses, racing) if thing and one.fact.form != "mixed" else number
+        found.setdefault(key, []).append(one)
+    return [parts[0] if len(parts) == 1 else facts.of(Group(*(sum(fields, ()) for fields in zip(*(part.group for part in parts)))),
+                                                      joined_counts([part.counts for part in parts])) for parts in found.values()]
+
+
+def joined_counts(counts):
+    """Counts of several groups of one object as those of one group. A free is a free of all its variables."""
+    found = {}
+    for one in counts:
+        for kind, count in one.items():
+            found[kind] = max(found.get(kind, 0), count) if kind[2] == b"f" else found.get(kind, 0) + count
+    return found
