@@ -1,11 +1,13 @@
 """A second reader of the facts: it knows what docs/FORMATS.md says of each form, and looks through the whole trace for each word. It shares
 no code with the view."""
 
+import bisect
 import collections
 import itertools
 import re
 
-KNOWN = ("published", "freed", "plain", "uncounted", "read-lock", "without", "sometimes", "apart", "no-lock", "ordered")
+KNOWN = ("mixed", "published", "freed", "plain", "uncounted", "read-lock", "without", "sometimes", "apart", "no-lock", "ordered")
+NUMBERS = re.compile(r"(?<=#)[0-9]+|(?<=\[)[0-9]+(?=\])")  # of a block, and of an element
 MOST_CHOICES = 4_096  # of a lock for each variable
 READER = re.compile(r"(.+)@reader\..+", re.S)
 STAND_IN = re.compile(r".+@[0-9]+(?:[<>].+)?", re.S)
@@ -19,6 +21,7 @@ class Reader:
     def __init__(self, trace, stacks=None, uses=None):
         """The bytes of a trace, those of its file of stacks, and those of the uses of the run that it is a part of."""
         self.uses, self.frees, self.locals = [], [], collections.defaultdict(list)
+        self.events, self.by_name = [], collections.defaultdict(list)  # of the uses: their events, in order; their places, of fences without a name
         events = [line.rstrip("\r") for line in trace.decode("latin-1").split("\n") if line.rstrip("\r")]
         if stacks:
             self.read_stacks(stacks[34 + 4 * int(stacks[13:33]):].decode("latin-1"))
@@ -53,6 +56,8 @@ class Reader:
             kind, _, rest = line.partition(" ")
             if kind == "use":
                 event, name, thread, location, how = rest.split("\t")
+                self.by_name[name].append(len(self.uses))
+                self.events.append(int(event))
                 self.uses.append(Use(int(event), name, thread, location, *how.split(" ")))
             elif kind == "free":
                 self.frees.append(tuple(map(int, rest.split(" "))))
@@ -129,6 +134,8 @@ class Group:
             yield "no such form"
             return
         yield from getattr(self, "check_" + form.replace("-", "_"))()
+        if form != "mixed" and len(self.variables) > 1:
+            yield from self.check_alone()
         if "also" in self.fact:
             self.fact = {**self.fact, **self.fact["also"]}
             yield from self.check_without()
@@ -138,39 +145,67 @@ class Group:
             if applies and applies():
                 yield f"{earlier} comes first, and holds"
 
+    def alone(self, names):
+        """The same of some of the variables, by their names in the trace."""
+        named = {access.number: access.name for access in self.traced}
+        races = [race for race in self.races_of_form() if named.get(race[0]) in names]
+        lines = {access.number: access.location for access in self.traced}
+        return Group(self.reader, {**self.fact, "group": names, "all_races": races}, {(lines[first], lines[second]) for first, second in races})
+
+    def check_alone(self):
+        """A fact holds of each variable in the same form: no earlier one holds of one of them alone."""
+        for variable in {self.base(name) for name in self.fact["group"]}:
+            one, form = self.alone([name for name in self.fact["group"] if self.base(name) == variable]), self.fact["form"]
+            for earlier in KNOWN[1:KNOWN.index(form)]:
+                applies = getattr(one, "has_" + earlier.replace("-", "_"), None)
+                if one.pairs and applies and applies():
+                    yield f"{earlier} comes first of {variable}, and holds"
+
+    # ---- mixed: parts with a fact each ----
+    def check_mixed(self):
+        parts = self.fact["parts"]
+        names = [name for part in parts for name in part["group"]]
+        if sorted(names) != sorted(self.fact["group"]) or len(parts) < 2:
+            yield "not the variables"
+        if {frozenset(pair) for part in parts for pair in part["pairs"]} != self.pairs:
+            yield "not the pairs of lines"
+        if len({part["form"] for part in parts}) < 2 and len({repr({**part, "group": 0, "pairs": 0, "all_races": 0}) for part in parts}) < 2:
+            yield "the parts are alike"
+        if {part["form"] for part in parts} == {"without"} and self.has_without():
+            yield "without holds of all, with a lock of each variable's own"
+        for part in parts:
+            yield from (f"{part['group'][:2]}: {fault}" for fault in Group(self.reader, {**self.fact, **part}, part["pairs"]).faults())
+
     # ---- published: between the two accesses of each race one and the same atomic was handed on, without an order ----
     def order(self, at, event):
         """The order of a load, as it is seen from an event of its thread: one before a fence with acquire is one with acquire."""
-        load, uses = self.reader.uses[at], self.reader.uses
-        is_fenced = any(use.kind == "fence" and use.thread == load.thread and use.event <= event for use in uses[at + 1:])
+        load, fences = self.reader.uses[at], self.reader.by_name[""]
+        is_fenced = any(fence > at and self.reader.uses[fence].thread == load.thread and self.reader.uses[fence].event <= event for fence in fences)
         return {"relaxed": "acquire", "release": "both"}.get(load.order, load.order) if is_fenced else load.order
 
-    def reads(self, at, index):
-        """Whether the load at this place in the list reads what the store at that one left, or what updates made of it."""
-        uses = self.reader.uses
-        for k in range(at - 1, -1, -1):
-            if uses[k].name != uses[at].name or uses[k].kind not in ("store", "update"):
-                continue
-            if k == index:
-                return True
-            if uses[k].kind == "store":
-                return False
-        return False
+    def sources(self, at, event):
+        """The stores and updates after an event that left what the load at this place in the list reads, or of which updates made it."""
+        places = self.reader.by_name[self.reader.uses[at].name]
+        for place in range(bisect.bisect_left(places, at) - 1, -1, -1):
+            use = self.reader.uses[places[place]]
+            if use.event <= event:
+                return
+            if use.kind in ("store", "update"):
+                yield use
+            if use.kind == "store":
+                return
 
     def handed(self, first, second):
         """All that was handed on between two accesses, as (name, line, line, kind, kind, order, order)."""
-        uses, found = self.reader.uses, set()
-        if first.is_free:
-            return found
-        for k, store in enumerate(uses):
-            if store.kind in ("load", "fence") or store.thread != first.thread or store.event <= first.number:
-                continue
-            for m in range(k + 1, len(uses)):
-                load = uses[m]._replace(order=self.order(m, second.number))
-                if load.name == store.name and load.kind in ("load", "update") and load.thread == second.thread and load.event <= second.number \
-                        and self.reads(m, k) and self.misses(store, load) and (second.is_free or not store.kind == load.kind == "update") \
-                        and store.name != first.variable:
-                    found.add((store.name, store.location, load.location, store.kind, load.kind, store.order, load.order))
+        found, uses = set(), self.reader.uses
+        begin, end = (bisect.bisect_right(self.reader.events, access.number) for access in (first, second))
+        for at in range(begin, end) if not first.is_free else ():
+            load = uses[at]
+            if load.kind in ("load", "update") and load.thread == second.thread and load.name != first.variable:
+                stores = [store for store in self.sources(at, first.number) if store.thread == first.thread]
+                load = load._replace(order=self.order(at, second.number)) if stores else load
+                found.update((store.name, store.location, load.location, store.kind, load.kind, store.order, load.order) for store in stores
+                             if self.misses(store, load) and (second.is_free or not store.kind == load.kind == "update"))
         return found
 
     @staticmethod
@@ -195,6 +230,8 @@ class Group:
                     places.add(frozenset((first.location, second.location)))
         if places != self.pairs:
             yield "not of each place"
+        if any(by["store"]["kind"] == "update" for by in self.fact["by"]) and self.has_without() and not self.has_read_lock():
+            yield "an update, beside a lock"
 
     def races_of_form(self):
         return [tuple(race) for race in self.fact.get("all_races", ())]
@@ -252,7 +289,26 @@ class Group:
     def used_racing(self):
         return [access for access in self.used() if access.location in self.lines]
 
+    def check_name(self):
+        """A lock has its own name, but where variables have different ones: numbers of blocks and elements are `*` then. It is that lock of
+        its kind which most accesses of the variable hold."""
+        of, name = self.fact["locks"], self.fact["name"]
+        if name != (min(of.values()) if len(set(of.values())) < 2 else NUMBERS.sub("*", min(of.values()))):
+            yield f"{name} isn't the name of {of}"
+        for variable in of if len(set(of.values())) > 1 else ():
+            held = collections.Counter()
+            for access in self.all:
+                for lock in access.held | access.shared if access.variable == variable and not access.is_free else ():
+                    held[lock] += access.count
+            if any(count > held[of[variable]] for lock, count in held.items() if NUMBERS.sub("*", lock) == name) and not self.is_merged():
+                yield f"{of[variable]} isn't the lock that most accesses of {variable} hold"
+
+    def is_merged(self):
+        """Whether several events may be one access, so that counts differ."""
+        return bool(self.atomics or self.reader.frees)
+
     def check_read_lock(self):
+        yield from self.check_name()
         for line in self.fact["lines"]:
             if not any(access.word == "w" and self.fact["locks"].get(access.variable) in access.shared for access in self.used(line)) or line not in self.lines:
                 yield f"no write under a read lock at {line}"
@@ -261,6 +317,7 @@ class Group:
         return any(access.word == "w" and access.shared for access in self.used_racing())
 
     def check_without(self):
+        yield from self.check_name()
         fact, of = self.fact, self.fact["locks"]
         lines, some, holding = set(fact["lines"]), set(fact["sometimes"]), set(fact["holding"])
         holds = {access: self.has(access, of.get(access.variable)) for access in self.used()}
@@ -329,11 +386,14 @@ class Group:
             bare or any(any(by_line[line]) for line in lacking) or len(holding) > len(lacking))
 
     def check_sometimes(self):
+        yield from self.check_name()
         for line, (some, all) in self.fact["lines"].items():
             holds = [(self.has(access, self.fact["locks"].get(access.variable)), access.count) for access in self.used(line)]
             found = [sum(count for has, count in holds if has), sum(count for _, count in holds)]
-            if len({has for has, _ in holds}) != 2 or line not in self.lines or not self.atomics and not self.reader.frees and found != [some, all]:
+            if len({has for has, _ in holds}) != 2 or line not in self.lines or not self.is_merged() and found != [some, all]:
                 yield f"{line} holds it at {found}"
+            if not any(access.word == "w" for access in self.used(line)):
+                yield f"{line} only reads"
         if not self.fact["lines"]:
             yield "no line"
 
@@ -365,13 +425,11 @@ class Group:
             yield "other threads write"
 
     def check_ordered(self):
-        yield "a race isn't ordered"
+        """Races that a report has, and the trace doesn't."""
+        if not frozenset.intersection(*map(self.locks, self.used_racing())):
+            yield "no lock is common to all"
 
 
 def groups_of(document):
     """The facts of a file of places, each with the pairs of lines of its group."""
-    found = {}
-    for place in document["places"]:
-        if "group" in place:
-            found.setdefault(place["group"], []).append(tuple(access["in_trace"] for access in place["accesses"]))
-    return [(document["groups"][number - 1], pairs) for number, pairs in found.items()]
+    return [(group, group["pairs"]) for group in document["groups"]]

@@ -24,6 +24,7 @@ class Made:
             self.threads, self.objects = [b"T0", b"T1", b"T2"][:pick.choice((2, 3))], [1]
             self.held = {thread: [] for thread in self.threads}
             self.code = {thread: [] for thread in self.threads}
+        self.stands_in = not self.is_short and pick.random() < 0.1
         self.ways = [self.way(number) for number in range(1, pick.randint(2, 4 if self.is_short else 6) + 1)]
 
     def field(self, thing, name):
@@ -118,7 +119,13 @@ class Made:
                         self.event(thread, b"rel", b"rw@1<" + other, b"f.c:1")
         elif kind == "access":
             word, variable, line = more
-            self.event(thread, word, variable, line)
+            if self.stands_in:             # as the recorder has locks that tell an atomic's order, each of two threads and one moment
+                stand_in = b"A@%d>%s" % (len(self.lines), thread)
+                self.event(thread, b"acq", stand_in, line)
+                self.event(thread, word, variable, line)
+                self.event(thread, b"rel", stand_in, line)
+            else:
+                self.event(thread, word, variable, line)
         elif kind == "if-handed":
             atomic, variable, line = more
             if any(giver != thread for giver, _, _ in self.chains.get(atomic, ())):
@@ -206,11 +213,23 @@ class Made:
                 self.do(thread, self.code[thread].pop(0))
 
 
+def whole(lines):
+    """A trace, and a file of stacks that has none."""
+    return b"\n".join(lines) + b"\n", b"shb-stacks 1 %020d\n" % len(lines) + bytes(4 * len(lines))
+
+
 def handed_on(second):
     """Between two accesses an atomic is stored, used by a third thread in a way, and loaded."""
     trace = b"T0|w(x)|f.c:1\nT0|r(B)|f.c:2\nT2|r(B)|f.c:3\nT1|r(B)|f.c:4\nT1|r(x)|f.c:5\n"
     uses = b"use 2\tB\tT0\tf.c:2\tstore relaxed\nuse 3\tB\tT2\tf.c:3\t%s relaxed\nuse 4\tB\tT1\tf.c:4\tload relaxed\n" % second
     return trace, b"shb-stacks 1 %020d\n" % 5 + bytes(20) + uses
+
+
+def freed_and_handed_on():
+    """A block is freed, then an atomic is handed on, and then the block is used."""
+    trace = b"T0|w(x)|f.c:1\nT0|r(B)|f.c:2\nT1|r(B)|f.c:3\nT1|r(x)|f.c:4\n"
+    uses = b"free 1 1\nuse 2\tB\tT0\tf.c:2\tstore relaxed\nuse 3\tB\tT1\tf.c:3\tload relaxed\n"
+    return trace, b"shb-stacks 1 %020d\n" % 4 + bytes(16) + uses
 
 
 def fenced(store, before):
@@ -234,6 +253,22 @@ def counted():
     return trace, b"shb-stacks 1 %020d\n" % 5 + bytes(20) + uses
 
 
+def counted_beside():
+    """A counter that one thread updates and the other loads between their accesses, the first of which holds a lock."""
+    trace = b"T0|acq(m)|f.c:1\nT0|w(x)|f.c:2\nT0|rel(m)|f.c:3\nT0|r(B)|f.c:4\nT1|r(B)|f.c:5\nT1|r(x)|f.c:6\n"
+    uses = b"use 4\tB\tT0\tf.c:4\tupdate relaxed\nuse 5\tB\tT1\tf.c:5\tload relaxed\n"
+    return trace, b"shb-stacks 1 %020d\n" % 6 + bytes(24) + uses
+
+
+def handed_by_others():
+    """Two races of one place, between the accesses of each of which another atomic is handed on."""
+    trace = (b"T0|w(x)|f.c:1\nT0|r(B)|f.c:2\nT1|r(B)|f.c:3\nT1|r(x)|f.c:4\nT1|acq(l)|f.c:5\nT1|rel(l)|f.c:5\nT0|acq(l)|f.c:6\nT0|rel(l)|f.c:6\n"
+             b"T0|w(x)|f.c:1\nT0|r(C)|f.c:7\nT1|r(C)|f.c:8\nT1|r(x)|f.c:4\n")
+    uses = b"".join(b"use %d\t%b\tT%d\tf.c:%d\t%b relaxed\n" % use for use in (
+        (2, b"B", 0, 2, b"store"), (3, b"B", 1, 3, b"load"), (10, b"C", 0, 7, b"store"), (11, b"C", 1, 8, b"load")))
+    return trace, b"shb-stacks 1 %020d\n" % 12 + bytes(48) + uses
+
+
 def both_locks():
     """Two objects with a lock each; one thread uses each under its own lock and, once, under both, another one without."""
     lines = []
@@ -242,24 +277,63 @@ def both_locks():
             lines += [b"T0|acq(o[%d].l)|f.c:1" % lock for lock in locks] + [b"T0|w(o[%d].a)|f.c:2" % one]
             lines += [b"T0|rel(o[%d].l)|f.c:3" % lock for lock in locks]
     lines += [b"T1|r(o[1].a)|f.c:4", b"T1|r(o[2].a)|f.c:4"]
-    return b"\n".join(lines) + b"\n", b"shb-stacks 1 %020d\n" % len(lines) + bytes(4 * len(lines))
+    return whole(lines)
+
+
+def crossed_locks():
+    """Two objects with a lock each; one thread uses each at three lines under its own lock, another one under the other's, and under none."""
+    lines = []
+    for one, other in ((1, 2), (2, 1)):
+        lines += [b"T0|acq(o[%d].l)|f.c:1" % one, *[b"T0|w(o[%d].a)|f.c:%d" % (one, line) for line in (7, 8, 9)], b"T0|rel(o[%d].l)|f.c:3" % one]
+        lines += [b"T1|acq(o[%d].l)|f.c:4" % other, b"T1|w(o[%d].a)|f.c:5" % one, b"T1|rel(o[%d].l)|f.c:6" % other, b"T1|r(o[%d].a)|f.c:2" % one]
+    return whole(lines)
+
+
+def at_times():
+    """A line that writes and one that reads hold a lock at times."""
+    lines = []
+    for thread, word, line in ((0, b"w", 2), (1, b"r", 4)):
+        lines += [b"T%d|%b(x)|f.c:%d" % (thread, word, line), b"T%d|acq(m)|f.c:1" % thread, b"T%d|%b(x)|f.c:%d" % (thread, word, line), b"T%d|rel(m)|f.c:3" % thread]
+    return whole(lines)
+
+
+def freed_after():
+    """A line writes under a lock, another one reads without it, and at last the block is freed without it, in no race."""
+    trace = b"T0|fork(T1)|f.c:1\nT0|acq(m)|f.c:2\nT0|w(x)|f.c:3\nT0|rel(m)|f.c:4\nT1|r(x)|f.c:5\nT0|join(T1)|f.c:6\nT0|w(x)|f.c:7\n"
+    return trace, b"shb-stacks 1 %020d\n" % 7 + bytes(28) + b"free 7 7\n"
 
 
 def nested():
     """A lock that is taken twice."""
     lines = [b"T0|%s|f.c:%d" % (word, line) for line, word in enumerate((b"acq(l)", b"acq(l)", b"w(x)", b"rel(l)", b"w(x)", b"rel(l)"), 1)]
     lines.append(b"T1|w(x)|f.c:7")
-    return b"\n".join(lines) + b"\n", b"shb-stacks 1 %020d\n" % len(lines) + bytes(4 * len(lines))
+    return whole(lines)
+
+
+def two_variables(lock):
+    """A line uses two variables without a lock; at three others one of them is used under a lock, and the other under some lock, or nowhere."""
+    lines = [b"T%d|w(%b)|f.c:1" % (thread, name) for name in (b"x", b"y") for thread in (0, 1)]
+    for number, (name, its) in enumerate(((b"x", b"m"), (b"x", b"m"), (b"x", b"m"), (b"y", lock)), 2):
+        lines += [b"T2|acq(%b)|f.c:9" % its, b"T2|w(%b)|f.c:%d" % (name, number), b"T2|rel(%b)|f.c:9" % its] if its else []
+    return whole(lines)
+
+
+def read_locked():
+    """A line that races with none writes under a read lock; another one writes under the write lock, and a third reads without it."""
+    lines = [b"T0|acq(l@reader.T0)|f.c:1", b"T0|w(x)|f.c:2", b"T0|rel(l@reader.T0)|f.c:3", b"T0|fork(T1)|f.c:4", b"T0|acq(l)|f.c:5", b"T0|w(x)|f.c:6",
+             b"T0|rel(l)|f.c:7", b"T1|r(x)|f.c:8"]
+    return whole(lines)
 
 
 def made(how_many, seed):
     """What is rare in made traces comes first."""
     yield from map(handed_on, (b"update", b"store", b"load"))
     yield from (fenced(b"relaxed", 4), fenced(b"relaxed", 5), fenced(b"release", 5))
-    yield handed_itself()
-    yield counted()
-    yield both_locks()
-    yield nested()
+    yield from (freed_and_handed_on(), handed_itself())
+    yield from (counted(), counted_beside(), handed_by_others())
+    yield from (both_locks(), crossed_locks(), at_times(), freed_after(), nested())
+    yield from map(two_variables, (b"", b"m", b"n"))
+    yield read_locked()
     pick = random.Random(seed)
     for _ in range(how_many):
         yield Made(pick).make()

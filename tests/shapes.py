@@ -119,12 +119,26 @@ def few_and_many_races(n):
         yield "B|w(x)|b\n" * 64 + "B|acq(m)\nB|rel(m)\nC|acq(m)\nC|rel(m)\n" + "C|w(x)|c\n" * 64
 
 
+def many_hot_variables(n):
+    """Two threads write each of 40 variables without order: each variable has nearly as many races as are kept at once."""
+    for x in range(40):
+        yield f"A|w(x{x})|a\n" * (n // 80)
+        yield f"B|w(x{x})|b\n" * (n // 80)
+
+
 def late_races(n):
     """200 threads take turns under a lock, and then two of them race on 20 variables: schedules are as long as the trace, and how
     far each thread had come is noted now and then."""
     for k in range(n // 3):
         yield "T{0}|acq(l)\nT{0}|w(x)\nT{0}|rel(l)\n".format(k % 200)
     yield from (f"T1|w(v{k})\nT2|w(v{k})\n" for k in range(20))
+
+
+def late_crowd(n):
+    """A thread alone, and then 40 threads that race: no schedule has an event of the first thread, and each passes all of them."""
+    yield "C|w(c)|c\n" * n
+    yield from (f"T{k}|w(p{k})|p\n" for k in range(40))
+    yield from (f"T{k}|w(x)|x\n" for k in range(40))
 
 
 def hot_beside_alone(n):
@@ -145,3 +159,11 @@ def far_numbers(n):
     yield from (f"A|w(x)|a{k}\n" for k in range(n // 2))
     yield "B|w(x)|b\n"
     yield from (f"A|w(x)|c{k}\n" for k in range(n // 2))
+
+
+def memory_in_order(n):
+    """4 threads in turn go on through memory of their own, 50 accesses each; names are as a recorder gives them."""
+    for k in range(n):
+        thread, number = k // 50 % 4, (k // 200 * 50 + k % 50) % 2000
+        variable = f"src/codec/block_compressor.cc:{1000 + thread}#{number // 512}+{number % 512 * 8}"
+        yield f"worker-{thread}.run|{'w' if k % 3 == 0 else 'r'}({variable})|codec/block_compressor.cc:{100 + k % 40}\n"

@@ -3,8 +3,6 @@
 import argparse
 import collections
 import os
-import re
-import sys
 import tempfile
 import types
 
@@ -16,20 +14,21 @@ from viewing import QUIET
 
 from shb_common.report import Counts
 from shb_common.result import text
+from shb_common.stacks import Stacks
 from shb_view import result, view
 from shb_view.analyser import Verdict
 from shb_view.groups import Gathered
-from shb_view.stacks import stacks_of
 from shb_view.trace import Trace
 
 MADE = int(os.environ.get("SHB_FACTS", 300))  # traces
 
 
-def facts_of(trace, stacks):
-    """The facts of a trace's groups, each with the pairs of lines of its group, as `places.json` has them."""
+def facts_of(trace, stacks, written=None):
+    """The facts of a trace's groups, each with the pairs of lines of its group, as `places.json` has them. `written` is a report, where it
+    isn't the trace's own."""
     with tempfile.TemporaryFile() as file, tempfile.TemporaryFile() as report, tempfile.NamedTemporaryFile() as beside:
         file.write(trace)
-        report.write(shb.report(trace, False))
+        report.write(written or shb.report(trace, False))
         beside.write(stacks)
         for one in (file, report, beside):
             one.flush()
@@ -37,9 +36,9 @@ def facts_of(trace, stacks):
         given = view.Given("report", report, Verdict(None, ""), None)
         counts, gathered = Counts(*shb.counts_of(shb.read_trace(trace)[0])), Gathered()
         view.read_report(given, counts, gathered, QUIET)
-        its = stacks_of(beside.name, counts.events)
+        its = Stacks(beside.name, 0, counts.events)
         gathered.name_locals(its)
-        kinds, options = view.Kinds(gathered, its), argparse.Namespace(html=False, all=False)
+        kinds, options = view.Kinds(gathered, its), argparse.Namespace(html=False, all=False, unseen=None)
         shown = types.SimpleNamespace(kinds=kinds, gathered=gathered)
         made = view.Subject(given, counts, 0, 0, "", counts.events, None)
         for section in view.make_sections(options, kinds, made, Trace(file, QUIET), gathered.groups())[1]:
@@ -61,3 +60,15 @@ class Facts(program.Case):
         forms, faults = read_again(facts_traces.made(MADE, 1))
         self.assertEqual(faults, [])
         self.assertLessEqual(set(facts_reader.KNOWN) - {"uncounted", "ordered"}, set(forms))
+
+    def test_a_report_of_no_race(self):
+        """A report may be wrong: accesses that hold one lock don't race, and that is the fact."""
+        lines = [b"%b|%b|a.c:%d" % (thread, operation, number) for number, (thread, operation) in enumerate(
+            (thread, operation) for thread in (b"T0", b"T1") for operation in (b"acq(m)", b"w(x)", b"rel(m)"))]
+        report = (b"shb-report 2\nevents 6 threads 2 locks 1 variables 1\nraces 1\nplaces 1\nplace 1: 1\nat a.c:1\nand a.c:4\n"
+                  b"race 1: 2 5\nfirst %b\nsecond %b\nend\n" % (lines[1], lines[4]))
+        trace = b"".join(line + b"\n" for line in lines)
+        [(fact, pairs)] = facts_of(trace, b"shb-stacks 1 %020d\n" % len(lines) + bytes(4 * len(lines)), report)
+        self.assertEqual((fact["form"], list(facts_reader.Reader(trace).faults([(fact, pairs)]))), ("ordered", []))
+        fact["form"] = "apart"
+        self.assertNotEqual(list(facts_reader.Reader(trace).faults([({**fact, "lines": ["a.c:1", "a.c:4"], "held": {}, "all_hold": False}, pairs)])), [])

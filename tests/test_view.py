@@ -6,8 +6,10 @@ import io
 import json
 import os
 import pty
+import pathlib
 import random
 import re
+import tempfile
 
 import judge
 import program
@@ -129,6 +131,11 @@ class Text(program.Case):
         self.expect(run([EXAMPLES / "hidden-by-lock.std"]), 0,
                     b"hidden-by-lock.std: 0 races (6 events, 2 threads, 1 lock, 1 variable)\n"
                     b"Any two conflicting accesses are ordered in this trace. A run with another interleaving may have races.\n")
+
+    def test_no_events(self):
+        with tempfile.NamedTemporaryFile(suffix=".std") as empty:
+            name = pathlib.Path(empty.name).name
+            self.expect(run([empty.name]), 0, f"{name}: 0 races (0 events, 0 threads, 0 locks, 0 variables)\nThe trace has no events.\n".encode())
 
     def test_a_report_that_is_given(self):
         """It isn't checked unless that is asked for, and its counts are its own."""
@@ -475,16 +482,16 @@ class Groups(program.Case):
 
     def test_what_several_variables_share(self):
         for variables, name in (
-            ([b"x"], (b"x", "")),
-            ([b"cache.c:19#71+80", b"cache.c:19#43+80"], (b"cache.c:19+80", "(2 blocks)")),
-            ([b"slabs.c:615#134+1", b"slabs.c:615#134+22", b"slabs.c:615#134"], (b"slabs.c:615#134", "(3 variables)")),
-            ([b"slabs.c:615#134+1", b"slabs.c:615#9+2"], (b"slabs.c:615", "(2 variables)")),
-            ([b"stats", b"stats+8"], (b"stats", "(2 variables)")),
-            ([b"stats", b"settings+8"], (b"stats", "and 1 more")),
-            ([b"stack.T1-0x20", b"stack.T1-0x28"], (b"stack.T1", "(2 variables)")),
-            ([b"stack.T1.run-0x20", b"stack.T1.run-0x28"], (b"stack.T1.run", "(2 variables)")),
-            ([b"lib.so.1:q.head", b"lib.so.1:q.at[1][20].x+2", b"lib.so.1:q"], (b"lib.so.1:q", "(3 variables)")),
-            ([b"count.0", b"count.1"], (b"count.0", "and 1 more")),
+            ([b"x"], [b"x"]),
+            ([b"cache.c:19#71+80", b"cache.c:19#43+80"], [b"cache.c:19+80", " (2 blocks)"]),
+            ([b"slabs.c:615#134+1", b"slabs.c:615#134+22", b"slabs.c:615#134"], [b"slabs.c:615#134", " (3 variables)"]),
+            ([b"slabs.c:615#134+1", b"slabs.c:615#9+2"], [b"slabs.c:615", " (2 variables)"]),
+            ([b"stats", b"stats+8"], [b"stats", " (2 variables)"]),
+            ([b"stats", b"settings+8"], [b"stats", " and 1 more"]),
+            ([b"stack.T1-0x20", b"stack.T1-0x28"], [b"stack.T1", " (2 variables)"]),
+            ([b"stack.T1.run-0x20", b"stack.T1.run-0x28"], [b"stack.T1.run", " (2 variables)"]),
+            ([b"lib.so.1:q.head", b"lib.so.1:q.at[1][20].x+2", b"lib.so.1:q"], [b"lib.so.1:q", " (3 variables)"]),
+            ([b"count.0", b"count.1"], [b"count.0", " and 1 more"]),
         ):
             self.assertEqual(groups.common_name(variables), name)
 

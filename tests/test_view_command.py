@@ -14,8 +14,7 @@ import program
 import shb
 from viewing import EXAMPLES, VIEW, run, run_here, settings
 
-from shb_common import standard
-from shb_view import output
+from shb_common import files, standard
 
 TRACE = EXAMPLES / "fork-join.std"
 REPORT = EXAMPLES / "fork-join.report"
@@ -256,6 +255,7 @@ class Files(Fake):
 
     def test_a_pipe_is_no_trace(self):
         os.mkfifo(self.folder / "pipe")
+        self.assertEqual(self.said(["-"]), "- isn't a regular file: the trace is read more than once")
         self.assertEqual(self.said([self.folder / "pipe"]), f"{self.folder}/pipe isn't a regular file: the trace is read more than once")
 
     def test_a_pipe_may_be_a_report(self):
@@ -312,11 +312,9 @@ class Files(Fake):
         limit, kept = resource.getrlimit(resource.RLIMIT_FSIZE), signal.signal(signal.SIGXFSZ, signal.SIG_IGN)
         self.addCleanup(signal.signal, signal.SIGXFSZ, kept)
         self.addCleanup(resource.setrlimit, resource.RLIMIT_FSIZE, limit)
-        with self.assertRaises(OSError) as fault, output.new_file(str(page), []) as out:
-            resource.setrlimit(resource.RLIMIT_FSIZE, (4096, limit[1]))
-            with standard.faults_of("the page"):
-                out.writelines([b"a" * 3000] * 5)
-                out.flush()
+        resource.setrlimit(resource.RLIMIT_FSIZE, (4096, limit[1]))
+        with self.assertRaises(OSError) as fault, standard.faults_of("the page"):
+            files.put(page, b"a" * 15000)
         self.assertEqual((fault.exception.filename, fault.exception.strerror), ("the page", "File too large"))
         self.assertEqual(list(self.folder.iterdir()), [page])
 

@@ -318,6 +318,7 @@ class Stacks(program.Case):
         page = self.folder / "page.html"
         self.shown(stacks(tables=TABLES + tables), "--source", self.folder, "--html", page, trace=trace)
         self.assertEqual([side["atomics"] for side in Page(page.read_text()).group()["sides"]], [[6]] * 2)
+        self.assertIn('class="group rank0"', page.read_text())     # in the first colour
 
     def test_the_callers_that_hold_no_lock(self):
         """Of a line that holds one at other accesses: add, as `main` calls it here. Where all accesses hold none, nothing more is said."""

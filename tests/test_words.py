@@ -11,7 +11,7 @@ Usage: shb <COMMAND>
 Commands:
   races   Writes the report of a trace to standard output
   places  Writes the report of one race of each place of a trace
-  scan    Writes one race of each place of a trace of any length
+  scan    Writes one race of each place of a long trace
   check   Checks the report on standard input against its trace
   help    Print this message or the help of the given subcommand(s)
 
@@ -23,8 +23,8 @@ No arguments mean 'shb races --list'. Begin with 'shb places --list', or with
 
   $ printf 'T1|w(y)|1\\nT2|r(y)|2\\n' | shb places --list
 
-'shb help races' says what a trace and a report look like, and 'shb help check'
-what a good report means.
+'shb help races' explains traces and reports, and 'shb help check' what a good
+report means.
 
 Exit status: 0 done, 2 trace refused, 3 wrong command line, 4 a file, a device
 or the memory failed, 5 report rejected

@@ -2,6 +2,7 @@
 
 import itertools
 import re
+import textwrap
 
 EXIT_STATUS = "Exit status:"    # as the paragraph begins in a help without headings
 ARGUMENTS, OPTIONS = "positional arguments", ("options", "optional arguments")     # as argparse calls them
@@ -20,7 +21,8 @@ def page(help_, version, date, others):
         if head.lower() in OPTIONS:
             lines += [".SH OPTIONS", *options(help_)]
         elif head:
-            lines += [".SH " + roff("ARGUMENTS" if head == ARGUMENTS else head.upper()), *as_it_is(body)]
+            lines += [".SH " + roff("ARGUMENTS" if head == ARGUMENTS else head.upper())]
+            lines += [line for paragraph in paragraphs(body) for line in [*as_text(textwrap.dedent("\n".join(paragraph)).splitlines()), ".PP"]]
     for first, *rest in (paragraph for paragraph in free if paragraph[0].startswith(EXIT_STATUS)):
         lines += [".SH EXIT STATUS", *as_text([first[len(EXIT_STATUS):].strip(), *rest])]
     if others:
@@ -38,12 +40,12 @@ def name_of(command):
 
 
 def as_text(lines):
-    """A paragraph, which fills the page; one with lines that stand further to the right as it is."""
-    return as_it_is(lines) if any(line.startswith(" ") for line in lines) else [roff(line) for line in lines if line]
-
-
-def as_it_is(lines):
-    return [".nf", *map(roff, lines), ".fi"]
+    """A paragraph, which fills the page; a table, an example and lines that stand further to the right are as they are, from further to
+    the left, so that 80 columns hold them. A paragraph is one line, since where the help ends its lines depends on the folder that it
+    names and was made in."""
+    if lines[0].startswith("$ ") or any(line.startswith(" ") or "  " in line for line in lines):
+        return [".nf", ".in 2n", *map(roff, lines), ".in", ".fi"]
+    return [roff(" ".join(filter(None, lines)))]
 
 
 def options(help_):

@@ -26,7 +26,7 @@ and on what it rests.
 
 The commands need Linux on x86-64, a processor of level x86-64-v{level} or higher, for which shb is built, and
 glibc {glibc} or later, the highest version of a symbol that their files ask for. shb-farm and shb-view need Python 3.8 or later too,
-shb-record also gcc and binutils.
+shb-record also gcc and libdw.so.1 of elfutils (Debian's libdw1).
 """
 
 CONTROL = """\
@@ -36,8 +36,8 @@ Architecture: amd64
 Maintainer: {author}
 Section: devel
 Priority: optional
-Depends: libc6 (>= {glibc})
-Recommends: python3 (>= 3.8), gcc, binutils
+Depends: libc6 (>= {glibc}), libdw1 (>= 0.171), libelf1 (>= 0.171)
+Recommends: python3 (>= 3.8), gcc
 Description: data races of a recorded run of a concurrent program
  shb lists the data races of a trace by schedulable happens-before, each with
  a schedule that shows it. It is proved to list all of them and nothing else.
@@ -148,6 +148,6 @@ def packed(text):
 
 def strip(made):
     """Takes out of the programs and the library what only debuggers read."""
-    for name in ("bin/shb", "lib/shb/shb-std", "lib/shb/libtsan.so"):
+    for name in ("bin/shb", "lib/shb/shb-std", "lib/shb/module-reader", "lib/shb/libtsan.so"):
         if (made / name).exists():
             subprocess.run(["strip", "--strip-unneeded", made / name], check=True)

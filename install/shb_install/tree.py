@@ -51,7 +51,7 @@ def build_recorder(folder, library, version):
     flags = f"{RECORDER_FLAGS} -DSHB_VERSION='\"{version}\"'"
     ran = subprocess.run(["make", "-s", "-C", folder, f"CFLAGS={flags}", f"SONAME={library}"])
     if ran.returncode:
-        raise Refused(f"the recorder can't be built: make ended with status {ran.returncode}; it needs gcc and binutils")
+        raise Refused(f"the recorder can't be built: make ended with status {ran.returncode}; it needs gcc and libdw-dev (elfutils)")
 
 
 def copy(source, place):
@@ -68,7 +68,7 @@ def put_commands(folder, tree):
         (tree / "bin" / source.name).symlink_to(os.path.relpath(home / source.name, tree / "bin"))
     for package in sorted(folder.glob("shb_*")):
         shutil.copytree(package, home / package.name)
-    for source in sorted((folder / "lib").glob("libtsan*")):
+    for source in sorted([*(folder / "lib").glob("libtsan*"), *folder.glob("module-reader")]):
         copy(source, home / source.name)
 
 

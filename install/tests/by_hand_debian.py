@@ -5,7 +5,7 @@
 
 It is run by hand, as root, with debootstrap and a network. WORK/bare is made where it isn't there. Commands run with
 nothing but a PATH in a copy of it, WORK/debian, with a /proc of its own: at first without Python, then with Python and xz, then with
-gcc and binutils too. The last line is 'N passed, N failed'.
+gcc and libdw too. The last line is 'N passed, N failed'.
 """
 
 import pathlib
@@ -86,7 +86,7 @@ def main(package, work):
     without_python(debian, package, top)
     debian.add("python3", "xz-utils")
     with_python(debian, top)
-    debian.add("gcc", "libc6-dev", "binutils")
+    debian.add("gcc", "libc6-dev", "libdw1")
     with_gcc(debian, package, top)
     print(f"{sum(RESULTS)} passed, {len(RESULTS) - sum(RESULTS)} failed")
     return 0 if all(RESULTS) else 1

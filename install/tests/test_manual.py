@@ -110,15 +110,15 @@ class Parts(installing.Case):
         self.assertEqual(found.options, [Option(["-a"], "", "write everything"), Option(["-n"], "EVENTS", "at most so many")])
 
     def test_the_exit_status_has_a_section(self):
-        for text, lines in ((WITHOUT_HEADINGS, "66 if there is a race;\n125 if not."), (CLAP, "0\ndone")):
+        for text, lines in ((WITHOUT_HEADINGS, "66 if there is a race; 125 if not."), (CLAP, "0 done")):
             page = manual.page(helptext.parse("shb-r", text), "1", "today", [])
             self.assertIn(f".SH EXIT STATUS\n{lines}\n", page.replace(".nf\n", "").replace(".fi\n", ""))
             self.assertNotIn("Exit status:", page)
 
     def test_paragraphs_fill_the_page(self):
-        """But those with lines that stand further to the right, as examples do."""
+        """But those with lines that stand further to the right, as examples do. Where the help ends a line makes no difference."""
         page = manual.page(helptext.parse("x", "Does it.\n\nOne line\nand more.\n\nLike so\n  $ x\n\nUsage: x\n"), "1", "today", [])
-        self.assertIn("\n.PP\nOne line\nand more.\n.PP\n.nf\nLike so\n  $ x\n.fi\n", page)
+        self.assertIn("\n.PP\nOne line and more.\n.PP\n.nf\n.in 2n\nLike so\n  $ x\n.in\n.fi\n", page)
 
     def test_commands(self):
         self.assertEqual(helptext.parse("shb", COMMANDS).commands, {"races": "Writes 'it': [all]"})
@@ -150,6 +150,17 @@ class Pages(installing.Case):
             shown = re.sub(".\b", "", shown)
             missing = [word for word in text.split() if word.strip("<>").rstrip(":").lower() not in shown.lower()]
             self.assertLessEqual(set(missing), {"Usage:", "usage:", "positional"}, words)       # their headings are others
+
+    def test_a_help_is_80_columns_wide(self):
+        """But the line of a path, which isn't cut."""
+        for words, text in self.helps():
+            self.assertEqual([line for line in text.splitlines() if len(line) > 80 and str(self.prefix) not in line], [], words)
+
+    def test_a_page_is_80_columns_wide(self):
+        self.need("man")
+        for page in (self.prefix / "share/man/man1").iterdir():
+            shown = call("man", "-P", "cat", "-l", page, env={**os.environ, "MANWIDTH": "80", "LC_ALL": "C.UTF-8", "MANROFFOPT": "-c"})
+            self.assertEqual([line for line in re.sub(".\b", "", shown).splitlines() if len(line) > 80], [], page)
 
     def test_a_page_has_no_warning(self):
         self.need("man")

@@ -108,8 +108,17 @@ class Package(installing.Case):
 
     def test_the_processor_is_what_the_program_asks_for(self):
         unpacked = installing.packaged()[2]
-        self.assertIn(b"x86-64-v2", (unpacked / "bin/shb").read_bytes())
+        self.assertTrue(b"x86-64-v2" in (unpacked / "bin/shb").read_bytes(), "a program that was built without build.sh")
         self.assertIn("level x86-64-v2 or higher", (unpacked / "share/doc/shb/PROVED.md").read_text())
+
+    def test_on_a_machine_without_python(self):
+        """The programs run, and the other commands say what is missing."""
+        unpacked, alone = installing.packaged()[2], {"PATH": "/nowhere"}
+        self.assertIn("race 1: 4 5\n", call(unpacked / "bin/shb", "races", unpacked / "examples/fork-join.std", env=alone))
+        self.assertIn("usage: shb-std ", call(unpacked / "bin/shb-std", "--help", env=alone))
+        for command in ("shb-farm", "shb-fix", "shb-record", "shb-view"):
+            ran = installing.subprocess.run([unpacked / "bin" / command, "--help"], stdout=installing.subprocess.PIPE, stderr=installing.subprocess.PIPE, env=alone)
+            self.assertEqual((ran.returncode, ran.stdout, b"python3" in ran.stderr), (127, b"", True), command)
 
     def test_the_readme_says_what_is_needed(self):
         for wanted in (f"`logic {LOGIC}`", "(x86-64-v2)"):

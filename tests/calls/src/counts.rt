@@ -5,15 +5,14 @@ use shb_discipline::Disciplined;
 use shb_format::PlaceCount;
 use shb_lines::Pair;
 use shb_links::Links;
-use shb_lists::{BatchPlan, Settled, counted_races};
+use shb_lists::{Settled, counted_races};
 use shb_pairs::open_variables;
 use shb_search::leading_races;
 use std::test::Fail;
 
-/// The races of a text, where so many may be kept at once.
+/// The races of a text.
 #[derive(Clone, Copy)]
 struct CountsAre<'a> {
-    most: u64,
     races: u64,
     /// Of each place the first race, by its two positions from 0, and how many it has.
     places: &'a [(u32, u32, u64)],
@@ -25,8 +24,7 @@ impl Asks for CountsAre<'_> {
         let flags = open_variables(alloc, trace, links)?;
         let settled = Settled::new(trace, links, &flags);
         let leading = leading_races(rt, alloc, trace, links, &flags)?;
-        let plan = BatchPlan::new(alloc, &settled, self.most)?;
-        let counted = counted_races(rt, alloc, &settled, leading.as_slice(), &plan)?;
+        let counted = counted_races(rt, alloc, &settled, leading.as_slice(), MOST)?;
         let mut wanted = Vec::new(alloc);
         for (first, second, count) in self.places {
             let pair = Pair {
@@ -49,8 +47,8 @@ impl Asks for CountsAre<'_> {
     }
 }
 
-/// One batch, batches, and each variable alone.
-const KEPT: [u64; 4] = [1000, 9, 4, 0];
+/// How many races a batch may have. No count depends on it.
+const MOST: u64 = 4;
 
 /// Each access of x by the second thread races with three writes of the first, at two locations: its read sees its own
 /// write. And y has one race.
@@ -60,14 +58,8 @@ const FEW_LOCATIONS: &str =
 #[test]
 fn many_races_at_few_locations(rt: HostRuntime) -> Result<(), Fail> {
     let places: &[(u32, u32, u64)] = &[(0, 3, 3), (2, 3, 1), (0, 4, 4), (2, 4, 2)];
-    for most in KEPT {
-        let counts = CountsAre {
-            most,
-            races: 10,
-            places,
-        };
-        ask_of(&rt, FEW_LOCATIONS, &counts)?;
-    }
+    let counts = CountsAre { races: 10, places };
+    ask_of(&rt, FEW_LOCATIONS, &counts)?;
     Ok(())
 }
 
@@ -77,14 +69,8 @@ const READS: &str = "T1|r(x)|a\nT2|r(x)|a\nT2|r(x)|a\nT1|r(x)|a\nT1|w(x)|a\nT1|w
 #[test]
 fn reads_race_with_writes_alone(rt: HostRuntime) -> Result<(), Fail> {
     let places: &[(u32, u32, u64)] = &[(1, 4, 2), (1, 5, 2)];
-    for most in KEPT {
-        let counts = CountsAre {
-            most,
-            races: 4,
-            places,
-        };
-        ask_of(&rt, READS, &counts)?;
-    }
+    let counts = CountsAre { races: 4, places };
+    ask_of(&rt, READS, &counts)?;
     Ok(())
 }
 
@@ -105,26 +91,17 @@ fn each_race_has_a_place(rt: HostRuntime) -> Result<(), Fail> {
         (2, 4, 1),
         (3, 4, 1),
     ];
-    for most in KEPT {
-        let counts = CountsAre {
-            most,
-            races: 10,
-            places,
-        };
-        ask_of(&rt, OWN_LOCATIONS, &counts)?;
-    }
+    let counts = CountsAre { races: 10, places };
+    ask_of(&rt, OWN_LOCATIONS, &counts)?;
     Ok(())
 }
 
 #[test]
 fn no_race_has_no_place(rt: HostRuntime) -> Result<(), Fail> {
-    for most in KEPT {
-        let counts = CountsAre {
-            most,
-            races: 0,
-            places: &[],
-        };
-        ask_of(&rt, "T1|w(x)|a\nT1|w(x)|b\n", &counts)?;
-    }
+    let counts = CountsAre {
+        races: 0,
+        places: &[],
+    };
+    ask_of(&rt, "T1|w(x)|a\nT1|w(x)|b\n", &counts)?;
     Ok(())
 }

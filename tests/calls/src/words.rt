@@ -1,6 +1,6 @@
 //! `plan_of`: what the words of a command line ask for.
 use crate::asserting::{Host, holds, same};
-use shb_words::{Listing, Plan, WordsFault, plan_of};
+use shb_words::{Plan, WordsFault, plan_of};
 use std::test::Fail;
 
 fn planned(rt: &impl Host, words: &[&str]) -> Result<Result<Plan, WordsFault>, Fail> {
@@ -17,19 +17,25 @@ fn expect_report(
     words: &[&str],
     wanted: (bool, u32, bool, Option<&str>),
 ) -> Result<(), Fail> {
-    let Ok(
-        Plan::Report {
-            listing,
-            workers,
-            list,
-            trace,
-        },
-    ) = planned(rt, words)?
-    else {
-        return Err("no report is asked for".into());
+    let (has_all_races, workers, list, trace) = match planned(rt, words)? {
+        Ok(
+            Plan::Races {
+                workers,
+                list,
+                trace,
+            },
+        ) => (true, workers, list, trace),
+        Ok(
+            Plan::Places {
+                workers,
+                list,
+                trace,
+            },
+        ) => (false, workers, list, trace),
+        _ => return Err("no report is asked for".into()),
     };
     let path = trace.as_ref().map(|path| path.as_str());
-    let found = (matches!(listing, Listing::Races), workers.get(), list, path);
+    let found = (has_all_races, workers.get(), list, path);
     same(rt, &found, &wanted, "the plan");
     Ok(())
 }
@@ -48,6 +54,20 @@ fn reports_are_asked_for(rt: HostRuntime) -> Result<(), Fail> {
         &["places", "--workers", "1", "t.std"],
         (false, 1, false, Some("t.std")),
     )
+}
+
+#[test]
+fn a_scan_is_asked_for(rt: HostRuntime) -> Result<(), Fail> {
+    for (words, wanted) in [
+        (&["scan"] as &[&str], false),
+        (&["scan", "--variables", "t.std"], true),
+    ] {
+        let Ok(Plan::Scan { by_variable, .. }) = planned(&rt, words)? else {
+            return Err("no scan is asked for".into());
+        };
+        same(&rt, &by_variable, &wanted, "by variable");
+    }
+    Ok(())
 }
 
 #[test]
