@@ -95,13 +95,17 @@ class Programs(recorder.Case):
                     self.assertEqual(found.get(place), names)
 
     def test_older_lists_of_locations(self):
-        """They tell the same as those of DWARF 5."""
+        """They tell the same as those of DWARF 5, of the lines that are marked: where else a name is certain depends on the address at which
+        the stack begins."""
+        wanted = recorder.marked(recorder.PROGRAMS / "locals.c", "IS")
         for compiler in "gcc", "clang":
             if shutil.which(compiler):
                 newest = self.found(compiler, "-O2", "-gdwarf-5")
                 for version in 3, 4:
-                    with self.subTest(compiler=compiler, version=version):
-                        self.assertEqual(self.found(compiler, "-O2", f"-gdwarf-{version}"), newest)
+                    found = self.found(compiler, "-O2", f"-gdwarf-{version}")
+                    for place in wanted:
+                        with self.subTest(compiler=compiler, version=version, place=place):
+                            self.assertEqual(found.get(place, set()) - {"-"}, newest.get(place, set()) - {"-"})
 
     def test_by_clang(self):
         """It doesn't tell of each where it lies, and may have no hooks for members; a part of one may be a variable of its own."""
