@@ -10,6 +10,7 @@ import pathlib
 import random
 import re
 import tempfile
+import types
 
 import judge
 import program
@@ -751,8 +752,13 @@ class Waiting(program.Case):
         self.assertRegex(terminal.getvalue(), r"\A\r\x1b\[Kshb-view: reading the report \d+%.*\r\x1b\[K\Z")
 
     def test_nothing_is_said_in_the_first_second(self):
-        said = progress.Progress("shb-view", self.terminal())
-        self.assertLess(abs(said.next - progress.time.monotonic() - 1), 0.5)
+        self.addCleanup(setattr, progress, "time", progress.time)
+        progress.time = types.SimpleNamespace(monotonic=lambda: now)
+        now, terminal = 5.0, self.terminal()
+        said = progress.Progress("shb-view", terminal)
+        for now, shown in ((5.9, ""), (6.1, "\r\x1b[Kshb-view: reading 25%")):
+            said.step("reading", 1, 4)
+            self.assertEqual(terminal.getvalue(), shown)
 
     def test_nothing_is_said_elsewhere(self):
         said = progress.Progress("shb-view", io.StringIO())

@@ -310,7 +310,7 @@ exec {farm.SHB} "$@"
         started = subprocess.Popen(self.words("--jobs", "2"), env=self.environment(self.shb), stdout=subprocess.DEVNULL,
                                    stderr=subprocess.DEVNULL)
         deadline = time.monotonic() + farm.SECONDS
-        while not self.pids.exists() and started.poll() is None:
+        while not (self.pids.exists() and self.pids.read_text()) and started.poll() is None:
             self.assertLess(time.monotonic(), deadline)
             time.sleep(0.02)
         return started

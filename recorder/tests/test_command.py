@@ -732,7 +732,7 @@ int main(int count, char **words) {
     def test_a_signal_ends_the_program_and_shows_it(self):
         """Sent to the command alone; the program, which hangs, has raced before. What ignores it is killed after --wait."""
         program = self.program("deadlock.c")
-        for number, how, own, wait in ((signal.SIGTERM, "", 143, []), (signal.SIGINT, "", 130, []), (signal.SIGTERM, "trap '' TERM; ", 137, ["--wait", "8"])):
+        for number, how, own, wait in ((signal.SIGTERM, "", 143, []), (signal.SIGINT, "", 130, []), (signal.SIGTERM, "trap '' TERM; ", 137, ["--wait", "30"])):
             ready = self.folder / f"ready{own}"
             words = [*wait, "sh", "-c", f"{how}exec {program} > {ready}"]
             ran = subprocess.Popen([str(recorder.BUILT / "shb-record"), *words], cwd=self.folder, stderr=subprocess.PIPE,
@@ -798,9 +798,9 @@ int main(int count, char **words) {
 
     def test_a_page_that_takes_longer_than_is_waited_for(self):
         """The places are there first."""
-        status, said = self.signalled("SIGTERM", words=("--wait", "2"), then="import time; time.sleep(1000)")
+        status, said = self.signalled("SIGTERM", words=("--wait", "20"), then="import time; time.sleep(1000)")
         self.assertEqual((status, "1 place with races" in said), (66, True), said)
-        self.assertIn("shb-record: stopped 2 seconds after the signal (--wait)\n", said)
+        self.assertIn("shb-record: stopped 20 seconds after the signal (--wait)\n", said)
         self.assertIn("run1.N.rec", self.names())
 
     def test_places_are_told_first_after_a_signal(self):
