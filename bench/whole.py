@@ -1,10 +1,11 @@
 #!/usr/bin/env python3
 """Prints what all of shb-record costs beside ThreadSanitizer, for docs/BENCHMARKS.md.
 
-    whole.py [RUNS [KIND..]]
+    whole.py [RUNS [KIND..]]                     whole.c and examples/account.c, built by gcc -O2 -fsanitize=thread
+    whole.py RUNS -- PROGRAM [WORD..]            a program that was built with the flag, with these words
 
-Builds whole.c and examples/account.c by gcc -O2 -fsanitize=thread. Each is run with gcc's library, which reports nothing, and by
-shb-record with seed 1, in turn; the built analyser is bin/shb, or what SHB names. CPU seconds are user and system time with those of all
+Each is run with gcc's library, which reports nothing, and by shb-record with seed 1, in turn, in a folder of its own; the built analyser is
+bin/shb, or what SHB names. CPU seconds are user and system time with those of all
 processes that were started, the least of RUNS runs (3); memory is the most that one of them had. The aim is ThreadSanitizer's time and
 0.4 microseconds for each event.
 """
@@ -38,30 +39,38 @@ def events_of(record):
     return int(re.search(rb"(\d+) events", said)[1])
 
 
-def row(kind, runs, folder):
+def build(kind, folder):
+    """The words that run a program of this kind."""
     source, rounds = (TOP / "examples/account.c", []) if kind == "account" else (TOP / "bench/whole.c", [kind, ROUNDS[kind]])
-    program, record = folder / kind, folder / "app.rec"
-    subprocess.run(["gcc", "-O2", "-g", "-w", "-fsanitize=thread", "-pthread", source, "-o", program], check=True)
-    words, least, memory = [program, *rounds], {}, 0
+    subprocess.run(["gcc", "-O2", "-g", "-w", "-fsanitize=thread", "-pthread", source, "-o", folder / kind], check=True)
+    return folder / kind, *rounds
+
+
+def print_row(name, words, runs, folder):
+    record, least, memory = folder / "app.rec", {}, 0
     ways = {"tsan": (words, {"TSAN_OPTIONS": "report_bugs=0"}),
             "all": ([sys.executable, TOP / "recorder/shb-record", "-o", folder / "results", *words], {"SHB_SEED": "1"})}
     for _ in range(runs):
-        for name, (command, more) in ways.items():
+        for way, (command, more) in ways.items():
             taken, had = processor_seconds(command, A_PLACE, cwd=folder, env={**os.environ, **more})
-            least[name] = min(taken, least.get(name, 1e9))
+            least[way] = min(taken, least.get(way, 1e9))
             memory = max(memory, had)
     recorded = {**os.environ, "SHB_SEED": "1", "SHB_RECORD": str(record), "LD_LIBRARY_PATH": str(TOP / "recorder/lib")}
     subprocess.run([str(word) for word in words], env=recorded, stdout=subprocess.DEVNULL, check=True)
     events = events_of(record)
     tsan, all_ = least["tsan"], least["all"]
-    print(f"| {kind} | {events:,} | {tsan:.3f} | {all_:.2f} | {all_ / tsan:.1f} | {tsan + EVENT * events:.2f} | {memory:,} |", flush=True)
+    print(f"| {name} | {events:,} | {tsan:.3f} | {all_:.2f} | {all_ / tsan:.1f} | {tsan + EVENT * events:.2f} | {memory:,} |", flush=True)
 
 
-def main(runs="3", *kinds):
+def main(runs="3", *words):
     print("| Program | Events | ThreadSanitizer | shb-record | Ratio | Aim | Memory, MB |\n|---|---|---|---|---|---|---|")
-    for kind in kinds or ROUNDS:
-        with tempfile.TemporaryDirectory() as folder:
-            row(kind, int(runs), pathlib.Path(folder))
+    for kind in ["--"] if words[:1] == ("--",) else words or ROUNDS:
+        with tempfile.TemporaryDirectory() as name:
+            folder = pathlib.Path(name)
+            if kind == "--":
+                print_row(" ".join(os.path.basename(word) for word in words[1:]), words[1:], int(runs), folder)
+            else:
+                print_row(kind, build(kind, folder), int(runs), folder)
 
 
 if __name__ == "__main__":
