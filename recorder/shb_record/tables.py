@@ -9,6 +9,7 @@ import urllib.parse
 
 from shb_common import result, sarif
 from shb_common.places import unknown_places
+from shb_common.programs import pair_of
 from shb_common.stacks import Frame
 from shb_common.words import counted
 from shb_record.places import count, table
@@ -44,7 +45,7 @@ def entry(look, row, entries):
         reads.reverse()
     found = result.entry_of(entries, row)
     return result.entry(row, found, reads, process=process, trace=trace.name, **({"group": found["group"]} if found else {}),
-                        processes=[name for name, _ in look.places.seen[row.key].traces])
+                        processes=[name for name, _ in look.places.seen[pair_of(row.key)].traces])
 
 
 def log(look, rows, entries, status):

@@ -122,6 +122,20 @@ class Results(recorder.Case):
         self.assertEqual({tuple(access["in_trace"] for access in place["accesses"]): set(place["processes"]) for place in document["places"]},
                          {(six, six): {parent["process"], child["process"]}, (six, seven): {child["process"]}, (seven, seven): {child["process"]}})
 
+    def test_a_place_whose_names_and_paths_have_different_orders(self):
+        alpha = self.folder / "b" / "alpha.c"
+        alpha.parent.mkdir()
+        alpha.write_text("extern long hits;\nvoid *work(void *u) { hits++; return u; }\n")
+        zoo = self.folder / "a" / "zoo.c"
+        zoo.parent.mkdir()
+        zoo.write_text("#include <pthread.h>\nlong hits;\nvoid *work(void *);\nint main(void) {\n    pthread_t a;\n    pthread_create(&a, 0, work, 0);\n"
+                       "    hits = 1;\n    return pthread_join(a, 0);\n}\n")
+        recorder.must(recorder.call("gcc", "-w", "-g", "-O1", "-fsanitize=thread", "-pthread", alpha, zoo, "-o", self.folder / "app"))
+        self.assertEqual(self.record("-o", "out", self.folder / "app")[0], 66)
+        [place] = json.loads((self.folder / "out" / "places.json").read_text())["places"]
+        self.assertEqual([access["in_trace"] for access in place["accesses"]], ["alpha.c:2", "zoo.c:7"])
+        self.assertEqual(len(place["processes"]), 1)
+
     def test_a_stale_line_has_its_own_status_and_last_line(self):
         program, known = self.build(RACE), self.folder / "known"
         for text, words, wanted in (("a.c:1\ta.c:1\t*\n*\t*\thits\n", [], 0), ("a.c:1\ta.c:1\t*\n*\t*\thits\n", ["--fail-on-stale"], 67),
