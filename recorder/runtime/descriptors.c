@@ -21,6 +21,7 @@ enum { DESCRIPTORS = 1 << 16 };
 static int pair_of[DESCRIPTORS];       /* what leads to the same data has one number, that of one of them; plus one */
 static uint64_t key_of[DESCRIPTORS];   /* equal at both ends of a connection, and of a FIFO that is opened by its name; or 0 */
 static char is_known[DESCRIPTORS];
+static char connects[DESCRIPTORS];     /* where a connection may come about that isn't known yet */
 
 static int is_small(int f) { return f >= 0 && f < DESCRIPTORS; }
 static int first_of(int f) { return pair_of[f] ? pair_of[f] - 1 : f; }
@@ -29,7 +30,7 @@ static void *number_of(int f) { return (void *)(FIRST_DESCRIPTOR + (uint64_t)(un
 /* It is another file now. */
 static void is_new(int f) {
     if (!is_small(f)) return;
-    pair_of[f] = is_known[f] = 0;
+    pair_of[f] = is_known[f] = connects[f] = 0;
     key_of[f] = 0;
 }
 
@@ -41,6 +42,7 @@ static void know_by_key(int f, uint64_t key) {
     if (t) t->inside = 1;
     while (atomic_exchange(&busy, 1)) syscall(SYS_sched_yield);
     is_known[f] = 1;
+    connects[f] = 0;
     for (int other = 0; other < DESCRIPTORS; other++)
         if (key_of[other] == key && other != f) pair_of[f] = first_of(other) + 1;
     key_of[f] = key;
@@ -88,6 +90,13 @@ static void know_connection(int f) {
     if (is_small(f) && !getsockname(f, (void *)&here, &here_size) && !getpeername(f, (void *)&there, &there_size))
         know_by_key(f, (sum_of(&here, here_size) + sum_of(&there, there_size)) | 1ull << 63);
     errno = saved;
+}
+
+/* The call that made the connection may not have returned yet. */
+static void know_accepted(int f) {
+    for (int other = 0; other < DESCRIPTORS; other++)
+        if (connects[other]) know_connection(other);
+    know_connection(f);
 }
 
 /* A FIFO may be opened by its name at both ends, and a connection may have come about by now. */
@@ -213,13 +222,14 @@ AFTER(ssize_t, preadv64, (int f, const struct iovec *p, int n, off64_t at), (f, 
         note_descriptor(OP_WAIT, number_of(r), CALLER); \
         return r; \
     }
-#define KNOW_ACCEPTED (know_connection(r), note_descriptor(OP_WAIT, data_of(r), CALLER))
+#define KNOW_ACCEPTED (know_accepted(r), note_descriptor(OP_WAIT, data_of(r), CALLER))
 GIVES_NUMBER(accept, KNOW_ACCEPTED, (int f, struct sockaddr *a, socklen_t *n), (f, a, n))
 GIVES_NUMBER(accept4, KNOW_ACCEPTED, (int f, struct sockaddr *a, socklen_t *n, int k), (f, a, n, k))
 GIVES_NUMBER(socket, , (int d, int k, int p), (d, k, p))
 GIVES_NUMBER(eventfd, , (unsigned v, int k), (v, k))
 PUBLIC int connect(int f, const struct sockaddr *a, socklen_t n) {
     note_descriptor(OP_POST, data_of(f), CALLER);
+    if (is_small(f)) connects[f] = 1;
     int r = REAL(connect)(f, a, n);
     if (is_small(f)) is_known[f] = 0;  /* it may still come about */
     if (!r) know_connection(f);
@@ -246,7 +256,7 @@ PUBLIC int close(int f) {
     }
     note_descriptor(OP_POST, number_of(f), CALLER);
     note_descriptor(OP_POST, data_of(f), CALLER);
-    if (is_small(f)) pair_of[f] = is_known[f] = 0;           /* its key stays for a connection that isn't accepted yet */
+    if (is_small(f)) pair_of[f] = is_known[f] = connects[f] = 0;    /* its key stays for a connection that isn't accepted yet */
     return REAL(close)(f);
 }
 

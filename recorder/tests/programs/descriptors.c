@@ -32,12 +32,14 @@ static void *work(void *unused) {
         send_byte(copies[i]);
         while (atomic_load_explicit(&got, memory_order_relaxed) <= i) ;
     }
-    int fifo = open("fifo", O_WRONLY), f = socket(AF_INET, SOCK_STREAM, 0);
+    int fifo = open("fifo", O_WRONLY), f = socket(AF_INET, SOCK_STREAM | SOCK_NONBLOCK, 0);
     data[3] = 1;
     send_byte(fifo);
     data[4] = 1;
-    if (connect(f, (struct sockaddr *)&at, sizeof at)) exit(1);
+    connect(f, (struct sockaddr *)&at, sizeof at);           /* it is accepted before anything here knows that it is made */
+    while (atomic_load_explicit(&got, memory_order_relaxed) < 4) ;
     send_byte(f);
+    fcntl(f, F_SETFL, 0);
     get_byte(f);
     FILE *out = fdopen(streams[1], "w");
     data[5] = 1;
@@ -72,8 +74,9 @@ int main(void) {
     get_byte(fifo);
     sum += data[3];
     int f = accept(listener, 0, 0);
-    get_byte(f);
     sum += data[4];
+    atomic_store_explicit(&got, 4, memory_order_relaxed);
+    get_byte(f);
     reply = 1;
     send_byte(f);
     char line[9];
