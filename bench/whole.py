@@ -54,7 +54,7 @@ def print_row(name, words, runs, folder):
         for way, (command, more) in ways.items():
             taken, had = processor_seconds(command, A_PLACE, cwd=folder, env={**os.environ, **more})
             least[way] = min(taken, least.get(way, 1e9))
-            memory = max(memory, had)
+            memory = max(memory, had) if way == "all" else memory
     recorded = {**os.environ, "SHB_SEED": "1", "SHB_RECORD": str(record), "LD_LIBRARY_PATH": str(TOP / "recorder/lib")}
     subprocess.run([str(word) for word in words], env=recorded, stdout=subprocess.DEVNULL, check=True)
     events = events_of(record)
