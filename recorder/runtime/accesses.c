@@ -112,13 +112,7 @@ static thread *before_atomic(enum operation operation, const volatile void *p, u
 
 static void after_atomic(thread *t) { if (t) leave(t); }
 
-/* Whether a compare-and-exchange is an update or a load is known after it: so its record has room before it is made. */
-static thread *before_exchange(void) {
-    thread *t = enter(MAY_YIELD);
-    if (t && others) make_room(t, ROOM_OF_ATOMIC);
-    return t;
-}
-
+/* Whether a compare-and-exchange is an update or a load is known after it. */
 static void after_exchange(thread *t, int done, const volatile void *p, uint64_t size_and_order, uint64_t caller) {
     if (!t) return;
     if (others) put(t, done ? OP_ATOMIC_UPDATE : OP_ATOMIC_LOAD, p, size_and_order, caller);
@@ -182,7 +176,7 @@ FETCH_16(fetch_nand, ~(old & value))
 
 #define COMPARE_EXCHANGE(bits, type, name, exchange) \
     PUBLIC int __tsan_atomic##bits##_##name(volatile type *p, type *expected, type value, int order, int fail_order) { \
-        thread *t = before_exchange(); \
+        thread *t = enter(MAY_YIELD); \
         int done = exchange(p, expected, value); \
         after_exchange(t, done, p, size_and_order(bits / 8, done ? order : fail_order), CALLER); \
         return done; \
@@ -204,7 +198,7 @@ FETCH_16(fetch_nand, ~(old & value))
     COMPARE_EXCHANGE(bits, type, compare_exchange_weak, exchange) \
     PUBLIC type __tsan_atomic##bits##_compare_exchange_val(volatile type *p, type expected, type value, int order, \
                                                            int fail_order) { \
-        thread *t = before_exchange(); \
+        thread *t = enter(MAY_YIELD); \
         int done = exchange(p, &expected, value); \
         after_exchange(t, done, p, size_and_order(bits / 8, done ? order : fail_order), CALLER); \
         return expected; \

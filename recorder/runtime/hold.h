@@ -5,8 +5,6 @@
 #include "runtime.h"
 #include "cells.h"
 
-#define BARRIER() __asm__ volatile("" ::: "memory")          /* for the compiler; the processor stores in this order */
-
 void note_access(enum operation operation, uint64_t address, uint64_t size, uint64_t caller);
 void hold_elsewhere(thread *t, cell *c, uint64_t what, uint64_t address);
 
@@ -28,9 +26,9 @@ static inline int hold_quickly(thread *t, uint64_t *word, enum operation operati
 
 /* Handlers of signals may come from here on. */
 static inline void end_quick_hook(thread *t) {
-    BARRIER();
+    KEEP_ORDER();
     t->inside = 0;
-    BARRIER();
+    KEEP_ORDER();
 }
 
 static inline int may_be_quick(const thread *t, uint64_t address, uint64_t size) {
@@ -46,7 +44,7 @@ void hook(enum operation operation, uint64_t address, uint64_t size, uint64_t ca
     thread *t = self;
     if (!may_be_quick(t, address, size)) return note_access(operation, address, size, caller);
     t->inside = 1;                     /* so no handler of a signal comes, which may change all that is read below */
-    BARRIER();
+    KEEP_ORDER();
     cell *c = is_usual(t) && address < CELL_ADDRESSES ? find_cell(address) : 0;
     uint64_t what = caller + what_of_use((uint64_t)operation << 48 | (uint64_t)__builtin_ctzl(size) << 54, size < GRAIN ? address : 0);
     if (c) {

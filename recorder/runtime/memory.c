@@ -125,7 +125,6 @@ DELETE(_ZdaPvSt11align_val_tRKSt9nothrow_t, size_t align, const void *nothrow)
 static void note_copy(void *to, const void *from, size_t n, uint64_t caller) {
     thread *t = others && n && instrumented(caller) ? enter(NEVER_YIELD) : 0;
     if (!t) return;
-    make_room_of_copy(t, to, from, n); /* nobody comes between the two */
     if (from) put(t, OP_READ, from, n, caller);
     put(t, OP_WRITE, to, n, caller);
     end_copy(t);

@@ -95,6 +95,8 @@ static void add(const thread *t, enum operation operation, uint64_t where, uint6
     if (size >= SIZE_FOLLOWS) records[written++] = (struct record){size, (uint64_t)OP_SIZE << 48};
 }
 
+enum { ROOM = 5 };                     /* of one access, its depth and its way, with sizes */
+
 /* How many of the functions that the thread is in are contexts that are recorded. */
 static uint32_t count_recorded(const thread *t) {
     uint32_t depth = recordable_depth(t);
@@ -144,33 +146,27 @@ static uint64_t inside_of(const thread *t, enum operation operation, uint64_t si
     return size < SIZE_FOLLOWS ? size : SIZE_FOLLOWS;
 }
 
-enum { ROOM_OF_LATE = 1 << 15 };       /* of a copy's read */
-
 /* With the turn. */
-static int has_room(uint64_t count, uint64_t more) {
-    return written + count <= most_records && written + count + more <= atomic_load_explicit(&room, memory_order_relaxed);
+static int has_room(uint64_t count) {
+    return written + count <= most_records && written + count <= atomic_load_explicit(&room, memory_order_relaxed);
 }
 
-/* Afterwards t has the turn, its functions are recorded and there is room for so many records, and of the file's for more, or it
-   answers 0.  The thread may sleep in grow, and then the turn may be taken over: so it is asked for after that. */
-static int make_room_and_more(thread *t, uint64_t count, uint64_t more) {
+/* While the thread works: afterwards its functions are recorded and there is room for so many records, or it answers 0. */
+static int make_room(thread *t, uint64_t count) {
     int of_contexts = room_of_contexts(t);
-    count += of_contexts;
-    for (;;) {
-        if (!keep_turn(t)) take_turn(t);
-        if (!recording) return 0;
-        if (written + count > most_records) {
-            stop_recording("SHB_RECORDS is reached");
-            return 0;
-        }
-        if (written + count + more <= atomic_load(&room)) break;
-        grow();
+    for (count += of_contexts; recording && !has_room(count);) {
+        if (written + count > most_records) stop_recording("SHB_RECORDS is reached");
+        else grow();
     }
-    if (of_contexts) add_contexts(t);
-    return 1;
+    if (recording && of_contexts) add_contexts(t);
+    return recording;
 }
 
-int make_room(thread *t, uint64_t count) { return make_room_and_more(t, count, 0); }
+int begin_work(thread *t) {
+    t->works = 1;
+    if (!keep_turn(t)) take_turn(t);
+    return recording;
+}
 
 /* Is it a read that the thread made before, with nothing but reads of any thread in between?  Then it got the same value, by
    the same order. */
@@ -207,18 +203,17 @@ static uint64_t position_now(const thread *t) {
     return is_known && positions_left() ? (uint64_t)t->in->number << POSITION_BITS | (last_position + 1) : NO_POSITION;
 }
 
-/* A quick hook puts nothing, but behind one of a write may be that of the copy's read. Each of its steps is a position, and so is the
-   step of the hook behind them. */
+/* A quick hook puts nothing. Each of its steps is a position. */
 uint64_t begin_quick(thread *t) {
-    uint64_t left = others && has_cells && has_room(ROOM_OF_COPY, ROOM_OF_LATE) ? positions_left() : 0;
+    uint64_t left = others && has_cells ? positions_left() : 0;
     t->base = last_position + 1 - t->steps;
-    return left ? left - 1 : 0;
+    return left;
 }
 
 void end_quick(thread *t) {
     if (!t->limit) return;
-    last_position = t->base + t->steps - 1;
-    t->kept = t->steps;
+    t->kept = steps_in_turns(t);
+    last_position = t->base + t->kept - 1;
     t->limit = 0;
 }
 
@@ -243,24 +238,11 @@ static uint64_t room_of_late(const thread *t, enum operation operation, const vo
     return has_cells ? 2 * count_late(t->serial, record_of(t, operation, (uint64_t)address, 0, 0), bytes) : 0;
 }
 
-/* Room for a record and for those that are late and come before it, with the turn. Others may come while the thread sleeps for room, so
-   it looks again. After a write hook there may be that of the copy's read, which must not sleep. */
+/* Room for a record, and for those that are late and come before it. */
 static int make_room_for(thread *t, enum operation operation, const volatile void *address, uint64_t bytes) {
-    uint64_t count = operation == OP_WRITE ? ROOM_OF_COPY : ROOM, more = operation == OP_WRITE && has_cells ? ROOM_OF_LATE : 0;
-    if (!room_of_contexts(t) && has_room(count + most_room_of_late(operation, bytes), more)) return 1;
-    for (uint64_t late = 0, found; make_room_and_more(t, count + late, more); late = found) {
-        found = room_of_late(t, operation, address, bytes);
-        if (found <= late) return 1;
-    }
-    return 0;
-}
-
-void make_room_of_copy(thread *t, const void *to, const void *from, uint64_t size) {
-    if (has_room(ROOM_OF_COPY + 2 * most_room_of_late(OP_WRITE, size), ROOM_OF_LATE)) return;
-    for (uint64_t late = 0, found; make_room(t, ROOM_OF_COPY + late); late = found) {
-        found = room_of_late(t, OP_WRITE, to, size) + (from ? room_of_late(t, OP_READ, from, size) : 0);
-        if (found <= late) return;
-    }
+    uint64_t late = most_room_of_late(operation, bytes);
+    if (!has_room(ROOM + late)) late = room_of_late(t, operation, address, bytes);
+    return make_room(t, ROOM + late);
 }
 
 static int is_held_back(thread *t, enum operation operation, struct record r, uint64_t bytes) {
@@ -269,9 +251,7 @@ static int is_held_back(thread *t, enum operation operation, struct record r, ui
     return 1;
 }
 
-void put(thread *t, enum operation operation, const volatile void *address, uint64_t size, uint64_t caller) {
-    if (!keep_turn(t)) take_turn(t);
-    if (!recording) return;
+static void put_now(thread *t, enum operation operation, const volatile void *address, uint64_t size, uint64_t caller) {
     uint64_t bytes = bytes_of(operation, address, size);
     if (!make_room_for(t, operation, address, bytes)) return;
     uint64_t inside = inside_of(t, operation, size);
@@ -288,9 +268,15 @@ void put(thread *t, enum operation operation, const volatile void *address, uint
     if (inside == SIZE_FOLLOWS) records[written++] = (struct record){size, (uint64_t)OP_SIZE << 48};
 }
 
+void put(thread *t, enum operation operation, const volatile void *address, uint64_t size, uint64_t caller) {
+    if (begin_work(t)) put_now(t, operation, address, size, caller);
+    t->works = 0;
+}
+
 /* The record of another thread, which makes no more. */
 void put_of(thread *t, const thread *ended, enum operation operation, const volatile void *object, uint64_t caller) {
-    if (make_room(t, 1)) add(ended, operation, (uint64_t)object, 0, caller);
+    if (begin_work(t) && make_room(t, 1)) add(ended, operation, (uint64_t)object, 0, caller);
+    t->works = 0;
 }
 
 /* The system keeps no more of a thread's name than MOST_NAME bytes. */
@@ -306,9 +292,10 @@ void put_name(thread *t, const thread *named, const char *name) {
     char pieces[2 * NAME_PIECE] = "";
     size_t length = strnlen(name, MOST_NAME);
     memcpy(pieces, name, length);
-    if (!make_room(t, 2)) return;
-    add_piece_of_name(named, pieces, 0);
-    if (length > NAME_PIECE) add_piece_of_name(named, pieces + NAME_PIECE, NAME_PIECE);
+    int has_place = begin_work(t) && make_room(t, 2);
+    if (has_place) add_piece_of_name(named, pieces, 0);
+    if (has_place && length > NAME_PIECE) add_piece_of_name(named, pieces + NAME_PIECE, NAME_PIECE);
+    t->works = 0;
 }
 
 /* A hook of its own for one record. */

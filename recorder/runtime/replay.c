@@ -94,7 +94,7 @@ static uint64_t due_count;
 static volatile uint64_t at;
 static uint64_t due_turns, done_turns;
 
-static int reaches(const thread *t, uint64_t entry) { return !(entry & UNUSUAL) && t->steps >= steps_of_entry(entry); }
+static int reaches(const thread *t, uint64_t entry) { return !(entry & UNUSUAL) && steps_in_turns(t) >= steps_of_entry(entry); }
 
 /* For the reader of the record's header. */
 static void note_number(const char *format, uint64_t number) {

@@ -9,6 +9,7 @@
 #pragma GCC visibility push(hidden)
 #define PUBLIC __attribute__((visibility("default")))
 #define CALLER ((uint64_t)__builtin_return_address(0))
+#define KEEP_ORDER() __asm__ volatile("" ::: "memory")          /* for the compiler; the processor stores in this order, and loads too */
 
 /* The functions that a thread is in are a node of a tree (calls.c): the innermost one, and the node of those further out. */
 typedef struct context {
@@ -35,6 +36,8 @@ typedef struct thread {
     uint32_t serial;                   /* no other's ever, from 1 */
     volatile char inside;              /* the recorder: hooks met now are not recorded */
     volatile char deferred;            /* a signal came meanwhile and waits for the end of the hook */
+    volatile char asks;                /* a hook has begun that isn't quick, and has yet to ask for the turn */
+    volatile char works;               /* on the record, or for a new thread, where it may sleep: then nobody takes the turn over */
     uint64_t steps;                    /* replay.c: so far */
     uint64_t limit;                    /* hooks may be quick (hold.h) until it made so many steps; or 0 */
     uint64_t base;                     /* then its steps and this are the position of the next access that is held back */
@@ -44,7 +47,7 @@ typedef struct thread {
     uint64_t reader;                   /* as cells.h has it in a use */
     uint32_t number;                   /* in the order of creation, from 0; or that of one that was joined */
     uint32_t depth;                    /* how many functions it is in */
-    uint64_t kept;                     /* its steps when it was last seen to have the turn */
+    uint64_t kept;                     /* those of its steps that were in its turns, but for quick hooks since */
     uint64_t quick_from;               /* since so many steps its hooks may be quick */
     pid_t system_id;
     pthread_t handle;
@@ -73,6 +76,13 @@ typedef struct thread {
 /* Only right behind a write's hook may come that of the read of the same copy. */
 static inline int is_write(uint64_t last) { return (last >> 48 & 3) == OP_WRITE; }
 static inline void end_copy(thread *t) { if (is_write(t->last)) t->last = 0; }
+
+/* The steps that were in its turns, for any thread: asked for behind its steps, so where a hook was counted in these it is seen that it asks. */
+static inline uint64_t steps_in_turns(const thread *t) {
+    uint64_t steps = t->steps;
+    KEEP_ORDER();
+    return t->limit && !t->asks ? steps : t->kept;
+}
 
 /* turn.c: who runs.  Each hook is enter .. leave; enter gives no thread where nothing is to be recorded. */
 enum yields { NEVER_YIELD, MAY_YIELD };
@@ -185,11 +195,8 @@ const char *own_command(void);         /* that line of the header */
 void unlock_record(void);
 void give_back_room(void);
 int limit_record(uint64_t addresses);
-/* Records of one access, its depth and its way, with sizes; of an atomic one, with those that are late; of a copy's read and write. */
-enum { ROOM = 5, ROOM_OF_ATOMIC = 2000, ROOM_OF_COPY = 10 };
 extern uint64_t changes;               /* records so far of anything but reads, and writes that were held back */
-int make_room(thread *t, uint64_t count);
-void make_room_of_copy(thread *t, const void *to, const void *from, uint64_t size);
+int begin_work(thread *t);             /* afterwards t has the turn, unless the recording has ended, and keeps it while it works */
 void put(thread *t, enum operation operation, const volatile void *address, uint64_t size, uint64_t caller);
 void note(enum operation operation, const volatile void *object, uint64_t caller);
 void put_of(thread *t, const thread *ended, enum operation operation, const volatile void *object, uint64_t caller);

@@ -208,15 +208,14 @@ static int start_blocked(thread *t, thread *child, pthread_t *created, const pth
     return error;
 }
 
-/* Records the fork and starts the thread, whose function and argument are in `start`; NOT_STARTED where it can't have a number.
-   The thread may sleep in new_thread, and then the turn may be taken over: so it is asked for after that, before the child
-   gets its number. */
+/* Records the fork and starts the thread, whose function and argument are in `start`; NOT_STARTED where it can't have a number. */
 enum { NOT_STARTED = -1 };
 static int create(thread *t, thread start, pthread_t *handle, const pthread_attr_t *attributes, uint64_t caller) {
+    begin_work(t);
     thread *child = new_thread();
     move_to_file();
     open_list();
-    if (!keep_turn(t)) take_turn(t);
+    t->works = 0;
     if (!child || !number_thread(child)) {
         stop_recording("too many threads");
         return NOT_STARTED;

@@ -6,6 +6,7 @@
      (b) around a call that may block: it gives it likewise;
      (c) to a waiter that sees it asleep inside a system call: between a hook and its access there is none;
      (d) to a waiter that sees that it has computed for 100 ms since its last hook: no access takes so long.
+   Not while it `works` on the record, where it may sleep for room: it says so before it asks whether it has the turn.
    In (c) and (d) the waiter *takes it over*.  The word `turn` has the holder and a count that each hook raises.  The
    waiter reads the word, then looks at the holder, then swaps itself in if the word is still the same: so there was no
    hook since, and it looked at a thread past its access.  The holder finds another one in the word at its next hook.
@@ -112,6 +113,7 @@ int keep_turn(thread *t) {
     uint64_t word = atomic_load_explicit(&turn, memory_order_relaxed);
     if (t != quick_holder && (HOLDER(word) != NAME(t) || !swap_in(t, word))) return 0;
     end_quick(t);
+    t->asks = 0;
     t->kept = t->steps;
     return 1;
 }
@@ -206,8 +208,9 @@ static thread *holder_of(uint64_t word) { return HOLDER(word) == NOBODY ? 0 : th
 /* Under the guard: takes the turn that others have given, or lost. */
 static int get_turn(thread *t, uint64_t seen) {
     if (!may_get_turn(t, holder_of(seen)) || !swap_in(t, seen)) return 0;
-    if (holder) end_quick(holder);     /* it is past its access, and in no hook */
+    if (holder) end_quick(holder);     /* it is past its access, and may have begun a hook */
     begin_turn(t);
+    t->asks = 0;
     holder = t;
     name_quick_holder();
     return 1;
@@ -284,7 +287,7 @@ static int gone_or_asleep(pid_t system_id, long *ticks) {
     return text[0] >= '0' && text[0] <= '9';
 }
 
-/* While a waiter doubts: the turn's word, and when it was first seen the holder's time and this. */
+/* While a waiter doubts: the turn's word, when it was first looked at the holder, and its time then, where it didn't work. */
 struct watch { int doubts; uint64_t word; long ticks; time_t since; };
 
 /* The word, which is doubted if it may be looked at the holder. */
@@ -304,14 +307,14 @@ static int past_its_access(uint64_t word, struct watch *watch) {
     long ticks = watch->ticks;
     if (HOLDER(word) == NOBODY) return 1;
     if (!watch->doubts) return 0;
-    if (gone_or_asleep(holder_of(word)->system_id, &ticks)) return 1;
-    if (watch->ticks < 0) {
-        watch->ticks = ticks;
-        watch->since = now.tv_sec;
-    }
+    const thread *seen = holder_of(word);
+    int works = seen->works;           /* read before the look: if not, it has ended that, or the word is another one by now */
+    if (gone_or_asleep(seen->system_id, &ticks) && (!works || is_gone(seen->system_id))) return 1;
+    if (!watch->since) watch->since = now.tv_sec;
+    if (watch->ticks < 0 && !works) watch->ticks = ticks;
     if (now.tv_sec - watch->since > stall_seconds)
         stop_recording("one thread neither slept, computed nor came to a hook for SHB_STALL seconds");
-    return ticks >= watch->ticks + COMPUTES_TICKS;
+    return !works && ticks >= watch->ticks + COMPUTES_TICKS;
 }
 
 static int may_take_over(const thread *t, uint64_t word, struct watch *watch) {
@@ -416,9 +419,14 @@ int waits_for_list(thread *t) {
 /* How many quick ones take as much of the slice as another one. */
 static int quick_share(void) { return is_replaying || given_slice || are_slices_short() ? 1 : QUICK_HOOKS; }
 
+/* Where a hook begins: afterwards its step is no quick one. */
 static void count_quick(thread *t) {
     t->quantum -= (t->steps - t->quick_from) / quick_share();
     t->quick_from = t->steps;
+    if (t->limit) t->kept = t->steps;
+    KEEP_ORDER();
+    t->asks = 1;
+    KEEP_ORDER();
 }
 
 /* At the end of a hook: the next ones may be quick until the slice ends, or where nobody waits, for a while. */

@@ -2,8 +2,8 @@
 
 A program is a word for each thread; its letters are
   h  a hook of either kind and the access after it  s  a system call that sleeps, not wrapped
-  b  a wrapped blocking call, recorded after it     c  a computation of more than 100 ms without a hook
-  x  the end of the recording
+  q  the same, and a quick one where it may be      c  a computation of more than 100 ms without a hook
+  b  a wrapped blocking call, recorded after it     x  the end of the recording
 Properties, in every state:
   window    no thread is between its record and its access while another writes a record or makes an access
   record    no access without its record while the recording is on
@@ -11,12 +11,14 @@ Properties, in every state:
             some thread is on its way to wake it: no hand-over needs a timeout
   listed    a thread stands among the waiters once from its first step in take_turn to its last, else never
   due       while a list of turns is followed nobody has the turn but the thread of its next entry
+  turn      by the list of turns that is written each record is made in the turn in which it was made, and a turn by a list that
+            is followed ends after as many steps as that says
   quick     nobody is named as the quick holder but who has the turn
   end       from every state the end of all threads can be reached
 The steps are those at which threads meet: each load, store and swap of the turn and of a thread's wakes, the guard's
 lock, the futex calls, the look at the holder. The count in the turn's word is not stored: a thread's view of the word
 is fresh until the word changes and never again, for counts don't return; likewise its view of its wakes. A look may
-say yes wherever the holder isn't between the swap in put (or take_turn) and its access: more often than turn.c says it.
+say yes wherever the holder isn't between the swap in enter, put or take_turn and its access: more often than turn.c says it.
 
 A hook of the quick holder raises no count. A waiter doubts in two steps: it takes the name away, which that thread may see at
 once or not; and makes a barrier, after which it does. At a later look it goes on doubting or ends it: at more looks than turn.c.
@@ -28,9 +30,9 @@ loses the turn. A waiter may leave it at each of its looks: sooner than turn.c d
 import typing
 
 NONE = -1
-PROGRAMS = ["hhh hhh", "hbh hsh", "hch hbh", "hsb hcb", "hxh hbh", "h h h", "h s b"]
+PROGRAMS = ["hqsh h", "hhh hhh", "hbh hsh", "hch hbh", "hsb hcb", "hxh hbh", "h h h", "h s b"]
 REPLAYS = [("hh hhh", ((0, 1), (1, 2), (0, 3), (1, 4))), ("hb hbh", ((1, 1), (0, 2), (1, 2), (0, 3), (1, 4))),
-           ("hsh hc", ((0, 1), (1, 1), (0, 3), (1, 2))), ("hxh hb", ((0, 2), (1, 2))),
+           ("hsh hc", ((0, 1), (1, 1), (0, 3), (1, 2))), ("hxh hb", ((0, 2), (1, 2))), ("hqhh h", ((0, 3), (1, 1), (0, 4))),
            ("hh hb", ((1, 3), (0, 1), (1, 9))), ("hb hh", ((0, 1), (0, 2), (1, 0), (0, 9)))]  # the last two don't fit
 LONG_REPLAYS = [("hhh hhh", ((0, 1), (1, 2), (0, 4), (1, 4))), ("h b h", ((2, 2), (1, 1), (0, 2), (1, 2)))]
 LONG_PROGRAMS = ["hh b h", "hhhh hhhh", "hbhsh hchbh", "hsxh hbch", "hh hh h", "hs hb h", "hx hb h", "hc hh b", "hb hs hh", "hh hh hh"]
@@ -50,13 +52,20 @@ ENDS_EARLY = "a waiter ends its doubt before it takes the turn over"
 ONE_DOUBTER = "the end of a doubt names the holder while another waiter doubts"
 STAYS_NAMED = "who gives the turn stays the quick holder"
 LEAVES_HOLDER = "who takes the turn over leaves the holder as it was"
+EARLY_STEP = "a hook counts its step before it tells that the quick ones have ended"
+ONLY_KEPT = "who takes the turn over counts no quick hook"
+LOST_IN_GROW = "a waiter takes the turn over from a thread that sleeps for room"
+ANY_STEP = "a holder that is about to ask for the turn has reached the end of its turn"
 NOT_DUE = "a waiter that isn't due takes a turn that nobody has"
 LEAVES_IT_TO_NOBODY = "who leaves the list gives nobody the turn that nobody has"
-BUGS_OF_REPLAYS = {NOT_DUE, LEAVES_IT_TO_NOBODY}
+BUGS_OF_REPLAYS = {NOT_DUE, LEAVES_IT_TO_NOBODY, ANY_STEP}
 BUGS = {PUT_DOES_NOT_ASK: "window", PUT_SKIPS: "record", NO_COUNT: "window", TAKES_BLINDLY: "window",
         WORD_FIRST: "wake", UNLISTED: "wake", NAMED_RUNS: "record", NOT_DUE: "due", LEAVES_IT_TO_NOBODY: "wake",
         NO_DOUBT: "window", NO_BARRIER: "window", NO_GUARD: "window", ENDS_EARLY: "window", ONE_DOUBTER: "window",
-        STAYS_NAMED: "quick", LEAVES_HOLDER: "quick"}
+        STAYS_NAMED: "quick", LEAVES_HOLDER: "quick", EARLY_STEP: "turn", ONLY_KEPT: "turn", LOST_IN_GROW: "turn", ANY_STEP: "turn"}
+
+
+NO_LIMIT, ENDED, MAY_BE_QUICK = range(3)  # may its hooks be quick?
 
 
 class Thread(typing.NamedTuple):
@@ -67,7 +76,10 @@ class Thread(typing.NamedTuple):
     wakes: bool = False  # is its view of its wakes fresh?
     look: bool = False  # its sleep ended by the timeout: it looks at the holder
     target: int = 0  # whom it wakes
-    steps: int = 0  # in a replay, so far
+    steps: int = 0  # so far
+    kept: int = 0  # those that were in its turns, but for quick hooks since
+    made: int = 0  # those whose record is made
+    limit: int = NO_LIMIT
     doubts: bool = False
     sees_name: bool = False  # it may see itself as the quick holder, though the name was taken away
 
@@ -82,6 +94,7 @@ class State(typing.NamedTuple):
     accepted: int = NONE  # who has accepted the turn, and has neither given nor lost it
     quick: int = NONE  # the quick holder
     doubters: int = 0
+    runs: int = NONE  # who got the turn last
     turns: tuple = ()  # the turns to come, and the one that has begun, while they are followed
 
 
@@ -91,7 +104,7 @@ class Broken(Exception):
 
 WAITING_STEPS = {"read_wakes", "read_word", "doubt", "take_name", "count_doubt", "barrier", "end_doubt", "name_again", "look_at_holder",
                  "accept", "swap_in", "leave", "leaving", "wait", "sleep"}
-IN_ITS_ACCESS = {"check", "record", "access"}
+IN_ITS_ACCESS = {"check", "record", "grow", "access"}
 
 
 class Step:
@@ -128,8 +141,15 @@ class Step:
         return self.without_doubt(self.state.accepted if leaves else self.number)
 
     # the list of turns
+    def steps_in_turns(self, number):
+        thread = self.state.threads[number]
+        return thread.steps if thread.limit == MAY_BE_QUICK and self.bug != ONLY_KEPT else thread.kept
+
     def has_ended(self, number):
-        return self.state.threads[number].steps >= self.state.turns[0][1]
+        return (self.state.threads[number].steps if self.bug == ANY_STEP else self.steps_in_turns(number)) >= self.state.turns[0][1]
+
+    def is_due_to_give(self):
+        return bool(self.state.turns) and self.thread.steps >= self.state.turns[0][1]
 
     def may_get(self):
         turns, holder = self.state.turns, self.state.holder
@@ -140,16 +160,33 @@ class Step:
         return self.has_ended(holder) and len(turns) > 1 and turns[1][0] == self.number
 
     def begun(self):
-        """The list when this thread has got the turn."""
-        turns = self.state.turns
-        return turns[1:] if turns and turns[0][0] != self.number else turns
+        """What changes in the lists when this thread has got the turn."""
+        turns, runs = self.state.turns, self.state.runs
+        if runs not in (NONE, self.number) and BUGS.get(self.bug, "turn") == "turn":  # other bugs are to be found by a worse effect
+            self.check_entry(runs)
+        return {"runs": self.number, "turns": turns[1:] if turns and turns[0][0] != self.number else turns}
+
+    def check_entry(self, number):
+        """The one that is written, where another thread has got the turn."""
+        thread, steps, turns = self.state.threads[number], self.steps_in_turns(number), self.state.turns
+        if steps != thread.made:
+            raise Broken(f"turn: thread {number} has made {thread.made} records, its turn ends after {steps}")
+        if turns and turns[0][0] == number and turns[0][1] != steps:
+            raise Broken(f"turn: thread {number} has had the turn for {steps} steps, it was to end after {turns[0][1]}")
 
     def given(self):
         """The list when it has given the turn."""
-        return self.state.turns[1:] if self.state.turns and self.has_ended(self.number) else self.state.turns
+        return self.state.turns[1:] if self.is_due_to_give() else self.state.turns
 
-    def next_step(self):
-        return self.thread.steps + 1 if self.state.turns else 0
+    def slow(self):
+        """What changes where a hook begins that isn't quick, but for its step."""
+        if self.thread.limit != MAY_BE_QUICK or self.bug == EARLY_STEP:
+            return {}
+        return {"kept": self.thread.steps, "limit": ENDED}
+
+    def with_turn(self):
+        """What changes in a thread that has the turn, in a hook that isn't quick."""
+        return {"limit": NO_LIMIT, "kept": self.thread.steps}
 
     # between two hooks
     def next(self):
@@ -157,26 +194,39 @@ class Step:
         if self.thread.at == len(program):
             yield self.to("give", after="gone")
             return
-        first = {"h": ("keep", ""), "b": ("give", "blocked"), "x": ("stop", ""), "s": ("away", ""), "c": ("away", "")}
-        step, after = first[program[self.thread.at]]
-        for step in ("keep", "put") if step == "keep" else (step,):  # enter; enter_access
-            is_hook = step in ("keep", "put")
-            if is_hook and self.state.turns:
-                yield self.to("give", after=step) if self.has_ended(self.number) else self.to(step, after=after, steps=self.next_step())
-                continue
-            yield self.to(step, after=after)
-            if is_hook and self.state.waiting:  # its quantum is used up
-                yield self.to("give", after=step)
+        letter = program[self.thread.at]
+        if letter == "q" and self.may_be_quick():
+            yield self.in_window(steps=self.thread.steps + 1)
+        if letter in "hq" and not (letter == "q" and self.is_named()):
+            yield from self.hook()
+        if letter in "bxsc":
+            step, after = {"b": ("give", "blocked"), "x": ("stop", ""), "s": ("away", ""), "c": ("away", "")}[letter]
+            yield self.to(step, after=after, **self.slow())
+
+    def is_named(self):
+        return self.may_be_quick() and self.state.quick == self.number
+
+    def may_be_quick(self):
+        """Perhaps by what it saw."""
+        is_named = self.state.quick == self.number or self.thread.sees_name
+        return is_named and self.thread.limit == MAY_BE_QUICK and not self.is_due_to_give()
+
+    def hook(self):
+        for step in ("keep", "put"):  # enter; enter_access
+            if not self.is_due_to_give():
+                yield self.to(step, **{**self.slow(), "steps": self.thread.steps + 1})
+            if self.is_due_to_give() or not self.state.turns and self.state.waiting:  # its quantum is used up
+                yield self.to("give", after=step, **self.slow())
 
     def away(self):
         yield self.to("next", at=self.thread.at + 1)
 
     def blocked(self):
-        yield self.to("take", after="put")
+        yield self.to("take", after="check")
 
-    # keep_turn, in enter (enter_access has none) and in put
+    # keep_turn, in enter, or where that has none (enter_access) in put; where both have it the second changes nothing
     def keep(self):
-        yield from self.ask("put")
+        yield from self.ask("check")
 
     def put(self):
         if self.bug == PUT_DOES_NOT_ASK:
@@ -189,13 +239,13 @@ class Step:
     def ask(self, after):
         is_quick = self.state.quick == self.number
         if is_quick or self.thread.sees_name:
-            yield self.to(after, after="")
+            yield self.to(after, after="", **self.with_turn())
         if not is_quick:
             yield self.to("raise_count", after=after, word=True) if self.has_turn() else self.to("take", after=after)
 
     def raise_count(self):
         if self.thread.word:
-            yield self.to(self.thread.after, after="", word=False, changed=self.bug != NO_COUNT)
+            yield self.to(self.thread.after, after="", word=False, changed=self.bug != NO_COUNT, **self.with_turn())
         else:
             yield self.to("take")
 
@@ -208,12 +258,19 @@ class Step:
         yield self.to("grow")
 
     def grow(self):  # asleep inside the hook, for disk space
-        yield self.to("put")
+        yield self.to("put" if self.bug == LOST_IN_GROW else "record")
 
     def record(self):
+        """Afterwards its hooks may be quick, if it is the quick holder or sees itself so."""
+        if self.state.quick == self.number or self.thread.sees_name:
+            yield self.in_window(limit=MAY_BE_QUICK)
+        if self.state.quick != self.number:
+            yield self.in_window()
+
+    def in_window(self, **own):
         if self.state.window != NONE:
             raise Broken(f"window: thread {self.number} records, thread {self.state.window} has yet to make its access")
-        yield self.to("access", shared={"window": self.number})
+        return self.to("access", made=own.get("steps", self.thread.steps), shared={"window": self.number}, **own)
 
     def access(self):
         if self.state.window != self.number:
@@ -230,19 +287,19 @@ class Step:
         yield from self.locked("hand_over")
 
     def hand_over(self):
-        waiting, after, steps = self.state.waiting, self.thread.after, self.next_step()
+        waiting, after, steps = self.state.waiting, self.thread.after, self.thread.steps + 1
         if not self.has_turn():
             yield self.to(after, after="", shared={"guard": NONE}, steps=steps)
             return
+        own = {**self.with_turn(), "steps": steps, "sees_name": False}
         turns = self.given()
         candidates = waiting & {turns[0][0]} if turns else waiting
         given = {"guard": NONE, "turns": turns, **({} if self.bug == STAYS_NAMED else self.name(NONE, self.state.doubters))}
         if not candidates:
-            yield self.to(after, after="", changed=True, shared={**given, "holder": NONE}, steps=steps, sees_name=False)
+            yield self.to(after, after="", changed=True, shared={**given, "holder": NONE}, **own)
         for next in candidates:
             left = waiting - {next} if self.bug in (UNLISTED, NAMED_RUNS) else waiting
-            yield self.to("raise_wakes", changed=True, target=next, steps=steps, sees_name=False,
-                          shared={**given, "holder": next, "waiting": left})
+            yield self.to("raise_wakes", changed=True, target=next, shared={**given, "holder": next, "waiting": left}, **own)
 
     def raise_wakes(self):
         threads = list(self.state.threads)
@@ -257,7 +314,7 @@ class Step:
 
     def woken(self, thread):
         if self.bug == NAMED_RUNS:
-            return Thread(thread.at, thread.after, target=thread.target)
+            return thread._replace(step=thread.after, after="", word=False, wakes=False, look=False, doubts=False)
         return thread._replace(step=self.first_of_wait, look=False)
 
     # take_turn
@@ -266,7 +323,7 @@ class Step:
 
     def done(self, changed=False, **shared):
         return self.to(self.thread.after, changed=changed, shared={"guard": NONE, **shared},
-                       after="", word=False, wakes=False, look=False, doubts=False)
+                       after="", word=False, wakes=False, look=False, doubts=False, **self.with_turn())
 
     def without_doubt(self, accepted, on=True):
         """What is left where this thread doubts no more, if it did."""
@@ -277,7 +334,7 @@ class Step:
         if not self.state.on:
             yield self.done()
         elif self.state.holder == NONE and self.may_get():
-            yield self.done(changed=True, holder=self.number, turns=self.begun(), **self.got())
+            yield self.done(changed=True, holder=self.number, **self.begun(), **self.got())
         else:
             waiting = self.state.waiting | {self.number}
             yield self.to(self.first_of_wait, shared={"guard": NONE, "waiting": waiting})
@@ -331,7 +388,8 @@ class Step:
         if self.state.turns:
             yield self.to("leave")
         holder = self.state.holder
-        if not self.thread.word or holder == NONE or self.state.threads[holder].step not in IN_ITS_ACCESS:
+        hidden = IN_ITS_ACCESS - {"grow"} if self.bug == LOST_IN_GROW else IN_ITS_ACCESS
+        if not self.thread.word or holder == NONE or self.state.threads[holder].step not in hidden:
             yield self.to("end_doubt" if self.bug == ENDS_EARLY and self.thread.doubts else "accept")
 
     def accept(self):
@@ -342,7 +400,7 @@ class Step:
         if not self.state.on:
             yield self.done(waiting=waiting, **self.without_doubt(self.state.accepted, False))
         elif (self.thread.word or self.bug == TAKES_BLINDLY) and self.may_get():
-            yield self.done(changed=True, waiting=waiting, holder=self.number, turns=self.begun(), **self.got())
+            yield self.done(changed=True, waiting=waiting, holder=self.number, **self.begun(), **self.got())
         else:
             yield self.to(self.before_sleep(), shared={"guard": NONE})
 

@@ -1,10 +1,11 @@
 /* Preloaded into a recorded program: refuses disk space from request number REFUSE_SPACE on, counted from 1; or it has FREE_SPACE bytes
-   before the first. */
+   before the first; or each request sleeps for SLOW_SPACE microseconds. */
 #define _GNU_SOURCE
 #include <errno.h>
 #include <stdlib.h>
 #include <sys/syscall.h>
 #include <sys/vfs.h>
+#include <time.h>
 
 static long kernel(long number, long a, long b, long c, long d, long e, long f) {
     register long r10 __asm__("r10") = d, r8 __asm__("r8") = e, r9 __asm__("r9") = f;
@@ -19,6 +20,8 @@ static long setting(const char *name) { return getenv(name) ? atol(getenv(name))
 long syscall(long number, long a, long b, long c, long d, long e, long f) {
     static long requests, taken;
     long result = -ENOSPC, refused = setting("REFUSE_SPACE");
+    struct timespec slow = {0, setting("SLOW_SPACE") * 1000};
+    if (number == SYS_fallocate && slow.tv_nsec) kernel(SYS_nanosleep, (long)&slow, 0, 0, 0, 0, 0);
     if (number != SYS_fallocate || !refused || ++requests < refused) result = kernel(number, a, b, c, d, e, f);
     if (number == SYS_fallocate) taken += d;
     if (number == SYS_fstatfs && setting("FREE_SPACE")) {

@@ -76,6 +76,17 @@ class Replays(recorder.Case):
                 runs[name] = ran.stdout, ran.stderr, (self.folder / f"{name}.turns").read_bytes()[HEADER:]
             self.assertEqual(runs["first"], runs["second"], f"seed {seed}")
 
+    def test_a_thread_that_sleeps_for_room(self):
+        """In a hook, before its record; there it keeps its turn."""
+        program, slow = self.program("room.c"), self.folder / "slow.so"
+        recorder.must(recorder.call("gcc", "-O1", "-fno-builtin", "-fPIC", "-shared", recorder.HERE / "refuse_space.c", "-o", slow))
+        seen = set()
+        for how in {"LD_PRELOAD": str(slow), "SLOW_SPACE": "300000"}, {"SHB_REPLAY": str(self.folder / "first.turns")}:
+            name = "again" if seen else "first"
+            ran = recorder.must(recorder.call(program, env=self.settings(name, 1, SHB_CELLS="0", **how)))
+            seen.add((ran.stdout, ran.stderr, (self.folder / f"{name}.turns").read_bytes()[HEADER:]))
+        self.assertEqual(len(seen), 1)
+
     def test_a_program_that_changed(self):
         _, turns = self.run_it("first", 5, self.program())
         said, _ = self.run_it("again", 5, self.program("rare.c", "-DLONGER", folder="changed"), replay="first")
