@@ -85,7 +85,7 @@ static inline uint64_t steps_in_turns(const thread *t) {
 }
 
 /* turn.c: who runs.  Each hook is enter .. leave; enter gives no thread where nothing is to be recorded. */
-enum yields { NEVER_YIELD, MAY_YIELD };
+enum yields { NEVER_YIELD, YIELDS_BY_LIST, MAY_YIELD };      /* by the list alone: in a replay */
 extern __thread thread *self __attribute__((tls_model("initial-exec")));
 extern volatile int recording;
 void begin_turns(int slice, uint64_t seed);                  /* with 0 slices of many lengths */

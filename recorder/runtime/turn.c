@@ -445,7 +445,7 @@ thread *enter_access(enum yields yields) {
     if (!t || !recording || t->inside) return 0;
     t->inside = 1;
     count_quick(t);
-    if (--t->quantum <= 0 && yields && (waiters || is_replaying)) hand_over(t, 1);
+    if (--t->quantum <= 0 && (is_replaying ? yields : yields == MAY_YIELD && waiters)) hand_over(t, 1);
     else t->steps++;
     return t;
 }

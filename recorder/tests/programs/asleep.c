@@ -42,6 +42,14 @@ UNSEEN int pthread_getattr_np(pthread_t thread, pthread_attr_t *attributes) {
     return real(thread, attributes);
 }
 
+void *__libc_memalign(size_t alignment, size_t size);
+static volatile int allocates;
+static void *volatile block;
+UNSEEN void *__libc_malloc(size_t size) {
+    if (allocates) sleep_a_while();
+    return __libc_memalign(16, size);
+}
+
 static void *works(void *x) {
     for (int i = 0; i < ROUNDS; i++) {
         shared++;
@@ -66,6 +74,9 @@ int main(void) {
     while (!__atomic_load_n(&shared, __ATOMIC_RELAXED)) ;
     pthread_create(&beginner, &attributes, begins, &seen[0]);
     sleep_a_while();
+    allocates = 1;
+    block = malloc(8);
+    allocates = 0;
     seen[1] = shared;
     pthread_join(beginner, 0);
     pthread_join(worker, 0);
