@@ -9,7 +9,7 @@
 #pragma once
 #include <stdint.h>
 
-#define RECORD_MAGIC "shb-record 9\n"
+#define RECORD_MAGIC "shb-record 10\n"
 #define LINE_END_IN_PATH 1
 #define HEADER_BYTES 65536
 #define ENDED_BYTES 256
@@ -79,7 +79,7 @@ enum operation {
                                           and NAME_PIECE in another right behind it, where there is more */
     OP_CRASH,                          /* the last record of a thread that a signal ends with the program: the size is its number, and
                                           HAS_ADDRESS where the kernel told the address. It was behind the caller that it came */
-    OP_LATE,                           /* the read or write that is in the next entry was made earlier: in the place of the address
+    OP_LATE,                           /* the access that is in the next entry was made earlier: in the place of the address
                                           is its position, of POSITION_BITS, and of the caller its context, of CONTEXT_BITS. It may
                                           come again, with the same position */
     OPERATIONS

@@ -9,6 +9,13 @@
    While nobody writes, other threads that read the cell don't end the phase: then its owner is READERS, and each use is
    one of a certain thread's. A write, an atomic access, an access of several cells or a free ends that phase.
 
+   An atomic access is held back likewise: it is of another kind with another order. In a phase its thread alone reads and
+   writes the value. So nobody takes what the ones between the first and the last gave, and by C11
+     - the last one of a kind gives all that those before it gave, for what a thread gives never gets less;
+     - a relaxed store ends what other threads gave, and the first of its kind in the phase is recorded at once;
+     - what the thread takes is that of others before the phase, which the first of each kind took, or its own;
+     - the last ones stand in the order in which they were made, so the last store is the one that another thread reads.
+
    What is lost? Nothing that a race or its place needs:
      - of accesses that are the same (thread, kind, place with the calls that tell its location, bytes) and have no
        conflicting one of another thread between them, the first and the last stand for all;
@@ -468,9 +475,12 @@ static enum operation operation_of(struct record r) { return r.what >> 48 & 63; 
 
 static int is_plain_access(enum operation operation) { return operation == OP_READ || operation == OP_WRITE; }
 
-/* An atomic access, or a use of an object: it is recorded, and may conflict with all others. */
-static int is_used_by_all(enum operation operation) {
-    return (operation >= OP_ATOMIC_LOAD && operation <= OP_ATOMIC_UPDATE) || (operation >= OP_LOCK_INIT && operation <= OP_DESTROY);
+static int is_in_one(uint64_t address, uint64_t end) { return address / GRAIN == (end - 1) / GRAIN; }
+
+/* An atomic access of several cells, or a use of an object: it is recorded, and may conflict with all others. */
+static int is_used_by_all(enum operation operation, uint64_t address, uint64_t end) {
+    int is_atomic = operation >= OP_ATOMIC_LOAD && operation <= OP_ATOMIC_UPDATE;
+    return is_atomic ? !is_in_one(address, end) : operation >= OP_LOCK_INIT && operation <= OP_DESTROY;
 }
 
 /* In a part of a page: what a use of it puts. */
@@ -490,7 +500,7 @@ uint64_t count_late(uint32_t serial, struct record r, uint64_t bytes) {
     enum operation operation = operation_of(r);
     uint64_t address = r.where & LOW_48_BITS, end = address + bytes, count = 1;
     if (operation == OP_ALLOC || operation == OP_START || end > CELL_ADDRESSES) return 0;
-    if (is_used_by_all(operation)) serial = USED_BY_ALL;
+    if (is_used_by_all(operation, address, end)) serial = USED_BY_ALL;
     for (uint64_t at = address, stop; at < end; at = stop) {
         stop = end_in_page(at, end);
         const cell_page *page = page_at(at, 0);
@@ -506,8 +516,8 @@ int hold_back(uint32_t serial, struct record r, uint64_t bytes, uint64_t kind, u
     if (!bytes || end > CELL_ADDRESSES) return 0;
     if (operation == OP_FREE) free_range(serial, number, address, end);
     else if (operation == OP_ALLOC || operation == OP_START) renew(address, end);
-    else if (is_used_by_all(operation)) use_range(USED_BY_ALL, 0, address, end);
-    else if (is_plain_access(operation) && address / GRAIN == (end - 1) / GRAIN) return hold_in_one(serial, r, kind, word);
+    else if (is_used_by_all(operation, address, end)) use_range(USED_BY_ALL, 0, address, end);
+    else if (operation <= OP_ATOMIC_UPDATE && is_in_one(address, end)) return hold_in_one(serial, r, kind, word);
     else if (is_plain_access(operation)) return hold_in_several(serial, r, end, kind, word);
     return 0;
 }

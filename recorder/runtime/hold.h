@@ -8,8 +8,6 @@
 void note_access(enum operation operation, uint64_t address, uint64_t size, uint64_t caller);
 void hold_elsewhere(thread *t, cell *c, uint64_t what, uint64_t address);
 
-static inline enum operation operation_of(uint64_t what) { return what >> 48 & 3; }
-
 /* The word of a use that is made now. */
 static inline uint64_t word_now(const thread *t) { return (uint64_t)t->in->number << POSITION_BITS | (t->base + t->steps); }
 

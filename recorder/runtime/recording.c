@@ -135,6 +135,8 @@ static void add_contexts(thread *t) {
 }
 
 static int is_plain(enum operation operation) { return operation == OP_READ || operation == OP_WRITE; }
+static int is_atomic(enum operation operation) { return operation >= OP_ATOMIC_LOAD && operation <= OP_ATOMIC_UPDATE; }
+static int only_reads(enum operation operation) { return operation == OP_READ || operation == OP_ATOMIC_LOAD; }
 
 static int has_depth_inside(enum operation operation, uint64_t size) { return is_plain(operation) && size <= 16 && !(size & (size - 1)); }
 
@@ -171,7 +173,7 @@ int begin_work(thread *t) {
 /* Is it a read that the thread made before, with nothing but reads of any thread in between?  Then it got the same value, by
    the same order. */
 static inline int is_repeated(thread *t, enum operation operation, struct record r) {
-    if (operation != OP_READ && operation != OP_ATOMIC_LOAD) {
+    if (!only_reads(operation)) {
         changes++;
         return 0;
     }
@@ -221,7 +223,7 @@ void end_quick(thread *t) {
 static uint64_t bytes_of(enum operation operation, const volatile void *address, uint64_t size) {
     enum { MOST_FREED = 1024 };
     if (is_plain(operation) || operation == OP_ALLOC || operation == OP_START) return size;
-    if (operation >= OP_ATOMIC_LOAD && operation <= OP_ATOMIC_UPDATE) return size & ((1 << ATOMIC_SIZE_BITS) - 1);
+    if (is_atomic(operation)) return size & ((1 << ATOMIC_SIZE_BITS) - 1);
     if (operation != OP_FREE) return 1;
     uint64_t usable = malloc_usable_size((void *)address);
     return usable < MOST_FREED ? usable : MOST_FREED;
@@ -246,7 +248,8 @@ static int make_room_for(thread *t, enum operation operation, const volatile voi
 }
 
 static int is_held_back(thread *t, enum operation operation, struct record r, uint64_t bytes) {
-    if (!has_cells || !hold_back(t->serial, r, bytes, t->kind, is_plain(operation) ? position_now(t) : NO_POSITION)) return 0;
+    uint64_t position = is_plain(operation) || is_atomic(operation) ? position_now(t) : NO_POSITION;
+    if (!has_cells || !hold_back(t->serial, r, bytes, t->kind, position)) return 0;
     last_position++;
     return 1;
 }
@@ -257,7 +260,7 @@ static void put_now(thread *t, enum operation operation, const volatile void *ad
     uint64_t inside = inside_of(t, operation, size);
     struct record r = record_of(t, operation, (uint64_t)address, inside, caller);
     if (is_held_back(t, operation, r, bytes)) {
-        changes += operation == OP_WRITE;
+        changes += !only_reads(operation);
         return;
     }
     if (is_repeated(t, operation, r)) return;

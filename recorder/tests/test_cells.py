@@ -27,6 +27,11 @@ def context(thread, number):
     return entry(thread, "CONTEXT", number, 0)
 
 
+def atomic(thread, operation, place, order=4, size=4):
+    """With the order of C11's acquire and release, if no other is named."""
+    return entry(thread, f"ATOMIC_{operation}", X, place, size | order << 5)
+
+
 OTHER_USES = [write(1, 0x300 + k) for k in range(15)]
 CASES = {  # what a record has behind FORKS, and what is left of it
     "of one thread": ([write(1, 0x201), read(1, 0x202), write(1, 0x201), write(1, 0x203, X + 4, 1)], []),
@@ -52,6 +57,27 @@ CASES = {  # what a record has behind FORKS, and what is left of it
          write(1, 0x205, BLOCK + 8)],
         [entry(1, "ALLOC", BLOCK, 0x201, 32), entry(1, "FREE", BLOCK, 0x203), late(3, 1, read(1, 0x202, BLOCK + 8)),
          read(2, 0x204, BLOCK + 8), late(7, 2, read(2, 0x204, BLOCK + 8)), write(1, 0x205, BLOCK + 8)]),
+    "atomics of one thread": ([atomic(1, "STORE", 0x201), *[atomic(1, "UPDATE", 0x202), atomic(1, "LOAD", 0x203)] * 2], []),
+    "a lock made of an atomic": (
+        [*[atomic(1, "UPDATE", 0x201, 2), write(1, 0x202, X + 8), atomic(1, "STORE", 0x203, 3)] * 3, atomic(2, "UPDATE", 0x201, 2), read(2, 0x204, X + 8)],
+        [late(2, 7, atomic(1, "UPDATE", 0x201, 2)), late(2, 9, atomic(1, "STORE", 0x203, 3)), atomic(2, "UPDATE", 0x201, 2),
+         late(2, 8, write(1, 0x202, X + 8)), read(2, 0x204, X + 8)]),
+    "an atomic in a later phase": (
+        [write(1, 0x201), *[atomic(2, "UPDATE", 0x204)] * 3, read(1, 0x205)],
+        [late(2, 1, write(1, 0x201)), atomic(2, "UPDATE", 0x204), late(5, 2, atomic(2, "UPDATE", 0x204)), read(1, 0x205)]),
+    "atomics at one place": (
+        [*[atomic(1, "UPDATE", 0x201, order) for order in (2, 3, 4)], atomic(1, "LOAD", 0x201, 2), atomic(2, "LOAD", 0x204)],
+        [late(2, 1, atomic(1, "UPDATE", 0x201, 2)), late(2, 2, atomic(1, "UPDATE", 0x201, 3)), late(2, 3, atomic(1, "UPDATE", 0x201, 4)),
+         late(2, 4, atomic(1, "LOAD", 0x201, 2)), atomic(2, "LOAD", 0x204)]),
+    "atomics of several threads": (
+        [atomic(1, "LOAD", 0x201), atomic(2, "LOAD", 0x204), atomic(1, "LOAD", 0x201)],
+        [late(2, 1, atomic(1, "LOAD", 0x201)), atomic(2, "LOAD", 0x204), atomic(1, "LOAD", 0x201)]),
+    "an atomic of two cells": (
+        [*[atomic(1, "UPDATE", 0x201, size=16)] * 2, read(2, 0x204), atomic(1, "LOAD", 0x202, size=16)],
+        [*[atomic(1, "UPDATE", 0x201, size=16)] * 2, read(2, 0x204), atomic(1, "LOAD", 0x202, size=16)]),
+    "an atomic of two cells behind a write": (
+        [*[write(1, 0x201)] * 2, atomic(2, "UPDATE", 0x204, size=16)],
+        [late(2, 2, write(1, 0x201)), atomic(2, "UPDATE", 0x204, size=16)]),
     "parts of a cell": (
         [write(1, 0x201), write(1, 0x201, X + 4), read(2, 0x204, X + 6, 1)],
         [late(2, 1, write(1, 0x201)), late(2, 2, write(1, 0x201, X + 4)), read(2, 0x204, X + 6, 1)]),
@@ -143,7 +169,7 @@ CASES = {  # what a record has behind FORKS, and what is left of it
         [entry(0, "JOIN", 1, 0x103), entry(2, "FORK", 1, 0x204), late(2, 1, write(1, 0x201)), write(1, 0x201)]),
 }
 # What the threads of a record do: as in test_open, and blocks (B), and ranges over pages with accesses in them (G).
-WORDS = ["RW", "RWL", "RWA", "AR", "RAL", "RWLS", "RWLX", "RWLLLL", "RLLL", "WL", "RWB", "BL", "G", "GGL", "GL", "GLL", "RWC", "RLC"]
+WORDS = ["RW", "RWL", "RWA", "AR", "RAL", "RWLS", "RWLX", "RWLLLL", "RLLL", "WL", "RWB", "BL", "G", "GGL", "GL", "GLL", "RWC", "RLC", "A", "AF", "ALF", "RWAF"]
 FOUND_IN_DRAWN = 5  # of these faults so many are found in a few drawn records too, each of the others in a case
 FAULTS = {  # to plant: the file, what stands there, and what in its place
     "each phase counts as the first": ("cells.c", "int is_first = !c->owner && !is_freed(page, address);", "int is_first = 1;"),
@@ -156,7 +182,12 @@ FAULTS = {  # to plant: the file, what stands there, and what in its place
     "calls from two places are one use of a reader": (
         "cells.c", "kind | reader_of(serial, r.where >> 48)};", "reader_of(serial, r.where >> 48)};"),
     "a use that makes room isn't recorded": ("cells.c", "    if (is_held(old)) put_held(c, old, address);\n", ""),
-    "atomic accesses end no phase": ("cells.c", "(operation >= OP_ATOMIC_LOAD && operation <= OP_ATOMIC_UPDATE)", "0"),
+    "atomic accesses end no phase": ("cells.c", "operation <= OP_ATOMIC_UPDATE && is_in_one", "is_plain_access(operation) && is_in_one"),
+    "atomic accesses of several cells end no phase": ("cells.c", "is_atomic ? !is_in_one(address, end)", "is_atomic ? 0"),
+    "atomic accesses of all orders are one use": ("cells.h", "(has_depth(what) ? OF_ALL_DEPTHS : 0)", "OF_ALL_DEPTHS"),
+    "atomic accesses of all kinds are one use": (
+        "cells.h", "    return what | address % GRAIN", "    if (operation_of_use(what) > OP_WRITE) what |= 7ull << 48;\n    return what | address % GRAIN"),
+    "atomic accesses are reads": ("cells.h", "return operation_of_use(what) == OP_READ;", "return operation_of_use(what) != OP_WRITE;"),
     "a free ends no phase": ("cells.c", "if (operation == OP_FREE) free_range", "if (0) free_range"),
     "each page begins with a first phase": (
         "cells.c", "page->is_first = !cells && !page->is_whole && !has_freed(page);", "page->is_first = 1;"),

@@ -20,7 +20,7 @@ HEAD = """#include <pthread.h>
 #include <stdlib.h>
 #include <string.h>
 static pthread_mutex_t m[4] = {PTHREAD_MUTEX_INITIALIZER, PTHREAD_MUTEX_INITIALIZER, PTHREAD_MUTEX_INITIALIZER, PTHREAD_MUTEX_INITIALIZER};
-static long g[8], flag;
+static long g[8], flag, a[4];
 static int h[16];
 static unsigned char b[32];
 static long *volatile heap;
@@ -28,7 +28,11 @@ static long *volatile heap;
 OWN = 'long own[8] = {0}, s = 1; __asm__ volatile("" : : "r"(own) : "memory");'
 ACCESSES = ["own[{0}] += {1};", "own[{0}] += {1};", "s += own[{0}];", "g[{0}] += 1;", "g[{0}] += 1;", "s += g[{0}];", "h[{0} * 2 + {1} % 2] = s;",
             "s += b[{0} * 4 + {1} % 4];", "b[{0} * 4 + {1} % 4] = s;", "s += __atomic_load_n(&flag, __ATOMIC_ACQUIRE);",
-            "__atomic_store_n(&flag, s, __ATOMIC_RELEASE);"]
+            "__atomic_store_n(&flag, s, __ATOMIC_RELEASE);", "s += __atomic_fetch_add(&a[{2}], {1}, __ATOMIC_RELAXED);",
+            "s += __atomic_fetch_sub(&a[{2}], {1}, __ATOMIC_ACQ_REL);", "__atomic_store_n(&a[{2}], s, __ATOMIC_RELAXED);",
+            "while (__atomic_exchange_n(&a[3], 1, __ATOMIC_ACQUIRE)) ; g[{0}] += 1; __atomic_store_n(&a[3], 0, __ATOMIC_RELEASE);",
+            "if (__atomic_compare_exchange_n(&a[{2}], &s, {1}, 0, __ATOMIC_SEQ_CST, __ATOMIC_RELAXED)) own[{0}] = g[{1}];",
+            "__atomic_thread_fence(__ATOMIC_ACQ_REL);", "s += a[{2}];"]
 BLOCKS = ["{{ long *p = malloc(64); p[1] = s; s += p[1]; heap = p; p[2] = 3; }}", "{{ long *p = malloc(64); p[1] = s; s += p[1]; free(p); }}",
           "memset(own, 0, 64); memcpy(own + 2, own, 16);", "{{ long *p = heap; if (p) s += p[1]; }}", "s += f{2}(own, s);", "s += f{2}(own, s);"]
 LOCKED = "pthread_mutex_lock(&m[{2}]); %s %s pthread_mutex_unlock(&m[{2}]);"

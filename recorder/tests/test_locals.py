@@ -143,7 +143,7 @@ class MadeByHand(recorder.Case):
         local = END - gap + self.at + inside
         entries = [entry(0, "START", END - 8192, 0, 8192), entry(0, "FORK", 1, 0x101), entry(1, "START", 0x30000000, 0x500, 4096), before,
                    frames, entry(0, "WRITE", local, self.main + 20, 4), entry(1, "WRITE", local, 0x200, 4), behind]
-        header = b"shb-record 9\n0 ffffff 0 " + os.fsencode(self.program) + b"\n"
+        header = b"shb-record 10\n0 ffffff 0 " + os.fsencode(self.program) + b"\n"
         self.record.write_bytes(header.ljust(65536 - 256, b"\0") + b"whole".ljust(256, b"\0") + b"".join(entries))
 
     def names(self, converter=None):

@@ -8,7 +8,7 @@ import struct
 
 import recorder
 
-HEADER = b"shb-record 9\n".ljust(65536 - 256, b"\0") + b"whole".ljust(256, b"\0")
+HEADER = b"shb-record 10\n".ljust(65536 - 256, b"\0") + b"whole".ljust(256, b"\0")
 DEFINED = re.search(r"enum operation \{(.*?)\n\};", (recorder.SOURCES / "record.h").read_text(), re.S)[1]
 OPERATIONS = re.findall(r"OP_\w+", re.sub(r"/\*.*?\*/", "", DEFINED))
 SIZE_FOLLOWS = 1023
@@ -346,7 +346,7 @@ def damaged_records():
         yield bytes(record)
     yield from (HEADER + random_bytes(draw, 16 * entries) for entries in range(20))
     yield random_bytes(draw, 70000)
-    yield b"shb-record 9\nffff 1 2 \n1 2\nx y z\n0 fff 0 --help\n0 ffffffffffff 0 /\n".ljust(65536, b"1") + ENTRIES
+    yield b"shb-record 10\nffff 1 2 \n1 2\nx y z\n0 fff 0 --help\n0 ffffffffffff 0 /\n".ljust(65536, b"1") + ENTRIES
 
 
 def damaged_programs(good):
@@ -385,7 +385,7 @@ class Damaged(recorder.Case):
     def test_a_program_with_damaged_debug_information(self):
         converter, record, program = recorder.sanitized(self.folder), self.folder / "app.rec", self.folder / "app"
         recorder.must(recorder.call("gcc", "-g", *recorder.two_of_one_name(self.folder / "sources"), "-o", program, "-pthread"))
-        module = b"shb-record 9\n0 ffffff 0 " + os.fsencode(program) + b"\n"
+        module = b"shb-record 10\n0 ffffff 0 " + os.fsencode(program) + b"\n"
         record.write_bytes(module.ljust(65536 - 256, b"\0") + b"whole".ljust(256, b"\0") + ENTRIES)
         for number, damaged in enumerate(damaged_programs(program.read_bytes())):
             program.write_bytes(damaged)
@@ -398,7 +398,7 @@ class Damaged(recorder.Case):
             self.skipTest("clang isn't installed")
         converter, record, program = recorder.sanitized(self.folder, "clang"), self.folder / "app.rec", self.folder / "app"
         recorder.must(recorder.call("gcc", "-g", *recorder.two_of_one_name(self.folder / "sources"), "-o", program, "-pthread"))
-        record.write_bytes((b"shb-record 9\n0 ffffff 0 " + os.fsencode(program) + b"\n").ljust(65536 - 256, b"\0")
+        record.write_bytes((b"shb-record 10\n0 ffffff 0 " + os.fsencode(program) + b"\n").ljust(65536 - 256, b"\0")
                            + b"whole".ljust(256, b"\0") + ENTRIES)
         program.write_bytes(program.read_bytes().replace(b".debug_line_str", b".debug_line_xxx"))
         self.assertEqual(self.convert(converter, record), 0)
