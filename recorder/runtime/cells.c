@@ -279,7 +279,7 @@ static int hold_new(cell *c, uint64_t address, uint32_t use, uint64_t word) {
     return c->is_first;
 }
 
-/* Of the cell's owner, or of one of its readers. Is it held back? At most one comes late. */
+/* Of the cell's owner, or of one of its readers. Is it held back? */
 static int hold_in_cell(cell *c, uint64_t address, cell_use use, uint64_t word) {
     if (!is_read(use.what)) c->is_only_read = 0;
     uint32_t number = word ? number_of_use(use) : 0;
@@ -481,32 +481,6 @@ static int is_in_one(uint64_t address, uint64_t end) { return address / GRAIN ==
 static int is_used_by_all(enum operation operation, uint64_t address, uint64_t end) {
     int is_atomic = operation >= OP_ATOMIC_LOAD && operation <= OP_ATOMIC_UPDATE;
     return is_atomic ? !is_in_one(address, end) : operation >= OP_LOCK_INIT && operation <= OP_DESTROY;
-}
-
-/* In a part of a page: what a use of it puts. */
-static uint64_t count_held(const cell_page *page, uint32_t serial, uint64_t address, uint64_t end) {
-    uint64_t count = 0;
-    cell *cells = *cells_at(address);
-    unsigned first = number_in_page(address), last = number_in_page(end - 1);
-    for (unsigned w = first / 64; w <= last / 64; w++)
-        for (uint64_t used = bits_between(w, first, last) & page->used[w]; used; used &= used - 1) {
-            cell *c = &cells[64 * w + __builtin_ctzll(used)];
-            for (int k = 0, most = c->owner != serial ? key_count(c) : 0; k < most; k++) count += is_held(key_at(c, k));
-        }
-    return count;
-}
-
-uint64_t count_late(uint32_t serial, struct record r, uint64_t bytes) {
-    enum operation operation = operation_of(r);
-    uint64_t address = r.where & LOW_48_BITS, end = address + bytes, count = 1;
-    if (operation == OP_ALLOC || operation == OP_START || end > CELL_ADDRESSES) return 0;
-    if (is_used_by_all(operation, address, end)) serial = USED_BY_ALL;
-    for (uint64_t at = address, stop; at < end; at = stop) {
-        stop = end_in_page(at, end);
-        const cell_page *page = page_at(at, 0);
-        if (page && *cells_at(at) && !(page->is_whole && page->owner == serial)) count += count_held(page, serial, at, stop);
-    }
-    return count;
 }
 
 int hold_back(uint32_t serial, struct record r, uint64_t bytes, uint64_t kind, uint64_t word) {

@@ -81,9 +81,7 @@ void unlock_cells(void);
 void limit_cells(uint64_t bytes);      /* takes no more than so many from here on */
 
 /* A record that is to be made now, of a thread with this serial number, which no other has. `bytes` is how many it accesses; of
-   OP_ALLOC and OP_START how many are new. */
-uint64_t count_late(uint32_t serial, struct record r, uint64_t bytes);         /* at most so many late ones come before it */
-/* Is it held back? Then the word's position is used, and it was made in a context of this kind. With NO_POSITION it isn't. Puts late ones. */
+   OP_ALLOC and OP_START how many are new. Is it held back? Then the word's position is used, and it was made in a context of this kind. With NO_POSITION it isn't. Puts late ones. */
 int hold_back(uint32_t serial, struct record r, uint64_t bytes, uint64_t kind, uint64_t word);
 /* The word of a use in a cell, by its owner or one of its readers: it is held back by a new word. Null where it may not be, where that needs
    a record or memory, or the use has no number yet. */

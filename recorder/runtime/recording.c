@@ -153,14 +153,12 @@ static int has_room(uint64_t count) {
     return written + count <= most_records && written + count <= atomic_load_explicit(&room, memory_order_relaxed);
 }
 
-/* While the thread works: afterwards its functions are recorded and there is room for so many records, or it answers 0. */
-static int make_room(thread *t, uint64_t count) {
-    int of_contexts = room_of_contexts(t);
-    for (count += of_contexts; recording && !has_room(count);) {
+/* While a thread works: afterwards there is room for so many records, or it answers 0. */
+static int make_room(uint64_t count) {
+    while (recording && !has_room(count)) {
         if (written + count > most_records) stop_recording("SHB_RECORDS is reached");
         else grow();
     }
-    if (recording && of_contexts) add_contexts(t);
     return recording;
 }
 
@@ -188,6 +186,7 @@ static inline int is_repeated(thread *t, enum operation operation, struct record
 
 /* ---- what is held back (cells.c) ---- */
 void put_late(struct record r, uint64_t position) {
+    if (!make_room(2)) return;
     records[written++] = (struct record){position & POSITIONS, position >> POSITION_BITS | (uint64_t)OP_LATE << 48};
     records[written++] = r;
 }
@@ -229,24 +228,6 @@ static uint64_t bytes_of(enum operation operation, const volatile void *address,
     return usable < MOST_FREED ? usable : MOST_FREED;
 }
 
-static int has_bytes(enum operation operation) { return operation != OP_ALLOC && operation != OP_START; }
-
-/* What is late takes at most so much room; and exactly so much, for which all cells are looked at. */
-static uint64_t most_room_of_late(enum operation operation, uint64_t bytes) {
-    return has_cells && has_bytes(operation) ? 2 * (MOST_KEYS * (bytes / GRAIN + 2) + 1) : 0;
-}
-
-static uint64_t room_of_late(const thread *t, enum operation operation, const volatile void *address, uint64_t bytes) {
-    return has_cells ? 2 * count_late(t->serial, record_of(t, operation, (uint64_t)address, 0, 0), bytes) : 0;
-}
-
-/* Room for a record, and for those that are late and come before it. */
-static int make_room_for(thread *t, enum operation operation, const volatile void *address, uint64_t bytes) {
-    uint64_t late = most_room_of_late(operation, bytes);
-    if (!has_room(ROOM + late)) late = room_of_late(t, operation, address, bytes);
-    return make_room(t, ROOM + late);
-}
-
 static int is_held_back(thread *t, enum operation operation, struct record r, uint64_t bytes) {
     uint64_t position = is_plain(operation) || is_atomic(operation) ? position_now(t) : NO_POSITION;
     if (!has_cells || !hold_back(t->serial, r, bytes, t->kind, position)) return 0;
@@ -255,15 +236,15 @@ static int is_held_back(thread *t, enum operation operation, struct record r, ui
 }
 
 static void put_now(thread *t, enum operation operation, const volatile void *address, uint64_t size, uint64_t caller) {
-    uint64_t bytes = bytes_of(operation, address, size);
-    if (!make_room_for(t, operation, address, bytes)) return;
+    int of_contexts = room_of_contexts(t);
+    if (of_contexts && make_room(of_contexts)) add_contexts(t);
     uint64_t inside = inside_of(t, operation, size);
     struct record r = record_of(t, operation, (uint64_t)address, inside, caller);
-    if (is_held_back(t, operation, r, bytes)) {
+    if (is_held_back(t, operation, r, bytes_of(operation, address, size))) {
         changes += !only_reads(operation);
         return;
     }
-    if (is_repeated(t, operation, r)) return;
+    if (is_repeated(t, operation, r) || !make_room(ROOM)) return;
     tell_context(t, recordable_depth(t), inside >> LOGARITHM_BITS == DEPTH_BEFORE || !has_depth_inside(operation, size));
     uint64_t way = is_plain(operation) ? 0 : way_to(t, t->depth, caller);
     if (way) add(t, OP_WAY, 0, 0, way);
@@ -278,7 +259,7 @@ void put(thread *t, enum operation operation, const volatile void *address, uint
 
 /* The record of another thread, which makes no more. */
 void put_of(thread *t, const thread *ended, enum operation operation, const volatile void *object, uint64_t caller) {
-    if (begin_work(t) && make_room(t, 1)) add(ended, operation, (uint64_t)object, 0, caller);
+    if (begin_work(t) && make_room(1)) add(ended, operation, (uint64_t)object, 0, caller);
     t->works = 0;
 }
 
@@ -295,7 +276,7 @@ void put_name(thread *t, const thread *named, const char *name) {
     char pieces[2 * NAME_PIECE] = "";
     size_t length = strnlen(name, MOST_NAME);
     memcpy(pieces, name, length);
-    int has_place = begin_work(t) && make_room(t, 2);
+    int has_place = begin_work(t) && make_room(2);
     if (has_place) add_piece_of_name(named, pieces, 0);
     if (has_place && length > NAME_PIECE) add_piece_of_name(named, pieces + NAME_PIECE, NAME_PIECE);
     t->works = 0;

@@ -65,12 +65,7 @@ static int is_held_back(uint64_t i, uint64_t bytes) {
     uint64_t word = held_there == MOST_HELD ? NO_POSITION : context << POSITION_BITS | written << ORDER_BITS | order;
     uint32_t serial = serials[in[i].where >> 48];
     if ((i + 2) % 3 && is_held_quickly(i, bytes, kind, word)) return 1;      /* as hooks, of which some are slow */
-    uint64_t before = written, most = 2 * count_late(serial, in[i], bytes);
     int is_held = hold_back(serial, in[i], bytes, kind, word);
-    if (written - before > most) {
-        fprintf(stderr, "%lu entries are late, and %lu at most were expected\n", written - before, most);
-        exit(1);
-    }
     held_there += is_held;
     return is_held;
 }
