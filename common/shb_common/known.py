@@ -115,6 +115,11 @@ def lasting(variable):
     return INDEX.sub(b"[*]", name)
 
 
+def is_of_block(variable):
+    """Whether a variable is named by the block that it is in."""
+    return BLOCK.fullmatch(variable) is not None
+
+
 def lasting_names(variables):
     """The same of several variables, each once; of one object with many offsets a single name."""
     found = {}

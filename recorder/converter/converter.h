@@ -21,6 +21,9 @@ typedef struct { const char *at; u64 length; } part;         /* of a text, witho
 extern u64 record_count;               /* before the first pass: no more than these */
 extern const char *recording_cut;      /* why the record is not that of the whole run; or null */
 void open_record(const char *path);
+extern u64 carried_count;              /* how many of them are of blocks that were there before */
+void carry_blocks(const char *path);   /* of the record's segment before: puts the file's records before all others */
+u32 threads_met(void);                 /* after the first pass */
 int is_record(u64 i);                  /* in the first pass; after it there are `record_count` */
 void check_sum(void);                  /* after the first pass over all records; dies where a copy was cut or changed */
 enum { RECORDS_AT_ONCE = 1 << 20 };    /* a multiple of a page's; so many are in memory at a time */
@@ -95,7 +98,7 @@ size_t name_in_block(u64 caller, u64 block_size, u64 offset, u64 length, char *b
 int is_variable(const char *name, size_t length);            /* is a static variable named so? */
 
 /* memory.c: blocks and pieces. */
-typedef struct { u64 at, size, caller; int stack, many_users, named; u32 thread, user; } block;
+typedef struct { u64 at, size, caller; int stack, many_users, named, freed; u32 thread, user; } block;
 typedef struct {
     u64 at;
     u32 block;                         /* its number, or 0 */
@@ -112,6 +115,8 @@ extern u64 range_steps;                /* in this pass: pages and pieces after t
 void begin_memory_pass(void);
 block *meet_block(u64 i);              /* it, or null; each pass calls it for each OP_ALLOC and OP_START: the newest block holds its addresses */
 block *block_at(u64 address);          /* or null */
+void end_block(u64 address);           /* it is freed */
+void write_blocks(const char *path);   /* those that are there, for carry_blocks */
 u32 block_number(const block *b);      /* from 1; of null 0 */
 block *block_of(u32 number);
 void cut(u64 address);

@@ -20,6 +20,7 @@ static int is_of_stack(enum operation operation) { return operation >= OP_FRAME 
 static void meet_record(u64 i) {
     enum operation operation = operation_of(i);
     find_users(i);
+    if (operation == OP_FREE) end_block(address_of(i));
     if (is_of_stack(operation)) note_call(i);
     if (operation == OP_READ || operation == OP_WRITE || operation == OP_NAME || is_of_stack(operation)) return;
     if (operation == OP_FENCE) has_fences = 1;
@@ -145,6 +146,9 @@ static const char help[] =
     "  --stacks FILE  write the call stack of each event to this file, where threads\n"
     "                 were created and blocks allocated, and which locals the\n"
     "                 variables on stacks are; with --only, of its events\n"
+    "  --blocks FILE  RECORD is a segment (SHB_SEGMENT), and FILE has the blocks of\n"
+    "                 memory that are there when it begins\n"
+    "  --left FILE    write the blocks that are there at its end to this file\n"
     "  -n EVENTS      at most so many events (4194304)\n"
     "  -a             also what can't conflict\n"
     "  --strip DIR    files below this folder are named by their paths from it; else\n"
@@ -157,13 +161,13 @@ static const char help[] =
     "Exit status: 0; 1 the trace was written, and isn't the whole run; 2 it failed;\n"
     "3 wrong command line.\n" VERSION_LINE;
 
-static const char *stacks_path, *only_path, *page_path, *uses_path;
+static const char *stacks_path, *only_path, *page_path, *uses_path, *blocks_path, *left_path;
 static int for_scan;
 
 static void read_words(int count, char **words) {
     static const struct option options[] = {{"stacks", required_argument, 0, 's'}, {"strip", required_argument, 0, 'd'},
                                             {"scan", no_argument, &for_scan, 1}, {"only", required_argument, 0, 'r'}, {"page", required_argument, 0, 'g'},
-                                            {"uses", required_argument, 0, 'u'}, {"version", no_argument, 0, 'v'},
+                                            {"uses", required_argument, 0, 'u'}, {"blocks", required_argument, 0, 'b'}, {"left", required_argument, 0, 'l'}, {"version", no_argument, 0, 'v'},
                                             {"help", no_argument, 0, 'h'}, {0, 0, 0, 0}};
     opterr = 0;
     for (int c; (c = getopt_long(count, words, "ahn:p", options, 0)) >= 0;)
@@ -178,6 +182,8 @@ static void read_words(int count, char **words) {
         else if (c == 'g') page_path = optarg;
         else if (c == 'r') only_path = optarg;
         else if (c == 'u') uses_path = optarg;
+        else if (c == 'b') blocks_path = optarg;
+        else if (c == 'l') left_path = optarg;
         else if (c == 'a') whole_trace = 1;
         else if (c == 'p') whole_paths = 1;
         else if (c == 'n') {
@@ -218,9 +224,10 @@ static void write_page(void) {
 int main(int count, char **words) {
     read_words(count, words);
     open_record(words[optind]);
+    if (blocks_path) carry_blocks(blocks_path);
     if (stacks_path) open_stacks(stacks_path);
     pass(meet_record, 1);
-    threads_of_record = thread_count;
+    threads_of_record = threads_met();
     if (!shortened) check_sum();
     pass(find_cuts, 0);
     find_places();
@@ -237,7 +244,8 @@ int main(int count, char **words) {
         cut = cut_reason;
         events_of_run = events;
     }
-    fprintf(stderr, "shb-std: %lu records, %u threads, %lu events\n", record_count, threads_of_record, events_of_run);
+    if (left_path) write_blocks(left_path);
+    fprintf(stderr, "shb-std: %lu records, %u threads, %lu events\n", record_count - carried_count, threads_of_record, events_of_run);
     say_crash();
     if (!cut) cut = shortened;
     if (recording_cut) fprintf(stderr, "shb-std: the recording is not the whole run: %s\n", recording_cut);

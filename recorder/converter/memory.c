@@ -7,6 +7,7 @@
    In the third pass there are no new cuts.  Then a page has a slot for each of its cuts, which has the number of the
    piece that begins there now; a new block empties its slots.  The cuts of 64 bytes stand beside their first slot, so a
    piece is found by one look at each of the page, these, the slot and the piece. */
+#include <errno.h>
 #include <stdlib.h>
 #include <string.h>
 #include "converter.h"
@@ -98,6 +99,21 @@ block *block_at(u64 address) {
     return newest ? &blocks[newest - 1] : 0;
 }
 
+void end_block(u64 address) {
+    block *b = block_at(address);
+    if (b && b->at == address) b->freed = 1;
+}
+
+/* Of the thread that is always there. */
+void write_blocks(const char *path) {
+    FILE *file = fopen(path, "w");
+    for (block *b = blocks; file && b < blocks + block_count; b++) {
+        const struct record r[] = {{b->at, b->caller | (u64)OP_ALLOC << 48 | (u64)SIZE_FOLLOWS << 54}, {b->size, (u64)OP_SIZE << 48}};
+        if (!b->stack && !b->freed && block_at(b->at) == b) fwrite(r, sizeof r, 1, file);
+    }
+    if (!file || fflush(file) || ferror(file) || fclose(file)) die("cannot write to %s: %s", path, strerror(errno));
+}
+
 int in_one_grain(u64 address, u64 end) { return address / GRAIN == (end - 1) / GRAIN; }
 u32 block_number(const block *b) { return b ? b - blocks + 1 : 0; }
 block *block_of(u32 number) { return number ? &blocks[number - 1] : 0; }
@@ -116,7 +132,7 @@ block *meet_block(u64 i) {
     if (!size || size >= MAX_BLOCK) return 0;
     if (++met > block_count) {         /* in the first pass */
         GROW(blocks, block_count, block_capacity);
-        blocks[block_count++] = (block){address_of(i), size, caller_of(i), operation_of(i) == OP_START, 0, 0, thread_of(i), 0};
+        blocks[block_count++] = (block){address_of(i), size, caller_of(i), operation_of(i) == OP_START, 0, 0, 0, thread_of(i), 0};
         cut(from);
         cut(end);
     }

@@ -53,6 +53,8 @@ int meet_fork(u64 i) {
     return 1;
 }
 
+u32 threads_met(void) { return thread_count > own_numbers ? thread_count : own_numbers; }
+
 static int size_follows(u64 i) { return records[i].what >> 54 == SIZE_FOLLOWS; }
 static int is_access(u64 i) { return operation_of(i) == OP_READ || operation_of(i) == OP_WRITE; }
 static int is_late(u64 i) { return operation_of(i) == OP_LATE; }
@@ -84,6 +86,8 @@ static int is_good(u64 i) {
     return (operation != OP_FORK && operation != OP_JOIN) || address_of(i) < THREAD_NUMBERS;
 }
 
+u64 carried_count;
+
 /* What a record that is whole says of itself, and what was met of it in the first pass. */
 static u64 whole_count, whole_sum, met_sum;
 static int has_sum;
@@ -95,15 +99,16 @@ static int is_whole(u64 i) {           /* or is cut in two */
 int is_record(u64 i) {
     if (!is_whole(i)) return 0;
     if (!is_good(i)) die("record %lu of %s is damaged", i + 1, record_path);
-    met_sum += entry_sum(i, records[i]);
+    if (i >= carried_count) met_sum += entry_sum(i - carried_count, records[i]);
     if (operation_of(i) != OP_SIZE) note_number(records[i].where >> 48);
     if (operation_of(i) == OP_FORK || operation_of(i) == OP_JOIN) note_number(address_of(i));
     return 1;
 }
 
 void check_sum(void) {
-    if (has_sum && record_count < whole_count) die("%s was cut: %lu of its %lu records are there", record_path, record_count, whole_count);
-    if (has_sum && (record_count > whole_count || met_sum != whole_sum)) die("%s was changed after it was recorded", record_path);
+    u64 count = record_count - carried_count;
+    if (has_sum && count < whole_count) die("%s was cut: %lu of its %lu records are there", record_path, count, whole_count);
+    if (has_sum && (count > whole_count || met_sum != whole_sum)) die("%s was changed after it was recorded", record_path);
 }
 
 /* ---- what is late ---- */
@@ -177,6 +182,20 @@ void open_record(const char *path) {
     header[ENDED_AT] = 0;
     put_late_in_place();
     read_modules(header);
+}
+
+void carry_blocks(const char *path) {
+    struct stat status;
+    FILE *file = fopen(path, "r");
+    if (!file || fstat(fileno(file), &status)) die("cannot read %s: %s", path, strerror(errno));
+    carried_count = status.st_size / sizeof *records;
+    struct record *all = zeroed(carried_count + record_count, sizeof *all);
+    if (fread(all, sizeof *all, carried_count, file) != carried_count) die("cannot read %s", path);
+    fclose(file);
+    memcpy(all + carried_count, records, record_count * sizeof *all);
+    records = all;
+    record_count += carried_count;
+    is_merged = 1;
 }
 
 /* A pass has gone by these: they needn't stay in memory. */

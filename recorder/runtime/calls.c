@@ -110,13 +110,14 @@ void enter_context(frame *f, context *outer, context new) {
     f->in = k ? &kept[k] : &f->own;
 }
 
-void forget_contexts(thread *t) {
+void forget_contexts(void) {
     uint32_t count = kept_count < MOST_KEPT ? kept_count : MOST_KEPT;
     for (uint32_t k = 1; k < count; k++) kept[k].number = NOT_RECORDED;
-    for (uint32_t d = 0; t && d < recordable_depth(t); d++) t->frames[d].own.number = NOT_RECORDED;
-    if (!t) return;
+}
+
+void forget_told(thread *t) {
+    for (uint32_t d = 0; d < recordable_depth(t); d++) t->frames[d].own.number = NOT_RECORDED;
     t->told = kept;
-    set_depth(t, t->depth);
 }
 
 void unlock_contexts(void) { munlock(kept, sizeof kept); }

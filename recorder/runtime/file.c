@@ -180,7 +180,7 @@ void *map_file(void *at, uint64_t bytes) {
 }
 
 /* ---- begin and end ---- */
-/* A path with %p is one for each process: its number stands there. */
+/* A path with %p is one for each process: its number stands there; at %s that of a segment of its record. */
 int has_number(void) { return strstr(pattern, "%p") != 0; }
 
 /* The folder may be another one when a child opens its record. */
@@ -195,15 +195,37 @@ int keep_path(const char *asked) {
     return 0;
 }
 
-static void number_path(void) {        /* a program that execs keeps its number: then a count follows it */
-    char *mark = strstr(pattern, "%p"), number[40];
-    snprintf(path, PATH_MAX, "%s", pattern);
-    for (int n = 0; mark && n < 1000; n++) {
-        snprintf(number, sizeof number, n ? "%d-%d" : "%d", getpid(), n);
-        snprintf(path, PATH_MAX, "%.*s%s%s", (int)(mark - pattern), pattern, number, mark + 2);
-        if (access(path, F_OK)) return;
+static int execs;                      /* a program that execs keeps its number: then a count follows it */
+
+static void fill_in(char *text, const char *mark, const char *with) {
+    static char rest[PATH_MAX];
+    char *at = strstr(text, mark);
+    if (!at) return;
+    strcpy(rest, at + strlen(mark));
+    snprintf(at, PATH_MAX - (at - text), "%s%s", with, rest);
+}
+
+static const char *path_of(uint64_t segment) {
+    static char name[PATH_MAX];
+    char number[40], count[24];
+    snprintf(number, sizeof number, execs ? "%d-%d" : "%d", getpid(), execs);
+    snprintf(count, sizeof count, "%lu", segment);
+    strcpy(name, pattern);
+    fill_in(name, "%p", number);
+    fill_in(name, "%s", count);
+    return name;
+}
+
+static void number_path(uint64_t segment) {
+    if (segment == 1) execs = 0;
+    strcpy(path, path_of(segment));
+    while (segment == 1 && has_number() && execs < 999 && !access(path, F_OK)) {
+        execs++;
+        strcpy(path, path_of(segment));
     }
 }
+
+void drop_segment(uint64_t segment) { syscall(SYS_unlink, path_of(segment)); }
 
 int refuse(const char *which) {
     tell("shb recorder: cannot write %s: %s; the program runs unrecorded\n", which, strerror(errno));
@@ -221,8 +243,8 @@ static void tell_what_is_replaced(const char *command) {
 }
 
 /* Opens the file and locks it: cut by a second process it would be a SIGBUS in the first.  Says why it can't. */
-int open_file(const char *command, uint64_t first_bytes) {
-    number_path();
+int open_file(const char *command, uint64_t first_bytes, uint64_t segment) {
+    number_path(segment);
     int opened = syscall(SYS_openat, AT_FDCWD, path, O_RDWR | O_CREAT | O_CLOEXEC, 0666);
     if (opened < 0) return refuse(path);
     keep(RECORD, opened);

@@ -1,5 +1,6 @@
 /* The record: it is mapped, and its file grows in steps.  Whatever fails ends the recording and not the program.
-   Of a process made by fork the record stays in memory until it starts a thread, or has no room there. */
+   Of a process made by fork the record stays in memory until it starts a thread, or has no room there.
+   Of a program that runs on it is in segments: each is a record of its own, and the oldest are deleted. */
 #define _GNU_SOURCE
 #include <errno.h>
 #include <fcntl.h>
@@ -10,6 +11,7 @@
 #include <sys/resource.h>
 #include <sys/syscall.h>
 #include <sys/sysinfo.h>
+#include <time.h>
 #include <unistd.h>
 #include <malloc.h>
 #include "runtime.h"
@@ -28,6 +30,10 @@ static int in_memory;                  /* it has no file yet */
 static uint64_t last_position;         /* that of the last access that was held back, or of the first where there are more records since */
 static uint64_t most_cells;
 static char command[COMMAND_BYTES];    /* its line of the header */
+uint64_t segment_records;
+static uint64_t segment;               /* its number, from 1 */
+static uint64_t segment_end;           /* it has so many records then */
+static time_t segment_until;           /* it ends then at the latest, if it has one */
 
 /* ---- how long it may get ---- */
 static int is_limit_given;             /* by SHB_RECORDS */
@@ -83,6 +89,23 @@ static void grow(void) {
     }
     errno = saved;
 }
+
+/* ---- segments: of a program that runs on ---- */
+enum { MOST_SEGMENTS = 8, SEGMENT_SECONDS = 10 };            /* that are kept, besides the one that is written */
+
+static time_t now(void) {
+    struct timespec time;
+    clock_gettime(CLOCK_MONOTONIC_COARSE, &time);
+    return time.tv_sec;
+}
+
+static void begin_counting(uint64_t before) {
+    segment = before + 1;
+    segment_end = written + segment_records;
+    segment_until = now() + SEGMENT_SECONDS;
+}
+
+int is_segment_full(void) { return written >= segment_end || (written > segment_end - segment_records && now() >= segment_until); }
 
 /* ---- records ---- */
 static struct record record_of(const thread *t, enum operation operation, uint64_t where, uint64_t size, uint64_t caller) {
@@ -250,6 +273,7 @@ static void put_now(thread *t, enum operation operation, const volatile void *ad
     if (way) add(t, OP_WAY, 0, 0, way);
     records[written++] = r;
     if (inside == SIZE_FOLLOWS) records[written++] = (struct record){size, (uint64_t)OP_SIZE << 48};
+    if (segment_records) note_held(r);
 }
 
 void put(thread *t, enum operation operation, const volatile void *address, uint64_t size, uint64_t caller) {
@@ -263,8 +287,6 @@ void put_of(thread *t, const thread *ended, enum operation operation, const vola
     t->works = 0;
 }
 
-/* The system keeps no more of a thread's name than MOST_NAME bytes. */
-enum { MOST_NAME = 15 };
 static void add_piece_of_name(const thread *named, const char *piece, uint64_t before) {
     uint64_t one = 0, other = 0;
     memcpy(&one, piece, NAME_PIECE / 2);
@@ -272,13 +294,16 @@ static void add_piece_of_name(const thread *named, const char *piece, uint64_t b
     add(named, OP_NAME, one, before, other);
 }
 
-void put_name(thread *t, const thread *named, const char *name) {
+static void add_name(const thread *named) {
     char pieces[2 * NAME_PIECE] = "";
-    size_t length = strnlen(name, MOST_NAME);
-    memcpy(pieces, name, length);
-    int has_place = begin_work(t) && make_room(2);
-    if (has_place) add_piece_of_name(named, pieces, 0);
-    if (has_place && length > NAME_PIECE) add_piece_of_name(named, pieces + NAME_PIECE, NAME_PIECE);
+    strcpy(pieces, named->name);
+    add_piece_of_name(named, pieces, 0);
+    if (strlen(pieces) > NAME_PIECE) add_piece_of_name(named, pieces + NAME_PIECE, NAME_PIECE);
+}
+
+void put_name(thread *t, thread *named, const char *name) {
+    snprintf(named->name, NAME_ROOM, "%s", name);
+    if (begin_work(t) && make_room(2)) add_name(named);
     t->works = 0;
 }
 
@@ -351,16 +376,79 @@ int open_recording(const char *path, uint64_t most, uint64_t cells) {
     if (!can_look_at_threads()) return 0;
     if (!keep_path(path)) return refuse(path);
     read_command();
-    if (!open_file(command, HEADER_BYTES + STEP_BYTES)) return 0;
+    if (!open_file(command, HEADER_BYTES + STEP_BYTES, 1)) return 0;
     is_limit_given = most != 0;
     most_records = is_limit_given ? most : most_by_default();
     keep_reserve();
     most_cells = cells;
+    begin_counting(0);
     if (!use_map(map_file(0, map_bytes()))) return refuse(path);
     note_text(RECORD_MAGIC);
     note_text(command);
     begin_cells(most_cells);
     return 1;
+}
+
+static void forget_record(void) {
+    written = contexts = 0;
+    end_cells();
+    begin_cells(most_cells);
+    forget_contexts();
+    changes++;                         /* the new record has no read */
+}
+
+static void note_whole(void) {
+    char text[ENDED_BYTES];
+    uint64_t sum = 0;
+    note_end(own_end());
+    if (has_strangers) return;
+    for (uint64_t i = 0; i < written; i++) sum += entry_sum(i, records[i]);
+    snprintf(text, sizeof text, "%s %lx %lx", ENDED_WHOLE, written, sum);
+    note_end(text);
+}
+
+static void add_state_of(thread *t) {
+    uint64_t function = t->c11_function ? (uint64_t)t->c11_function : (uint64_t)t->function;
+    forget_told(t);
+    if (t->stack_size) add(t, OP_START, (uint64_t)t->stack, t->stack_size, function);
+    if (*t->name) add_name(t);
+}
+
+/* What a segment begins with: the threads, and the locks that they hold. It has room for all that there can be. */
+static int add_state(void) {
+    enum { RECORDS_OF_THREAD = 4 };
+    uint64_t have = in_memory ? most_records : 0, most = THREAD_NUMBERS * RECORDS_OF_THREAD + held_count;
+    if (most > most_records) return 0;
+    for (; have < most; have += STEP_BYTES / sizeof *records)
+        if (!add_step(have)) return 0;
+    if (!in_memory) atomic_store(&room, have);
+    for_all_threads(add_state_of);
+    for (uint32_t k = 0; k < held_count; k++) records[written++] = held_locks[k];
+    return 1;
+}
+
+/* Ends the record as that of a program that ends, and begins the next. */
+static int begin_segment(void) {
+    int done = in_memory;
+    if (!in_memory) {
+        cut_file(HEADER_BYTES + written * sizeof *records);
+        note_whole();
+        leave_file();
+        done = open_file(command, HEADER_BYTES + STEP_BYTES, segment + 1) && write_file(header, ENDED_AT) && use_map(map_file(header, map_bytes()));
+        if (segment > MOST_SEGMENTS) drop_segment(segment - MOST_SEGMENTS);
+    }
+    forget_record();
+    done = done && add_state();
+    begin_counting(segment - in_memory);
+    return done;
+}
+
+void next_segment(thread *t) {
+    int saved = errno, done = 1;
+    if (begin_work(t) && is_segment_full()) done = begin_segment();
+    t->works = 0;
+    if (!done) stop_recording("the next segment of its record cannot be written");
+    errno = saved;
 }
 
 /* ---- a process made by fork ---- */
@@ -373,12 +461,12 @@ int leave_recording(void) {
     int going_on = has_number() && use_map(mmap(0, map_bytes(), PROT_READ | PROT_WRITE,
                                                 MAP_PRIVATE | MAP_ANONYMOUS | MAP_NORESERVE, -1, 0));
     if (going_on) strcpy(header, parents);
-    written = contexts = 0;
     has_strangers = is_half_told = 0;
-    end_cells();
-    if (going_on) begin_cells(most_cells);
-    forget_contexts(self);
-    changes++;                         /* the new record has no read */
+    forget_record();
+    if (!going_on) end_cells();
+    if (self) forget_told(self);
+    forget_held();
+    begin_counting(0);
     atomic_store(&room, STEP_BYTES / sizeof *records);
     munmap(parents, map_bytes());
     return going_on;
@@ -388,23 +476,13 @@ int leave_recording(void) {
 int move_to_file(void) {
     if (!in_memory) return 1;
     uint64_t bytes = HEADER_BYTES + written * sizeof *records;
-    int moved = open_file(command, HEADER_BYTES + STEP_BYTES) && write_file(header, bytes);
+    int moved = open_file(command, HEADER_BYTES + STEP_BYTES, 1) && write_file(header, bytes);
     keep_reserve();
     atomic_store(&room, written);
     in_memory = 0;
     if (moved && use_map(map_file(header, map_bytes()))) return 1;
     stop_recording("its record cannot be written");
     return 0;
-}
-
-static void note_whole(void) {
-    char text[ENDED_BYTES];
-    uint64_t sum = 0;
-    note_end(own_end());
-    if (has_strangers) return;
-    for (uint64_t i = 0; i < written; i++) sum += entry_sum(i, records[i]);
-    snprintf(text, sizeof text, "%s %lx %lx", ENDED_WHOLE, written, sum);
-    note_end(text);
 }
 
 /* With the turn nobody else writes, so the file can be cut.  Without it (the recording had ended before) a last record
@@ -421,7 +499,8 @@ void close_recording(void) {
 /* With the turn: the program may have so many addresses from here on. Is what has disk space a part of them that is small enough? */
 int limit_record(uint64_t addresses) {
     uint64_t page = getpagesize(), before = map_bytes(), most = addresses / PARTS_OF_ADDRESSES / page * page;
-    limit_cells(addresses / PARTS_OF_ADDRESSES);
+    most_cells = least_of(most_cells, addresses / PARTS_OF_ADDRESSES);
+    limit_cells(most_cells);
     if (most >= before) return 1;
     if (most < HEADER_BYTES + atomic_load(&room) * sizeof *records) return 0;
     most_records = (most - HEADER_BYTES) / sizeof *records;

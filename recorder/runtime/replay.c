@@ -43,7 +43,7 @@ static thread *runs;                   /* who got the turn last */
 /* By the first thread, before there is a second one; it may sleep. */
 void open_list(void) {
     static int is_opened;
-    if (is_opened) return;
+    if (is_opened || segment_records) return;              /* of a program that runs on it would be long */
     is_opened = 1;
     char *map = map_turns(STEP_BYTES, MOST_BYTES);
     if (map == MAP_FAILED) return;

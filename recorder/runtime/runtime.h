@@ -30,6 +30,7 @@ typedef struct {
 } frame;
 
 enum { RECENT_READS = 4 };             /* a loop that waits reads no more */
+enum { NAME_ROOM = 16 };               /* the system keeps no more of a thread's name, with its end */
 
 typedef struct thread {
     /* What a quick hook uses is in one line of the processor's cache. */
@@ -59,6 +60,7 @@ typedef struct thread {
     struct read { uint64_t where, what, changes; const context *context; } recent[RECENT_READS];     /* its last ones in the record */
     unsigned next_recent;
     char joined;
+    char name[NAME_ROOM];              /* that the program gave it */
     char idles;                        /* in a replay: it waits for what others are to do, so it is in no hurry */
     struct thread *next_ended;
     int exit_rounds;                   /* of destructors of thread-specific data */
@@ -90,6 +92,7 @@ extern __thread thread *self __attribute__((tls_model("initial-exec")));
 extern volatile int recording;
 void begin_turns(int slice, uint64_t seed);                  /* with 0 slices of many lengths */
 void restart_turns(thread *t);         /* in a process made by fork, where there is t alone; it has the turn */
+void for_all_threads(void (*step)(thread *t));               /* that are there; with the turn */
 int end_turns(void);                   /* all threads run free from here on; gives whether they took turns before */
 thread *new_thread(void);
 void end_thread(thread *t);            /* it is joined, and the record has that */
@@ -146,7 +149,8 @@ uint64_t way_to(const thread *t, uint32_t depth, uint64_t caller);
 context *context_at(const thread *t, uint32_t depth);        /* of so many of the functions that it is in */
 void set_depth(thread *t, uint32_t depth);
 void enter_context(frame *f, context *outer, context new);
-void forget_contexts(thread *t);       /* the record is another one, and of this thread alone */
+void forget_contexts(void);            /* the record is another one */
+void forget_told(thread *t);           /* the same of this thread */
 void unlock_contexts(void);
 uint64_t place_of_frame(const thread *t, uint32_t depth);   /* as in a record OP_PLACE */
 int is_kept_context(const context *c); /* does it stay as it is? */
@@ -166,7 +170,8 @@ void leave_number(int descriptor);     /* so that the program can have it */
 int keep_path(const char *path);
 int has_number(void);                  /* is there a record for each process? */
 int refuse(const char *path);          /* says that it can't be written, as errno has it; gives 0 */
-int open_file(const char *command, uint64_t first_bytes);    /* will it be allowed so many? */
+int open_file(const char *command, uint64_t first_bytes, uint64_t segment);             /* will it be allowed so many? */
+void drop_segment(uint64_t segment);   /* deletes its file, if that is there */
 int add_space(uint64_t from, uint64_t bytes);
 void *map_turns(uint64_t first_bytes, uint64_t most_bytes);  /* the list beside the record; or MAP_FAILED */
 int add_space_for_turns(uint64_t from, uint64_t bytes);
@@ -186,6 +191,9 @@ int open_recording(const char *path, uint64_t most_records, uint64_t most_cells)
 int leave_recording(void);             /* in a process made by fork; does it go on in memory? */
 int move_to_file(void);
 void close_recording(void);
+extern uint64_t segment_records;       /* after so many a segment of the record ends; 0: there is one alone */
+int is_segment_full(void);
+void next_segment(thread *t);          /* in a hook, before it does anything */
 void stop_recording(const char *reason);
 void note_end(const char *how);
 const char *own_end(void);             /* as note_end takes it, where nothing stopped the recording */
@@ -200,9 +208,15 @@ int begin_work(thread *t);             /* afterwards t has the turn, unless the 
 void put(thread *t, enum operation operation, const volatile void *address, uint64_t size, uint64_t caller);
 void note(enum operation operation, const volatile void *object, uint64_t caller);
 void put_of(thread *t, const thread *ended, enum operation operation, const volatile void *object, uint64_t caller);
-void put_name(thread *t, const thread *named, const char *name);
+void put_name(thread *t, thread *named, const char *name);
 uint64_t begin_quick(thread *t);       /* with the turn, at the end of a hook: so many of its hooks may be quick now */
 void end_quick(thread *t);             /* with the turn; or under the guard, by the one who took it over */
+
+/* held.c: the locks that are held, with which each segment of a record begins. */
+void note_held(struct record r);       /* each record that may take or leave one */
+void forget_held(void);
+extern struct record held_locks[];     /* the records by which they were taken, in their order */
+extern uint32_t held_count;
 
 /* modules.c */
 struct module { uint64_t low, high; };

@@ -110,6 +110,7 @@ __attribute__((constructor(101))) static void begin(void) {
     stall_seconds = setting("SHB_STALL", 60);
     const char *stacks = getenv("SHB_STACKS");
     records_calls = !stacks || strcmp(stacks, "0");
+    segment_records = strstr(path, "%s") ? setting("SHB_SEGMENT", 0) : 0;
     const char *cells = getenv("SHB_CELLS");
     if (!open_recording(path, setting("SHB_RECORDS", 0), (cells ? strtoull(cells, 0, 10) : CELL_MEGABYTES) << 20)) return;
     if (!has_number()) unsetenv("SHB_RECORD");               /* a program started by this one would write over it */

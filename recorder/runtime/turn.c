@@ -447,6 +447,7 @@ thread *enter_access(enum yields yields) {
     count_quick(t);
     if (--t->quantum <= 0 && (is_replaying ? yields : yields == MAY_YIELD && waiters)) hand_over(t, 1);
     else t->steps++;
+    if (segment_records && yields && is_segment_full()) next_segment(t);
     return t;
 }
 
@@ -577,4 +578,9 @@ thread *newest_with(void *argument) {  /* of what it runs; with the turn */
     for (uint32_t i = 0; i < thread_count; i++)
         if (threads[i]->argument == argument && !threads[i]->joined && (!newest || threads[i]->serial > newest->serial)) newest = threads[i];
     return newest;
+}
+
+void for_all_threads(void (*step)(thread *t)) {
+    for (uint32_t i = 0; i < thread_count; i++)
+        if (!threads[i]->joined && threads[i]->began && !is_gone(threads[i]->system_id)) step(threads[i]);
 }

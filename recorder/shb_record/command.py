@@ -20,6 +20,7 @@ from shb_common.standard import words_of
 from shb_common.stops import Stops
 from shb_common.words import counted
 from shb_record import turns
+from shb_record.live import Live
 from shb_record.looking import Look
 from shb_record.parts import LIBRARY, check_parts, say
 from shb_record.places import count
@@ -67,6 +68,9 @@ def parser_of_words():
     how_often.add_argument("--runs", metavar="N", type=number(1), help="run it N times, each with another interleaving (1); each place is shown once")
     how_often.add_argument("--until-found", metavar="N", type=number(1),
                            help="run it at most N times, and end after the first run with a race that isn't known")
+    how_often.add_argument("--live", action="store_true", help="for a program that runs on: each place is shown while it runs, once. The record is in "
+                           "segments, of which the oldest are dropped where they come too fast, so memory and disk are bounded. What races over the bounds "
+                           "of segments is missed (SHB_SEGMENT=N has N records in one)")
     parser.add_argument("--replay", metavar="RUN.turns",
                         help="run it with the order of turns of an earlier run, as long as that fits. A run with a place that isn't known leaves the "
                         "list in the folder of its results. If the list is left, it prints after how many turns; from there on the run is like any other")
@@ -100,8 +104,10 @@ def arguments(words):
         parser.error("no program is named")
     found.program, *found.arguments = found.words
     found.folder = pathlib.Path(found.folder or os.path.basename(found.program) + ".shb").absolute()
-    if "%p" in str(found.folder):
-        parser.error("the folder of the results can't have %p in its name")
+    if "%p" in str(found.folder) or "%s" in str(found.folder):
+        parser.error("the folder of the results can't have %p or %s in its name")
+    if found.live and (found.replay or found.keep):
+        parser.error("--live keeps no records and no order of turns: it isn't for --keep or --replay")
     return found
 
 
@@ -132,10 +138,10 @@ def record(options):
         (results.work / REPLAYED).write_bytes(options.turns.content)
     stops = Stops("shb-record: {}: what was recorded is still shown; another one ends at once, and keeps the record\n".format, options.show)
     ctypes.CDLL(None).prctl(BECOME_PARENT_OF_ORPHANS, 1, 0, 0, 0)
-    look, own, status = Look(options, results, stops), 0, FAILED
+    look, own, status = (Live if options.live else Look)(options, results, stops), 0, FAILED
     try:
         for number in range(1, options.runs + 1):
-            run = Run(options, number, results.work)
+            run = Run(options, number, results.work, look.next_one if options.live else None)
             own = own or run.status()
             stops.note(run.stop, run.stopped)
             look.run(number)
@@ -197,7 +203,7 @@ def conclude(look, own, status):
         + ("; not the whole of the run was seen" if look.is_cut or look.is_killed else "")
         + ("; not all could be looked at" if look.has_failed else "")
         + f"; the program's own status: {own}; files in {look.results.folder}")
-    for line in dict.fromkeys([*look.notes, *look.meaning()]):
+    for line in dict.fromkeys([*look.counts(), *look.notes, *look.meaning()]):
         say(line)
     if len(look.runs) > 1:
         say(f"{counted(len(look.runs), 'run')} gave {counted(look.interleavings(), 'different interleaving')}")

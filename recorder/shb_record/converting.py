@@ -35,6 +35,7 @@ class Process(typing.NamedTuple):
     record: pathlib.Path
     modules: typing.List[bytes]
     replay: typing.Optional[str] = None  # how far it followed the list of turns that was to be replayed
+    blocks: typing.Optional[pathlib.Path] = None  # of a segment of a record: the file of the blocks that are there when it begins
 
     @property
     def program(self):
@@ -47,12 +48,17 @@ def processes(folder, number):
         return [int(text) for text in re.findall(r"\d+", path.name)]
 
     for record in sorted(folder.glob(f"run{number}.*.rec"), key=numbers):
-        with open(record, "rb") as file:
-            header = file.read(HEADER_BYTES)
-        command = re.search(rb"^command (.*)$", header, re.M)
-        words = command[1].decode(errors="backslashreplace").strip() if command else "?"
-        modules = [path.replace(b"\1", b"\n") for path in MODULE.findall(header)]
-        yield Process(f"run {number}, process {record.name.split('.')[1]}", record.stem, words, record, modules, replay_in(header))
+        yield process_of(record, f"run {number}, process {record.name.split('.')[1]}", record.stem)
+
+
+def process_of(record, name, base):
+    """The process that a record is of, or a segment of one."""
+    with open(record, "rb") as file:
+        header = file.read(HEADER_BYTES)
+    command = re.search(rb"^command (.*)$", header, re.M)
+    words = command[1].decode(errors="backslashreplace").strip() if command else "?"
+    modules = [path.replace(b"\1", b"\n") for path in MODULE.findall(header)]
+    return Process(name, base, words, record, modules, replay_in(header))
 
 
 def replay_in(header):
@@ -77,16 +83,18 @@ def check_room(process, most_events):
 
 class Conversion:
     """Turns a record into the run's trace, for `shb scan`, and where that finds races into the trace of their page. `trace`, `uses` and
-    `stacks` are of that trace; `numbers` has for the events of a race those of that trace, if it has both in one part."""
+    `stacks` are of that trace, `scan` is what the scan wrote; `numbers` has for the events of a race those of that trace, if it has both in one part."""
 
     def __init__(self, process, options):
         self.process = process
-        self.trace, self.uses, self.stacks = (process.record.with_suffix(suffix) for suffix in (".std", ".uses", ".stacks"))
+        self.trace, self.scan, self.uses, self.stacks = (process.record.with_suffix(suffix) for suffix in (".std", ".scan", ".uses", ".stacks"))
         strip = ["--strip", options.strip] if options.strip else []
-        self.scan_words = [CONVERTER, "--scan", *strip, process.record]
-        self.page_words = [*strip, "-n", str(options.window), process.record]
+        self.left = process.record.with_suffix(".left")  # a segment's blocks at its end
+        blocks = ["--blocks", process.blocks] if process.blocks else []
+        self.scan_words = [CONVERTER, "--scan", *strip, *blocks, process.record]
+        self.page_words = [*strip, *blocks, "-n", str(options.window), process.record]
         self.words = [CONVERTER, "--scan", "--only", "/dev/stdin", "--page", self.trace, "--uses", self.uses, "--stacks", self.stacks,
-                      *self.page_words]
+                      *(["--left", self.left] if options.live else []), *self.page_words]
         self.size, self.notes, self.cuts = "", [], []  # known at the end: how much there is, what is said of it, what makes it a part
         self.numbers = {}
 
@@ -101,6 +109,8 @@ class Conversion:
                     tell(self.process, places)
                 except Refused as its:
                     fault = its
+                if places:
+                    scan.copy(self.scan)
                 with contextlib.suppress(BrokenPipeError):  # its status says how it ended
                     ran.stdin.write(b"".join(lines_of(places)))
                     ran.stdin.close()
@@ -131,12 +141,11 @@ class Conversion:
             raise Contradiction(f"{self.process.name}: the page's trace lacks {counted(len(wanted), 'event')} of `shb scan`")
         return {race.events: pair for race in races for pair in [uses.pair(*race.events)] if pair}
 
-    def write_page(self, places, trace, uses, stacks):
+    def write_page(self, places):
         """Writes the trace of a page anew, around the races of these places."""
-        with tempfile.TemporaryFile() as said, open(trace, "wb") as out:
-            words = [CONVERTER, "--only", "/dev/stdin", "--uses", uses, "--stacks", stacks, *self.page_words]
+        with tempfile.TemporaryFile() as said, open(self.trace, "wb") as out:
+            words = [CONVERTER, "--only", "/dev/stdin", "--uses", self.uses, "--stacks", self.stacks, *self.page_words]
             self.end(subprocess.run(words, input=b"".join(lines_of(places)), stdout=out, stderr=said, **APART).returncode, said)
-        self.trace, self.uses, self.stacks = trace, uses, stacks
         self.numbers = self.numbers_of(places)
 
     def end(self, status, file):

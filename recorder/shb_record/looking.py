@@ -27,13 +27,13 @@ LATE = "the C library comes before the recorder's"     # the end of such a recor
 
 
 class Looked:
-    """What was found in a process: its places, those that no process before it had, and where its page's trace and files are."""
+    """What was found in a process: its places, and those that no process before it had."""
 
     def __init__(self, process, options):
         self.process, self.conversion = process, Conversion(process, options)
         self.places, self.new, self.named, self.events = [], [], [], 0
         self.behind = []  # what a second look found behind known races
-        self.trace = self.scan = self.uses = self.stacks = self.sources = None
+        self.sources, self.has_files = None, False  # the paths of its source files; are those of its page among the results?
 
 
 class Look:
@@ -74,11 +74,14 @@ class Look:
         except (Refused, OSError) as fault:
             self.fail(fault)
             if process.record.exists():
-                say(f"the record is kept: {self.results.keep(process.record, process.base + '.rec')}")
+                self.keep_failed(process)
             return None
         if self.options.keep and do == self.show:
             self.results.keep(process.record, f"{process.base}.rec")
         return looked
+
+    def keep_failed(self, process):
+        say(f"the record is kept: {self.results.keep(process.record, process.base + '.rec')}")
 
     def interleavings(self):
         """How many different ones were seen."""
@@ -95,6 +98,10 @@ class Look:
         if self.options.runs == 1 and (self.has_threads or self.places.seen):
             yield "One interleaving of many was seen; --runs N tries others, --until-found N stops at the first with a race."
 
+    def counts(self):
+        """How much was looked at, where it isn't said of each process."""
+        return ()
+
     def fail(self, fault):
         say(words_of(fault))
         self.has_failed = True
@@ -107,20 +114,29 @@ class Look:
         with scanning(self.results.work) as scan:
             looked.places = conversion.places(scan, self.tell)
             looked.events = scan.events
-            origin = Origin(None, process.program)
-            if looked.events:
-                self.modules.add(process.modules)
-            if looked.places:
-                looked.trace, looked.uses, looked.stacks = (self.results.keep(path, f"{process.base}{path.suffix}")
-                                                            for path in (conversion.trace, conversion.uses, conversion.stacks))
-                looked.scan = self.results.path(f"{process.base}.scan")
-                scan.copy(looked.scan)
-                tables = tables_in(looked.stacks)
-                self.modules.callers |= tables.files
-                looked.sources = tables.sources
-                origin = Origin(tables, process.program)
-                origin.add_modules(process.modules)
-        looked.new, looked.named = self.places.add_new(process, looked.trace, origin, looked.places, conversion.numbers)
+        if looked.events:
+            self.modules.add(process.modules)
+        looked.new, looked.named = self.add_new(process, looked, looked.places)
+        self.keep_files(process, looked)
+
+    def add_new(self, process, looked, places, is_behind=False):
+        """Takes some of the places of a process, as `Places.add_new` does."""
+        origin = Origin(None, process.program)
+        if places:
+            tables = tables_in(looked.conversion.stacks)
+            self.modules.callers |= tables.files
+            looked.sources = tables.sources
+            origin = Origin(tables, process.program)
+            origin.add_modules(process.modules)
+        return self.places.add_new(process, self.results.folder / f"{process.base}.std", origin, places, looked.conversion.numbers, is_behind)
+
+    def keep_files(self, process, looked):
+        """Moves the files of a page out of the folder of work."""
+        if not looked.places or looked.has_files:
+            return
+        looked.has_files, conversion = True, looked.conversion
+        conversion.trace, conversion.scan, conversion.uses, conversion.stacks = (
+            self.results.keep(path, f"{process.base}{path.suffix}") for path in (conversion.trace, conversion.scan, conversion.uses, conversion.stacks))
 
     def tell(self, process, places):
         """Says which places there are where the command was told to end: what comes then takes its time."""
@@ -138,24 +154,18 @@ class Look:
         self.passed_over.update(dict.fromkeys((one.location, other.location) for one, other in second.seen))
         if looked.behind:
             looked.places = [*looked.places, *looked.behind]
-            looked.conversion.write_page(looked.places, looked.trace, looked.uses, looked.stacks)
-            add_races(looked.scan, looked.behind)
-            tables = tables_in(looked.stacks)
-            looked.sources = tables.sources
-            origin = Origin(tables, process.program)
-            origin.add_modules(process.modules)
-            new, _ = self.places.add_new(process, looked.trace, origin, looked.behind, looked.conversion.numbers, True)
+            looked.conversion.write_page(looked.places)
+            add_races(looked.conversion.scan, looked.behind)
+            new, _ = self.add_new(process, looked, looked.behind, True)
             looked.new = [*looked.new, *new]
+            self.keep_files(process, looked)
 
     def show(self, process, looked):
         """Shows a process, and says how much it has."""
         conversion, unknown = looked.conversion, self.places.unknown_of(looked.new)
         if unknown:
             self.show_places(process, looked, unknown)
-        cuts = conversion.cuts if looked.events else [cut for cut in conversion.cuts if cut != KILLED]  # without a second thread nothing is lost
-        self.is_cut = self.is_cut or bool(cuts) and cuts != [KILLED]
-        self.is_killed = self.is_killed or cuts == [KILLED]
-        self.has_threads = self.has_threads or bool(looked.events)
+        self.note_cuts(looked)
         self.keep_turns(process, bool(unknown))
         if looked.events and self.options.runs > 1:
             self.runs[-1].append(order_of(process.record))
@@ -165,6 +175,13 @@ class Look:
             if looked.events or note != KILLED:
                 more = "; SHB_RECORDS=NUMBER allows more records, of 16 bytes each" * ("SHB_RECORDS is reached" in note)
                 say(f"{process.name} ({process.command}): {note}{more}")
+
+    def note_cuts(self, looked):
+        """Takes what makes a record a part of its run. Without a second thread nothing is lost where the program was killed."""
+        cuts = looked.conversion.cuts if looked.events else [cut for cut in looked.conversion.cuts if cut != KILLED]
+        self.is_cut = self.is_cut or bool(cuts) and cuts != [KILLED]
+        self.is_killed = self.is_killed or cuts == [KILLED]
+        self.has_threads = self.has_threads or bool(looked.events)
 
     def keep_turns(self, process, has_unknown):
         """Keeps the list of turns of a process with something to run again, and says how far it followed one."""
@@ -179,12 +196,12 @@ class Look:
 
     def show_places(self, process, looked, unknown):
         """The view's page and text of new places that aren't known, and what it found; where it fails, the new places alone."""
-        numbers = looked.conversion.numbers
+        conversion, numbers = looked.conversion, looked.conversion.numbers
         is_on_page = [any(one.place.variables[name].events in numbers for name in one.variables & one.place.variables.keys()) for one in unknown]
         show_apart([one for one, is_there in zip(unknown, is_on_page) if not is_there])
         if not any(is_on_page):
             return
-        first = [note for note in looked.conversion.notes if note.startswith(CRASHED)] + looked.conversion.cuts
+        first = [note for note in conversion.notes if note.startswith(CRASHED)] + conversion.cuts
         notes = [f"{note[0].upper()}{note[1:]}." for note in [*first, *[process.replay] * bool(process.replay)]]
         again = [f"--turns={self.results.folder / f'{process.base}.turns'}",
                  f"--command={shlex.join([self.options.program, *self.options.arguments])}"] if process.record.with_suffix(".turns").exists() else []
@@ -195,16 +212,16 @@ class Look:
         unseen.write_bytes(b"".join(b"%b\t%b\n" % pair for pair in sorted(self.modules.calls(process.modules)) if not set(b"\t\n") & set(b"".join(pair))))
         behind.write_bytes(b"".join(line for one in unknown if one.place in looked.behind for line in lines_of_new(one)))
         words = [f"--title={process.command} ({process.name}, {self.started})", *(f"--note={note}" for note in notes),
-                 "--recorded-source", "--stacks", looked.stacks, "--scan", looked.scan, "--uses", looked.uses,
+                 "--recorded-source", "--stacks", conversion.stacks, "--scan", conversion.scan, "--uses", conversion.uses,
                  *(f"--about={line}" for line in self.meaning()), *(f"--source={folder}" for folder in self.options.source),
-                 *again, "--text", "--no-notes", "--only", only, "--behind", behind, "--unseen", unseen, "--json", found, "--html", page, looked.trace]
+                 *again, "--text", "--no-notes", "--only", only, "--behind", behind, "--unseen", unseen, "--json", found, "--html", page, conversion.trace]
         from shb_view.command import explain  # takes its time, and a run without a place does without
         if explain(list(map(os.fspath, words)), ANALYSER, sys.stderr, **APART):
             print(lines.decode(errors="backslashreplace"), end="", file=sys.stderr)
             return
         self.pages.append(page)
-        self.found[process.name, looked.trace] = document = json.loads(found.read_text(encoding="ascii"))
-        self.sources[process.name, looked.trace] = looked.sources
+        self.found[process.name, conversion.trace] = document = json.loads(found.read_text(encoding="ascii"))
+        self.sources[process.name, conversion.trace] = looked.sources
         self.notes.update(dict.fromkeys(note for note in document["notes"] if note not in notes))
 
 

@@ -53,11 +53,13 @@ class Places(places.Places):
         """Of names in a trace and on the page those that are new on the page, and both of them."""
         new = set()
         for raw, name in names.items():
-            shown = key, known.lasting(name)
-            if shown not in self.known_before:
-                self.known_before.add(shown)
+            if self.is_new(key, name):
+                self.known_before.add((key, known.lasting(name)))
                 new |= {raw, name}
         return new
+
+    def is_new(self, key, name):
+        return (key, known.lasting(name)) not in self.known_before
 
     def unknown_of(self, new):
         """Of new places those with a variable that isn't known."""

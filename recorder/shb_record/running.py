@@ -15,6 +15,8 @@ from shb_common.words import counted
 from shb_record.modules import is_behind
 from shb_record.parts import LIBRARY, say
 
+SEGMENT = 1 << 20  # records, with --live
+POLL = 0.2  # seconds: so often it is looked whether a segment is closed
 PRELOADED = "libtsan.so.2"      # of our folder, as gcc's own is called
 REPLAYED = "replayed.turns"  # in the folder of work: the list that is followed
 
@@ -24,8 +26,9 @@ def environment(options, number, folder):
     come too late the program, and none that this one starts, has it loaded first; SHB_PRELOAD is what these have."""
     paths = [str(LIBRARY)] + [path for path in [os.environ.get("LD_LIBRARY_PATH")] if path]
     replay = {"SHB_REPLAY": str(folder / REPLAYED)} if options.replay else {}
-    variables = dict(os.environ, SHB_RECORD=str(folder / f"run{number}.%p.rec"), SHB_SEED=str(options.seed + number - 1),
-                     LD_LIBRARY_PATH=":".join(paths), **replay)
+    segments = {"SHB_SEGMENT": os.environ.get("SHB_SEGMENT") or str(SEGMENT)} if options.live else {}
+    variables = dict(os.environ, SHB_RECORD=str(folder / f"run{number}.%p{'.%s' * options.live}.rec"), SHB_SEED=str(options.seed + number - 1),
+                     LD_LIBRARY_PATH=":".join(paths), **replay, **segments)
     if is_behind(shutil.which(options.program), variables):
         before = os.environ.get("LD_PRELOAD", "")
         variables.update(LD_PRELOAD=f"{PRELOADED} {before}", SHB_PRELOAD=before)
@@ -46,16 +49,17 @@ def started(words, variables, blocked):
 
 class Run:
     """A run of the program. A signal that would end this command is passed on to the program and to what it leaves behind; what they
-    did is shown all the same."""
+    did is shown all the same. While it runs `look` looks at what there is of it, and says whether it did."""
 
-    def __init__(self, options, number, folder):
+    def __init__(self, options, number, folder, look=None):
         self.wait, self.stop, self.stopped, self.end = options.wait, None, None, None  # the last signal, when the first came, and when it is killed
         watched = STOPS | {signal.SIGCHLD}
         before = signal.pthread_sigmask(signal.SIG_BLOCK, watched)
         try:
             self.program = started([options.program] + options.arguments, environment(options, number, folder), before)
             while self.program.poll() is None:
-                self.take_signal(watched, None if self.end is None else self.end - time.monotonic())
+                pause = [0 if look() else POLL] if look else []
+                self.take_signal(watched, min([*pause, *[end - time.monotonic() for end in [self.end] if end]], default=None))
             self.wait_for_orphans()
         finally:
             signal.pthread_sigmask(signal.SIG_SETMASK, before)

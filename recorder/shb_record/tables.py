@@ -34,7 +34,7 @@ def document(look, rows, entries, groups, status):
                "known": count(rows) - unknown, "stale": len(stale),
                "status": status, "runs": len(look.runs)}
     return result.document("shb-record", summary, [entry(look, row, entries) for row in rows], stale=result.stale_of(stale),
-                           notes=list(look.meaning()), groups=groups)
+                           notes=[*look.meaning(), *look.counts()], groups=groups)
 
 
 def entry(look, row, entries):

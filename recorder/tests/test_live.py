@@ -1,0 +1,94 @@
+"""A program that runs on is looked at while it runs, in segments of its record."""
+
+import json
+import os
+import re
+import signal
+import subprocess
+
+import recorder
+
+SOURCE = recorder.PROGRAMS / "segments.c"
+LINES = list(enumerate(SOURCE.read_text().splitlines(), 1))
+RACING = {f"segments.c:{number}" for number, line in LINES if "RACE" in line}
+ALLOCATED = next(number for number, line in LINES if "calloc" in line)
+MOST = 8 + 1  # segments that the recorder keeps, and the one that it writes
+
+
+class Live(recorder.Case):
+    def program(self):
+        out = self.folder / "segments"
+        recorder.must(recorder.call("gcc", "-w", "-g", "-O1", "-fsanitize=thread", "-pthread", SOURCE, "-o", out))
+        return out
+
+    def records(self):
+        """The segments that are there, by their numbers."""
+        return dict(sorted((int(path.name.split(".")[-2]), path) for path in self.folder.rglob("*.rec")))
+
+    def live(self, then, *words):
+        """Looks at the program, with segments of 5,000 records, until both races are shown; then does this. Gives the status and all that was
+        said."""
+        words = [recorder.BUILT / "shb-record", "--live", *words, self.program()]
+        with subprocess.Popen([str(word) for word in words], cwd=self.folder, stdin=subprocess.PIPE, stderr=subprocess.PIPE, text=True,
+                              env={**os.environ, "SHB": str(recorder.SHB), "SHB_SEGMENT": "5000"}) as ran:
+            said = []
+            while sum("RACE" in line for line in said) < len(RACING):
+                said.append(ran.stderr.readline())
+                self.assertTrue(said[-1], said)
+            self.assertIsNone(ran.poll())
+            self.assertLessEqual(len(self.records()), MOST)
+            then(ran)
+            said += ran.stderr.readlines()
+            return ran.wait(recorder.SECONDS), "".join(said)
+
+    def check_shown(self, said):
+        """Each place is shown once, with the name of its block; nothing that a lock orders is there."""
+        self.assertEqual(sorted(re.findall(r"(?m)^     races with (.*)$", said)), sorted(RACING), said)
+        self.assertEqual(sorted(re.findall(r"(?m)^\d+\. (\w[^#: ]*(?::\d+)?)", said)), ["racing", f"segments.c:{ALLOCATED}"])
+        rows = [line.split("\t") for line in (self.folder / "segments.shb" / "places.tsv").read_text().splitlines()[1:]]
+        self.assertEqual({tuple(row[:2]) for row in rows}, {(place, place) for place in RACING})
+        self.assertRegex(said, r"(?m)^shb-record: [\d,]+ segments with [\d,]+ events looked at$")
+        self.assertIn("races of accesses in two segments are missed", said.splitlines()[-2])
+
+    def test_places_are_shown_while_it_runs(self):
+        status, said = self.live(lambda ran: ran.stdin.close())
+        self.assertEqual(status, 66, said)
+        self.check_shown(said)
+        found = json.loads((self.folder / "segments.shb" / "places.json").read_text())
+        self.assertEqual((found["summary"]["places"], found["summary"]["unknown"], found["summary"]["status"]), (2, 2, 66))
+        self.assertEqual(list(self.records()), [])
+
+    def test_a_signal_ends_it_with_what_was_found(self):
+        status, said = self.live(lambda ran: ran.send_signal(signal.SIGTERM))
+        self.assertEqual((status, "stopped by SIGTERM" in said), (66, True), said)
+        self.check_shown(said)
+
+    def test_known_places_are_passed_over(self):
+        """The lines of an earlier run, of which the block has another number in each segment."""
+        self.live(lambda ran: ran.stdin.close())
+        known = (self.folder / "segments.shb" / "unknown.places").read_text()
+        path = self.folder / "known"
+        path.write_text(known)
+        ran = recorder.call(recorder.BUILT / "shb-record", "--live", "--known", path, self.program(), "400", cwd=self.folder,
+                            env={**os.environ, "SHB": str(recorder.SHB), "SHB_SEGMENT": "5000"})
+        said = ran.stderr.decode()
+        self.assertNotEqual(ran.returncode, 66, said)
+        self.assertIn("0 unknown places with races, 2 known ones passed over", said)
+
+    def test_the_segments_of_a_record(self):
+        """They are few, the last of many, and each is a record of its own: with its threads' names, and no race of what a lock orders that
+        was taken before it began."""
+        recorder.must(recorder.call(self.program(), "400", env=recorder.settings(self.folder / "r.%p.%s.rec", SHB_SEGMENT="1000",
+                                                                                 LD_LIBRARY_PATH=str(recorder.BUILT / "lib"))))
+        records = self.records()
+        self.assertEqual(list(records), list(range(max(records) + 1 - MOST, max(records) + 1)))
+        self.assertGreater(max(records), 100)
+        for record in records.values():
+            trace = recorder.must(recorder.convert(record)).stdout
+            self.assertEqual({line for pair in recorder.places(trace) for line in pair}, RACING)
+            self.assertEqual(set(re.findall(rb"^(\S+?)\|[rw]\(", trace, re.M)), {b"T1.writer", b"T2.reader"})
+
+    def test_words_that_do_not_go_together(self):
+        for words in (["--keep"], ["--replay", "x.turns"], ["--runs", "2"], ["--until-found", "2"]):
+            ran = recorder.call(recorder.BUILT / "shb-record", "--live", *words, "true")
+            self.assertEqual((ran.returncode, b"--live" in ran.stderr), (125, True), ran.stderr)
