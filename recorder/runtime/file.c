@@ -259,10 +259,17 @@ int open_file(const char *command, uint64_t first_bytes, uint64_t segment) {
     return 1;
 }
 
+/* The record's descriptor, which is the caller's from here on; or -1. */
+int take_file(void) {
+    int file = has(RECORD) ? kept[RECORD].number : -1;
+    kept[RECORD].number = -1;
+    return file;
+}
+
 /* In a process made by fork, which would hold its parent's open and locked. */
 void leave_file(void) {
-    if (has(RECORD)) syscall(SYS_close, kept[RECORD].number);
-    kept[RECORD].number = -1;
+    int file = take_file();
+    if (file >= 0) syscall(SYS_close, file);
 }
 
 /* ---- the list of turns, beside the record: its file is opened for each change of its size, and these are few ---- */

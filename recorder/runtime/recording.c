@@ -427,18 +427,20 @@ static int add_state(void) {
     return 1;
 }
 
-/* Ends the record as that of a program that ends, and begins the next. */
+/* The next segment's file takes the place of this one's, which is whole from there on: where it can't be had, the recording ends in this one. */
+static int change_file(void) {
+    cut_file(HEADER_BYTES + written * sizeof *records);
+    if (segment > MOST_SEGMENTS) drop_segment(segment - MOST_SEGMENTS);
+    int before = take_file(), done = open_file(command, HEADER_BYTES + STEP_BYTES, segment + 1) && write_file(header, ENDED_AT);
+    if (done) note_whole();
+    syscall(SYS_close, before);
+    return done && use_map(map_file(header, map_bytes()));
+}
+
 static int begin_segment(void) {
-    int done = in_memory;
-    if (!in_memory) {
-        cut_file(HEADER_BYTES + written * sizeof *records);
-        note_whole();
-        leave_file();
-        done = open_file(command, HEADER_BYTES + STEP_BYTES, segment + 1) && write_file(header, ENDED_AT) && use_map(map_file(header, map_bytes()));
-        if (segment > MOST_SEGMENTS) drop_segment(segment - MOST_SEGMENTS);
-    }
+    if (!in_memory && !change_file()) return 0;
     forget_record();
-    done = done && add_state();
+    int done = add_state();
     begin_counting(segment - in_memory);
     return done;
 }

@@ -179,6 +179,7 @@ void cut_turns(uint64_t bytes);
 int write_file(const char *from, uint64_t bytes);
 void cut_file(uint64_t bytes);
 void *map_file(void *at, uint64_t bytes);                    /* or MAP_FAILED */
+int take_file(void);
 void leave_file(void);
 int open_proc(void);
 int read_task_file(pid_t system_id, const char *leaf, char *text, int size);
