@@ -44,11 +44,12 @@ pub fn compacted(
     Ok(rows)
 }
 
-/// The first row, and those that these tables name, and no others. The first stays the first, and the tables
-/// name each by its new number then.
+/// The first row, and those that these tables name, and no others, in the memory of rows that aren't used any more.
+/// The first stays the first, and the tables name each by its new number then.
 pub fn compacted_list(
     alloc: Global,
     old: &RowList,
+    unused: RowList,
     current: &mut Vec<u32>,
     locks: &mut Vec<Stamp>,
     variables: &mut Vec<Stamp>,
@@ -60,6 +61,6 @@ pub fn compacted_list(
     let mut moving = Moving::new(alloc, old.count())?;
     moving.row(0)?;
     moving.tables(current, locks, variables)?;
-    let rows = old.kept(alloc, moving.kept.as_slice())?;
+    let rows = old.kept(unused, moving.kept.as_slice())?;
     Ok(rows)
 }

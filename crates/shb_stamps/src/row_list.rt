@@ -46,7 +46,7 @@ impl Model for RowList {
 
 impl RowList {
     /// No rows.
-    fn empty(alloc: Global) -> RowList
+    pub fn empty(alloc: Global) -> RowList
         ensures { result ≡ [] }
     {
         RowList {
@@ -106,11 +106,29 @@ impl RowList {
         Ok(number)
     }
 
-    /// The rows with these numbers, in this order.
-    pub fn kept(&self, alloc: Global, kept: &[u32]) -> Result<RowList, NoMemory>
+    /// No rows, in the memory of these, which are gone then.
+    fn emptied(self) -> RowList
+        ensures { result ≡ [] }
+    {
+        let RowList {
+            mut spans,
+            mut entries,
+            ..
+        } = self;
+        spans.clear();
+        entries.clear();
+        RowList {
+            spans,
+            entries,
+            size: 0,
+        }
+    }
+
+    /// The rows with these numbers, in this order, in the memory of rows that aren't used any more.
+    pub fn kept(&self, unused: RowList, kept: &[u32]) -> Result<RowList, NoMemory>
         ensures { IfOk result (AreKept self.now kept.now (length kept.now)) }
     {
-        let mut list = RowList::empty(alloc);
+        let mut list = unused.emptied();
         for b in 0..kept.len() {
             list.push(self.row(kept[b]))?;
         }

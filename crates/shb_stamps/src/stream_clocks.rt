@@ -17,6 +17,7 @@ use crate::stamp::Stamp;
 use shb_io::NoMemory;
 use shb_lines::{Op, item_or, put};
 use std::alloc::Global;
+use std::mem;
 
 /// What is known of the order after some events of a stream. Threads, locks and variables are told by their
 /// numbers, and each event may name new ones. A row has an entry for each thread up to the last one that it
@@ -35,6 +36,8 @@ pub struct StreamClocks {
     pub variables: Vec<Stamp>,
     /// Space to make a row in.
     pub clock: Vec<u32>,
+    /// The memory of rows that were moved, for the next ones that are.
+    pub unused: RowList,
     /// The size of the rows at which those that nothing names are freed.
     pub limit: usize,
 }
@@ -45,6 +48,15 @@ fn size_limit(used: usize, stamps: usize) -> usize {
     used.saturating_mul(2)
         .max(stamps.saturating_mul(12))
         .max(1_048_576)
+}
+
+/// The memory of rows that were moved, of which so many bytes are in use, for the next ones that are. It is freed
+/// where more than three quarters are in use: then more will be, and it wouldn't be enough.
+fn memory_of(alloc: Global, old: RowList, used: usize) -> RowList {
+    if used > old.size() - old.size() / 4 {
+        return RowList::empty(alloc);
+    }
+    old
 }
 
 /// Makes a clock that of a row, with a time put at a thread.
@@ -113,6 +125,7 @@ impl StreamClocks {
             locks: Vec::new(alloc),
             variables: Vec::new(alloc),
             clock: Vec::new(alloc),
+            unused: RowList::empty(alloc),
             limit: size_limit(0, 0),
         })
     }
@@ -250,16 +263,19 @@ impl StreamClocks {
     fn compact(&mut self, alloc: Global) -> Result<(), NoMemory>
         ensures { (past : List Event) → length past + 1 < 2 ^ 32 → IsStreamed past self.old → OnOk result (IsStreamed past self.new) }
     {
+        let unused = mem::replace(&mut self.unused, RowList::empty(alloc));
         let rows = compacted_list(
             alloc,
             &self.rows,
+            unused,
             &mut self.current,
             &mut self.locks,
             &mut self.variables,
         )?;
         let stamps = self.locks.len().saturating_add(self.variables.len());
         self.limit = size_limit(rows.size(), stamps);
-        self.rows = rows;
+        let old = mem::replace(&mut self.rows, rows);
+        self.unused = memory_of(alloc, old, self.rows.size());
         Ok(())
     }
 
