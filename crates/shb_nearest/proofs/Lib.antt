@@ -1,3 +1,4 @@
+pub mod AddedLemmas
 pub mod Carry
 pub mod ClassLemmas
 pub mod FinalLemmas

@@ -3,7 +3,7 @@ use Rattle.std.proofs.Common.{◌≡◌, ◌≢◌, ℕ, suc, ◌+◌, ◌-◌, 
 use Rattle.std.specs.Prelude.{Contains, option_and_then, slice_get}
 use Rattle.std.proofs.Math.Seq.{take-suc}
 use Rattle.std.proofs.lemmas.Bool.{cases_eq, cases_lt}
-use Rattle.std.proofs.lemmas.List.Elements.{All-contains, All-weaker, Contains-append_cases, Contains-append_left, Contains-append_right, Contains-push_cases}
+use Rattle.std.proofs.lemmas.List.Elements.{All-contains, All-weaker, Contains-push_cases}
 use Rattle.std.proofs.lemmas.Option.{get_or_from_slice_get, slice_get-get_or, slice_get_within}
 use Rattle.shb_lines.specs.declared.event.Event.{Event}
 use Rattle.shb_lines.specs.declared.event.Op.TheVariants.{Write}
@@ -24,7 +24,7 @@ use Rattle.shb_nearest.specs.declared.groups.Kept.{Kept}
 use Rattle.shb_nearest.specs.declared.groups.Run.{Run}
 use Rattle.shb_nearest.specs.Found.{IsFoundAccess, access_op, location_in}
 use Rattle.shb_nearest.specs.Groups.{AreGroups, IsGroup, IsKept, IsRun, access_of}
-use Rattle.shb_nearest.specs.Rivals.{AreMet, AreRivals, CanRace, HasMet, HasMetGroup, IsOver}
+use Rattle.shb_nearest.specs.Rivals.{AreMet, AreRivals, CanRace, HasMet, HasMetGroup, IsCovered, IsOver}
 use Rattle.shb_nearest.specs.Screen.{HasNone}
 use Rattle.shb_nearest.proofs.ClassLemmas.{kind_at, newest_after, newest_exists, op_variable}
 use Rattle.shb_nearest.proofs.Members.{index_of, member_drop, member_map, member_of_drop, member_of_map}
@@ -143,12 +143,12 @@ module _ (trace : List Event) (spots : List Spot) (x : ℕ) where
         -- what was looked at is what races
         pub met_some : (since : ℕ) (old new : List FoundAccess) → CanRace group access → HasMet group below since old new → HasMetGroup trace spots x access since group old new
         met_some since old new can h = record {
-          stay = λ a there. subst (λ (l : List FoundAccess). Contains l a) (sym h.more) (Contains-append_left old added a there);
-          from = λ a there. elim (Contains-append_cases old added a (subst (λ (l : List FoundAccess). Contains l a) h.more there)) [
+          stay = h.more.stay;
+          from = λ a there. elim (h.more.from a there) [
             | inl before ↦ inl before
             | inr new_one ↦ inr (found a new_one)
           ];
-          met = λ a there from race. subst (λ (l : List FoundAccess). Contains l (access_of group.thread group.writes a)) (sym h.more) (Contains-append_right old added (access_of group.thread group.writes a) (looked a there from race));
+          met = λ a there from race. h.more.covers (access_of group.thread group.writes a) (looked a there from race);
         }
           where
             added : List FoundAccess
@@ -206,7 +206,7 @@ module _ (trace : List Event) (spots : List Spot) (x : ℕ) where
       races = λ a there. elim (h.from a there) [ inl before ↦ are.races a before | inr found ↦ found ];
       met = λ g a there in_group from race. elim (Contains-push_cases (take n groups) group g (subst (λ (l : List Group). Contains l g) more there)) [
         | inl before ↦ h.stay (access_of g.thread g.writes a) (are.met g a before in_group from race)
-        | inr same ↦ subst (λ (b : Group). Contains new (access_of b.thread b.writes a)) same (h.met a (subst (λ (b : Group). Contains b.kept.items a) (sym same) in_group) from race)
+        | inr same ↦ subst (λ (b : Group). IsCovered new (access_of b.thread b.writes a)) same (h.met a (subst (λ (b : Group). Contains b.kept.items a) (sym same) in_group) from race)
       ];
     }
       where
@@ -234,9 +234,7 @@ module _ (trace : List Event) (spots : List Spot) (x : ℕ) where
               | inl same ↦ subst (λ (m : ℕ). Race trace m access.event) (sym same) race
               | inr ne ↦ later_same_races trace i k access.event race (is.thread_is ∙ sym of_i) (is.op_is ∙ sym kind.1) (omega (arith, le, ne)) new.1.past
             ] in
-            let at_k = keeps.event_is in (
-              access_of keeps.group.thread keeps.group.writes keeps.kept,
-              met.met keeps.group keeps.kept keeps.there keeps.among (omega (arith, from, le, at_k)) (subst (λ (m : ℕ). Race trace m access.event) (sym at_k) newer),
-              keeps.location_is,
-              omega (arith, le, at_k),
-            )
+            let at_k = keeps.event_is in
+            let covered = met.met keeps.group keeps.kept keeps.there keeps.among (omega (arith, from, le, at_k)) (subst (λ (m : ℕ). Race trace m access.event) (sym at_k) newer) in
+            let later : keeps.kept.event ≤ covered.rival.event = covered.not_before in
+            (covered.rival, covered.there, covered.location_is ∙ keeps.location_is, omega (arith, le, at_k, later))

@@ -26,11 +26,24 @@ pub record IsFrom (kept : List Kept) (below since from : ℕ) : Type 0 where
   pub need : NeedLook kept below since from
   pub stop : (k : ℕ) (a : Kept) → k + 1 ≡ from → slice_get kept k ≡ Some a → IsOver a below since
 
+-- one of the rivals is at the location of an access, and isn't before it
+pub record IsCovered (rivals : List FoundAccess) (access : FoundAccess) : Type 0 where
+  pub rival : FoundAccess
+  pub there : Contains rivals rival
+  pub location_is : rival.spot.location ≡ access.spot.location
+  pub not_before : access.event ≤ rival.event
+
+-- accesses came to the rivals, of which those may be left out that another one covers
+pub record HasAdded (old new added : List FoundAccess) : Type 0 where
+  pub stay : (a : FoundAccess) → IsCovered old a → IsCovered new a
+  pub from : (a : FoundAccess) → Contains new a → Contains old a ⊎ Contains added a
+  pub covers : (a : FoundAccess) → Contains added a → IsCovered new a
+
 -- what a group keeps after the last one that needs no look came to the rivals
 pub record HasMet (group : Group) (below since : ℕ) (old new : List FoundAccess) : Type 0 where
   pub from : ℕ
   pub from_is : IsFrom group.kept.items below since from
-  pub more : new ≡ old ++ map (access_of group.thread group.writes) (drop from group.kept.items)
+  pub more : HasAdded old new (map (access_of group.thread group.writes) (drop from group.kept.items))
 
 -- accesses of the group are of another thread than the access, and one of both writes
 pub record CanRace (group : Group) (access : FoundAccess) : Type 0 where
@@ -47,14 +60,14 @@ pub record IsNextAccess (past : List Event) (e : Event) (spots : List Spot) (x :
 
 -- what a group keeps from `since` on that races with the access came to the rivals, and nothing that doesn't race
 pub record HasMetGroup (trace : List Event) (spots : List Spot) (x : ℕ) (access : FoundAccess) (since : ℕ) (group : Group) (old new : List FoundAccess) : Type 0 where
-  pub stay : (a : FoundAccess) → Contains old a → Contains new a
+  pub stay : (a : FoundAccess) → IsCovered old a → IsCovered new a
   pub from : (a : FoundAccess) → Contains new a → Contains old a ⊎ (IsFoundAccess trace spots x a × Race trace a.event access.event)
-  pub met : (a : Kept) → Contains group.kept.items a → since ≤ a.event → Race trace a.event access.event → Contains new (access_of group.thread group.writes a)
+  pub met : (a : Kept) → Contains group.kept.items a → since ≤ a.event → Race trace a.event access.event → IsCovered new (access_of group.thread group.writes a)
 
 -- the same of several groups
 pub record AreMet (trace : List Event) (spots : List Spot) (x : ℕ) (access : FoundAccess) (since : ℕ) (groups : List Group) (rivals : List FoundAccess) : Type 0 where
   pub races : (a : FoundAccess) → Contains rivals a → IsFoundAccess trace spots x a × Race trace a.event access.event
-  pub met : (g : Group) (a : Kept) → Contains groups g → Contains g.kept.items a → since ≤ a.event → Race trace a.event access.event → Contains rivals (access_of g.thread g.writes a)
+  pub met : (g : Group) (a : Kept) → Contains groups g → Contains g.kept.items a → since ≤ a.event → Race trace a.event access.event → IsCovered rivals (access_of g.thread g.writes a)
 
 -- accesses that race with an access: for each that does, from `since` on, one at its location that isn't before it
 pub record AreRivals (trace : List Event) (spots : List Spot) (x : ℕ) (access : FoundAccess) (since : ℕ) (rivals : List FoundAccess) : Type 0 where

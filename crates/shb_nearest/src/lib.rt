@@ -10,8 +10,8 @@
 //! and at the first that is before an earlier access of its own class, since what is behind that and races with this
 //! access raced with that one, and its place is known. It looks at nothing where its own thread alone accessed the
 //! variable since that access of its class (`Run`), nor where the last write of the variable is below its predecessor
-//! and, for a write, the newest read since is too (`screen`). All that it went over race with it, and are offered to
-//! the table of places. The earlier access of its class is the last one, where the own group keeps a few, and it
+//! and, for a write, the newest read since is too (`screen`). All that it went over race with it. The last of them at
+//! each location (`Rivals`) is offered to the table of places. The earlier access of its class is the last one, where the own group keeps a few, and it
 //! replaces that one; else `classes` has one.
 //!
 //! So an access costs a step for each group of its variable, and one for each kept access that races with it and came

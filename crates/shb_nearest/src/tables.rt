@@ -11,7 +11,7 @@ use crate::access::FoundAccess;
 use crate::classes::Classes;
 use crate::groups::{Groups, Run};
 use crate::places::Places;
-use crate::rivals::rivals_of;
+use crate::rivals::Rivals;
 use crate::screen::{screen, unscreened};
 use shb_io::NoMemory;
 use shb_stamps::StreamClocks;
@@ -25,6 +25,8 @@ pub struct Tables {
     pub classes: Classes,
     pub groups: Vec<Groups>,
     pub places: Places,
+    /// Those that race with an access while it is taken.
+    pub rivals: Rivals,
 }
 
 /// Makes groups, so that a variable has some.
@@ -59,6 +61,7 @@ impl Tables {
             classes,
             groups: Vec::new(alloc),
             places,
+            rivals: Rivals::new(alloc),
         })
     }
 
@@ -86,8 +89,7 @@ impl Tables {
             .saturating_add(1);
         let screened = screen(clocks, groups.latest, access, time);
         let since = groups.take(alloc, &mut self.classes, variable, access, time)?;
-        let rivals = rivals_of(
-            alloc,
+        self.rivals.find(
             clocks,
             screened.free,
             run,
@@ -97,8 +99,7 @@ impl Tables {
         )?;
         groups.run = run.after(access);
         groups.latest = screened.latest;
-        self.places
-            .offer_all(by_variable, variable, access, &rivals)?;
+        self.places.offer_all(by_variable, variable, access, self.rivals.found.as_slice())?;
         Ok(())
     }
 }

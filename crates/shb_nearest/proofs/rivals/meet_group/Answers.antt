@@ -9,4 +9,4 @@ returns c past e spots x next group =
     let can = c.can_race-met.ensures.can c.if-not-met.false in
     met_some (past ++ e ∷ []) spots x c.args.access next.own c.args.group.now (group_before (past ++ e ∷ []) spots x c.args.access next.own c.args.group.now can.other group) c.below_next-below.result
     (subst (λ (n : ℕ). IsBelowPredCount (past ++ e ∷ []) c.args.group.now.thread n c.below_next-below.result) (sym next.event_is) count)
-    c.args.since c.args.rivals.now.items c.meet.new.rivals.items can c.in_ok-meet.ensures
+    c.args.since c.args.rivals.now.found.items c.meet.new.rivals.found.items can c.in_ok-meet.ensures

@@ -27,11 +27,11 @@ returns c past e spots room next are =
     (subst (λ (m : ℕ). IsBelowPredCount (past ++ e ∷ []) c.args.access.thread m c.below_next.result) (sym next.event_is) (c.below_next.ensures past e next.thread_is next.disciplined next.streamed)) c.saturating_add-time.ensures in
     let since = c.in_ok-since.ensures.since trace spots groups are.classes in
     let taken = c.in_ok-since.ensures.groups trace spots groups next.own time in
-    let rivals = c.in_ok-rivals.ensures past e spots x next (subst (λ (l : List Group). AreGroups (past ++ e ∷ []) spots c.args.variable (c.args.access.event + 1) l) (sym c.as_slice.ensures) taken) run (c.screen-screened.ensures.free past e spots x next screened) in
+    let rivals = c.in_ok-find.ensures past e spots x next (subst (λ (l : List Group). AreGroups (past ++ e ∷ []) spots c.args.variable (c.args.access.event + 1) l) (sym c.as_slice.ensures) taken) run (c.screen-screened.ensures.free past e spots x next screened) in
     record {
       classes = c.in_ok-since.ensures.classes trace spots next.own are.classes;
       groups = groups_put trace spots n x access refl next.own mid (record { each = c.take.new.self.each; run = c.after-groups.result; latest = c.screen-screened.result.latest }) space.wide all taken (c.after-groups.ensures trace spots x next.own run) (c.screen-screened.ensures.latest past e spots x next time screened);
       places = subst (λ (l : List PlaceEntry). ArePlaces c.args.by_variable (past ++ e ∷ []) spots (c.args.access.event + 1) l)
-          (sym (c.in_ok-offer_all.ensures ∙ ap (λ (l : List FoundAccess). offered_all c.args.by_variable c.args.variable c.args.access c.args.self.now.places.races.entries l) c.deref.ensures.value))
-          (placed c.args.by_variable trace next.disciplined spots x n access refl next.own c.in_ok-since.since since c.in_ok-rivals.rivals.items rivals c.args.self.now.places.races.entries are.places);
+          (sym (c.in_ok-offer_all.ensures ∙ ap (λ (l : List FoundAccess). offered_all c.args.by_variable c.args.variable c.args.access c.args.self.now.places.races.entries l) c.as_slice-2.ensures.value))
+          (placed c.args.by_variable trace next.disciplined spots x n access refl next.own c.in_ok-since.since since c.find.new.self.found.items rivals c.args.self.now.places.races.entries are.places);
     }

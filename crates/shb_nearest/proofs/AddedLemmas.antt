@@ -1,0 +1,87 @@
+-- Accesses that come to the rivals.
+use Rattle.std.proofs.Common.{◌≡◌, ℕ, suc, ◌+◌, ◌<◌, ◌≤◌, ◌⊎◌, inl, inr, List, [], ◌∷◌, ◌++◌, Some, map, take, arith, get_or, refl, sym, ap, subst, ◌∙◌, get_or-set_same, get_or-set_other}
+use Rattle.std.specs.Prelude.{Contains, slice_get}
+use Rattle.std.proofs.Math.ListN.{set, length-set}
+use Rattle.std.proofs.Math.Seq.{take-suc}
+use Rattle.std.proofs.lemmas.Bool.{cases_eq}
+use Rattle.std.proofs.lemmas.List.{map-append}
+use Rattle.std.proofs.lemmas.List.Elements.{Contains-append_cases, Contains-append_left, Contains-append_right, Contains-push_cases}
+use Rattle.std.proofs.lemmas.Option.{get_or_from_slice_get, slice_get_within}
+use Rattle.shb_lines.proofs.events.Increasing.{contains_head, contains_none}
+use Rattle.shb_nearest.specs.declared.access.FoundAccess.{FoundAccess}
+use Rattle.shb_nearest.specs.declared.groups.Kept.{Kept}
+use Rattle.shb_nearest.specs.Rivals.{HasAdded, IsCovered}
+use Rattle.shb_nearest.proofs.Members.{member_at, member_set, stays_or_is}
+
+pub added_none : (xs : List FoundAccess) → HasAdded xs xs []
+added_none xs = record { stay = λ a h. h; from = λ a there. inl there; covers = λ a there. absurd (contains_none a there) }
+
+-- some, and then one more
+pub added_more : (old mid new done : List FoundAccess) (a : FoundAccess) → HasAdded old mid done → HasAdded mid new (a ∷ []) → HasAdded old new (done ++ a ∷ [])
+added_more old mid new done a first then = record {
+  stay = λ b h. then.stay b (first.stay b h);
+  from = λ b there. elim (then.from b there) [
+    | inl before ↦ elim (first.from b before) [
+      | inl was ↦ inl was
+      | inr one ↦ inr (Contains-append_left done (a ∷ []) b one)
+    ]
+    | inr one ↦ inr (Contains-append_right done (a ∷ []) b one)
+  ];
+  covers = λ b there. elim (Contains-append_cases done (a ∷ []) b there) [
+    | inl one ↦ then.stay b (first.covers b one)
+    | inr one ↦ then.covers b one
+  ];
+}
+
+-- the kept accesses before n, and then the one at n
+pub added_kept : (old mid new : List FoundAccess) (f : Kept → FoundAccess) (kept : List Kept) (n : ℕ) (item : Kept) → slice_get kept n ≡ Some item → HasAdded old mid (map f (take n kept)) → HasAdded mid new (f item ∷ []) → HasAdded old new (map f (take (n + 1) kept))
+added_kept old mid new f kept n item at first then = subst (HasAdded old new) (sym more) (added_more old mid new (map f (take n kept)) (f item) first then)
+  where
+    longer : take (n + 1) kept ≡ take n kept ++ item ∷ []
+    longer = (let e : n + 1 ≡ suc n = omega arith in ap (λ (m : ℕ). take m kept) e) ∙ (take-suc kept n item (slice_get_within kept n item at) ∙ ap (λ (b : Kept). take n kept ++ b ∷ []) (get_or_from_slice_get kept n item item at))
+
+    more : map f (take (n + 1) kept) ≡ map f (take n kept) ++ f item ∷ []
+    more = ap (map f) longer ∙ map-append f (take n kept) (item ∷ [])
+
+module _ (xs : List FoundAccess) (a : FoundAccess) where
+  only : (b : FoundAccess) → Contains (a ∷ []) b → a ≡ b
+  only b there = elim (Contains-push_cases [] a b there) [ inl none ↦ absurd (contains_none b none) | inr same ↦ same ]
+
+  covered_by : (ys : List FoundAccess) → Contains ys a → (b : FoundAccess) → Contains (a ∷ []) b → IsCovered ys b
+  covered_by ys there b one = subst (λ (c : FoundAccess). IsCovered ys c) (only b one) (record { rival = a; there = there; location_is = refl; not_before = omega arith })
+
+  pub added_push : (new : List FoundAccess) → new ≡ xs ++ a ∷ [] → HasAdded xs new (a ∷ [])
+  added_push new is = record {
+    stay = λ b h. record { rival = h.rival; there = subst (λ (l : List FoundAccess). Contains l h.rival) (sym is) (Contains-append_left xs (a ∷ []) h.rival h.there); location_is = h.location_is; not_before = h.not_before };
+    from = λ b there. Contains-append_cases xs (a ∷ []) b (subst (λ (l : List FoundAccess). Contains l b) is there);
+    covers = covered_by new (subst (λ (l : List FoundAccess). Contains l a) (sym is) (Contains-append_right xs (a ∷ []) a (contains_head a [])));
+  }
+
+  module _ (i : ℕ) (known : FoundAccess) (at : slice_get xs i ≡ Some known) (same : known.spot.location ≡ a.spot.location) where
+    pub added_known : a.event ≤ known.event → HasAdded xs xs (a ∷ [])
+    added_known le = record {
+      stay = λ b h. h;
+      from = λ b there. inl there;
+      covers = λ b one. subst (λ (c : FoundAccess). IsCovered xs c) (only b one) (record { rival = known; there = member_at xs i known at; location_is = same; not_before = le });
+    }
+
+    pub added_set : known.event < a.event → HasAdded xs (set xs i a) (a ∷ [])
+    added_set lt = record { stay = stay; from = from; covers = covered_by (set xs i a) here }
+      where
+        here : Contains (set xs i a) a
+        here = member_set xs i a (slice_get_within xs i known at)
+
+        stay : (b : FoundAccess) → IsCovered xs b → IsCovered (set xs i a) b
+        stay b h = elim (stays_or_is xs i known a at h.rival h.there) [
+          | inl is ↦ (
+              let low = h.not_before in
+              let event = ap (λ (c : FoundAccess). c.event) is in
+              record { rival = a; there = here; location_is = sym same ∙ (ap (λ (c : FoundAccess). c.spot.location) (sym is) ∙ h.location_is); not_before = omega (arith, low, event, lt) })
+          | inr stays ↦ record { rival = h.rival; there = stays; location_is = h.location_is; not_before = h.not_before }
+        ]
+
+        from : (b : FoundAccess) → Contains (set xs i a) b → Contains xs b ⊎ Contains (a ∷ []) b
+        from b there = elim (cases_eq there.0 i) [
+          | inl is ↦ inr (subst (λ (c : FoundAccess). Contains (a ∷ []) c) (sym (get_or-set_same xs i a b (slice_get_within xs i known at)) ∙ (ap (λ (m : ℕ). get_or (set xs i a) m b) (sym is) ∙ there.2)) (contains_head a []))
+          | inr other ↦ inl (there.0, (let long = length-set xs i a in let low = there.1 in omega (arith, low, long)), sym (get_or-set_other xs i there.0 a b other) ∙ there.2)
+        ]
