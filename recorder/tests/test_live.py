@@ -8,10 +8,12 @@ import subprocess
 
 import recorder
 
+from shb_common.stacks import Stacks
+
 SOURCE = recorder.PROGRAMS / "segments.c"
 LINES = list(enumerate(SOURCE.read_text().splitlines(), 1))
 RACING = {f"segments.c:{number}" for number, line in LINES if "RACE" in line}
-ALLOCATED = next(number for number, line in LINES if "calloc" in line)
+BLOCK = next(f"segments.c:{number}" for number, line in LINES if "calloc" in line)
 MOST = 8 + 1  # segments that the recorder keeps, and the one that it writes
 
 
@@ -28,7 +30,7 @@ class Live(recorder.Case):
     def live(self, then, *words):
         """Looks at the program, with segments of 5,000 records, until both races are shown; then does this. Gives the status and all that was
         said."""
-        words = [recorder.BUILT / "shb-record", "--live", *words, self.program()]
+        words = [recorder.BUILT / "shb-record", "--live", *words, self.program(), "0"]
         with subprocess.Popen([str(word) for word in words], cwd=self.folder, stdin=subprocess.PIPE, stderr=subprocess.PIPE, text=True,
                               env={**os.environ, "SHB": str(recorder.SHB), "SHB_SEGMENT": "5000"}) as ran:
             said = []
@@ -42,9 +44,11 @@ class Live(recorder.Case):
             return ran.wait(recorder.SECONDS), "".join(said)
 
     def check_shown(self, said):
-        """Each place is shown once, with the name of its block; nothing that a lock orders is there."""
+        """Each place is shown once, and nothing that a lock orders is there. Where a segment was dropped before any was looked at, the block has
+        an address."""
         self.assertEqual(sorted(re.findall(r"(?m)^     races with (.*)$", said)), sorted(RACING), said)
-        self.assertEqual(sorted(re.findall(r"(?m)^\d+\. (\w[^#: ]*(?::\d+)?)", said)), ["racing", f"segments.c:{ALLOCATED}"])
+        names = re.findall(r"(?m)^\d+\. (\w[^#: ]*(?::\d+)?)", said)
+        self.assertEqual({BLOCK if name.startswith("0x") else name for name in names}, {"racing", BLOCK}, said)
         rows = [line.split("\t") for line in (self.folder / "segments.shb" / "places.tsv").read_text().splitlines()[1:]]
         self.assertEqual({tuple(row[:2]) for row in rows}, {(place, place) for place in RACING})
         self.assertRegex(said, r"(?m)^shb-record: [\d,]+ segments with [\d,]+ events looked at$")
@@ -64,11 +68,8 @@ class Live(recorder.Case):
         self.check_shown(said)
 
     def test_known_places_are_passed_over(self):
-        """The lines of an earlier run, of which the block has another number in each segment."""
-        self.live(lambda ran: ran.stdin.close())
-        known = (self.folder / "segments.shb" / "unknown.places").read_text()
         path = self.folder / "known"
-        path.write_text(known)
+        path.write_text("".join(f"{place}\t{place}\n" for place in sorted(RACING)))
         ran = recorder.call(recorder.BUILT / "shb-record", "--live", "--known", path, self.program(), "400", cwd=self.folder,
                             env={**os.environ, "SHB": str(recorder.SHB), "SHB_SEGMENT": "5000"})
         said = ran.stderr.decode()
@@ -83,10 +84,26 @@ class Live(recorder.Case):
         records = self.records()
         self.assertEqual(list(records), list(range(max(records) + 1 - MOST, max(records) + 1)))
         self.assertGreater(max(records), 100)
-        for record in records.values():
+        for record in list(records.values())[:-1]:           # the last may have no race
             trace = recorder.must(recorder.convert(record)).stdout
             self.assertEqual({line for pair in recorder.places(trace) for line in pair}, RACING)
             self.assertEqual(set(re.findall(rb"^(\S+?)\|[rw]\(", trace, re.M)), {b"T1.writer", b"T2.reader"})
+
+    def test_blocks_and_functions_over_the_bounds_of_segments(self):
+        """A block keeps its name, and an access its stack."""
+        recorder.must(recorder.call(self.program(), "16", env=recorder.settings(self.folder / "r.%p.%s.rec", SHB_SEGMENT="1000",
+                                                                                LD_LIBRARY_PATH=str(recorder.BUILT / "lib"))))
+        left, stacks, before = self.folder / "left", self.folder / "stacks", []
+        records = self.records()
+        self.assertEqual(list(records), list(range(1, len(records) + 1)))
+        self.assertGreater(len(records), 4)
+        for record in list(records.values())[:-1]:           # the last may have no race
+            trace = recorder.must(recorder.convert(record, *before, "--left", left, "--stacks", stacks)).stdout.splitlines()
+            found = [number for number, line in enumerate(trace, 1) if BLOCK in line.decode().split("|")[1]]
+            self.assertTrue(found)
+            its = Stacks(stacks, 0, len(trace))
+            self.assertEqual({its.of_event(number)[0].function for number in found}, {b"work"})
+            before = ["--blocks", left]
 
     def test_where_the_next_segment_cannot_be_written(self):
         """The recording ends in the segment before, and the program goes on."""

@@ -1,12 +1,12 @@
-/* Runs until its input ends, or so many rounds as its word says, each of one thread and then of the other. Two rounds have two races, and
+/* So many rounds as its word says, each of one thread and then of the other; with 0 until its input ends. Two rounds have two races, and
    segments of the record end while a round holds a lock. */
 #include <pthread.h>
 #include <stdlib.h>
 #include <unistd.h>
-static int racing, locked, guarded, given, *block;
+int racing, locked, guarded, given, *block;
 static pthread_mutex_t m = PTHREAD_MUTEX_INITIALIZER, other = PTHREAD_MUTEX_INITIALIZER;
 static pthread_rwlock_t rw = PTHREAD_RWLOCK_INITIALIZER;
-static int ends, rounds, turn;
+static int ends, rounds = 20, turn;
 
 /* Orders nothing. */
 static void wait_for_turn(int of) {
@@ -22,7 +22,7 @@ static void fill(void) {
 
 static void *work(void *writes) {
     pthread_setname_np(pthread_self(), writes ? "writer" : "reader");
-    for (int i = 0; i != rounds && !__atomic_load_n(&ends, __ATOMIC_RELAXED); i++) {
+    for (int i = 0; (!rounds || i < rounds) && !__atomic_load_n(&ends, __ATOMIC_RELAXED); i++) {
         wait_for_turn(!!writes);
         racing++; /* RACE */
         block[1]++; /* RACE */
@@ -44,12 +44,12 @@ static void *work(void *writes) {
 int main(int count, char **words) {
     pthread_t a, b;
     char c;
-    rounds = count > 1 ? atoi(words[1]) : -1;
+    if (count > 1) rounds = atoi(words[1]);
     block = calloc(4, sizeof *block);
     pthread_create(&a, 0, work, &a);
     pthread_create(&b, 0, work, 0);
-    while (rounds < 0 && read(0, &c, 1) > 0) ;
-    __atomic_store_n(&ends, rounds < 0, __ATOMIC_RELAXED);
+    while (!rounds && read(0, &c, 1) > 0) ;
+    __atomic_store_n(&ends, !rounds, __ATOMIC_RELAXED);
     pthread_join(a, 0);
     pthread_join(b, 0);
     return 0;
