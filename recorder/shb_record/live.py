@@ -13,6 +13,7 @@ from shb_record.converting import KILLED, process_of
 from shb_record.looking import Look, Looked
 from shb_record.parts import say
 from shb_record.places import Places
+from shb_record.running import cause
 
 NAMELESS = b"0x*"
 MOST_KEPT = 3  # records that couldn't be looked at
@@ -70,7 +71,7 @@ class Live(Look):
         for path in self.files():
             self.look_at(path)
         if not self.segments:
-            raise Refused(f"{self.options.program} left no record")
+            raise Refused(f"{self.options.program} left no record: {cause(self.options.program)}")
         if self.dropped:
             self.is_cut = True
 

@@ -119,6 +119,10 @@ class Live(recorder.Case):
         self.assertEqual(list(self.records()), [1])
         self.assertIn(b"the recording is not the whole run: " + reason, recorder.part(recorder.convert(self.records()[1])).stderr)
 
+    def test_a_program_without_hooks(self):
+        ran = recorder.call(recorder.BUILT / "shb-record", "--live", "true", cwd=self.folder, env={**os.environ, "SHB": str(recorder.SHB)})
+        self.assertEqual((ran.returncode, b"true left no record: neither it nor a program that it started was compiled" in ran.stderr), (125, True), ran.stderr)
+
     def test_words_that_do_not_go_together(self):
         for words in (["--keep"], ["--replay", "x.turns"], ["--runs", "2"], ["--until-found", "2"]):
             ran = recorder.call(recorder.BUILT / "shb-record", "--live", *words, "true")
