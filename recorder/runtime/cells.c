@@ -7,13 +7,14 @@
    gets four accesses: x = 0, the last read and the last write of x++, and x = 1.
 
    While nobody writes, other threads that read the cell don't end the phase: then its owner is READERS, and each use is
-   one of a certain thread's. A write, an atomic access, an access of several cells or a free ends that phase.
+   one of a certain thread's. A write, also an atomic one, an access of several cells or a free ends that phase.
 
-   An atomic access is held back likewise: it is of another kind with another order. In a phase its thread alone reads and
-   writes the value. So nobody takes what the ones between the first and the last gave, and by C11
+   An atomic access is held back likewise: it is of another kind with another order, and a load is a read. In a phase one
+   thread alone reads and writes the value, or nobody writes it. So nobody takes what the ones between the first and the
+   last gave, and by C11
      - the last one of a kind gives all that those before it gave, for what a thread gives never gets less;
      - a relaxed store ends what other threads gave, and the first of its kind in the phase is recorded at once;
-     - what the thread takes is that of others before the phase, which the first of each kind took, or its own;
+     - what a thread takes is that of others before the phase, which the first of each kind took, or its own;
      - the last ones stand in the order in which they were made, so the last store is the one that another thread reads.
 
    What is lost? Nothing that a race or its place needs:

@@ -69,9 +69,11 @@ CASES = {  # what a record has behind FORKS, and what is left of it
         [*[atomic(1, "UPDATE", 0x201, order) for order in (2, 3, 4)], atomic(1, "LOAD", 0x201, 2), atomic(2, "LOAD", 0x204)],
         [late(2, 1, atomic(1, "UPDATE", 0x201, 2)), late(2, 2, atomic(1, "UPDATE", 0x201, 3)), late(2, 3, atomic(1, "UPDATE", 0x201, 4)),
          late(2, 4, atomic(1, "LOAD", 0x201, 2)), atomic(2, "LOAD", 0x204)]),
-    "atomics of several threads": (
-        [atomic(1, "LOAD", 0x201), atomic(2, "LOAD", 0x204), atomic(1, "LOAD", 0x201)],
-        [late(2, 1, atomic(1, "LOAD", 0x201)), atomic(2, "LOAD", 0x204), atomic(1, "LOAD", 0x201)]),
+    "threads that wait by loads": (
+        [*[atomic(1, "LOAD", 0x201), atomic(2, "LOAD", 0x204)] * 3, atomic(0, "STORE", 0x105), *[atomic(1, "LOAD", 0x201), atomic(2, "LOAD", 0x204)] * 2,
+         atomic(0, "STORE", 0x106)],
+        [late(2, 5, atomic(1, "LOAD", 0x201)), late(2, 6, atomic(2, "LOAD", 0x204)), atomic(0, "STORE", 0x105), atomic(1, "LOAD", 0x201),
+         atomic(2, "LOAD", 0x204), late(9, 1, atomic(1, "LOAD", 0x201)), late(9, 2, atomic(2, "LOAD", 0x204)), atomic(0, "STORE", 0x106)]),
     "an atomic of two cells": (
         [*[atomic(1, "UPDATE", 0x201, size=16)] * 2, read(2, 0x204), atomic(1, "LOAD", 0x202, size=16)],
         [*[atomic(1, "UPDATE", 0x201, size=16)] * 2, read(2, 0x204), atomic(1, "LOAD", 0x202, size=16)]),
@@ -187,7 +189,7 @@ FAULTS = {  # to plant: the file, what stands there, and what in its place
     "atomic accesses of all orders are one use": ("cells.h", "(has_depth(what) ? OF_ALL_DEPTHS : 0)", "OF_ALL_DEPTHS"),
     "atomic accesses of all kinds are one use": (
         "cells.h", "    return what | address % GRAIN", "    if (operation_of_use(what) > OP_WRITE) what |= 7ull << 48;\n    return what | address % GRAIN"),
-    "atomic accesses are reads": ("cells.h", "return operation_of_use(what) == OP_READ;", "return operation_of_use(what) != OP_WRITE;"),
+    "atomic accesses are reads": ("cells.h", "return operation_of_use(what) == OP_READ || operation_of_use(what) == OP_ATOMIC_LOAD;", "return operation_of_use(what) != OP_WRITE;"),
     "a free ends no phase": ("cells.c", "if (operation == OP_FREE) free_range", "if (0) free_range"),
     "each page begins with a first phase": (
         "cells.c", "page->is_first = !cells && !page->is_whole && !has_freed(page);", "page->is_first = 1;"),
