@@ -454,8 +454,8 @@ class Damaged(recorder.Case):
 
     def test_a_record_of_another_version(self):
         path = self.folder / "app.rec"
-        for version in (b"5", b"10"):
-            path.write_bytes(HEADER.replace(b"9", version, 1).ljust(65536, b"\0")[:65536])
+        for version in (b"5", b"11"):
+            path.write_bytes(HEADER.replace(b"10", version, 1).ljust(65536, b"\0")[:65536])
             answer = recorder.convert(path)
             self.assertEqual((answer.returncode, answer.stdout), (2, b""))
             self.assertIn(b"is a record of version " + version + b", by another version of the recorder", answer.stderr)
