@@ -22,7 +22,7 @@ use std::mem;
 /// What is known of the order after some events of a stream. Threads, locks and variables are told by their
 /// numbers, and each event may name new ones. A row has an entry for each thread up to the last one that it
 /// knows, and never changes. Where the rows have grown to twice what those in use took, the ones that a thread,
-/// a lock or a variable names are moved to new ones, and the others are freed.
+/// a lock or a variable names are moved to a second memory, and that of the others is used the next time.
 #[derive(Drop)]
 pub struct StreamClocks {
     pub rows: RowList,
@@ -51,9 +51,9 @@ fn size_limit(used: usize, stamps: usize) -> usize {
 }
 
 /// The memory of rows that were moved, of which so many bytes are in use, for the next ones that are. It is freed
-/// where more than three quarters are in use: then more will be, and it wouldn't be enough.
+/// where more than two thirds are in use: then more will be, and it wouldn't be enough.
 fn memory_of(alloc: Global, old: RowList, used: usize) -> RowList {
-    if used > old.size() - old.size() / 4 {
+    if used > old.size() - old.size() / 3 {
         return RowList::empty(alloc);
     }
     old
