@@ -76,6 +76,7 @@ class Cost(typing.NamedTuple):
 
 ONE_WORKER = "--workers", "1"
 PLACES, RACES, SCHEDULES = ("places", "--list", *ONE_WORKER), ("races", "--list", *ONE_WORKER), ("races", *ONE_WORKER)
+PLACE_SCHEDULES = ("places", *ONE_WORKER)
 SCAN = ("scan",)
 
 
@@ -129,7 +130,9 @@ def costs():
     yield Cost("locks and statistics", RACES, hot("mixed", 8, 5), 20_000, reads=FIRST)
     yield Cost("locks and statistics of 200 threads", RACES, hot("mixed", 200, 5), 20_000)
     yield Cost("schedules of 20 late races", SCHEDULES, shapes.late_races, 10_000)
-    yield Cost("schedules of 780 races after a thread alone", SCHEDULES, shapes.late_crowd, 10_000)
+    for words in (SCHEDULES, PLACE_SCHEDULES):
+        yield Cost("schedules of 780 races after threads alone", words, shapes.late_crowd, 10_000)
+        yield Cost("schedules of 780 races, with threads alone in between", words, shapes.early_crowd, 10_000)
     yield Cost("an array", RACES, hot("array", 8, 2), 20_000)
     yield Cost("one hot location beside many of a thread alone", RACES, shapes.hot_beside_alone, 20_000, reads=FIRST)
     yield Cost("200 threads at 200 locations", RACES, shapes.crowd_at_locations, 10_000, reads=FIRST)

@@ -135,10 +135,18 @@ def late_races(n):
 
 
 def late_crowd(n):
-    """A thread alone, and then 40 threads that race: no schedule has an event of the first thread, and each passes all of them."""
-    yield "C|w(c)|c\n" * n
+    """Two threads alone by turns, and then 40 threads that race, each at a location of its own: a schedule has two events, and
+    passes all of the first two threads."""
+    yield "C|w(c)|c\nD|w(d)|d\n" * (n // 2)
     yield from (f"T{k}|w(p{k})|p\n" for k in range(40))
-    yield from (f"T{k}|w(x)|x\n" for k in range(40))
+    yield from (f"T{k}|w(x)|x{k}\n" for k in range(40))
+
+
+def early_crowd(n):
+    """The same, but what a schedule has comes before the two threads alone."""
+    yield from (f"T{k}|w(p{k})|p\n" for k in range(40))
+    yield "C|w(c)|c\nD|w(d)|d\n" * (n // 2)
+    yield from (f"T{k}|w(x)|x{k}\n" for k in range(40))
 
 
 def hot_beside_alone(n):

@@ -1,4 +1,5 @@
-pub mod CheckpointLemmas
 pub mod CutLemmas
 pub mod Ends
+pub mod Grouping
+pub mod Places
 pub mod Printed

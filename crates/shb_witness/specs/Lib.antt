@@ -1,3 +1,3 @@
 pub mod Cuts
 pub mod Schedules
-pub mod Checkpoints
+pub mod ThreadEvents

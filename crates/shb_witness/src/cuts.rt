@@ -1,10 +1,10 @@
-//! How far each thread is below the predecessors of a pair.
+//! How far each thread is below the predecessors of a pair, and between which events others are left out.
 
-ghost use Rattle.std.specs.Prelude.{◌≡◌, ℕ, ◌<◌, ◌≤◌, IfOk, length};
-ghost use Rattle.shb_lines.specs.events.Order.{BelowPred};
-ghost use Rattle.shb_witness.specs.Cuts.{BelowEither, HasCuts};
+ghost use Rattle.std.specs.Prelude.{◌≡◌, ◌^◌, ◌<◌, ◌≤◌, IfOk, length};
+ghost use Rattle.shb_witness.specs.Cuts.{AreOfThreads, EndsBefore, HasCuts, Reach};
 ghost use Rattle.shb_witness.specs.Schedules.{AsksBoth};
 
+use crate::threads::ThreadEvents;
 use shb_io::NoMemory;
 use shb_lines::Pair;
 use shb_stamps::{Order, Ordered};
@@ -20,7 +20,8 @@ pub fn cuts_of<O: Order>(
     requires first { pair.first < length ordered.now.disciplined.now.events.now }
     requires second { pair.second < length ordered.now.disciplined.now.events.now }
     requires asked { AsksBoth (O.asks ordered.now.order.now) pair }
-    ensures { IfOk result (λ cuts. HasCuts ordered.now.disciplined.now.events.now pair.first pair.second
+    ensures few { IfOk result (λ cuts. length cuts.items < 2 ^ 32) }
+    ensures cuts { IfOk result (λ cuts. HasCuts ordered.now.disciplined.now.events.now pair.first pair.second
         ordered.now.disciplined.now.sizes.threads cuts.items) }
 {
     let mut cuts = Vec::with_capacity(alloc, ordered.disciplined.sizes.threads as usize)?;
@@ -32,25 +33,31 @@ pub fn cuts_of<O: Order>(
     Ok(cuts)
 }
 
-/// The position after the predecessor of an event, or 0 where it has none.
-fn after_pred<O: Order>(ordered: &Ordered<'_, O>, e: u32) -> u32
-    requires in_range { e < length ordered.now.disciplined.now.events.now }
-    ensures within { result ≤ length ordered.now.disciplined.now.events.now }
-    ensures above { (k : ℕ) → BelowPred ordered.now.disciplined.now.events.now k e → k < result }
+/// The first event that is past the cut of its thread, or the number of events where none is: before it a schedule leaves
+/// none out.
+pub fn front_of(threads: &ThreadEvents<'_>, cuts: &[u32]) -> u32
+    requires few { length cuts.now < 2 ^ 32 }
+    requires threads { AreOfThreads threads.now (length cuts.now) }
+    ensures within { result ≤ length threads.now }
+    ensures reached { Reach threads.now result cuts.now }
 {
-    match ordered.links.pred(e) {
-        Some(p) => p + 1,
-        None => 0,
+    let mut front = threads.count();
+    for thread in 0..cuts.len() {
+        front = front.min(threads.first_past(thread as u32, cuts[thread]));
     }
+    front
 }
 
-/// A position at which nothing, and after which nothing, is below a predecessor of the pair.
-pub fn end_of<O: Order>(ordered: &Ordered<'_, O>, pair: Pair) -> u32
-    requires first { pair.first < length ordered.now.disciplined.now.events.now }
-    requires second { pair.second < length ordered.now.disciplined.now.events.now }
-    ensures within { result ≤ length ordered.now.disciplined.now.events.now }
-    ensures above { (k : ℕ) → BelowEither ordered.now.disciplined.now.events.now pair.first pair.second k
-        → k < result }
+/// A position from which on no event is within the cut of its thread.
+pub fn end_of(threads: &ThreadEvents<'_>, cuts: &[u32]) -> u32
+    requires few { length cuts.now < 2 ^ 32 }
+    requires threads { AreOfThreads threads.now (length cuts.now) }
+    ensures within { result ≤ length threads.now }
+    ensures above { EndsBefore threads.now result cuts.now }
 {
-    after_pred(ordered, pair.first).max(after_pred(ordered, pair.second))
+    let mut end = 0;
+    for thread in 0..cuts.len() {
+        end = end.max(threads.after_last(thread as u32, cuts[thread]));
+    }
+    end
 }

@@ -1,14 +1,13 @@
 //! The schedules of races as work in pieces.
 
-ghost use Rattle.std.specs.Prelude.{◌≡◌, ℕ, List, All, length};
+ghost use Rattle.std.specs.Prelude.{◌≡◌, ℕ, IfSome, List, length};
 ghost use Rattle.shb_lines.specs.events.Race.{Race};
 ghost use Rattle.shb_lines.specs.declared.event.Event.{Event};
 ghost use Rattle.shb_lines.specs.declared.event.Pair.{Pair};
-ghost use Rattle.shb_witness.specs.Checkpoints.{AreReached, IsReached};
 ghost use Rattle.shb_witness.specs.Schedules.{Asked, AreRaces, AsksEach, schedule_at};
 
-use crate::checkpoints::Checkpoint;
-use crate::schedules::schedule_runs;
+use crate::schedules::{schedule_alone, schedule_runs};
+use crate::threads::ThreadEvents;
 use shb_discipline::Disciplined;
 use shb_fan::Job;
 use shb_io::NoMemory;
@@ -26,7 +25,7 @@ use std::marker::Model;
 pub struct WitnessJob<'a, O: Order> {
     ordered: Ordered<'a, O>,
     pairs: &'a [Pair],
-    points: Option<&'a [Checkpoint]>,
+    threads: Option<&'a ThreadEvents<'a>>,
 }
 
 impl<'a, O: Order> Model for WitnessJob<'a, O> {
@@ -35,7 +34,7 @@ impl<'a, O: Order> Model for WitnessJob<'a, O> {
     ghost view = { λ j. record { trace = j.ordered.disciplined.now.events.now; races = j.pairs.now } };
 
     ghost invariant = { λ j. AreRaces j.ordered.disciplined.now.events.now j.pairs.now
-        × AreReached j.ordered.disciplined.now.events.now j.points
+        × IfSome j.threads (λ t. t.now ≡ j.ordered.disciplined.now.events.now)
         × AsksEach (O.asks j.ordered.order.now) j.pairs.now };
 }
 
@@ -61,18 +60,17 @@ impl<'a, O: Order> WitnessJob<'a, O> {
         WitnessJob {
             ordered,
             pairs,
-            points: None,
+            threads: None,
         }
     }
 
-    /// The same work, done quicker: no event is looked at before the last checkpoint up to which a
-    /// schedule leaves none out. The checkpoints are those of the trace.
-    pub fn with_checkpoints(self, points: &'a [Checkpoint]) -> Self
-        requires { All (IsReached self.trace) points.now }
+    /// The same work, done quicker: the events of each thread of the trace aren't looked for anew for each race.
+    pub fn with_thread_events(self, threads: &'a ThreadEvents<'a>) -> Self
+        requires { threads.now ≡ self.trace }
         ensures { result ≡ self.entry }
     {
         WitnessJob {
-            points: Some(points),
+            threads: Some(threads),
             ..self
         }
     }
@@ -94,6 +92,9 @@ impl<'a, O: Order> Job for WitnessJob<'a, O> {
     }
 
     fn run(&self, alloc: Global, k: u64) -> Result<Positions, NoMemory> {
-        schedule_runs(alloc, &self.ordered, self.points, self.pairs[k as usize])
+        match self.threads {
+            Some(threads) => schedule_runs(alloc, &self.ordered, threads, self.pairs[k as usize]),
+            None => schedule_alone(alloc, &self.ordered, self.pairs[k as usize]),
+        }
     }
 }

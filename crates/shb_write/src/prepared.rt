@@ -1,21 +1,20 @@
 //! What is made of a trace before the schedules of its races.
-ghost use Rattle.std.specs.Prelude.{All, IfOk};
-ghost use Rattle.shb_witness.specs.Checkpoints.{IsReached};
+ghost use Rattle.std.specs.Prelude.{◌≡◌, IfOk};
 
 use shb_format::NumberTexts;
 use shb_io::NoMemory;
 use shb_links::Linked;
 use shb_stamps::{Order, Ordered};
-use shb_witness::{Checkpoint, checkpoints_of};
+use shb_witness::{ThreadEvents, thread_events};
 use std::alloc::Global;
 
 /// What the schedules of a trace are made and written from.
 #[derive(Drop)]
-pub(crate) struct Prepared {
+pub(crate) struct Prepared<'a> {
     /// The texts of numbers that runs of schedules are copied from.
     pub(crate) numbers: NumberTexts,
-    /// The checkpoints of the trace.
-    pub(crate) points: Vec<Checkpoint>,
+    /// The events of each thread.
+    pub(crate) threads: ThreadEvents<'a>,
 }
 
 /// The texts of numbers for so many schedules of a trace. Of one schedule the numbers are as quickly
@@ -32,15 +31,15 @@ fn numbers_for<O: Order>(
 }
 
 /// What so many schedules of a trace, or more, are made and written from.
-pub(crate) fn prepared_for<O: Order>(
+pub(crate) fn prepared_for<'a, O: Order>(
     alloc: Global,
-    ordered: &Ordered<'_, O>,
+    ordered: &Ordered<'a, O>,
     schedules: usize,
-) -> Result<Prepared, NoMemory>
-    ensures { IfOk result (λ prepared. All (IsReached ordered.now.disciplined.now.events.now) prepared.points.items) }
+) -> Result<Prepared<'a>, NoMemory>
+    ensures { IfOk result (λ prepared. prepared.threads ≡ ordered.now.disciplined.now.events.now) }
 {
     let numbers = numbers_for(alloc, ordered, schedules)?;
     let linked = Linked::new(ordered.disciplined, ordered.links);
-    let points = checkpoints_of(alloc, &linked)?;
-    Ok(Prepared { numbers, points })
+    let threads = thread_events(alloc, linked)?;
+    Ok(Prepared { numbers, threads })
 }

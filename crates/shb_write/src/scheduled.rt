@@ -40,7 +40,7 @@ pub(crate) fn schedule_races<R: Threads + Wait + Sync, K: Sink, O: Order + Sync,
         ordered.disciplined,
         ordered.links,
         races,
-    ).with_checkpoints(&prepared.points);
+    ).with_thread_events(&prepared.threads);
     let mut taker = ScheduleWriter {
         writer: BlockWriter {
             sink: &mut *writer.sink,

@@ -11,7 +11,7 @@ use shb_links::{Linked, Links};
 use shb_pairs::laws::{no_schedule_without_race, printed_schedule_is_schedule};
 use shb_pairs::{PairJob, Piece, accesses_of, is_race, open_variables, pieces};
 use shb_replay::replay;
-use shb_witness::{WitnessJob, checkpoints_of, front_of, schedule};
+use shb_witness::{WitnessJob, schedule, thread_events};
 use std::test::Fail;
 
 fn three_workers() -> Result<Workers, Fail> {
@@ -294,43 +294,6 @@ fn open_variables_of_small_traces(rt: HostRuntime) -> Result<(), Fail> {
     Ok(())
 }
 
-/// The fronts that a cut is made from. Checkpoints only save time, so no clause says that they are there or that the last
-/// one is found: before each stand 64 events more than before the one before it.
-#[derive(Clone, Copy)]
-struct FrontsAre;
-
-impl Asks for FrontsAre {
-    fn ask<H: Host>(&self, rt: &H, trace: &Disciplined<'_>, links: &Links<'_>) -> Result<(), Fail> {
-        let points = checkpoints_of(rt.alloc(), &Linked::new(trace, links))?;
-        for (cut, front) in [
-            (63, 0),
-            (64, 64),
-            (127, 64),
-            (128, 128),
-            (191, 128),
-            (192, 192),
-            (200, 192),
-        ] {
-            same(
-                rt,
-                &front_of(Some(points.as_slice()), &[cut]),
-                &front,
-                "the front",
-            );
-        }
-        Ok(())
-    }
-}
-
-#[test]
-fn last_checkpoint_within_the_cut(rt: HostRuntime) -> Result<(), Fail> {
-    let mut text = String::new(rt.alloc());
-    for _ in 0..200 {
-        text.push_str("a|w(x)\n")?;
-    }
-    ask_of(&rt, text.as_str(), &FrontsAre)
-}
-
 /// The schedule of each race of the row, by the call and by the job, which the judge finds good.
 #[derive(Clone, Copy)]
 struct SchedulesAre<'a> {
@@ -350,17 +313,70 @@ impl Asks for SchedulesAre<'_> {
             "a piece for each race",
         );
         let values = gather(rt, alloc, &job, &FreeGate, three_workers()?)?;
+        let threads = thread_events(alloc, Linked::new(trace, links))?;
+        let quick = WitnessJob::new(&order, trace, links, races.as_slice()).with_thread_events(
+            &threads,
+        );
+        let same_values = gather(rt, alloc, &quick, &FreeGate, three_workers()?)?;
         for (k, race) in races.iter().enumerate() {
             let wanted = from_zero(alloc, self.row.races[k].2)?;
             let list = schedule(alloc, &order, trace, links, *race)?;
             same(rt, &list.as_slice(), &wanted.as_slice(), "the schedule");
             let made = values[k].to_vec(alloc)?;
             same(rt, &made.as_slice(), &wanted.as_slice(), "that of the job");
+            let quick = same_values[k].to_vec(alloc)?;
+            same(
+                rt,
+                &quick.as_slice(),
+                &wanted.as_slice(),
+                "the same, by the events of each thread",
+            );
             let judged = replay(alloc, trace, links, list.as_slice(), *race)?;
             holds(rt, judged.is_none(), "it is a schedule");
         }
         Ok(())
     }
+}
+
+/// The schedule of the race of the last two events, by the events of each thread.
+#[derive(Clone, Copy)]
+struct LastScheduleIs<'a> {
+    wanted: &'a [u32],
+}
+
+impl Asks for LastScheduleIs<'_> {
+    fn ask<H: Host>(&self, rt: &H, trace: &Disciplined<'_>, links: &Links<'_>) -> Result<(), Fail> {
+        let alloc = rt.alloc();
+        let order = full(alloc, trace, links)?;
+        let second = trace.events.len() as u32 - 1;
+        let races = [Pair {
+            first: second - 1,
+            second,
+        }];
+        let threads = thread_events(alloc, Linked::new(trace, links))?;
+        let job = WitnessJob::new(&order, trace, links, &races).with_thread_events(&threads);
+        let made = job.run(alloc, 0)?.to_vec(alloc)?;
+        same(rt, &made.as_slice(), &self.wanted, "the schedule");
+        Ok(())
+    }
+}
+
+/// Of 100 events of a thread alone a schedule has none: before it come two events, and after it two.
+#[test]
+fn schedule_that_passes_a_thread(rt: HostRuntime) -> Result<(), Fail> {
+    let mut text = String::new(rt.alloc());
+    text.push_str("a|w(p)\nb|w(q)\n")?;
+    for _ in 0..100 {
+        text.push_str("c|w(z)\n")?;
+    }
+    text.push_str("b|w(q)\na|w(p)\na|w(x)\nb|w(x)\n")?;
+    ask_of(
+        &rt,
+        text.as_str(),
+        &LastScheduleIs {
+            wanted: &[0, 1, 102, 103],
+        },
+    )
 }
 
 #[test]

@@ -1,14 +1,9 @@
-use Rattle.std.proofs.Common.{◌≡◌, ℕ, [], ◌∷◌, ◌++◌, ◌≤◌, length, List, subst, ap, ◌∙◌, arith}
-use Rattle.std.proofs.lemmas.List.{length_push}
-use Rattle.shb_lines.proofs.events.Items.{thread_within}
-use Rattle.shb_lines.proofs.events.Listed.{listed_more_yes, listed_more_no}
-use Rattle.shb_witness.specs.Cuts.{BelowEither}
-use Rattle.shb_witness.specs.Checkpoints.{Reach}
-use Rattle.shb_witness.proofs.CheckpointLemmas.{front_listed}
-use Rattle.shb_witness.proofs.CutLemmas.{cut_test}
-use Rattle.shb_witness.proofs.Printed.{race_ends, printed_before}
+use Rattle.std.proofs.Common.{List, arith, ap, length, refl, subst}
+use Rattle.shb_lines.specs.declared.event.Event.{Event}
+use Rattle.shb_witness.specs.Cuts.{EndsBefore}
+use Rattle.shb_witness.proofs.CutLemmas.{made_printed, threads_of}
+use Rattle.shb_witness.proofs.Printed.{race_ends}
 use Rattle.shb_witness.proofs.schedules.schedule_runs.Goals as goal
-use Rattle.shb_witness.proofs.schedules.schedule_runs.Goals.{then-below+in_ok-push, else-below}
 
 pub cuts_of-requires-clause-first : goal.cuts_of-requires-clause-first
 cuts_of-requires-clause-first g c = (race_ends _ _ _ c.requires.race).0
@@ -16,54 +11,32 @@ cuts_of-requires-clause-first g c = (race_ends _ _ _ c.requires.race).0
 pub cuts_of-requires-clause-second : goal.cuts_of-requires-clause-second
 cuts_of-requires-clause-second g c = (race_ends _ _ _ c.requires.race).1
 
-pub end_of-end-requires-clause-first : goal.end_of-end-requires-clause-first
-end_of-end-requires-clause-first g c = (race_ends _ _ _ c.requires.race).0
+pub end_of-end-requires-clause-few : goal.end_of-end-requires-clause-few
+end_of-end-requires-clause-few g c = omega (arith, c.in_ok-found.ensures.few, ap length c.as_slice-cuts.ensures.value)
 
-pub end_of-end-requires-clause-second : goal.end_of-end-requires-clause-second
-end_of-end-requires-clause-second g c = (race_ends _ _ _ c.requires.race).1
+pub end_of-end-requires-clause-threads : goal.end_of-end-requires-clause-threads
+end_of-end-requires-clause-threads g c = threads_of c.args.ordered.now.disciplined.now.events.now c.args.threads.now c.args.ordered.now.disciplined.now.sizes c.args.pair.first c.args.pair.second c.in_ok-found.found.items c.as_slice-cuts.result.now c.requires.of_trace c.args.ordered.now.disciplined.now.within c.in_ok-found.ensures.cuts c.as_slice-cuts.ensures.value
 
-pub index-requires : goal.index-requires
-index-requires g c =
-    let low = thread_within c.args.ordered.now.disciplined.now.events.now c.args.ordered.now.disciplined.now.sizes c.loop-k.k _ c.args.ordered.now.disciplined.now.within c.thread-thread.ensures in
-    let long = c.in_ok-cuts.ensures.as_long in
-    omega (arith, low, long, c.in_ok-cuts.cuts.ok.0)
+pub front_of-requires-clause-few : goal.front_of-requires-clause-few
+front_of-requires-clause-few g c = omega (arith, c.in_ok-found.ensures.few, ap length c.as_slice-cuts.ensures.value)
 
-pub loop-k-init : goal.loop-k-init
-loop-k-init g c =
-    let trace = c.args.ordered.now.disciplined.now.events.now in
-    let front = c.min-front.result in
-    let small : front ≤ length trace = omega (arith, c.min-front.ensures, c.end_of-end.ensures.within) in
-    let reached = subst (λ (l : List ℕ). Reach trace c.front_of.result l) c.deref.ensures.value (c.front_of.ensures trace c.requires.points) in
-    let listed =
-    front_listed trace c.args.pair.first c.args.pair.second c.args.ordered.now.disciplined.now.sizes.threads front c.in_ok-cuts.cuts.items c.in_ok-positions.positions
-    (λ k t of_k. thread_within trace c.args.ordered.now.disciplined.now.sizes k t c.args.ordered.now.disciplined.now.within of_k) small c.in_ok-cuts.ensures
-    (λ k t lt of. reached k t (omega (arith, lt, c.min-front.ensures)) of) c.in_ok-positions.ensures in
-    record { found = listed.0; few = listed.1 }
+pub front_of-requires-clause-threads : goal.front_of-requires-clause-threads
+front_of-requires-clause-threads g c = threads_of c.args.ordered.now.disciplined.now.events.now c.args.threads.now c.args.ordered.now.disciplined.now.sizes c.args.pair.first c.args.pair.second c.in_ok-found.found.items c.as_slice-cuts.result.now c.requires.of_trace c.args.ordered.now.disciplined.now.within c.in_ok-found.ensures.cuts c.as_slice-cuts.ensures.value
 
-pub loop-k-preserved : goal.loop-k-preserved
-loop-k-preserved g c =
-    let trace = c.args.ordered.now.disciplined.now.events.now in
-    let pair = c.args.pair in
-    let low = thread_within trace c.args.ordered.now.disciplined.now.sizes c.loop-k.k _ c.args.ordered.now.disciplined.now.within c.thread-thread.ensures in
-    let test = cut_test trace c.args.ordered.now.links.now pair.first pair.second c.args.ordered.now.disciplined.now.sizes.threads c.loop-k.k _ _ c.in_ok-cuts.cuts.items _ c.args.ordered.now.linked c.in_ok-cuts.ensures low c.thread-thread.ensures c.local.ensures.time c.index.ensures in
-    elim c.if-below.branch [
-      | then-below+in_ok-push w ↦
-          (let e : c.if-below.positions ≡ c.loop-k.positions ++ c.loop-k.k ∷ [] = w.positions-is ∙ w.in_ok-push.ensures.pushed in
-          record {
-            found = rw e (listed_more_yes (BelowEither trace pair.first pair.second) c.loop-k.k c.loop-k.positions (test.0 w.if-below.true) c.loop-k.invariant.found);
-            few = omega (arith, c.loop-k.invariant.few, ap length e, length_push c.loop-k.positions c.loop-k.k);
-          })
-      | else-below w ↦
-          (let e : c.if-below.positions ≡ c.loop-k.positions = w.positions-is in
-          record {
-            found = rw e (listed_more_no (BelowEither trace pair.first pair.second) c.loop-k.k c.loop-k.positions (λ h. let le = test.1 h in let above = w.if-below.false in omega (arith, le, above)) c.loop-k.invariant.found);
-            few = omega (arith, c.loop-k.invariant.few, ap length e);
-          })
-    ]
+pub passed-requires-clause-threads : goal.passed-requires-clause-threads
+passed-requires-clause-threads g c = threads_of c.args.ordered.now.disciplined.now.events.now c.args.ordered.now.disciplined.now.events.now c.args.ordered.now.disciplined.now.sizes c.args.pair.first c.args.pair.second c.in_ok-found.found.items c.as_slice-cuts.result.now refl c.args.ordered.now.disciplined.now.within c.in_ok-found.ensures.cuts c.as_slice-cuts.ensures.value
+
+pub passed-requires-clause-above : goal.passed-requires-clause-above
+passed-requires-clause-above g c = subst (λ (trace : List Event). EndsBefore trace c.end_of-end.result c.as_slice-cuts.result.now) c.requires.of_trace c.end_of-end.ensures.above
+
+pub returns-then-is_dense : goal.returns-then-is_dense
+returns-then-is_dense g c = made_printed c.args.ordered.now.disciplined.now.events.now _ c.args.ordered.now.disciplined.now.sizes c.args.pair.first c.args.pair.second c.in_ok-found.found.items c.as_slice-cuts.result.now c.passed.result refl c.args.ordered.now.disciplined.now.within c.in_ok-found.ensures.cuts c.as_slice-cuts.ensures.value c.passed.ensures
+
+pub gathered-requires-clause-few : goal.gathered-requires-clause-few
+gathered-requires-clause-few g c = omega (arith, c.in_ok-found.ensures.few, ap length c.as_slice-cuts.ensures.value)
+
+pub gathered-requires-clause-threads : goal.gathered-requires-clause-threads
+gathered-requires-clause-threads g c = threads_of c.args.ordered.now.disciplined.now.events.now c.args.threads.now c.args.ordered.now.disciplined.now.sizes c.args.pair.first c.args.pair.second c.in_ok-found.found.items c.as_slice-cuts.result.now c.requires.of_trace c.args.ordered.now.disciplined.now.within c.in_ok-found.ensures.cuts c.as_slice-cuts.ensures.value
 
 pub returns : goal.returns
-returns g c =
-    let trace = c.args.ordered.now.disciplined.now.events.now in
-    printed_before trace c.args.pair.first c.args.pair.second c.loop-k.k c.loop-k.positions
-    (λ k below. let lt = c.end_of-end.ensures.above k below in omega (arith, lt))
-    c.loop-k.invariant.found
+returns g c = made_printed c.args.ordered.now.disciplined.now.events.now c.args.threads.now c.args.ordered.now.disciplined.now.sizes c.args.pair.first c.args.pair.second c.in_ok-found.found.items c.as_slice-cuts.result.now c.gathered.result c.requires.of_trace c.args.ordered.now.disciplined.now.within c.in_ok-found.ensures.cuts c.as_slice-cuts.ensures.value c.gathered.ensures

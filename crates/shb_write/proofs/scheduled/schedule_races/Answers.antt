@@ -16,9 +16,9 @@ use Rattle.shb_write.proofs.scheduled.schedule_races.Goals as goal
 
 pub stream-requires-after_bounds : goal.stream-requires-after_bounds
 stream-requires-after_bounds g c κs within k given s inside first next =
-    let long = ap (λ (a : Asked). length a.races) (c.with_checkpoints-job.ensures ∙ c.new.ensures) in
+    let long = ap (λ (a : Asked). length a.races) (c.with_thread_events-job.ensures ∙ c.new.ensures) in
     record {
-      more = omega (arith, inside, long, ap length first, length-map given (λ s. s), length-values (schedule_at c.with_checkpoints-job.result.trace c.with_checkpoints-job.result.races) k);
+      more = omega (arith, inside, long, ap length first, length-map given (λ s. s), length-values (schedule_at c.with_thread_events-job.result.trace c.with_thread_events-job.result.races) k);
       room = c.requires.room;
       countable = c.requires.countable;
       in_range = pairs_in_range c.args.writer.now.trace.now c.args.ordered.now.disciplined.now.events.now c.args.races.now c.requires.of_trace c.requires.races;
@@ -36,7 +36,7 @@ returns-in-Ok g c =
       same_trace = search rules;
       as_many = omega (arith, length-map (map ends races) (scheduled_in events), length-map races ends);
       appended = left_after (λ s. Appends (g.K.Sink.taken start.sink.now) (g.K.Sink.taken s) (blocks_from start.trace.now (start.written + 1) (map (scheduled_in events) (map ends races)))) _ c.stream.new.taker.writer.sink.now
-          (came_all start.trace.now events races c.with_checkpoints-job.result c.requires.of_trace (c.with_checkpoints-job.ensures ∙ c.new.ensures) (start.written + 1) ended.0 _ _ ended.1 ended.2.written.appended) (search rules);
+          (came_all start.trace.now events races c.with_thread_events-job.result c.requires.of_trace (c.with_thread_events-job.ensures ∙ c.new.ensures) (start.written + 1) ended.0 _ _ ended.1 ended.2.written.appended) (search rules);
       counted = left_after (λ s. g.K.Sink.failure_count s ≡ g.K.Sink.failure_count start.sink.now) _ c.stream.new.taker.writer.sink.now ended.2.written.counted (search rules);
     }
 
@@ -51,7 +51,7 @@ returns-in-Err-Taker g c =
     record {
       same_sink = search rules;
       front = left_after (λ s. AppendsFront (g.K.Sink.taken start.sink.now) (g.K.Sink.taken s) (blocks_from start.trace.now (start.written + 1) (map (scheduled_in events) (map ends races)))) _ c.stream.new.taker.writer.sink.now
-          (came_front start.trace.now events races c.with_checkpoints-job.result c.requires.of_trace (c.with_checkpoints-job.ensures ∙ c.new.ensures) (start.written + 1) (ended.0 + 1) (ended.2.0 ++ ended.2.1 ∷ []) _ _ (omega (arith, ended.1))
+          (came_front start.trace.now events races c.with_thread_events-job.result c.requires.of_trace (c.with_thread_events-job.ensures ∙ c.new.ensures) (start.written + 1) (ended.0 + 1) (ended.2.0 ++ ended.2.1 ∷ []) _ _ (omega (arith, ended.1))
           (values_next (λ s. s) _ ended.0 ended.2.0 ended.2.1 ended.2.2 ended.2.3) ended.2.4.front) (search rules);
       counted = left_after (λ s. g.K.Sink.failure_count s ≡ (if write_failed c.in-Err-Taker.error then failures + 1 else failures)) _ c.stream.new.taker.writer.sink.now ended.2.4.counted (search rules);
     }
@@ -66,6 +66,6 @@ returns g c =
     record {
       same_sink = search rules;
       front = left_after (λ s. AppendsFront (g.K.Sink.taken start.sink.now) (g.K.Sink.taken s) (blocks_from start.trace.now (start.written + 1) (map (scheduled_in events) (map ends races)))) _ c.stream.new.taker.writer.sink.now
-          (came_front start.trace.now events races c.with_checkpoints-job.result c.requires.of_trace (c.with_checkpoints-job.ensures ∙ c.new.ensures) (start.written + 1) ended.0 ended.2.0 _ _ ended.1 ended.2.1 (whole_front _ _ _ ended.2.2.written.appended)) (search rules);
+          (came_front start.trace.now events races c.with_thread_events-job.result c.requires.of_trace (c.with_thread_events-job.ensures ∙ c.new.ensures) (start.written + 1) ended.0 ended.2.0 _ _ ended.1 ended.2.1 (whole_front _ _ _ ended.2.2.written.appended)) (search rules);
       counted = left_after (λ s. g.K.Sink.failure_count s ≡ g.K.Sink.failure_count start.sink.now) _ c.stream.new.taker.writer.sink.now ended.2.2.written.counted (search rules);
     }

@@ -1,0 +1,10 @@
+use Rattle.std.proofs.Common.{◌≡◌, ◌<◌, ◌≤◌, ℕ, Some, length, get_or}
+use Rattle.shb_lines.specs.events.Discipline.{local_time}
+use Rattle.shb_lines.specs.events.Events.{thread_at}
+use Rattle.shb_witness.proofs.cuts.front_of.Given as goal
+
+abbrev pub invariant-loop-thread : goal.invariant-loop-thread
+invariant-loop-thread l = record {
+  within : l.front ≤ length l.fn.threads;
+  before : (k t : ℕ) → k < l.front → t < l.thread → thread_at l.fn.threads k ≡ Some t → local_time l.fn.threads t k ≤ get_or l.fn.cuts t 0;
+}
