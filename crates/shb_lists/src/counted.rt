@@ -72,7 +72,7 @@ fn count_events(
 ///
 /// One sweep counts them by variable and by place. A variable that has tables costs an access a step for each thread, and
 /// where it races with as many others as there are locations one for each location; each other race is a step. Memory: 4
-/// bytes an event, 8 a variable, some 64 a location and place, and what a sweep takes; tables of at most 64 an access,
+/// bytes per event, 8 per variable, some 64 per location and place, and what a sweep takes; tables of at most 64 per access,
 /// and 64 MB.
 ///
 /// # Errors

@@ -122,7 +122,8 @@ pub(crate) fn found_races<'a>(
 ///
 /// The links are of the trace, and a variable whose flag is false has no race (`open_variables` of `shb_pairs` tells
 /// which). An access of an open variable costs a comparison for each thread that accesses the variable, and a step for
-/// each of its races. Memory: 8 bytes an event, 12 for each variable and thread that accesses it, 12 a race.
+/// each of its races. Memory: 8 bytes per event, 24 per variable, 12 for each variable and thread that accesses it, 12 per
+/// race, and what a sweep takes.
 ///
 /// # Errors
 ///

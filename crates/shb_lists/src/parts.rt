@@ -26,8 +26,8 @@ pub struct RaceParts<'a> {
 }
 
 impl<'a> RaceParts<'a> {
-    /// A search for the races of this variable, before the first event. Memory: 24 bytes a variable, and what a sweep
-    /// takes.
+    /// A search for the races of this variable, before the first event. Memory: 25 bytes per variable, 8 per event that it
+    /// passes, 12 per thread that accesses the variable, and what a sweep takes.
     ///
     /// # Errors
     ///

@@ -29,7 +29,7 @@ pub struct BatchPlan {
 }
 
 impl BatchPlan {
-    /// No races of so many variables, for batches of not more than `most` together. Memory: 8 bytes a variable.
+    /// No races of so many variables, for batches of not more than `most` together. Memory: 8 bytes per variable.
     ///
     /// # Errors
     ///
@@ -77,7 +77,7 @@ impl BatchPlan {
 
     /// The races of the variables from `from` on, of as many as have not more than can be kept together: at least one. The
     /// batch has no races where it is one variable that has more. A sweep; none for a variable that has more.
-    /// Memory: a byte a variable, and what a sweep takes.
+    /// Memory: a byte per variable, and what [`kept_races`](crate::kept_races) takes for so many races.
     ///
     /// # Errors
     ///

@@ -140,7 +140,7 @@ fn flags_of(alloc: Global, table: &[Latest]) -> Result<Vec<bool>, NoMemory>
 
 /// Which variables may have a race, a flag for each: where it is false, no pair of accesses of the
 /// variable is a race. One pass over the trace with a [`Sweep`], which is asked twice for each access of
-/// a shared variable. Beside what the sweep keeps, 16 bytes a variable.
+/// a shared variable. Beside what the sweep keeps, 16 bytes per variable, and one for its flag.
 ///
 /// A variable is settled where one thread alone accesses it, or where, of each access, the last write
 /// before it is SHB-below its predecessor and, where the access writes, so is the newest read since that

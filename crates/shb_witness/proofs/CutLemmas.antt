@@ -14,7 +14,6 @@ use Rattle.shb_lines.specs.events.Events.{thread_at}
 use Rattle.shb_lines.specs.events.Discipline.{local_time}
 use Rattle.shb_lines.specs.events.Order.{IsBelowPredCount}
 use Rattle.shb_lines.specs.events.Schedule.{IsPrintedSchedule}
-use Rattle.shb_lines.proofs.events.Increasing.{contains_none}
 use Rattle.shb_lines.specs.declared.event.Sizes.{Sizes}
 use Rattle.shb_lines.specs.events.Sizes.{IsWithin}
 use Rattle.shb_lines.proofs.events.Items.{thread_item, thread_within}
