@@ -8,18 +8,20 @@
 //! [`accesses_of`] collects the accesses of each variable in one pass; [`pieces`] cuts each list into pieces
 //! of at most 64; [`PairJob`] is the job over them, whose piece has the races with the later access among
 //! its accesses. It compares each access with all accesses of its variable before it, by [`is_race`]. A run of the
-//! program searches in other ways (`shb_search`, `shb_lists`).
+//! program searches in other ways (`shb_search`, `shb_lists`), if [`any_open`], and names a race by a [`ListedRace`].
 #![tactic(auto)]
 
 mod accesses;
 mod job;
 pub mod laws;
+mod listed;
 mod piece;
 mod race;
 mod screen;
 
 pub use accesses::{Accesses, accesses_of};
 pub use job::PairJob;
+pub use listed::{ListedRace, pairs_of};
 pub use piece::{Piece, pieces};
 pub use race::is_race;
-pub use screen::open_variables;
+pub use screen::{any_open, open_variables};

@@ -1,16 +1,17 @@
 //! The variables that may have a race, by one pass over a trace.
 
-ghost use Rattle.std.specs.Prelude.{◌≡◌, ◌==◌, ◌⊎◌, ℕ, ◌+◌, ◌<◌, true, Some, IfOk, IsTrue, length, map};
+ghost use Rattle.std.specs.Prelude.{◌≡◌, ◌==◌, ◌⊎◌, ℕ, ◌+◌, ◌<◌, false, true, Some, IfOk, IsTrue, length, map};
 ghost use Rattle.shb_lines.specs.events.Discipline.{local_time};
 ghost use Rattle.shb_lines.specs.events.Events.{thread_at};
 ghost use Rattle.shb_lines.specs.events.Race.{variable_at};
+ghost use Rattle.shb_stamps.specs.Open.{is_open as is_open_in};
 ghost use Rattle.shb_pairs.specs.Open.{AreOpen};
 ghost use Rattle.shb_pairs.specs.Screen.{AreScreened, IsPast, IsScreened, no_time};
 
 use shb_discipline::Disciplined;
 use shb_io::NoMemory;
 use shb_links::{Linked, Links};
-use shb_stamps::{Order, Ordered, Sweep};
+use shb_stamps::{Order, Ordered, Sweep, is_open};
 use std::alloc::Global;
 
 /// The local time of an event that isn't known any more, above that of each event.
@@ -170,4 +171,17 @@ pub fn open_variables(
         sweep.pass(alloc)?;
     }
     flags_of(alloc, table.as_slice())
+}
+
+/// Whether one of the first variables is open.
+pub fn any_open(flags: &[bool], variables: u32) -> bool
+    ensures shut { result ≡ false → (x : ℕ) → x < variables → is_open_in flags.now x ≡ false }
+    ensures some { IsTrue result → (x : ℕ) × (x < variables) × (is_open_in flags.now x ≡ true) }
+{
+    for x in 0..variables {
+        if is_open(flags, x) {
+            return true;
+        }
+    }
+    false
 }

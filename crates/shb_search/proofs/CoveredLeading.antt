@@ -21,9 +21,10 @@ use Rattle.shb_format.specs.Report.{LeadingRaces}
 use Rattle.shb_format.proofs.LeadingLemmas.{firsts, firsts_lead, led_once, pairs_back}
 use Rattle.shb_pairs.proofs.FlatMaps.{map_contains, map_parts}
 use Rattle.shb_pairs.proofs.Listing.{all_is_race_list, all_races}
-use Rattle.shb_search.specs.declared.found.ListedRace.{ListedRace}
-use Rattle.shb_search.specs.Found.{Covers, FoundRace, HasVariable, IsInListOrder, NotAfter, race_in, race_of}
-use Rattle.shb_search.proofs.KeyOrder.{before_not_after, before_or_same, not_before}
+use Rattle.shb_pairs.specs.declared.listed.ListedRace.{ListedRace}
+use Rattle.shb_pairs.specs.Listed.{NotAfter, race_in, race_of}
+use Rattle.shb_search.specs.Found.{Covers, FoundRace, HasVariable, IsInListOrder}
+use Rattle.shb_pairs.proofs.KeyOrder.{before_not_after, before_or_same, not_before}
 use Rattle.shb_search.proofs.LeadMembers.{at_contained, contained_at, lead_of, leading_ordered}
 use Rattle.shb_search.proofs.Lists.{contains_get, same_entry}
 use Rattle.shb_search.proofs.RacesByNumber.{IsBefore, listed_pairs, listed_race, pair_listed, pairs_ordered}

@@ -10,10 +10,11 @@ use Rattle.shb_lines.specs.text.TraceData.{TraceData}
 use Rattle.shb_lines.proofs.events.Increasing.{contains_cases, contains_head, contains_none, contains_tail}
 use Rattle.shb_format.specs.Leading.{place_at}
 use Rattle.shb_format.specs.Places.{location_at}
-use Rattle.shb_search.specs.declared.found.ListedRace.{ListedRace}
+use Rattle.shb_pairs.specs.declared.listed.ListedRace.{ListedRace}
 use Rattle.shb_search.specs.Accesses.{HasFirsts, HaveFirsts}
-use Rattle.shb_search.specs.Found.{AreFound, FoundRace, Improves, IsCovered, IsFound, IsKnown, IsOffered, NotAfter, race_of, same_key}
-use Rattle.shb_search.proofs.KeyOrder.{race_then}
+use Rattle.shb_pairs.specs.Listed.{NotAfter, race_of}
+use Rattle.shb_search.specs.Found.{AreFound, FoundRace, Improves, IsCovered, IsFound, IsKnown, IsOffered, same_key}
+use Rattle.shb_pairs.proofs.KeyOrder.{race_then}
 
 pub key_self : (a : ListedRace) → NotAfter a a
 key_self a = inr (refl, inr (refl, (omega arith)))

@@ -10,7 +10,6 @@ pub mod HalvingLemmas
 pub mod JoinLemmas
 pub mod KeepLemmas
 pub mod KeptLemmas
-pub mod KeyOrder
 pub mod KindLemmas
 pub mod LeadMembers
 pub mod Lists

@@ -8,9 +8,10 @@ use Rattle.shb_lines.specs.declared.event.Event.{Event}
 use Rattle.shb_lines.specs.declared.event.Pair.{Pair}
 use Rattle.shb_lines.specs.events.Race.{variable_at}
 use Rattle.shb_pairs.proofs.FlatMaps.{map_ordered}
-use Rattle.shb_search.specs.declared.found.ListedRace.{ListedRace}
-use Rattle.shb_search.specs.Found.{HasVariable, IsInListOrder, IsNotAfter, race_in}
-use Rattle.shb_search.proofs.KeyOrder.{race_cmp, race_not_less, race_renamed, race_total}
+use Rattle.shb_pairs.specs.declared.listed.ListedRace.{ListedRace}
+use Rattle.shb_pairs.specs.Listed.{race_in}
+use Rattle.shb_search.specs.Found.{HasVariable, IsInListOrder, IsNotAfter}
+use Rattle.shb_pairs.proofs.KeyOrder.{race_cmp, race_not_less, race_renamed, race_total}
 
 -- so two entries that the sort left in this order have races in this order
 module _ (trace : List Event) (entries : List ListedRace) (variables : All (HasVariable trace) entries) (up : IsSorted race_cmp entries) where

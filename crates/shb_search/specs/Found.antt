@@ -1,5 +1,5 @@
 -- Races that are found, their order, and the races and places that they stand for.
-use Rattle.std.specs.Prelude.{◌≡◌, ℕ, ◌⊎◌, ◌<◌, ◌≤◌, ◌&&◌, Bool, nat_eq, List, Some, AllPairs, Contains, slice_get}
+use Rattle.std.specs.Prelude.{◌≡◌, ℕ, ◌<◌, ◌≤◌, ◌&&◌, Bool, nat_eq, List, Some, AllPairs, Contains, slice_get}
 use Rattle.std.specs.List.Sorted.{IsPermutation}
 use Rattle.shb_lines.specs.declared.event.Event.{Event}
 use Rattle.shb_lines.specs.declared.event.Pair.{Pair}
@@ -7,15 +7,8 @@ use Rattle.shb_lines.specs.events.Race.{Race, variable_at}
 use Rattle.shb_lines.specs.text.TraceData.{TraceData}
 use Rattle.shb_format.specs.Leading.{place_at}
 use Rattle.shb_format.specs.Places.{location_at}
-use Rattle.shb_search.specs.declared.found.ListedRace.{ListedRace}
-
--- a race of x by its two events
-abbrev pub race_of : ℕ → ℕ → ℕ → ListedRace
-race_of x second first = record { variable = x; second = second; first = first }
-
--- one race doesn't stand after another in the race list: the order is by the variable, the later access and the earlier one, and variables are numbered by first access
-abbrev pub NotAfter : ListedRace → ListedRace → Type 0
-NotAfter a b = (a.variable < b.variable) ⊎ ((a.variable ≡ b.variable) × ((a.second < b.second) ⊎ ((a.second ≡ b.second) × (a.first ≤ b.first))))
+use Rattle.shb_pairs.specs.Listed.{NotAfter, race_of}
+use Rattle.shb_pairs.specs.declared.listed.ListedRace.{ListedRace}
 
 -- the numbers of a place's two locations, and the race that is known of it
 abbrev pub FoundRace : Type 0
@@ -23,10 +16,6 @@ FoundRace = (ℕ × ℕ) × ListedRace
 
 abbrev pub same_key : ℕ × ℕ → ℕ × ℕ → Bool
 same_key x y = nat_eq x.0 y.0 && nat_eq x.1 y.1
-
--- the race as a pair
-abbrev pub race_in : ListedRace → Pair
-race_in race = record { first = race.first; second = race.second }
 
 -- a race that is found has the place of this race, and doesn't stand after it
 pub record IsCovered (trace : TraceData) (found : List FoundRace) (race : ListedRace) : Type 0 where

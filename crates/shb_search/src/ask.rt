@@ -13,12 +13,13 @@ ghost use Rattle.shb_search.specs.Searched.{IsAccessAt};
 ghost use Rattle.shb_search.specs.Tables.{data_of, list_at};
 
 use crate::classes::earliest_in;
-use crate::found::{Found, ListedRace};
+use crate::found::Found;
 use crate::kept::Classes;
 use crate::look::Access;
 use crate::sites::Sites;
 use shb_io::NoMemory;
 use shb_numbers::NumberSet;
+use shb_pairs::ListedRace;
 use shb_stamps::{Order, Ordered};
 
 /// Takes the earliest access at a site that races with an access, if there is one, and answers whether there is: then

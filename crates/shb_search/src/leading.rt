@@ -1,30 +1,18 @@
 //! The leading races of a trace, from races that stand for all races at their places.
-ghost use Rattle.std.specs.Prelude.{◌≡◌, All, IfOk, List, map};
+ghost use Rattle.std.specs.Prelude.{All, IfOk, List, map};
 ghost use Rattle.shb_lines.specs.declared.event.Event.{Event};
 ghost use Rattle.shb_lines.specs.events.Race.{ends};
 ghost use Rattle.shb_lines.specs.events.Sizes.{IsNumberedByAccess};
 ghost use Rattle.shb_lines.specs.text.TraceData.{TraceData};
 ghost use Rattle.shb_format.specs.Report.{LeadingRaces};
-ghost use Rattle.shb_search.specs.Found.{Covers, HasVariable, IsInListOrder, race_in};
+ghost use Rattle.shb_pairs.specs.Listed.{race_in};
+ghost use Rattle.shb_search.specs.Found.{Covers, HasVariable, IsInListOrder};
 
-use crate::found::{Found, ListedRace};
+use crate::found::Found;
 use shb_io::NoMemory;
 use shb_lines::Pair;
+use shb_pairs::{ListedRace, pairs_of};
 use std::alloc::Global;
-
-/// Some races as pairs, in their order.
-fn pairs_of(alloc: Global, races: &[ListedRace]) -> Result<Vec<Pair>, NoMemory>
-    ensures { IfOk result (λ pairs. pairs.items ≡ map race_in races.now) }
-{
-    let mut pairs = Vec::with_capacity(alloc, races.len())?;
-    for race in races {
-        pairs.push(Pair {
-            first: race.first,
-            second: race.second,
-        })?;
-    }
-    Ok(pairs)
-}
 
 /// Some races in the order of the race list.
 fn in_list_order(alloc: Global, races: Vec<ListedRace>) -> Result<Vec<Pair>, NoMemory>

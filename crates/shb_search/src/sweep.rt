@@ -1,7 +1,6 @@
 //! The sweep of the search over a trace.
 
-ghost use Rattle.std.specs.Prelude.{◌≡◌, ◌+◌, ◌<◌, ℕ, false, true, IfOk, OnOk, length};
-ghost use Rattle.shb_stamps.specs.Open.{is_open as open_flag};
+ghost use Rattle.std.specs.Prelude.{◌≡◌, ◌+◌, ◌<◌, true, IfOk, OnOk, length};
 ghost use Rattle.shb_pairs.specs.Open.{AreOpen};
 ghost use Rattle.shb_search.specs.Accesses.{AreFirsts};
 ghost use Rattle.shb_search.specs.Asking.{AreNumbered};
@@ -14,21 +13,10 @@ use crate::search::{Located, Search};
 use shb_discipline::Disciplined;
 use shb_io::NoMemory;
 use shb_links::{Linked, Links};
+use shb_pairs::any_open;
 use shb_stamps::{Order, Ordered, Sweep, is_open};
 use std::alloc::Global;
 use std::random::RandomSource;
-
-/// Whether one of the first variables is open.
-fn any_open(flags: &[bool], variables: u32) -> bool
-    ensures { result ≡ false → (x : ℕ) → x < variables → open_flag flags.now x ≡ false }
-{
-    for x in 0..variables {
-        if is_open(flags, x) {
-            return true;
-        }
-    }
-    false
-}
 
 /// Takes an event.
 fn step<O: Order>(

@@ -48,7 +48,7 @@ returns-then-not-any_open g c =
       races = λ e there. absurd (contains_none e there);
       each = λ i j x race of_j. absurd (
           let here : variable_at trace.events.now j ≡ Some x = subst (λ (l : List Event). variable_at l j ≡ Some x) back of_j in
-          let shut = c.any_open.ensures c.if-not-any_open.true x (variable_sized trace.events.now trace.sizes j x trace.within here).1 in
+          let shut = c.any_open.ensures.shut c.if-not-any_open.true x (variable_sized trace.events.now trace.sizes j x trace.within here).1 in
           c.requires.settled x shut i j here (subst (λ (l : List Event). Race l i j) back race));
       apart = λ m n e f at. absurd (let none : ⊥ = cc in none);
     })
