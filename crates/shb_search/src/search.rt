@@ -1,4 +1,14 @@
 //! The search for a race of each place.
+//!
+//! Four writes of x, at the locations a and b. After each event: the dirty sites of the side of its thread, the sites that its
+//! own is paired with, and the race that is found, by the lines of its events:
+//!
+//! | Line | Event | Dirty | Paired | Race |
+//! |---|---|---|---|---|
+//! | 1 | `A|w(x)|a` | not looked: no site is wanted | | |
+//! | 2 | `B|w(x)|b` | a | a | 1 and 2 |
+//! | 3 | `B|w(x)|b` | a | a | none: the place of a and b is known |
+//! | 4 | `A|w(x)|a` | b | b | 2 and 4: 2 is the earliest at b that races with 4 |
 
 ghost use Rattle.std.specs.Prelude.{◌≡◌, ◌+◌, ◌<◌, ℕ, Bool, false, true, Contains, IfOk, IsTrue, List, OnOk, Some, length, slice_get};
 ghost use Rattle.std.specs.FinSet as set;
