@@ -28,9 +28,10 @@ use Rattle.shb_pairs.proofs.Counting.{numbers_more_yes, test_from_access, variab
 use Rattle.shb_pairs.proofs.FlatMaps.{flat_map_contains, flat_map_ordered, flat_map_parts}
 use Rattle.shb_pairs.proofs.Listing.{all_is_race_list, piece_rises, race_contained, race_parts, races_on_parts}
 use Rattle.shb_lists.specs.Batches.{AreNarrowed, IsBatch, races_below, races_between, races_on}
-use Rattle.shb_lists.specs.Listed.{IsListOf, pair_in, races_before}
-use Rattle.shb_lists.specs.declared.kept.ListedRace.{ListedRace}
-use Rattle.shb_lists.proofs.KeyOrder.{before_then, race_cmp, race_not_less, race_total}
+use Rattle.shb_pairs.specs.Listed.{pair_in}
+use Rattle.shb_lists.specs.Listed.{IsListOf, races_before}
+use Rattle.shb_pairs.specs.declared.listed.ListedRace.{ListedRace}
+use Rattle.shb_pairs.proofs.KeyOrder.{before_then, race_cmp, race_not_less, race_total}
 use Rattle.shb_lists.proofs.ListedLemmas.{flips, kept_differ, open_access, open_variable, same_decides, same_race}
 use Rattle.shb_lists.proofs.RankLemmas.{numbers_alike}
 
@@ -193,7 +194,7 @@ narrow_batch trace sizes flags narrowed from to within settled are = record {
 
 -- ---- one batch after the other
 
-between_next : (trace : List Event) (from x : ℕ) → from ≤ x → races_between trace from (suc x) ≡ races_between trace from x ++ races_on trace x
+pub between_next : (trace : List Event) (from x : ℕ) → from ≤ x → races_between trace from (suc x) ≡ races_between trace from x ++ races_on trace x
 between_next trace from x le = ap (λ (ks : List ℕ). flat_map (races_on trace) ks) (next x (ap not (le-ltb x from le)))
     ∙ (flat_map-append (races_on trace) (numbers_where (λ k. not (nat_lt k from)) x) (x ∷ []) ∙ ap (λ (l : List (ℕ × ℕ)). races_between trace from x ++ l) (append-nil (races_on trace x)))
   where
@@ -204,7 +205,7 @@ pub below_next : (trace : List Event) (x : ℕ) → races_below trace (x + 1) �
 below_next trace x = ap (λ (ks : List ℕ). flat_map (races_on trace) ks) (numbers_more_yes (λ k. true) x refl)
     ∙ (flat_map-append (races_on trace) (numbers_where (λ k. true) x) (x ∷ []) ∙ ap (λ (l : List (ℕ × ℕ)). races_below trace x ++ l) (append-nil (races_on trace x)))
 
-nothing_between : (trace : List Event) (from to : ℕ) → to ≤ from → numbers_where (λ k. not (nat_lt k from)) to ≡ []
+pub nothing_between : (trace : List Event) (from to : ℕ) → to ≤ from → numbers_where (λ k. not (nat_lt k from)) to ≡ []
 unfolding numbers_where
 nothing_between trace from zero le = refl
 nothing_between trace from (suc to) le = rw (nothing_between trace from to (omega arith), lt-ltb to from (omega arith)) refl

@@ -19,8 +19,8 @@ use Rattle.shb_format.specs.declared.places.PlaceCount.{PlaceCount}
 use Rattle.shb_lists.specs.Counted.{HasCounted, IsCounted, by_number, only, times, with_places}
 use Rattle.shb_lists.specs.Unknown.{AreBelow, AreRacingCounts, number_in}
 use Rattle.shb_lists.specs.declared.counter.RaceCounter.{RaceCounter}
-use Rattle.shb_lists.proofs.GrownLemmas.{at_key, grown_at, grown_same, grown_zero, key_of, more_grown, not_yet, only_none, only_self, other_first, same_number}
-use Rattle.shb_lists.proofs.StartLemmas.{places_differ, places_empty}
+use Rattle.shb_lists.proofs.CountsByPlace.{at_key, grown_at, grown_same, grown_zero, key_of, more_grown, not_yet, only_none, only_self, other_first, same_number}
+use Rattle.shb_lists.proofs.LeadingPlaces.{places_differ, places_empty}
 
 -- ---- what is counted of each place
 
@@ -32,6 +32,14 @@ counted_same start more other n m counter same size h = record {
   count = h.count ∙ size;
   places = h.places ∙ grown_same more other start same;
 }
+
+-- how many more
+pub counted_more : (numbers : List ℕ) (leading : List Pair) (races more : List (ℕ × ℕ)) (old new : RaceCounter) → HasCounted numbers leading races old → HasCounted numbers leading (races ++ more) new → new.races ≡ old.races + length more
+counted_more numbers leading races more old new before after =
+    let size = length-append races more in
+    let was = before.count in
+    let is = after.count in
+    omega (arith, size, was, is)
 
 pub place_room : (start : List Keyed) (old : Key → ℕ) (n more limit : ℕ) (key : Key) (counter : RaceCounter) → n + more < limit → IsCounted start old n counter → IfSome (counted_of counter.places key) (λ c. c.count + more < limit)
 place_room start old n more limit key counter room h =

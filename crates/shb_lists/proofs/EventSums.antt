@@ -24,7 +24,7 @@ use Rattle.shb_lists.specs.Counted.{HasCounted, times, with_places}
 use Rattle.shb_lists.specs.Listed.{races_before}
 use Rattle.shb_lists.specs.declared.counter.RaceCounter.{RaceCounter}
 use Rattle.shb_lists.proofs.CountLemmas.{counted_same, times_append}
-use Rattle.shb_lists.proofs.TotalLemmas.{few_below}
+use Rattle.shb_lists.proofs.RaceTotals.{few_below}
 
 -- the sum over the numbers below n that pass
 unfoldable total : (ℕ → ℕ) → (ℕ → Bool) → ℕ → ℕ
@@ -146,7 +146,7 @@ module _ (trace : List Event) (sizes : Sizes) (flags : List Bool) (within : IsWi
         ∙ (same_total (λ x. total (λ e. μ (races_with trace e)) (accesses_at trace x) (length trace)) (λ x. μ (races_on trace x)) (λ x. true) (λ x. true) sizes.variables (λ x lt. sym (measured (races_with trace) (accesses_at trace x) (length trace)))
         ∙ sym (measured (races_on trace) (λ x. true) sizes.variables))))
 
-  same_length : length (races_before trace flags (length trace)) ≡ length (races_below trace sizes.variables)
+  pub same_length : length (races_before trace flags (length trace)) ≡ length (races_below trace sizes.variables)
   same_length = same_measure (λ l. length l) refl (λ xs ys. length-append xs ys)
 
   pub few_before : length trace < 4294967296 → length (races_before trace flags (length trace)) < 18446744073709551616

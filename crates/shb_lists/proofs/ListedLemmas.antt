@@ -17,9 +17,10 @@ use Rattle.shb_stamps.specs.Open.{accesses_open, is_open}
 use Rattle.shb_pairs.specs.Races.{PairBefore, races_with}
 use Rattle.shb_pairs.proofs.Counting.{numbers_more_no, numbers_more_yes}
 use Rattle.shb_pairs.proofs.Listing.{piece_rises}
-use Rattle.shb_lists.specs.Listed.{IsListOf, pair_in, race_of, races_before}
-use Rattle.shb_lists.specs.declared.kept.ListedRace.{ListedRace}
-use Rattle.shb_lists.proofs.KeyOrder.{same_fields}
+use Rattle.shb_pairs.specs.Listed.{pair_in, race_of}
+use Rattle.shb_lists.specs.Listed.{IsListOf, races_before}
+use Rattle.shb_pairs.specs.declared.listed.ListedRace.{ListedRace}
+use Rattle.shb_pairs.proofs.KeyOrder.{same_fields}
 
 -- ---- the races of one event more
 

@@ -18,9 +18,10 @@ use Rattle.shb_pairs.specs.Races.{races_with}
 use Rattle.shb_pairs.proofs.Counting.{access_from_test, test_from_access, variable_within}
 use Rattle.shb_pairs.proofs.Listing.{all_is_race_list}
 use Rattle.shb_lists.specs.Batches.{AreNarrowed, races_below, races_on}
-use Rattle.shb_lists.specs.Listed.{pair_in, race_of, races_before}
+use Rattle.shb_pairs.specs.Listed.{pair_in, race_of}
+use Rattle.shb_lists.specs.Listed.{races_before}
 use Rattle.shb_lists.specs.Parts.{races_until}
-use Rattle.shb_lists.specs.declared.kept.ListedRace.{ListedRace}
+use Rattle.shb_pairs.specs.declared.listed.ListedRace.{ListedRace}
 use Rattle.shb_lists.proofs.BatchLemmas.{accessed_within, below_next}
 use Rattle.shb_lists.proofs.ListedLemmas.{open_access, open_variable, pairs_of_kept, quiet_numbers, races_more}
 use Rattle.shb_lists.proofs.RankLemmas.{numbers_alike}

@@ -8,8 +8,8 @@ use Rattle.shb_fan.specs.Values.{values_of}
 use Rattle.shb_lines.specs.declared.event.Pair.{Pair}
 use Rattle.shb_lines.specs.events.Race.{ends}
 use Rattle.shb_pairs.proofs.Joined.{joined_values}
-use Rattle.shb_lists.specs.Listed.{pair_in}
-use Rattle.shb_lists.specs.declared.kept.ListedRace.{ListedRace}
+use Rattle.shb_pairs.specs.Listed.{pair_in}
+use Rattle.shb_pairs.specs.declared.listed.ListedRace.{ListedRace}
 use Rattle.shb_lists.specs.declared.pieces.RacePiece.{RacePiece}
 
 flat_joined : {X A : Type 0} (f : X → List A) (xs : List X) → flat_map (λ (l : List A). l) (map f xs) ≡ flat_map f xs

@@ -24,7 +24,7 @@ use Rattle.shb_lists.specs.declared.counter.RaceCounter.{RaceCounter}
 use Rattle.shb_lists.proofs.BatchLemmas.{accessed_within}
 use Rattle.shb_lists.proofs.ListedLemmas.{open_access}
 use Rattle.shb_lists.proofs.NumberLemmas.{number_below}
-use Rattle.shb_lists.proofs.StartLemmas.{leading_counts}
+use Rattle.shb_lists.proofs.LeadingPlaces.{leading_counts}
 
 -- the race list has pairs of events of the trace
 listed_within : (trace : TraceData) (races : List (ℕ × ℕ)) → IsRaceList trace.events races → All (IsPairOf trace) (map pair_of races)

@@ -1,9 +1,8 @@
 -- What a thread doesn't know of some accesses of a variable: one access more, one that is passed, and what is left at its next access.
 use Rattle.std.proofs.Common.{◌≡◌, ◌≢◌, ℕ, ◌+◌, ◌<◌, ◌≤◌, inl, inr, Bool, true, false, List, [], ◌∷◌, ◌++◌, Option, Some, None, length, get_or, slice_get, not, refl, arith, ap, sym, subst, ◌∙◌}
-use Rattle.std.specs.Prelude.{All, cond, ◌==◌, ◌&&◌, nat_lt}
+use Rattle.std.specs.Prelude.{All, cond, ◌==◌, ◌&&◌, nat_lt, replicate}
 use Rattle.std.proofs.lemmas.Bool.{cases_Bool, cases_eq, cases_lt, eq-eqb, le-ltb, lt-ltb, ne_eqb}
-use Rattle.std.proofs.lemmas.List.{get_or_append_left, get_or-set_other, get_or_push, length-set, length_push}
-use Rattle.std.proofs.Math.ListN.{get_or-eq_default}
+use Rattle.std.proofs.lemmas.List.{get_or-set_other, length-replicate, length-set}
 use Rattle.shb_lines.specs.declared.event.Event.{Event}
 use Rattle.shb_lines.specs.declared.event.Op.TheVariants.{Write}
 use Rattle.shb_lines.specs.events.Discipline.{IsDisciplined, local_time}
@@ -15,6 +14,7 @@ use Rattle.shb_lines.proofs.events.Events.{and_parts, fork_earlier, thread_is}
 use Rattle.shb_lines.proofs.events.Prefix.{below_from_local, local_from_below}
 use Rattle.shb_lines.proofs.events.Reach.{event_at_access, reflect_race}
 use Rattle.shb_lines.proofs.events.Schedulable.{below_pred_closed, thread_below_pred}
+use Rattle.shb_stamps.proofs.Fronts.{zero_entry}
 use Rattle.shb_lists.specs.Occurs.{HasCounts, with_key}
 use Rattle.shb_pairs.proofs.Counting.{numbers_few, numbers_more_no, numbers_more_yes}
 use Rattle.shb_lists.proofs.KeyCounts.{filter_few}
@@ -22,7 +22,7 @@ use Rattle.shb_pairs.proofs.Times.{times_rise}
 use Rattle.shb_lists.specs.Past.{IsAccess}
 use Rattle.shb_lists.specs.Rivals.{is_met}
 use Rattle.shb_lists.specs.Unknown.{AreRacingCounts, number_in}
-use Rattle.shb_lists.specs.Unknown.{Accessed, AreZeros, HasOneMore, IsLearned, IsSide, IsUnknown, is_unknown, met_before}
+use Rattle.shb_lists.specs.Unknown.{Accessed, HasOneMore, IsLearned, IsSide, IsUnknown, is_unknown, met_before}
 use Rattle.shb_lists.specs.declared.search.Access.{Access}
 use Rattle.shb_lists.specs.declared.unknown.Met.{Met}
 use Rattle.shb_lists.specs.declared.unknown.Side.{Side}
@@ -340,25 +340,16 @@ zeros_empty : (xs : List ℕ) (key : ℕ → ℕ) (f : ℕ → Bool) (l : ℕ) �
 unfolding numbers_where
 zeros_empty xs key f l h = h
 
-pub side_starts : (a : Accessed) (numbers : List ℕ) (classes threads s : ℕ) (known counts : List ℕ) → AreZeros threads known → AreZeros classes counts → IsSide a numbers classes threads s 0 known counts
-side_starts a numbers classes threads s known counts none zero = record {
-  as_many = none.as_many;
-  counted = record { as_many = zero.as_many; each = λ l low. zeros_empty counts (number_in numbers) (is_unknown a known) l (zero.each l) };
-  few = λ t. (let z = none.each t in omega (arith, z));
-  below = λ t k e h lt from of_e. absurd (let z = none.each t in omega (arith, z, lt));
-}
+zeros_at : (xs : List ℕ) (n k : ℕ) → xs ≡ replicate n 0 → get_or xs k 0 ≡ 0
+zeros_at xs n k is = ap (λ (l : List ℕ). get_or l k 0) is ∙ zero_entry n k
 
-pub zeros_more : (n : ℕ) (zs ys : List ℕ) → AreZeros n zs → ys ≡ zs ++ 0 ∷ [] → AreZeros (n + 1) ys
-zeros_more n zs ys h is = rw is (record {
-  as_many = (let size = length_push zs 0 in let long = h.as_many in omega (arith, size, long));
-  each = λ k. elim (cases_lt k (length zs)) [
-    | inl lt ↦ get_or_append_left zs (0 ∷ []) 0 k lt ∙ h.each k
-    | inr ge ↦ elim (cases_eq (length zs) k) [
-      | inl last ↦ get_or_push zs 0 0 k last
-      | inr past ↦ get_or-eq_default (zs ++ 0 ∷ []) 0 (let size = length_push zs 0 in omega (arith, size, ge, past))
-    ]
-  ];
-})
+pub side_starts : (a : Accessed) (numbers : List ℕ) (classes threads s : ℕ) (known counts : List ℕ) → known ≡ replicate threads 0 → counts ≡ replicate classes 0 → IsSide a numbers classes threads s 0 known counts
+side_starts a numbers classes threads s known counts none zero = record {
+  as_many = ap length none ∙ length-replicate threads 0;
+  counted = record { as_many = ap length zero ∙ length-replicate classes 0; each = λ l low. zeros_empty counts (number_in numbers) (is_unknown a known) l (zeros_at counts classes l zero) };
+  few = λ t. (let z = zeros_at known threads t none in omega (arith, z));
+  below = λ t k e h lt from of_e. absurd (let z = zeros_at known threads t none in omega (arith, z, lt));
+}
 
 -- ---- what all threads know
 
@@ -411,13 +402,13 @@ unfolding numbers_where
 nothing_met a t = refl
 
 pub unknown_starts : (a : Accessed) (numbers : List ℕ) (classes threads : ℕ) (unknown : Unknown) → length unknown.met.items ≡ threads → All (λ (m : Met). m.events.items ≡ []) unknown.met.items
-    → length unknown.sides.items ≡ threads → All (λ (s : Side). AreZeros threads s.known.items × AreZeros classes s.counts.items) unknown.sides.items → IsUnknown a numbers classes threads 0 unknown
+    → length unknown.sides.items ≡ threads → All (λ (s : Side). (s.known.items ≡ replicate threads 0) × (s.counts.items ≡ replicate classes 0)) unknown.sides.items → IsUnknown a numbers classes threads 0 unknown
 unknown_starts a numbers classes threads unknown many empty sides_many zero = record {
   each_thread = many;
   met = λ t m at. subst (λ (k : Met). k.events.items ≡ []) (get_or_from_slice_get unknown.met.items t m m at) (empty t m (slice_get_within unknown.met.items t m at)) ∙ sym (nothing_met a t);
   each_side = sides_many;
   sides = λ s side at.
-      let z = subst (λ (k : Side). AreZeros threads k.known.items × AreZeros classes k.counts.items) (get_or_from_slice_get unknown.sides.items s side side at) (zero s side (slice_get_within unknown.sides.items s side at)) in
+      let z = subst (λ (k : Side). (k.known.items ≡ replicate threads 0) × (k.counts.items ≡ replicate classes 0)) (get_or_from_slice_get unknown.sides.items s side side at) (zero s side (slice_get_within unknown.sides.items s side at)) in
       side_starts a numbers classes threads s side.known.items side.counts.items z.0 z.1;
 }
 

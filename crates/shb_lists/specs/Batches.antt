@@ -1,5 +1,5 @@
 -- The races of variables whose numbers follow each other, in the order of the race list.
-use Rattle.std.specs.Prelude.{◌≡◌, ◌⊎◌, ◌↔◌, ◌<◌, ◌≤◌, ℕ, Bool, true, false, List, Some, flat_map, nat_lt, not}
+use Rattle.std.specs.Prelude.{◌≡◌, ◌≢◌, ◌⊎◌, ◌↔◌, ◌<◌, ◌≤◌, ℕ, Bool, true, false, List, Option, None, Some, IfSome, flat_map, length, nat_lt, not}
 use Rattle.shb_lines.specs.declared.event.Event.{Event}
 use Rattle.shb_lines.specs.events.Race.{Race, variable_at}
 use Rattle.shb_lines.specs.events.Reach.{numbers_where}
@@ -17,6 +17,10 @@ races_below trace to = flat_map (races_on trace) (numbers_where (λ k. true) to)
 
 abbrev pub races_between : List Event → ℕ → ℕ → List (ℕ × ℕ)
 races_between trace from to = flat_map (races_on trace) (numbers_where (λ k. not (nat_lt k from)) to)
+
+-- these races are there if and only if there is no limit, or they are no more
+abbrev pub AreKept : {X : Type 0} → Option ℕ → List (ℕ × ℕ) → Option X → Type 0
+AreKept most races kept = (kept ≢ None) ↔ IfSome most (λ m. length races ≤ m)
 
 -- the races of the variables that are open by these flags are those of the variables from `from` up to and without `to`
 pub record IsBatch (trace : List Event) (flags : List Bool) (from to : ℕ) : Type 0 where

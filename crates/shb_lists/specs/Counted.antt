@@ -1,5 +1,5 @@
 -- What is counted of races by the numbers of their locations.
-use Rattle.std.specs.Prelude.{◌≡◌, ◌+◌, ◌<◌, ◌≤◌, ℕ, Bool, true, false, zero, suc, List, [], ◌∷◌, Some, None, IfSome, cond, fold, length, map, slice_get, slice_index_or}
+use Rattle.std.specs.Prelude.{◌≡◌, ◌+◌, ◌^◌, ◌<◌, ◌≤◌, ℕ, Bool, true, false, zero, suc, List, [], ◌∷◌, Some, None, IfSome, cond, fold, length, map, slice_get, slice_index_or}
 use Rattle.std.specs.List.{AllByRecursion}
 use Rattle.std.specs.Str.{bytes_eq}
 use Rattle.indexmap.specs.IndexSet.{insert_key}
@@ -11,11 +11,14 @@ use Rattle.shb_format.specs.Keyed.{Key, Keyed, counted_of, counting, same_key, w
 use Rattle.shb_format.specs.Places.{location_at}
 use Rattle.shb_format.specs.Report.{pair_of}
 use Rattle.shb_stamps.specs.Open.{accesses_open, is_open}
-use Rattle.shb_lists.specs.Past.{IsPast}
+use Rattle.shb_pairs.specs.Races.{races_with}
+use Rattle.shb_lists.specs.Past.{IsAccess, IsPast}
+use Rattle.shb_lists.specs.Planned.{HasPlanned}
 use Rattle.shb_lists.specs.Unknown.{IsUnknown, number_in}
 use Rattle.shb_lists.specs.declared.counter.RaceCounter.{RaceCounter}
 use Rattle.shb_lists.specs.declared.counting.Counting.{Counting}
 use Rattle.shb_lists.specs.declared.racing.Racing.{Racing}
+use Rattle.shb_lists.specs.declared.search.Access.{Access}
 use Rattle.shb_lists.specs.declared.tables.Table.{Table}
 use Rattle.shb_lists.specs.declared.unknown.Unknown.{Unknown}
 
@@ -85,6 +88,13 @@ pub record IsCounted (start : List Keyed) (more : Key → ℕ) (n : ℕ) (counte
 abbrev pub HasCounted : List ℕ → List Pair → List (ℕ × ℕ) → RaceCounter → Type 0
 HasCounted numbers leading races counter = IsCounted (with_places numbers [] leading) (times numbers (map pair_of races)) (length races) counter
 
+-- the races of an access may be counted: the order can be asked about it, and there is room beside the races counted so far
+pub record MayCount (asks : ℕ → Bool) (trace : List Event) (numbers : List ℕ) (access : Access) (counter : RaceCounter) : Type 0 where
+  pub is_access : IsAccess trace access
+  pub asked : asks access.event ≡ true
+  pub room : counter.races + length (races_with trace access.event) < 2 ^ 64
+  pub counted : (leading : List Pair) × (races : List (ℕ × ℕ)) × HasCounted numbers leading races counter
+
 -- what the accesses of x of one kind conflict with
 abbrev pub side_of : Bool → Racing → Unknown
 side_of writes racing = cond writes racing.with_writes racing.with_reads
@@ -101,3 +111,4 @@ pub record AreTables (trace : List Event) (sizes : Sizes) (flags : List Bool) (n
 pub record IsCounting (trace : List Event) (sizes : Sizes) (flags : List Bool) (numbers : List ℕ) (classes n : ℕ) (counting : Counting) : Type 0 where
   pub past : IsPast trace flags n sizes.variables counting.past
   pub tables : AreTables trace sizes flags numbers classes n counting.tables.items
+  pub planned : HasPlanned trace flags n sizes.variables counting.races.items

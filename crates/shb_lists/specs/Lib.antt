@@ -4,5 +4,6 @@ pub mod Listed
 pub mod Occurs
 pub mod Parts
 pub mod Past
+pub mod Planned
 pub mod Rivals
 pub mod Unknown

@@ -3,17 +3,10 @@ use Rattle.std.specs.Prelude.{◌≡◌, ℕ, Bool, List, Some, All, flat_map, m
 use Rattle.shb_lines.specs.declared.event.Event.{Event}
 use Rattle.shb_lines.specs.events.Race.{variable_at}
 use Rattle.shb_lines.specs.events.Reach.{numbers_where}
+use Rattle.shb_pairs.specs.Listed.{pair_in}
 use Rattle.shb_pairs.specs.Races.{races_with}
 use Rattle.shb_stamps.specs.Open.{accesses_open}
-use Rattle.shb_lists.specs.declared.kept.ListedRace.{ListedRace}
-
--- a race of x by its two events
-abbrev pub race_of : ℕ → ℕ → ℕ → ListedRace
-race_of x second first = record { variable = x; second = second; first = first }
-
--- the race as a pair of positions
-abbrev pub pair_in : ListedRace → ℕ × ℕ
-pair_in race = (race.first, race.second)
+use Rattle.shb_pairs.specs.declared.listed.ListedRace.{ListedRace}
 
 -- the races whose later event is an access of an open variable before n, by the later event, then by the earlier
 abbrev pub races_before : List Event → List Bool → ℕ → List (ℕ × ℕ)

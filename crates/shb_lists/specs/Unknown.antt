@@ -63,11 +63,6 @@ pub record IsUnknown (a : Accessed) (numbers : List ℕ) (classes threads n : �
   pub each_side : length unknown.sides.items ≡ threads
   pub sides : (s : ℕ) (side : Side) → slice_get unknown.sides.items s ≡ Some side → IsSide a numbers classes threads s n side.known.items side.counts.items
 
--- so many zeros
-pub record AreZeros (count : ℕ) (zeros : List ℕ) : Type 0 where
-  pub as_many : length zeros ≡ count
-  pub each : (k : ℕ) → slice_index_or zeros k 0 ≡ 0
-
 -- one more access with this number isn't known
 pub record HasOneMore (number : ℕ) (old new : Side) : Type 0 where
   pub known : new.known.items ≡ old.known.items

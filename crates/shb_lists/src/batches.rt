@@ -1,13 +1,14 @@
 //! The races of variables whose numbers follow each other, as many as can be kept at once.
 
-ghost use Rattle.std.specs.Prelude.{◌≡◌, ◌⊎◌, ◌+◌, ◌<◌, ◌≤◌, false, IfOk, IfSome, None, map};
+ghost use Rattle.std.specs.Prelude.{◌≡◌, ◌⊎◌, ◌+◌, ◌<◌, ◌≤◌, false, IfOk, map};
 ghost use Rattle.shb_stamps.specs.Open.{is_open as is_open_in};
 ghost use Rattle.shb_lists.specs.Batches.{AreNarrowed, races_between};
-ghost use Rattle.shb_lists.specs.Listed.{pair_in};
+ghost use Rattle.shb_pairs.specs.Listed.{pair_in};
 
-use crate::kept::{ListedRace, found_races, in_list_order};
+use crate::kept::{found_races, in_list_order};
 use crate::settled::Settled;
 use shb_io::NoMemory;
+use shb_pairs::ListedRace;
 use shb_stamps::is_open;
 use std::alloc::Global;
 
@@ -46,30 +47,19 @@ pub fn narrowed(
     Ok(narrowed)
 }
 
-/// The races of the variables from `from` up to and without `to`, in the order of the race list; or nothing, where there
-/// are more than `most`.
+/// The races of the variables from `from` up to and without `to`, in the order of the race list.
 pub(crate) fn races_within(
     alloc: Global,
     settled: &Settled<'_>,
     from: u32,
     to: u32,
-    most: u64,
-) -> Result<Option<Vec<ListedRace>>, NoMemory>
-    ensures { IfOk result (λ kept. IfSome kept (λ races. map pair_in races.items ≡ races_between settled.now.disciplined.now.events.now from to)) }
+) -> Result<Vec<ListedRace>, NoMemory>
+    ensures { IfOk result (λ races. map pair_in races.items ≡ races_between settled.now.disciplined.now.events.now from to) }
 {
     let variables = settled.disciplined.sizes.variables;
     let flags = narrowed(alloc, settled.flags, variables, from, to)?;
-    match found_races(
-        alloc,
-        settled.disciplined,
-        settled.links,
-        &flags,
-        Some(most),
-    )? {
-        Some(races) => {
-            let sorted = in_list_order(races);
-            Ok(Some(sorted))
-        }
-        None => Ok(None),
-    }
+    let kept = found_races(alloc, settled.disciplined, settled.links, &flags, None)?;
+    let Some(races) = kept else { unreachable!() };
+    let sorted = in_list_order(races);
+    Ok(sorted)
 }

@@ -7,6 +7,7 @@ ghost use Rattle.shb_format.specs.Places.{counts_in, places_of_pairs};
 ghost use Rattle.shb_format.specs.Report.{LeadingRaces, pair_of};
 ghost use Rattle.shb_lists.specs.Counted.{HasCounted};
 ghost use Rattle.shb_lists.specs.Listed.{races_before};
+ghost use Rattle.shb_lists.specs.Planned.{IsPlan};
 ghost use Rattle.shb_lists.specs.Unknown.{AreBelow};
 
 use crate::counter::RaceCounter;
@@ -46,15 +47,17 @@ fn count_events(
 ) -> Result<BatchPlan, NoMemory>
     requires numbers { AreBelow settled.now.disciplined.now.events.now numbers.now classes }
     requires counted { (leading : List Pair) × HasCounted numbers.now leading [] counter.old }
-    ensures { OnOk result ((leading : List Pair) → HasCounted numbers.now leading [] counter.old
+    ensures counted { OnOk result ((leading : List Pair) → HasCounted numbers.now leading [] counter.old
         → HasCounted numbers.now leading (races_before settled.now.disciplined.now.events.now settled.now.flags.now (length settled.now.disciplined.now.events.now)) counter.new) }
+    ensures planned { IfOk result (IsPlan settled.now.disciplined.now.events.now) }
+    ensures most { IfOk result (λ plan. plan.most ≡ most) }
 {
     let variables = settled.disciplined.sizes.variables;
     let mut counting = Counting {
         past: Past::new(alloc, variables)?,
         tables: tables_of(alloc, settled, classes)?,
         found: Vec::new(alloc),
-        plan: BatchPlan::new(alloc, variables, most)?,
+        races: vec![in alloc; 0; variables as usize]?,
     };
     let mut sweep = Sweep::new(alloc, Linked::new(settled.disciplined, settled.links))?;
     for e in 0..settled.disciplined.events.len() as u32 {
@@ -62,8 +65,8 @@ fn count_events(
         counting.pass(counter, numbers, &ordered, settled.flags, e)?;
         sweep.pass(alloc)?;
     }
-    let Counting { plan, .. } = counting;
-    Ok(plan)
+    let Counting { races, .. } = counting;
+    Ok(BatchPlan { most, races })
 }
 
 /// How many races a trace has, their places, and batches of not more than `most`. The places are those of the leading
@@ -89,6 +92,8 @@ pub fn counted_races<R: RandomSource>(
     ensures races { (listed : List (ℕ × ℕ)) → IsRaceList settled.now.disciplined.now.events.now listed → IfOk result (λ c. c.races ≡ length listed) }
     ensures places { (listed : List (ℕ × ℕ)) → IsRaceList settled.now.disciplined.now.events.now listed
         → IfOk result (λ c. c.places ≡ counts_in (places_of_pairs settled.now.disciplined.now.trace.now (map pair_of listed))) }
+    ensures batches { IfOk result (λ c. IsPlan settled.now.disciplined.now.events.now c.batches) }
+    ensures most { IfOk result (λ c. c.batches.most ≡ most) }
 {
     let located = location_numbers(rt, alloc, settled.disciplined, settled.flags)?;
     let numbers = located.numbers.as_slice();

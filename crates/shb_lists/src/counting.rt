@@ -4,19 +4,18 @@ ghost use Rattle.std.specs.Prelude.{◌≡◌, ◌++◌, ◌+◌, ◌<◌, ◌^�
 ghost use Rattle.shb_lines.specs.declared.event.Pair.{Pair};
 ghost use Rattle.shb_stamps.specs.Open.{accesses_open, is_open as is_open_in};
 ghost use Rattle.shb_pairs.specs.Races.{races_with};
-ghost use Rattle.shb_lists.specs.Counted.{HasCounted, IsCounting};
-ghost use Rattle.shb_lists.specs.Past.{IsAccess};
+ghost use Rattle.shb_lists.specs.Counted.{HasCounted, IsCounting, MayCount};
+ghost use Rattle.shb_lists.specs.Planned.{HasAdded, planned};
 ghost use Rattle.shb_lists.specs.Unknown.{AreBelow};
 
 use crate::counter::RaceCounter;
 use crate::past::{Past, access_at};
-use crate::plan::BatchPlan;
 use crate::search::Access;
 use crate::tables::{Table, count_tabled, note_tabled};
 use shb_io::NoMemory;
 use shb_stamps::{Order, Ordered};
 
-/// What is known of the accesses before an event, and how many races each variable has.
+/// What is known of the accesses before an event.
 #[derive(Drop)]
 pub(crate) struct Counting {
     pub(crate) past: Past,
@@ -24,10 +23,49 @@ pub(crate) struct Counting {
     pub(crate) tables: Vec<Table>,
     /// Room for the accesses that race with one.
     pub(crate) found: Vec<u32>,
-    pub(crate) plan: BatchPlan,
+    /// By variable, how many races it has.
+    pub(crate) races: Vec<u64>,
+}
+
+/// Counts so many races more of a variable.
+fn add(races: &mut Vec<u64>, x: u32, more: u64)
+    requires within { x < length races.old.items }
+    requires room { planned races.old.items x + more < 2 ^ 64 }
+    ensures { HasAdded x more races.old.items races.new.items }
+{
+    races[x as usize] += more;
 }
 
 impl Counting {
+    /// Counts the races of an access.
+    ///
+    /// # Errors
+    ///
+    /// `NoMemory` where a growth was refused.
+    fn count_races<O: Order>(
+        &mut self,
+        counter: &mut RaceCounter,
+        numbers: &[u32],
+        ordered: &Ordered<'_, O>,
+        access: Access,
+    ) -> Result<(), NoMemory>
+        requires may_count { MayCount (O.asks ordered.now.order.now) ordered.now.disciplined.now.events.now numbers.now access counter.old }
+        requires counting { (flags : List Bool) × (classes : ℕ) × (is_open_in flags access.variable ≡ true) × AreBelow ordered.now.disciplined.now.events.now numbers.now classes
+            × IsCounting ordered.now.disciplined.now.events.now ordered.now.disciplined.now.sizes flags numbers.now classes access.event self.old }
+        ensures counting { (flags : List Bool) (classes : ℕ) → is_open_in flags access.variable ≡ true → AreBelow ordered.now.disciplined.now.events.now numbers.now classes
+            → IsCounting ordered.now.disciplined.now.events.now ordered.now.disciplined.now.sizes flags numbers.now classes access.event self.old
+            → OnOk result (IsCounting ordered.now.disciplined.now.events.now ordered.now.disciplined.now.sizes flags numbers.now classes access.event self.new) }
+        ensures counted { OnOk result ((leading : List Pair) (races : List (ℕ × ℕ)) → HasCounted numbers.now leading races counter.old
+            → HasCounted numbers.now leading (races ++ races_with ordered.now.disciplined.now.events.now access.event) counter.new) }
+    {
+        if count_tabled(&mut self.tables, counter, numbers, ordered, access) {
+            return Ok(());
+        }
+        self.past.find(ordered, access, &mut self.found)?;
+        counter.count_racing(numbers, self.found.as_slice(), access.event);
+        Ok(())
+    }
+
     /// Counts the races of an access, and takes it in.
     ///
     /// # Errors
@@ -40,12 +78,9 @@ impl Counting {
         ordered: &Ordered<'_, O>,
         access: Access,
     ) -> Result<(), NoMemory>
-        requires access { IsAccess ordered.now.disciplined.now.events.now access }
-        requires asked { O.asks ordered.now.order.now access.event ≡ true }
+        requires may_count { MayCount (O.asks ordered.now.order.now) ordered.now.disciplined.now.events.now numbers.now access counter.old }
         requires counting { (flags : List Bool) × (classes : ℕ) × (is_open_in flags access.variable ≡ true) × AreBelow ordered.now.disciplined.now.events.now numbers.now classes
             × IsCounting ordered.now.disciplined.now.events.now ordered.now.disciplined.now.sizes flags numbers.now classes access.event self.old }
-        requires room { counter.old.races + length (races_with ordered.now.disciplined.now.events.now access.event) < 2 ^ 64 }
-        requires counted { (leading : List Pair) × (races : List (ℕ × ℕ)) × HasCounted numbers.now leading races counter.old }
         ensures counting { (flags : List Bool) (classes : ℕ) → is_open_in flags access.variable ≡ true → AreBelow ordered.now.disciplined.now.events.now numbers.now classes
             → IsCounting ordered.now.disciplined.now.events.now ordered.now.disciplined.now.sizes flags numbers.now classes access.event self.old
             → OnOk result (IsCounting ordered.now.disciplined.now.events.now ordered.now.disciplined.now.sizes flags numbers.now classes (access.event + 1) self.new) }
@@ -53,15 +88,10 @@ impl Counting {
             → HasCounted numbers.now leading (races ++ races_with ordered.now.disciplined.now.events.now access.event) counter.new) }
     {
         let before = counter.races;
-        let counted = count_tabled(&mut self.tables, counter, numbers, ordered, access);
-        if !counted {
-            self.past.find(ordered, access, &mut self.found)?;
-            counter.count_racing(numbers, self.found.as_slice(), access.event);
-        }
+        self.count_races(counter, numbers, ordered, access)?;
         note_tabled(&mut self.tables, numbers, ordered, access)?;
         self.past.note(ordered, access)?;
-        self.plan
-            .add(access.variable, counter.races.saturating_sub(before));
+        add(&mut self.races, access.variable, counter.races - before);
         Ok(())
     }
 

@@ -1,44 +1,26 @@
 //! The races of a trace, kept, in the order of the race list.
 
-ghost use Rattle.std.specs.Prelude.{◌≡◌, ◌≢◌, ◌<◌, ◌++◌, ℕ, false, Bool, List, None, Some, IfOk, IfSome, IsTrue, OnOk, length, map};
+ghost use Rattle.std.specs.Prelude.{◌≡◌, ◌↔◌, ◌+◌, ◌<◌, ◌≤◌, ◌++◌, ℕ, Bool, List, Some, IfOk, IfSome, IsTrue, OnOk, length, map};
 ghost use Rattle.shb_lines.specs.declared.event.Event.{Event};
 ghost use Rattle.shb_lines.specs.events.Race.{IsRaceList, variable_at};
-ghost use Rattle.shb_stamps.specs.Open.{is_open as is_open_in};
 ghost use Rattle.shb_pairs.specs.Open.{AreOpen};
-ghost use Rattle.shb_lists.specs.Batches.{IsBatch, races_between};
-ghost use Rattle.shb_lists.specs.Listed.{IsListOf, pair_in, race_of, races_before};
+ghost use Rattle.shb_lists.specs.Batches.{AreKept, IsBatch, races_below, races_between};
+ghost use Rattle.shb_pairs.specs.Listed.{pair_in, race_of};
+ghost use Rattle.shb_lists.specs.Listed.{IsListOf, races_before};
 
 use crate::past::Past;
 use shb_discipline::Disciplined;
 use shb_io::NoMemory;
 use shb_lines::Events;
 use shb_links::{Linked, Links};
-use shb_stamps::{Ordered, Sweep, is_open};
+use shb_pairs::{ListedRace, any_open};
+use shb_stamps::{Ordered, Sweep};
 use std::alloc::Global;
-
-/// A race as the race list orders it: by the number of its variable, by its later event, and by its earlier one.
-#[derive(Clone, Copy, PartialEq, Eq, PartialOrd, Ord)]
-pub struct ListedRace {
-    pub variable: u32,
-    pub second: u32,
-    pub first: u32,
-}
-
-/// Whether one of the first variables is open.
-fn any_open(flags: &[bool], variables: u32) -> bool
-    ensures { result ≡ false → (x : ℕ) → x < variables → is_open_in flags.now x ≡ false }
-{
-    for x in 0..variables {
-        if is_open(flags, x) {
-            return true;
-        }
-    }
-    false
-}
 
 /// Whether so many races more can be kept beside those that are: any number, or not more than `most`.
 fn has_room(most: Option<u64>, kept: usize, more: usize) -> bool
-    ensures { most ≡ None → IsTrue result }
+    requires { IfSome most (λ m. kept ≤ m) }
+    ensures { IsTrue result ↔ IfSome most (λ m. kept + more ≤ m) }
 {
     match most {
         Some(most) => more as u64 <= most.saturating_sub(kept as u64),
@@ -83,8 +65,8 @@ pub(crate) fn in_list_order(races: Vec<ListedRace>) -> Vec<ListedRace>
     sorted
 }
 
-/// The races of a trace in the order in which a sweep finds them, by their later events; or nothing, where there are more
-/// than `most`.
+/// The races of the open variables of a trace in the order in which a sweep finds them, by their later events; or nothing,
+/// if and only if there are more than `most`.
 pub(crate) fn found_races<'a>(
     alloc: Global,
     disciplined: &'a Disciplined<'a>,
@@ -95,7 +77,7 @@ pub(crate) fn found_races<'a>(
     requires of_trace { links.now ≡ disciplined.now.events.now }
     ensures races { IfOk result (λ kept. IfSome kept (λ races. IsListOf disciplined.now.events.now
         (races_before disciplined.now.events.now flags.now (length disciplined.now.events.now)) races.items)) }
-    ensures all { most ≡ None → IfOk result (λ kept. kept ≢ None) }
+    ensures kept { IfOk result (AreKept most (races_before disciplined.now.events.now flags.now (length disciplined.now.events.now))) }
 {
     let mut kept = Vec::new(alloc);
     if !any_open(flags, disciplined.sizes.variables) {
@@ -117,8 +99,8 @@ pub(crate) fn found_races<'a>(
     Ok(Some(kept))
 }
 
-/// All races of a trace, in the order of the race list; or nothing, where there are more than `most`. One pass over the
-/// trace with a [`Sweep`], which is asked for accesses of open variables alone; none where no variable is open.
+/// All races of a trace, in the order of the race list; or nothing, if and only if there are more than `most`. One pass over
+/// the trace with a [`Sweep`], which is asked for accesses of open variables alone; none where no variable is open.
 ///
 /// The links are of the trace, and a variable whose flag is false has no race (`open_variables` of `shb_pairs` tells
 /// which). An access of an open variable costs a comparison for each thread that accesses the variable, and a step for
@@ -138,7 +120,7 @@ pub fn kept_races<'a>(
     requires of_trace { links.now ≡ disciplined.now.events.now }
     requires settled { AreOpen disciplined.now.events.now flags.now }
     ensures races { IfOk result (λ kept. IfSome kept (λ races. IsRaceList disciplined.now.events.now (map pair_in races.items))) }
-    ensures all { most ≡ None → IfOk result (λ kept. kept ≢ None) }
+    ensures kept { IfOk result (AreKept most (races_below disciplined.now.events.now disciplined.now.sizes.variables)) }
 {
     match found_races(alloc, &*disciplined, &*links, flags, most)? {
         Some(races) => {

@@ -31,9 +31,9 @@ mod settled;
 mod tables;
 mod unknown;
 
-pub use counted::{RaceCount, counted_races};
-pub use kept::{ListedRace, kept_races};
+pub use counted::counted_races;
+pub use kept::kept_races;
 pub use parts::RaceParts;
-pub use pieces::{pairs_in_pieces, pairs_of};
-pub use plan::{Batch, BatchPlan};
+pub use pieces::pairs_in_pieces;
+pub use plan::BatchPlan;
 pub use settled::Settled;

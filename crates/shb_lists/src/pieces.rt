@@ -2,12 +2,12 @@
 
 ghost use Rattle.std.specs.Prelude.{◌≡◌, ◌<◌, ◌≤◌, ℕ, List, IfOk, [], flat_map, length, map, slice_index_or, slice_range};
 ghost use Rattle.shb_lines.specs.events.Race.{ends};
-ghost use Rattle.shb_lists.specs.Listed.{pair_in};
+ghost use Rattle.shb_pairs.specs.Listed.{pair_in};
 
-use crate::kept::ListedRace;
 use shb_fan::{Gate, Job, Workers, gather};
 use shb_io::NoMemory;
 use shb_lines::Pair;
+use shb_pairs::{ListedRace, pairs_of};
 use std::alloc::Global;
 use std::collections::LinkedList;
 use std::marker::Model;
@@ -62,24 +62,6 @@ fn cut<'r>(alloc: Global, races: &'r [ListedRace]) -> Result<Vec<RacePiece<'r>>,
         start = end;
     }
     Ok(pieces)
-}
-
-/// Some races as pairs, in their order.
-///
-/// # Errors
-///
-/// `NoMemory` where a growth was refused.
-pub fn pairs_of(alloc: Global, races: &[ListedRace]) -> Result<Vec<Pair>, NoMemory>
-    ensures { IfOk result (λ pairs. map ends pairs.items ≡ map pair_in races.now) }
-{
-    let mut pairs = Vec::with_capacity(alloc, races.len())?;
-    for race in races {
-        pairs.push(Pair {
-            first: race.first,
-            second: race.second,
-        })?;
-    }
-    Ok(pairs)
 }
 
 /// The making of pairs as work in pieces. Clauses see it as the races of each piece.

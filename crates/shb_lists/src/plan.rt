@@ -1,13 +1,15 @@
 //! The variables whose races are kept at once, by the number of the races of each variable.
 
-ghost use Rattle.std.specs.Prelude.{◌≡◌, ◌+◌, ◌<◌, ◌≤◌, IfOk, IfSome, None, map};
-ghost use Rattle.shb_lists.specs.Batches.{races_between};
-ghost use Rattle.shb_lists.specs.Listed.{pair_in};
+ghost use Rattle.std.specs.Prelude.{◌≡◌, ◌↔◌, ◌+◌, ◌<◌, ◌≤◌, List, IfOk, IfSome, IsTrue, None, Some, length, map};
+ghost use Rattle.shb_lines.specs.declared.event.Event.{Event};
+ghost use Rattle.shb_lists.specs.Batches.{AreKept, races_between, races_on};
+ghost use Rattle.shb_pairs.specs.Listed.{pair_in};
+ghost use Rattle.shb_lists.specs.Planned.{IsPlan, planned};
 
 use crate::batches::races_within;
-use crate::kept::ListedRace;
 use crate::settled::Settled;
 use shb_io::NoMemory;
+use shb_pairs::ListedRace;
 use std::alloc::Global;
 
 /// Some variables whose numbers follow each other, and their races.
@@ -19,43 +21,28 @@ pub struct Batch {
     pub races: Option<Vec<ListedRace>>,
 }
 
-/// How many races each variable has, by which variables are put into batches. Only what takes less time depends on it.
+/// How many races each variable has, by which variables are put into batches.
 #[derive(Drop)]
 pub struct BatchPlan {
     /// How many races can be kept.
-    most: u64,
+    pub(crate) most: u64,
     /// The races of each variable.
-    races: Vec<u64>,
+    pub(crate) races: Vec<u64>,
 }
 
 impl BatchPlan {
-    /// No races of so many variables, for batches of not more than `most` together. Memory: 8 bytes per variable.
-    ///
-    /// # Errors
-    ///
-    /// `NoMemory` where memory is refused.
-    pub(crate) fn new(alloc: Global, variables: u32, most: u64) -> Result<BatchPlan, NoMemory> {
-        Ok(BatchPlan {
-            most,
-            races: vec![in alloc; 0; variables as usize]?,
-        })
-    }
-
     /// How many races a variable has.
-    fn races_of(&self, x: u32) -> u64 {
+    fn races_of(&self, x: u32) -> u64
+        ensures { result ≡ planned self.now.races.items x }
+    {
         self.races.get(x as usize).copied().unwrap_or(0)
     }
 
     /// Whether a variable's races can be kept.
-    fn can_keep(&self, x: u32) -> bool {
+    fn can_keep(&self, x: u32) -> bool
+        ensures { IsTrue result ↔ (planned self.now.races.items x ≤ self.now.most) }
+    {
         self.races_of(x) <= self.most
-    }
-
-    /// Counts so many races more of a variable.
-    pub(crate) fn add(&mut self, x: u32, more: u64) {
-        if let Some(races) = self.races.get_mut(x as usize) {
-            *races = races.saturating_add(more);
-        }
     }
 
     /// One more than the last of the variables from `from` on that can be kept together, of so many; at least one.
@@ -63,6 +50,8 @@ impl BatchPlan {
         requires { from < variables }
         ensures more { from < result }
         ensures within { result ≤ variables }
+        ensures few { (trace : List Event) → IsPlan trace self.now → planned self.now.races.items from ≤ self.now.most
+            → length (races_between trace from result) ≤ self.now.most }
     {
         let mut left = self.most;
         for x in from..variables {
@@ -76,7 +65,7 @@ impl BatchPlan {
     }
 
     /// The races of the variables from `from` on, of as many as have not more than can be kept together: at least one. The
-    /// batch has no races where it is one variable that has more. A sweep; none for a variable that has more.
+    /// batch has no races if and only if it is one variable that has more. A sweep; none for a variable that has more.
     /// Memory: a byte per variable, and what [`kept_races`](crate::kept_races) takes for so many races.
     ///
     /// # Errors
@@ -88,14 +77,22 @@ impl BatchPlan {
         ensures within { IfOk result (λ batch. batch.to ≤ settled.now.disciplined.now.sizes.variables) }
         ensures races { IfOk result (λ batch. IfSome batch.races (λ races. map pair_in races.items ≡ races_between settled.now.disciplined.now.events.now from batch.to)) }
         ensures alone { IfOk result (λ batch. batch.races ≡ None → batch.to ≡ from + 1) }
+        ensures kept { IsPlan settled.now.disciplined.now.events.now self.now
+            → IfOk result (λ batch. AreKept (Some self.now.most) (races_on settled.now.disciplined.now.events.now from) batch.races) }
+        ensures few { IsPlan settled.now.disciplined.now.events.now self.now
+            → IfOk result (λ batch. IfSome batch.races (λ races. length races.items ≤ self.now.most)) }
     {
-        let until = self.end(from, settled.disciplined.sizes.variables);
-        let races = if self.can_keep(from) {
-            races_within(alloc, settled, from, until, self.most)?
-        } else {
-            None
-        };
-        let to = if races.is_some() { until } else { from + 1 };
-        Ok(Batch { to, races })
+        let to = self.end(from, settled.disciplined.sizes.variables);
+        if !self.can_keep(from) {
+            return Ok(Batch {
+                to: from + 1,
+                races: None,
+            });
+        }
+        let races = races_within(alloc, settled, from, to)?;
+        Ok(Batch {
+            to,
+            races: Some(races),
+        })
     }
 }

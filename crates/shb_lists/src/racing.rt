@@ -4,7 +4,7 @@ ghost use Rattle.std.specs.Prelude.{◌≡◌, ◌++◌, ◌+◌, ◌<◌, ◌^�
 ghost use Rattle.shb_lines.specs.declared.event.Event.{Event};
 ghost use Rattle.shb_lines.specs.declared.event.Pair.{Pair};
 ghost use Rattle.shb_pairs.specs.Races.{races_with};
-ghost use Rattle.shb_lists.specs.Counted.{AreRacing, HasCounted};
+ghost use Rattle.shb_lists.specs.Counted.{AreRacing, HasCounted, MayCount};
 ghost use Rattle.shb_lists.specs.Past.{IsAccess};
 ghost use Rattle.shb_lists.specs.Unknown.{AreBelow, IsUnknown, accessed_by, number_in};
 
@@ -32,12 +32,9 @@ fn count_learned<O: Order>(
     ordered: &Ordered<'_, O>,
     access: Access,
 ) -> bool
-    requires access { IsAccess ordered.now.disciplined.now.events.now access }
-    requires asked { O.asks ordered.now.order.now access.event ≡ true }
+    requires may_count { MayCount (O.asks ordered.now.order.now) ordered.now.disciplined.now.events.now numbers.now access counter.old }
     requires unknown { (classes : ℕ) × AreBelow ordered.now.disciplined.now.events.now numbers.now classes
         × IsUnknown (accessed_by ordered.now.disciplined.now.events.now access) numbers.now classes ordered.now.disciplined.now.sizes.threads access.event unknown.old }
-    requires room { counter.old.races + length (races_with ordered.now.disciplined.now.events.now access.event) < 2 ^ 64 }
-    requires counted { (leading : List Pair) × (races : List (ℕ × ℕ)) × HasCounted numbers.now leading races counter.old }
     ensures unknown { (classes : ℕ) → AreBelow ordered.now.disciplined.now.events.now numbers.now classes
         → IsUnknown (accessed_by ordered.now.disciplined.now.events.now access) numbers.now classes ordered.now.disciplined.now.sizes.threads access.event unknown.old
         → IsUnknown (accessed_by ordered.now.disciplined.now.events.now access) numbers.now classes ordered.now.disciplined.now.sizes.threads access.event unknown.new }
@@ -79,12 +76,9 @@ impl Racing {
         ordered: &Ordered<'_, O>,
         access: Access,
     ) -> bool
-        requires access { IsAccess ordered.now.disciplined.now.events.now access }
-        requires asked { O.asks ordered.now.order.now access.event ≡ true }
+        requires may_count { MayCount (O.asks ordered.now.order.now) ordered.now.disciplined.now.events.now numbers.now access counter.old }
         requires racing { (classes : ℕ) × AreBelow ordered.now.disciplined.now.events.now numbers.now classes
             × AreRacing ordered.now.disciplined.now.events.now access.variable numbers.now classes ordered.now.disciplined.now.sizes.threads access.event self.old }
-        requires room { counter.old.races + length (races_with ordered.now.disciplined.now.events.now access.event) < 2 ^ 64 }
-        requires counted { (leading : List Pair) × (races : List (ℕ × ℕ)) × HasCounted numbers.now leading races counter.old }
         ensures racing { (classes : ℕ) → AreBelow ordered.now.disciplined.now.events.now numbers.now classes
             → AreRacing ordered.now.disciplined.now.events.now access.variable numbers.now classes ordered.now.disciplined.now.sizes.threads access.event self.old
             → AreRacing ordered.now.disciplined.now.events.now access.variable numbers.now classes ordered.now.disciplined.now.sizes.threads access.event self.new }

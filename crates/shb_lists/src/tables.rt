@@ -8,7 +8,7 @@ ghost use Rattle.shb_lines.specs.declared.event.Event.{Event};
 ghost use Rattle.shb_lines.specs.declared.event.Pair.{Pair};
 ghost use Rattle.shb_stamps.specs.Open.{is_open as is_open_in};
 ghost use Rattle.shb_pairs.specs.Races.{races_with};
-ghost use Rattle.shb_lists.specs.Counted.{AreRacing, AreTables, HasCounted};
+ghost use Rattle.shb_lists.specs.Counted.{AreRacing, AreTables, HasCounted, MayCount};
 ghost use Rattle.shb_lists.specs.Past.{IsAccess};
 ghost use Rattle.shb_lists.specs.Unknown.{AreBelow};
 
@@ -176,12 +176,9 @@ fn count_many<O: Order>(
     ordered: &Ordered<'_, O>,
     access: Access,
 ) -> bool
-    requires access { IsAccess ordered.now.disciplined.now.events.now access }
-    requires asked { O.asks ordered.now.order.now access.event ≡ true }
+    requires may_count { MayCount (O.asks ordered.now.order.now) ordered.now.disciplined.now.events.now numbers.now access counter.old }
     requires racing { (classes : ℕ) × AreBelow ordered.now.disciplined.now.events.now numbers.now classes
         × IfSome racing.old (AreRacing ordered.now.disciplined.now.events.now access.variable numbers.now classes ordered.now.disciplined.now.sizes.threads access.event) }
-    requires room { counter.old.races + length (races_with ordered.now.disciplined.now.events.now access.event) < 2 ^ 64 }
-    requires counted { (leading : List Pair) × (races : List (ℕ × ℕ)) × HasCounted numbers.now leading races counter.old }
     ensures racing { (classes : ℕ) → AreBelow ordered.now.disciplined.now.events.now numbers.now classes
         → IfSome racing.old (AreRacing ordered.now.disciplined.now.events.now access.variable numbers.now classes ordered.now.disciplined.now.sizes.threads access.event)
         → IfSome racing.new (AreRacing ordered.now.disciplined.now.events.now access.variable numbers.now classes ordered.now.disciplined.now.sizes.threads access.event) }
@@ -217,12 +214,9 @@ pub(crate) fn count_tabled<O: Order>(
     ordered: &Ordered<'_, O>,
     access: Access,
 ) -> bool
-    requires access { IsAccess ordered.now.disciplined.now.events.now access }
-    requires asked { O.asks ordered.now.order.now access.event ≡ true }
+    requires may_count { MayCount (O.asks ordered.now.order.now) ordered.now.disciplined.now.events.now numbers.now access counter.old }
     requires tables { (flags : List Bool) × (classes : ℕ) × (is_open_in flags access.variable ≡ true) × AreBelow ordered.now.disciplined.now.events.now numbers.now classes
         × AreTables ordered.now.disciplined.now.events.now ordered.now.disciplined.now.sizes flags numbers.now classes access.event tables.old.items }
-    requires room { counter.old.races + length (races_with ordered.now.disciplined.now.events.now access.event) < 2 ^ 64 }
-    requires counted { (leading : List Pair) × (races : List (ℕ × ℕ)) × HasCounted numbers.now leading races counter.old }
     ensures tables { (flags : List Bool) (classes : ℕ) → is_open_in flags access.variable ≡ true → AreBelow ordered.now.disciplined.now.events.now numbers.now classes
         → AreTables ordered.now.disciplined.now.events.now ordered.now.disciplined.now.sizes flags numbers.now classes access.event tables.old.items
         → AreTables ordered.now.disciplined.now.events.now ordered.now.disciplined.now.sizes flags numbers.now classes access.event tables.new.items }

@@ -15,11 +15,11 @@
 //! | `A|w(x)|b` | nothing: A passes its own first access | 1 0, 0 1 | 0 0, 1 1 |
 //! | `B|w(x)|b` | one at b: B passes what came before the fork | 1 0, 0 2 | 1 0, 0 2 |
 
-ghost use Rattle.std.specs.Prelude.{◌≡◌, ◌≢◌, ◌+◌, ◌<◌, ◌^◌, ℕ, [], true, All, List, Some, IfOk, OnOk, length, slice_get, slice_index_or};
+ghost use Rattle.std.specs.Prelude.{◌≡◌, ◌≢◌, ◌+◌, ◌<◌, ◌^◌, ℕ, [], true, All, List, Some, IfOk, OnOk, length, replicate, slice_get, slice_index_or};
 ghost use Rattle.shb_lists.specs.Past.{IsAccess};
 ghost use Rattle.shb_lists.specs.Rivals.{is_met};
 ghost use Rattle.shb_lists.specs.Unknown.{AreRacingCounts, number_in};
-ghost use Rattle.shb_lists.specs.Unknown.{Accessed, AreBelow, AreZeros, HasOneMore, IsLearned, IsSide, IsUnknown, accessed_by, met_before};
+ghost use Rattle.shb_lists.specs.Unknown.{Accessed, AreBelow, HasOneMore, IsLearned, IsSide, IsUnknown, accessed_by, met_before};
 ghost use Rattle.shb_lists.specs.declared.unknown.Met.{Met};
 
 use crate::search::Access;
@@ -49,17 +49,6 @@ pub struct Unknown {
     pub met: Vec<Met>,
     /// By thread.
     pub sides: Vec<Side>,
-}
-
-/// So many zeros.
-fn zeros(alloc: Global, count: usize) -> Result<Vec<u32>, NoMemory>
-    ensures { IfOk result (λ zeros. AreZeros count zeros.items) }
-{
-    let mut zeros = Vec::with_capacity(alloc, count)?;
-    for _ in 0..count {
-        zeros.push(0)?;
-    }
-    Ok(zeros)
 }
 
 impl Side {
@@ -176,12 +165,12 @@ fn no_met(alloc: Global, threads: u32) -> Result<Vec<Met>, NoMemory>
 /// So many threads, which know nothing of each other.
 fn no_sides(alloc: Global, threads: u32, classes: usize) -> Result<Vec<Side>, NoMemory>
     ensures as_many { IfOk result (λ table. length table.items ≡ threads) }
-    ensures empty { IfOk result (λ table. All (λ side. AreZeros threads side.known.items × AreZeros classes side.counts.items) table.items) }
+    ensures empty { IfOk result (λ table. All (λ side. (side.known.items ≡ replicate threads 0) × (side.counts.items ≡ replicate classes 0)) table.items) }
 {
     let mut table = Vec::with_capacity(alloc, threads as usize)?;
     for _ in 0..threads {
-        let known = zeros(alloc, threads as usize)?;
-        let counts = zeros(alloc, classes)?;
+        let known = vec![in alloc; 0; threads as usize]?;
+        let counts = vec![in alloc; 0; classes]?;
         table.push(Side { known, counts })?;
     }
     Ok(table)

@@ -4,8 +4,8 @@ use Rattle.shb_lines.specs.declared.event.Event.{Event}
 use Rattle.shb_lines.specs.declared.event.Pair.{Pair}
 use Rattle.shb_lines.specs.events.Race.{IsRaceList, ends}
 use Rattle.shb_lines.specs.text.TraceData.{TraceData}
-use Rattle.shb_lists.specs.Listed.{pair_in}
-use Rattle.shb_lists.specs.declared.kept.ListedRace.{ListedRace}
+use Rattle.shb_pairs.specs.Listed.{pair_in}
+use Rattle.shb_pairs.specs.declared.listed.ListedRace.{ListedRace}
 
 -- races that are kept are listed as the race list, by whatever names the lists go
 pub kept_listed : (trace : TraceData) (events : List Event) (kept seen : List ListedRace) (races pairs : List Pair) → events ≡ trace.events → IsRaceList events (map pair_in kept) → seen ≡ kept → map ends races ≡ map pair_in seen → pairs ≡ races → IsRaceList trace.events (map ends pairs)

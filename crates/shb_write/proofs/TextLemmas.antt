@@ -10,8 +10,8 @@ use Rattle.shb_io.specs.Devices.{AppendsPrefix}
 use Rattle.shb_fan.specs.Values.{values_of}
 use Rattle.shb_lines.specs.text.TraceData.{TraceData}
 use Rattle.shb_format.specs.Report.{blocks_from}
-use Rattle.shb_lists.specs.Listed.{pair_in}
-use Rattle.shb_lists.specs.declared.kept.ListedRace.{ListedRace}
+use Rattle.shb_pairs.specs.Listed.{pair_in}
+use Rattle.shb_pairs.specs.declared.listed.ListedRace.{ListedRace}
 use Rattle.shb_write.specs.Blocks.{alone}
 use Rattle.shb_write.specs.Listed.{IsRaceOf}
 use Rattle.shb_write.specs.Texts.{HasText, piece_text, text_of}

@@ -1,6 +1,6 @@
 //! The blocks of races as work in pieces, which workers make texts of.
 ghost use Rattle.std.specs.Prelude.{◌≡◌, ◌+◌, ◌-◌, ◌^◌, ◌<◌, ◌≤◌, ℕ, List, All, IfOk, IsTrue, [], flat_map, length, map, slice_index_or, slice_range};
-ghost use Rattle.shb_lists.specs.Listed.{pair_in};
+ghost use Rattle.shb_pairs.specs.Listed.{pair_in};
 ghost use Rattle.shb_write.specs.Texts.{HasText, piece_text, text_of};
 
 use crate::text::Text;
@@ -8,7 +8,7 @@ use crate::write::write_listed;
 use shb_fan::Job;
 use shb_io::NoMemory;
 use shb_lines::Trace;
-use shb_lists::{ListedRace, pairs_of};
+use shb_pairs::{ListedRace, pairs_of};
 use std::alloc::Global;
 use std::collections::LinkedList;
 use std::marker::Model;

@@ -2,8 +2,10 @@
 use Rattle.std.proofs.Common.{◌≡◌, ℕ, List, arith, length, rules, subst, sym}
 use Rattle.shb_lists.specs.Counted.{HasCounted}
 use Rattle.shb_lists.specs.Listed.{races_before}
+use Rattle.shb_lists.specs.Planned.{HasPlanned}
 use Rattle.shb_lists.proofs.EventSums.{few_before}
-use Rattle.shb_lists.proofs.TotalLemmas.{before_next, before_none, next_room}
+use Rattle.shb_lists.proofs.PlanLemmas.{planned_all, planned_none}
+use Rattle.shb_lists.proofs.RaceTotals.{before_next, before_none, next_room}
 use Rattle.shb_lists.proofs.counted.count_events.Goals as goal
 
 pub loop-e-init : goal.loop-e-init
@@ -16,6 +18,7 @@ loop-e-init c =
       counting = record {
         past = c.in_ok-new.ensures trace.events.now flags;
         tables = c.in_ok-tables_of.ensures trace.events.now flags c.args.numbers.now;
+        planned = planned_none trace.events.now flags trace.sizes.variables _ (search rules);
       };
       counted = λ leading has. subst (λ (l : List (ℕ × ℕ)). HasCounted c.args.numbers.now leading l c.args.counter.now) (sym (before_none trace.events.now flags)) has;
     }
@@ -54,8 +57,15 @@ loop-e-preserved c =
           ((rw c.new-ordered.ensures.disciplined at c.in_ok-pass.ensures.counted) leading (races_before trace flags e) (c.loop-e.invariant.counted leading has));
     }
 
-pub returns : goal.returns
-returns c leading has =
+pub returns-clause-counted : goal.returns-clause-counted
+returns-clause-counted c leading has =
     let trace = c.args.settled.now.disciplined.now.events.now in
     let all : c.loop-e.e ≡ length trace = omega arith in
     subst (λ (n : ℕ). HasCounted c.args.numbers.now leading (races_before trace c.args.settled.now.flags.now n) c.loop-e.counter) all (c.loop-e.invariant.counted leading has)
+
+pub returns-clause-planned : goal.returns-clause-planned
+returns-clause-planned c =
+    let trace = c.args.settled.now.disciplined.now in
+    let all : c.loop-e.e ≡ length trace.events.now = omega arith in
+    planned_all trace.events.now c.args.settled.now.flags.now trace.sizes.variables c.loop-e.counting.races.items c.args.settled.now.settled
+    (subst (λ (n : ℕ). HasPlanned trace.events.now c.args.settled.now.flags.now n trace.sizes.variables c.loop-e.counting.races.items) all c.loop-e.invariant.counting.planned)

@@ -1,15 +1,13 @@
 -- The race list is counted, and its places are those of the leading races.
 use Rattle.std.proofs.Common.{◌∙◌, ℕ, List, ap, length, subst, sym}
-use Rattle.shb_lines.proofs.events.RaceLists.{race_list_unique}
 use Rattle.std.specs.Prelude.{max}
 use Rattle.shb_lines.specs.declared.event.Event.{Event}
 use Rattle.shb_lines.specs.events.Race.{IsRaceList}
 use Rattle.shb_pairs.specs.Open.{AreOpen}
-use Rattle.shb_lists.specs.Batches.{races_below}
 use Rattle.shb_lists.specs.Counted.{AreNumbered, HasCounted}
 use Rattle.shb_lists.proofs.EventSums.{counted_below}
 use Rattle.shb_lists.proofs.PlaceLemmas.{counted_places, leading_within, numbers_below}
-use Rattle.shb_lists.proofs.TotalLemmas.{all_below}
+use Rattle.shb_lists.proofs.PartLemmas.{list_is_below}
 use Rattle.shb_lists.proofs.counted.counted_races.Goals as goal
 
 pub new-requires : goal.new-requires
@@ -27,17 +25,17 @@ returns-clause-races g c listed lists =
     let trace = c.args.settled.now.disciplined.now in
     let numbers = c.as_slice-numbers.result.now in
     let leading = c.args.leading.now in
-    let has = counted_below trace.events.now trace.sizes c.args.settled.now.flags.now trace.within c.args.settled.now.settled numbers leading c.count_events.new.counter (c.in_ok-batches.ensures leading c.in_ok-counter.ensures) in
-    has.count ∙ ap length (race_list_unique trace.events.now (races_below trace.events.now trace.sizes.variables) listed (all_below trace.events.now trace.sizes trace.numbered trace.within) lists)
+    let has = counted_below trace.events.now trace.sizes c.args.settled.now.flags.now trace.within c.args.settled.now.settled numbers leading c.count_events.new.counter (c.in_ok-batches.ensures.counted leading c.in_ok-counter.ensures) in
+    has.count ∙ ap length (sym (list_is_below trace.events.now trace.sizes listed trace.within trace.numbered lists))
 
 pub returns-clause-places : goal.returns-clause-places
 returns-clause-places g c listed lists =
     let trace = c.args.settled.now.disciplined.now in
     let numbers = c.as_slice-numbers.result.now in
     let leading = c.args.leading.now in
-    let same = race_list_unique trace.events.now (races_below trace.events.now trace.sizes.variables) listed (all_below trace.events.now trace.sizes trace.numbered trace.within) lists in
+    let same = sym (list_is_below trace.events.now trace.sizes listed trace.within trace.numbered lists) in
     let has = subst (λ (l : List (ℕ × ℕ)). HasCounted numbers leading l c.count_events.new.counter) same
-    (counted_below trace.events.now trace.sizes c.args.settled.now.flags.now trace.within c.args.settled.now.settled numbers leading c.count_events.new.counter (c.in_ok-batches.ensures leading c.in_ok-counter.ensures)) in
+    (counted_below trace.events.now trace.sizes c.args.settled.now.flags.now trace.within c.args.settled.now.settled numbers leading c.count_events.new.counter (c.in_ok-batches.ensures.counted leading c.in_ok-counter.ensures)) in
     counted_places trace.trace.now c.args.settled.now.flags.now numbers c.in_ok-located.located.locations leading listed c.count_events.new.counter c.in_ok-places.places c.are_different.ensures
     (subst (λ (l : List ℕ). AreNumbered trace.trace.now c.args.settled.now.flags.now (length trace.trace.now.events) l c.in_ok-located.located.locations) (sym c.as_slice-numbers.ensures.value)
     (subst (λ (es : List Event). AreNumbered trace.trace.now c.args.settled.now.flags.now (length es) c.in_ok-located.located.numbers.items c.in_ok-located.located.locations) trace.of_trace c.in_ok-located.ensures))

@@ -1,4 +1,4 @@
-use Rattle.std.proofs.Common.{◌≡◌}
+use Rattle.std.proofs.Common.{◌≡◌, ◌≤◌, IfSome, length}
 use Rattle.shb_lists.specs.Listed.{IsListOf, races_before}
 use Rattle.shb_lists.specs.Past.{IsPast}
 use Rattle.shb_lists.proofs.kept.found_races.Given as goal
@@ -9,4 +9,5 @@ invariant-loop-e l = record {
   next : l.sweep.next ≡ l.e;
   past : IsPast l.disciplined.events.now l.flags l.e l.disciplined.sizes.variables l.past;
   kept : IsListOf l.disciplined.events.now (races_before l.disciplined.events.now l.flags l.e) l.kept.items;
+  room : IfSome l.most (λ m. length l.kept.items ≤ m);
 }

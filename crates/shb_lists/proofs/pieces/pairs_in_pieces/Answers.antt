@@ -4,7 +4,7 @@ use Rattle.std.proofs.lemmas.Result.{IfOk-weaker}
 use Rattle.shb_fan.specs.Values.{values_of}
 use Rattle.shb_lines.specs.declared.event.Pair.{Pair}
 use Rattle.shb_lines.specs.events.Race.{ends}
-use Rattle.shb_lists.specs.Listed.{pair_in}
+use Rattle.shb_pairs.specs.Listed.{pair_in}
 use Rattle.shb_lists.specs.declared.pieces.RacePiece.{RacePiece}
 use Rattle.shb_lists.proofs.PieceLemmas.{parts_joined}
 use Rattle.shb_lists.proofs.pieces.pairs_in_pieces.Goals as goal

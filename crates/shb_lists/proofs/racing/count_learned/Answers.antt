@@ -10,14 +10,14 @@ use Rattle.shb_lists.proofs.racing.count_learned.Goals as goal
 pub counts-counts-requires : goal.counts-counts-requires
 counts-counts-requires g c =
     let trace = c.args.ordered.now.disciplined.now in
-    let low = thread_within trace.events.now trace.sizes c.args.access.event c.args.access.thread trace.within c.requires.access.thread in
+    let low = thread_within trace.events.now trace.sizes c.args.access.event c.args.access.thread trace.within c.requires.may_count.is_access.thread in
     let many = (c.learn.ensures.unknown c.requires.unknown.0 c.requires.unknown.1 c.requires.unknown.2).each_side in
     omega (arith, low, many)
 
 pub are_few-requires : goal.are_few-requires
 are_few-requires g c =
     let trace = c.args.ordered.now.disciplined.now in
-    let low = thread_within trace.events.now trace.sizes c.args.access.event c.args.access.thread trace.within c.requires.access.thread in
+    let low = thread_within trace.events.now trace.sizes c.args.access.event c.args.access.thread trace.within c.requires.may_count.is_access.thread in
     let many = (c.learn.ensures.unknown c.requires.unknown.0 c.requires.unknown.1 c.requires.unknown.2).each_side in
     omega (arith, low, many)
 
@@ -28,11 +28,11 @@ count_numbered-requires-clause-room g c =
     let classes = c.requires.unknown.0 in
     let below = c.requires.unknown.1 in
     let given = c.requires.unknown.2 in
-    let low = thread_within trace.events.now trace.sizes c.args.access.event c.args.access.thread trace.within c.requires.access.thread in
+    let low = thread_within trace.events.now trace.sizes c.args.access.event c.args.access.thread trace.within c.requires.may_count.is_access.thread in
     let side = side_there c.learn.new.self c.args.access.thread trace.sizes.threads (c.learn.ensures.unknown classes below given).each_side low in
     let racing = subst (AreRacingCounts trace.events.now numbers c.args.access.event classes) (sym (c.counts-counts.ensures side.0 side.1)) (c.learn.ensures.racing classes side.0 below given side.1) in
-    let sum = sum_racing trace.events.now numbers classes c.counts-counts.result.now c.args.access.event below c.requires.access.in_range racing in
-    omega (arith, sum, c.requires.room)
+    let sum = sum_racing trace.events.now numbers classes c.counts-counts.result.now c.args.access.event below c.requires.may_count.is_access.in_range racing in
+    omega (arith, sum, c.requires.may_count.room)
 
 pub returns-clause-counted : goal.returns-clause-counted
 returns-clause-counted g c is leading races has =
@@ -41,8 +41,8 @@ returns-clause-counted g c is leading races has =
     let classes = c.requires.unknown.0 in
     let below = c.requires.unknown.1 in
     let given = c.requires.unknown.2 in
-    let low = thread_within trace.events.now trace.sizes c.args.access.event c.args.access.thread trace.within c.requires.access.thread in
+    let low = thread_within trace.events.now trace.sizes c.args.access.event c.args.access.thread trace.within c.requires.may_count.is_access.thread in
     let side = side_there c.learn.new.self c.args.access.thread trace.sizes.threads (c.learn.ensures.unknown classes below given).each_side low in
     let racing = subst (AreRacingCounts trace.events.now numbers c.args.access.event classes) (sym (c.counts-counts.ensures side.0 side.1)) (c.learn.ensures.racing classes side.0 below given side.1) in
-    racing_counted trace.events.now numbers classes c.counts-counts.result.now c.args.access.event below c.requires.access.in_range racing leading races _ c.count_numbered.new.self refl
+    racing_counted trace.events.now numbers classes c.counts-counts.result.now c.args.access.event below c.requires.may_count.is_access.in_range racing leading races _ c.count_numbered.new.self refl
     (c.count_numbered.ensures (with_places numbers [] leading) (times numbers (map pair_of races)) (length races) has)

@@ -3,7 +3,7 @@ use Rattle.std.proofs.Common.{rules, ◌≡◌, ◌+◌, ◌∙◌, ◌++◌, �
 use Rattle.std.specs.Io.KnownBytes.{Appends}
 use Rattle.std.specs.Prelude.{if◌then◌else◌, slice_index_or}
 use Rattle.std.proofs.lemmas.List.{length-map}
-use Rattle.shb_lists.specs.Listed.{pair_in}
+use Rattle.shb_pairs.specs.Listed.{pair_in}
 use Rattle.shb_write.specs.Blocks.{alone}
 use Rattle.shb_write.specs.Texts.{piece_text, text_of}
 use Rattle.shb_write.specs.Written.{AppendsFront, write_failed}

@@ -1,8 +1,8 @@
 use Rattle.std.proofs.Common.{◌≡◌, ◌∙◌, ℕ, Global, List, Vec, ap, arith, map, subst, sym}
 use Rattle.shb_lists.specs.Batches.{races_below, races_between, races_on}
-use Rattle.shb_lists.specs.Listed.{pair_in}
+use Rattle.shb_pairs.specs.Listed.{pair_in}
 use Rattle.shb_lists.proofs.BatchLemmas.{below_between, below_next, when_some}
-use Rattle.shb_lists.specs.declared.kept.ListedRace.{ListedRace}
+use Rattle.shb_pairs.specs.declared.listed.ListedRace.{ListedRace}
 use Rattle.shb_lists.proofs.PartLemmas.{below_none}
 use Rattle.shb_write.specs.Blocks.{HasWritten, shown_in}
 use Rattle.shb_write.proofs.Listing.{batch_next, batch_split, next_may, next_stopped, next_written, none_written, then_refused}

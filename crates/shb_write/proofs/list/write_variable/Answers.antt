@@ -1,6 +1,6 @@
 use Rattle.std.proofs.Common.{◌≡◌, ◌++◌, ◌∙◌, ℕ, List, [], ap, arith, length, map, refl, subst, sym}
-use Rattle.shb_lists.specs.Listed.{pair_in}
-use Rattle.shb_lists.specs.declared.kept.ListedRace.{ListedRace}
+use Rattle.shb_pairs.specs.Listed.{pair_in}
+use Rattle.shb_pairs.specs.declared.listed.ListedRace.{ListedRace}
 use Rattle.shb_lists.specs.Parts.{races_until}
 use Rattle.shb_lists.proofs.PartLemmas.{until_front, until_none}
 use Rattle.shb_write.specs.Blocks.{HasWritten, shown_in}

@@ -1,6 +1,6 @@
 use Rattle.std.proofs.Common.{◌<◌, ◌≤◌, All, arith, length, map, subst, sym}
 use Rattle.std.proofs.lemmas.List.Elements.{All-push}
-use Rattle.shb_lists.specs.Listed.{pair_in}
+use Rattle.shb_pairs.specs.Listed.{pair_in}
 use Rattle.shb_write.specs.Texts.{HasText}
 use Rattle.shb_write.specs.declared.texts.TextPiece.{TextPiece}
 use Rattle.shb_write.proofs.TextLemmas.{piece_has_text, text_more}

@@ -1,5 +1,5 @@
 use Rattle.std.proofs.Common.{◌≡◌, ◌-◌, ◌≤◌, All, flat_map, length, map, take}
-use Rattle.shb_lists.specs.Listed.{pair_in}
+use Rattle.shb_pairs.specs.Listed.{pair_in}
 use Rattle.shb_write.specs.Texts.{HasText, piece_text, text_of}
 use Rattle.shb_write.proofs.texts.pieces_of.Given as goal
 

@@ -1,4 +1,5 @@
 use Rattle.std.proofs.lemmas.Result.{on_ok_weaker}
+use Rattle.shb_lists.proofs.PlanLemmas.{planned_skipped}
 use Rattle.shb_lists.proofs.TableLemmas.{tables_skipped}
 use Rattle.shb_lists.proofs.counting.Counting.pass.Goals as goal
 
@@ -11,5 +12,6 @@ returns-in-None-clause-counting g c classes below counting =
     (λ past. record {
       past = past;
       tables = tables_skipped trace.events.now trace.sizes flags c.args.numbers.now classes c.args.e c.args.self.now.tables.items shut counting.tables;
+      planned = planned_skipped trace.events.now flags c.args.e trace.sizes.variables c.args.self.now.races.items shut counting.planned;
     })
     (c.skip.ensures trace.events.now flags c.args.e trace.sizes.variables shut counting.past)

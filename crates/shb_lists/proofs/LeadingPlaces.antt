@@ -12,7 +12,7 @@ use Rattle.shb_format.specs.declared.places.PlaceCount.{PlaceCount}
 use Rattle.shb_format.proofs.KeyedLemmas.{keyed_counts, keyed_pair}
 use Rattle.shb_format.proofs.LeadingLemmas.{firsts, firsts_lead, leading_unique}
 use Rattle.shb_lists.specs.Counted.{Differ, IsLocated, grown, key_in, keyed_after, times, with_places}
-use Rattle.shb_lists.proofs.GrownLemmas.{counted_at_once, differ_last, entry, grown_same, not_some, one_key, same_self}
+use Rattle.shb_lists.proofs.CountsByPlace.{counted_at_once, differ_last, entry, grown_same, not_some, one_key, same_self}
 
 -- a pair as the first one of its place
 abbrev place_at : List ℕ → Pair → Keyed

@@ -1,25 +1,21 @@
--- The races of all variables, one after the other: how many there are, and that they are the race list.
+-- The races of all variables, one after the other: how many there are.
 use Rattle.std.proofs.lemmas.Grind.{common_steps}
-use Rattle.std.proofs.Common.{◌≡◌, ℕ, zero, suc, ◌+◌, ◌-◌, ◌*◌, ◌<◌, ◌≤◌, inl, inr, Bool, false, List, [], ◌∷◌, ◌++◌, Option, Some, None, length, refl, arith, ap, sym, subst, ◌∙◌, append-nil}
+use Rattle.std.proofs.Common.{◌≡◌, ℕ, zero, suc, ◌+◌, ◌-◌, ◌*◌, ◌<◌, ◌≤◌, inl, inr, Bool, true, false, List, [], ◌∷◌, ◌++◌, Option, Some, None, length, refl, arith, ap, sym, ◌∙◌, append-nil}
 use Rattle.std.specs.Prelude.{cond, ◌==◌, flat_map}
-use Rattle.std.proofs.lemmas.Bool.{cases_Bool, cases_lt, eqb-true}
-use Rattle.std.proofs.lemmas.List.{length-append}
+use Rattle.std.proofs.lemmas.Bool.{cases_Bool, eqb-true}
+use Rattle.std.proofs.lemmas.List.{length-append, length-map}
 use Rattle.std.proofs.lemmas.List.Concat.{flat_map-append}
 use Rattle.shb_lines.specs.declared.event.Event.{Event}
-use Rattle.shb_lines.specs.declared.event.Sizes.{Sizes}
-use Rattle.shb_lines.specs.events.Race.{IsRaceList, variable_at}
-use Rattle.shb_lines.specs.events.Reach.{numbers_where}
-use Rattle.shb_lines.specs.events.Sizes.{IsNumberedByAccess, IsWithin}
-use Rattle.shb_links.proofs.Owners.{variable_sized}
+use Rattle.shb_lines.specs.events.Race.{variable_at}
+use Rattle.shb_lines.specs.events.Reach.{is_race, numbers_where}
 use Rattle.shb_stamps.specs.Open.{accesses_open}
-use Rattle.shb_pairs.specs.Accesses.{accesses_at, accesses_in, variables_in}
+use Rattle.shb_pairs.specs.Accesses.{accesses_at, accesses_in}
 use Rattle.shb_pairs.specs.Races.{races_with}
-use Rattle.shb_pairs.proofs.Counting.{access_from_test, numbers_more_no, numbers_more_yes, variable_within, numbers_all}
-use Rattle.shb_pairs.proofs.Listing.{all_is_race_list}
+use Rattle.shb_pairs.proofs.Counting.{numbers_more_no, numbers_more_yes, numbers_all}
 use Rattle.shb_lists.proofs.FewRaces.{races_few}
 use Rattle.shb_lists.specs.Batches.{races_below, races_on}
 use Rattle.shb_lists.specs.Listed.{races_before}
-use Rattle.shb_lists.proofs.BatchLemmas.{accessed_within, below_next}
+use Rattle.shb_lists.proofs.BatchLemmas.{below_next}
 
 -- ---- 64 bits count them: each access is one of a single variable, and has fewer races than there are numbers of 32 bits
 
@@ -98,37 +94,6 @@ few_below trace n small =
     let events = accesses_few trace n (length trace) in
     omega (arith, few, events, small)
 
--- ---- they are the race list
-
-nowhere : (f : ℕ → Bool) (n : ℕ) → ((k : ℕ) → k < n → f k ≡ false) → numbers_where f n ≡ []
-unfolding numbers_where
-nowhere f zero none = refl
-nowhere f (suc n) none = rw (nowhere f n (λ k lt. none k (omega (arith, lt))), none n (omega arith)) refl
-
-no_races_on : (trace : List Event) (x : ℕ) → ((k : ℕ) → variable_at trace k ≡ Some x → ⊥) → races_on trace x ≡ []
-no_races_on trace x none = ap (λ (ks : List ℕ). flat_map (races_with trace) ks) (nowhere (accesses_at trace x) (length trace)
-    (λ k lt. elim (cases_Bool (accesses_at trace x k)) [ inl t ↦ absurd (none k (access_from_test trace x k t)) | inr f ↦ f ]))
-
-beyond : (trace : List Event) (n d : ℕ) → ((k x : ℕ) → variable_at trace k ≡ Some x → x < n) → races_below trace (n + d) ≡ races_below trace n
-beyond trace n zero within = ap (races_below trace) (let z : n + 0 ≡ n = omega arith in z)
-beyond trace n (suc d) within =
-    ap (races_below trace) (let e : n + suc d ≡ (n + d) + 1 = omega arith in e)
-    ∙ (below_next trace (n + d)
-    ∙ (ap (λ (l : List (ℕ × ℕ)). races_below trace (n + d) ++ l) (no_races_on trace (n + d) (λ k access. (let low = within k (n + d) access in let bad : ⊥ = omega (arith, low) in bad)))
-    ∙ (append-nil (races_below trace (n + d)) ∙ beyond trace n d within)))
-
-same_below : (trace : List Event) (n m : ℕ) → ((k x : ℕ) → variable_at trace k ≡ Some x → x < n) → ((k x : ℕ) → variable_at trace k ≡ Some x → x < m) → races_below trace n ≡ races_below trace m
-same_below trace n m in_n in_m = elim (cases_lt n m) [
-  | inl less ↦ sym (ap (races_below trace) (let e : m ≡ n + (m - n) = omega (arith, less) in e) ∙ beyond trace n (m - n) in_n)
-  | inr most ↦ ap (races_below trace) (let e : n ≡ m + (n - m) = omega (arith, most) in e) ∙ beyond trace m (n - m) in_m
-]
-
-pub all_below : (trace : List Event) (sizes : Sizes) → IsNumberedByAccess trace → IsWithin trace sizes → IsRaceList trace (races_below trace sizes.variables)
-all_below trace sizes numbered within =
-    subst (IsRaceList trace)
-    (same_below trace (variables_in trace) sizes.variables (λ k x access. variable_within trace k (length trace) x (accessed_within trace x k access) access) (λ k x access. (variable_sized trace sizes k x within access).1))
-    (all_is_race_list trace numbered)
-
 -- ---- the races of open variables in the order of the trace
 
 -- the races of one event more
@@ -159,6 +124,17 @@ next_room trace flags e n lt =
     let next = ap length (before_next trace flags e) in
     let size = length-append (races_before trace flags e) (next_races trace flags e) in
     omega (arith, mono, same, next, size)
+
+same_many : (trace : List Event) (e : ℕ) → length (numbers_where (λ i. is_race trace i e) e) ≡ length (races_with trace e)
+unfolding races_with
+same_many trace e = sym (length-map (numbers_where (λ i. is_race trace i e) e) (λ (i : ℕ). (i, e)))
+
+pub next_found : (trace : List Event) (flags : List Bool) (e : ℕ) (found : List ℕ) → found ≡ cond (accesses_open flags trace e) (numbers_where (λ i. is_race trace i e) e) [] → length found ≡ length (next_races trace flags e)
+next_found trace flags e found is = ap length is ∙ go (accesses_open flags trace e)
+  where
+    go : (b : Bool) → length (cond b (numbers_where (λ i. is_race trace i e) e) []) ≡ length (cond b (races_with trace e) [])
+    go true = same_many trace e
+    go false = refl
 
 pub before_none : (trace : List Event) (flags : List Bool) → races_before trace flags 0 ≡ []
 unfolding numbers_where
