@@ -1,5 +1,5 @@
 //! What is kept of a variable so that most accesses are known to race with none.
-ghost use Rattle.std.specs.Prelude.{◌≡◌, ◌+◌, ◌++◌, ◌∷◌, [], ℕ, true, List};
+ghost use Rattle.std.specs.Prelude.{◌≡◌, ◌+◌, ◌++◌, ◌∷◌, [], ℕ, false, true, List};
 ghost use Rattle.shb_lines.specs.declared.event.Event.{Event};
 ghost use Rattle.shb_lines.specs.events.Discipline.{local_time};
 ghost use Rattle.shb_nearest.specs.Rivals.{IsNextAccess};
@@ -82,6 +82,30 @@ fn is_past(clocks: &StreamClocks, mark: Mark, access: FoundAccess) -> bool
     false
 }
 
+/// An access that races with none before it, and what is kept after it.
+fn free(write: Mark, read: Mark) -> Screened
+    ensures { result.latest ≡ (record { write = write; read = read }) }
+{
+    Screened {
+        free: true,
+        latest: Latest { write, read },
+    }
+}
+
+/// An access that may race with one before it. Nothing is known from then on.
+fn not_free() -> Screened
+    ensures free { result.free ≡ false }
+    ensures latest { result.latest.write.time ≡ no_time }
+{
+    Screened {
+        free: false,
+        latest: Latest {
+            write: unknown(),
+            read: nothing(),
+        },
+    }
+}
+
 /// Takes the next access of a variable, with its local time.
 pub fn screen(clocks: &StreamClocks, latest: Latest, access: FoundAccess, time: u32) -> Screened
     ensures free { (past : List Event) (e : Event) (spots : List SpotData) (x : ℕ) → IsNextAccess past e spots x clocks.now access
@@ -92,13 +116,7 @@ pub fn screen(clocks: &StreamClocks, latest: Latest, access: FoundAccess, time: 
 {
     let after_write = is_past(clocks, latest.write, access);
     if !after_write {
-        return Screened {
-            free: false,
-            latest: Latest {
-                write: unknown(),
-                read: nothing(),
-            },
-        };
+        return not_free();
     }
     let after_read = is_past(clocks, latest.read, access);
     let own = Mark {
@@ -107,36 +125,12 @@ pub fn screen(clocks: &StreamClocks, latest: Latest, access: FoundAccess, time: 
     };
     if access.writes {
         if after_read {
-            return Screened {
-                free: true,
-                latest: Latest {
-                    write: own,
-                    read: nothing(),
-                },
-            };
+            return free(own, nothing());
         }
-        return Screened {
-            free: false,
-            latest: Latest {
-                write: unknown(),
-                read: nothing(),
-            },
-        };
+        return not_free();
     }
     if after_read {
-        return Screened {
-            free: true,
-            latest: Latest {
-                write: latest.write,
-                read: own,
-            },
-        };
+        return free(latest.write, own);
     }
-    Screened {
-        free: true,
-        latest: Latest {
-            write: latest.write,
-            read: unknown(),
-        },
-    }
+    free(latest.write, unknown())
 }
