@@ -1,5 +1,5 @@
 -- What is known of the accesses of a stream stays so when an event comes.
-use Rattle.std.proofs.Common.{◌≡◌, ℕ, zero, suc, ◌<◌, inl, inr, Bool, List, [], ◌∷◌, ◌++◌, Some, length, arith, refl, sym, ap, ◌∙◌}
+use Rattle.std.proofs.Common.{◌≡◌, ℕ, zero, suc, ◌+◌, ◌<◌, ◌≤◌, inl, inr, Bool, List, [], ◌∷◌, ◌++◌, Some, length, arith, refl, sym, ap, ◌∙◌}
 use Rattle.std.specs.Prelude.{option_and_then, slice_get}
 use Rattle.std.proofs.lemmas.List.Elements.{All-weaker}
 use Rattle.shb_lines.specs.declared.event.Event.{Event}
@@ -13,16 +13,19 @@ use Rattle.shb_nearest.specs.declared.access.Spot.{Spot}
 use Rattle.shb_nearest.specs.declared.classes.Class.{Class}
 use Rattle.shb_nearest.specs.declared.groups.Group.{Group}
 use Rattle.shb_nearest.specs.declared.groups.Kept.{Kept}
+use Rattle.shb_nearest.specs.declared.late.Late.{Late}
 use Rattle.shb_nearest.specs.declared.places.Place.{Place}
 use Rattle.shb_nearest.specs.declared.screen.Latest.{Latest}
 use Rattle.shb_nearest.specs.declared.screen.Mark.{Mark}
 use Rattle.shb_nearest.specs.declared.tables.Tables.{Tables}
 use Rattle.shb_nearest.specs.Classes.{IsOfClass}
 use Rattle.shb_nearest.specs.Found.{IsFoundAccess, location_in}
-use Rattle.shb_nearest.specs.Groups.{IsGroup, IsKept, access_of}
+use Rattle.shb_nearest.specs.Groups.{AreGroups, IsGroup, IsKept, access_of}
+use Rattle.shb_nearest.specs.Late.{AreLate, HasNoAccess}
 use Rattle.shb_nearest.specs.Places.{IsAtPlace, IsNearestAt}
 use Rattle.shb_nearest.specs.Screen.{IsMarked, IsScreened}
 use Rattle.shb_nearest.specs.Searched.{AreTables}
+use Rattle.shb_nearest.proofs.LateLemmas.{late_within}
 
 spot_longer : (spots more : List Spot) (k : ℕ) → k < length spots → slice_get (spots ++ more) k ≡ slice_get spots k
 spot_longer [] more k lt = absurd (omega arith)
@@ -52,24 +55,51 @@ module _ (past : List Event) (e : Event) (spots : List Spot) (s : Spot) (as_many
   class_back : (c : Class) (k : ℕ) → k < length past → IsOfClass (past ++ e ∷ []) (spots ++ s ∷ []) c k → IsOfClass past spots c k
   class_back c k lt h = record { thread_is = sym (same_thread_at k lt) ∙ h.thread_is; op_is = sym (same_op_at k lt) ∙ h.op_is; location_is = sym (same_place k lt) ∙ h.location_is }
 
-  kept_longer : (x t : ℕ) (w : Bool) (a : Kept) → IsKept past spots x (length past) t w a → IsKept (past ++ e ∷ []) (spots ++ s ∷ []) x (length past) t w a
-  kept_longer x t w a h = record {
-    own = access_longer x (access_of t w a) h.past h.own;
-    time_is = h.time_is ∙ sym (time_longer past (e ∷ []) t a.event h.past);
-    past = h.past;
-  }
+  module _ (x n : ℕ) (within : n ≤ length past) where
+    kept_longer : (t : ℕ) (w : Bool) (a : Kept) → IsKept past spots x n t w a → IsKept (past ++ e ∷ []) (spots ++ s ∷ []) x n t w a
+    kept_longer t w a h = let before = h.past in record {
+      own = access_longer x (access_of t w a) (omega (arith, before, within)) h.own;
+      time_is = h.time_is ∙ sym (time_longer past (e ∷ []) t a.event (omega (arith, before, within)));
+      past = h.past;
+    }
 
-  group_longer : (x : ℕ) (g : Group) → IsGroup past spots x (length past) g → IsGroup (past ++ e ∷ []) (spots ++ s ∷ []) x (length past) g
-  group_longer x g h = record {
-    each = All-weaker (IsKept past spots x (length past) g.thread g.writes) (IsKept (past ++ e ∷ []) (spots ++ s ∷ []) x (length past) g.thread g.writes) (kept_longer x g.thread g.writes) g.kept.items h.each;
-    rising = h.rising;
-  }
+    group_longer : (g : Group) → IsGroup past spots x n g → IsGroup (past ++ e ∷ []) (spots ++ s ∷ []) x n g
+    group_longer g h = record {
+      each = All-weaker (IsKept past spots x n g.thread g.writes) (IsKept (past ++ e ∷ []) (spots ++ s ∷ []) x n g.thread g.writes) (kept_longer g.thread g.writes) g.kept.items h.each;
+      rising = h.rising;
+    }
 
-  race_back : (i j : ℕ) → j < length past → Race (past ++ e ∷ []) i j → Race past i j
-  race_back i j lt race = (race_longer past (e ∷ []) whole i j lt).0 race
+  groups_longer : (x n : ℕ) (groups : List Group) → n ≤ length past → AreGroups past spots x n groups → AreGroups (past ++ e ∷ []) (spots ++ s ∷ []) x n groups
+  groups_longer x n groups within h = record {
+    each = All-weaker (IsGroup past spots x n) (IsGroup (past ++ e ∷ []) (spots ++ s ∷ []) x n) (group_longer x n within) groups h.each;
+    covers = λ c k of_x is. h.covers c k of_x (let before = is.past in record {
+      own = class_back c k (omega (arith, before, within)) is.own;
+      past = is.past;
+      last = λ i lt own. is.last i lt (class_longer c i (omega (arith, lt, within)) own);
+    });
+  }
 
   same_variable_at : (k : ℕ) → k < length past → variable_at (past ++ e ∷ []) k ≡ variable_at past k
   same_variable_at k lt = ap (option_and_then variable_of) (same_op_at k lt)
+
+  no_access_longer : (x m n : ℕ) → n ≤ length past → HasNoAccess past x m n → HasNoAccess (past ++ e ∷ []) x m n
+  no_access_longer x m n within h = record { within = h.within; none = λ i from lt is. h.none i from lt (sym (same_variable_at i (omega (arith, lt, within))) ∙ is) }
+
+  late_longer : (x m : ℕ) (late : List Late) → AreLate past spots x (length past) m late → AreLate (past ++ e ∷ []) (spots ++ s ∷ []) x (length past) m late
+  unfolding AreLate
+  late_longer x m [] h = no_access_longer x m (length past) (omega arith) h
+  late_longer x m (a ∷ rest) h =
+      let before = late_within past spots x (length past) (a.access.event + 1) rest h.2 in (
+        record {
+          own = access_longer x a.access (omega (arith, before)) h.0.own;
+          time_is = h.0.time_is ∙ sym (time_longer past (e ∷ []) a.access.thread a.access.event (omega (arith, before)));
+        },
+        no_access_longer x m a.access.event (omega (arith, before)) h.1,
+        late_longer x (a.access.event + 1) rest h.2,
+      )
+
+  race_back : (i j : ℕ) → j < length past → Race (past ++ e ∷ []) i j → Race past i j
+  race_back i j lt race = (race_longer past (e ∷ []) whole i j lt).0 race
 
   at_place_back : (by_variable : Bool) (p : Place) (i j : ℕ) → i < j → j < length past → IsAtPlace by_variable (past ++ e ∷ []) (spots ++ s ∷ []) p i j → IsAtPlace by_variable past spots p i j
   at_place_back by_variable p i j before lt h = record {
@@ -113,16 +143,17 @@ module _ (past : List Event) (e : Event) (spots : List Spot) (s : Spot) (as_many
     classes = record {
       own = λ c k at. (let h = are.classes.own c k at in (class_longer c k h.1 h.0, h.1));
     };
-    groups = record {
-      each = λ x groups at. (let h = are.groups.each x groups at in record {
-        each = All-weaker (IsGroup past spots x (length past)) (IsGroup (past ++ e ∷ []) (spots ++ s ∷ []) x (length past)) (group_longer x) groups.each.items h.each;
-        covers = λ c k of_x is. h.covers c k of_x (record { own = class_back c k is.past is.own; past = is.past; last = λ i lt own. is.last i lt (class_longer c i lt own) });
+    variables = record {
+      each = λ x variable at. (let h = are.variables.each x variable at in record {
+        accesses = record {
+          since = h.accesses.since;
+          groups = groups_longer x h.accesses.since variable.accesses.groups.each.items (late_within past spots x (length past) h.accesses.since variable.accesses.late.items h.accesses.late) h.accesses.groups;
+          late = late_longer x h.accesses.since variable.accesses.late.items h.accesses.late;
+        };
+        run = record { alone = λ i from lt is. same_thread_at i lt ∙ h.run.alone i from lt (sym (same_variable_at i lt) ∙ is) };
+        screened = screened_longer x variable.latest h.screened;
       });
-      runs = λ x groups at. (let h = are.groups.runs x groups at in record {
-        alone = λ i from lt is. same_thread_at i lt ∙ h.alone i from lt (ap (option_and_then variable_of) (sym (same_op_at i lt)) ∙ is);
-      });
-      screened = λ x groups at. screened_longer x groups.latest (are.groups.screened x groups at);
-      wide = λ i x lt is. are.groups.wide i x lt (ap (option_and_then variable_of) (sym (same_op_at i lt)) ∙ is);
+      wide = λ i x lt is. are.variables.wide i x lt (sym (same_variable_at i lt) ∙ is);
     };
     places = record {
       each = λ p r at. nearest_longer by_variable p r (are.places.each p r at);

@@ -58,6 +58,9 @@ module _ (trace : List Event) (spots : List Spot) where
   pub class_own : (x : ℕ) (access : FoundAccess) → IsFoundAccess trace spots x access → IsOfClass trace spots (class_of x access) access.event
   class_own x access own = record { thread_is = own.thread_is; op_is = own.op_is; location_is = location_of_access trace spots x access own }
 
+  pub class_variable : (c : Class) (i : ℕ) → IsOfClass trace spots c i → variable_at trace i ≡ Some c.variable
+  class_variable c i h = ap (option_and_then variable_of) h.op_is ∙ op_variable c.writes c.variable
+
 number_or_not : (o : Option ℕ) (x : ℕ) → Decided (o ≡ Some x)
 number_or_not None x = inr (λ h. let f : ⊥ = cc in f)
 number_or_not (Some y) x = elim (cases_eq y x) [ inl same ↦ inl (ap (λ (z : ℕ). Some z) same) | inr other ↦ inr (λ h. other (let e : y ≡ x = cc in e)) ]

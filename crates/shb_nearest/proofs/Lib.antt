@@ -3,6 +3,7 @@ pub mod Carry
 pub mod ClassLemmas
 pub mod FinalLemmas
 pub mod GroupLemmas
+pub mod LateLemmas
 pub mod Members
 pub mod NearestLaws
 pub mod PlaceLemmas

@@ -25,7 +25,6 @@ use Rattle.shb_nearest.specs.declared.groups.Run.{Run}
 use Rattle.shb_nearest.specs.Found.{IsFoundAccess, access_op, location_in}
 use Rattle.shb_nearest.specs.Groups.{AreGroups, IsGroup, IsKept, IsRun, access_of}
 use Rattle.shb_nearest.specs.Rivals.{AreMet, AreRivals, CanRace, HasMet, HasMetGroup, IsCovered, IsOver}
-use Rattle.shb_nearest.specs.Screen.{HasNone}
 use Rattle.shb_nearest.proofs.ClassLemmas.{kind_at, newest_after, newest_exists, op_variable}
 use Rattle.shb_nearest.proofs.Members.{index_of, member_drop, member_map, member_of_drop, member_of_map}
 
@@ -174,13 +173,6 @@ module _ (trace : List Event) (spots : List Spot) (x : ℕ) where
                       let at_m = slice_get-get_or group.kept.items m a (omega (arith, within, low)) in
                       absurd (over_none since k.0 m a last k.1 at_m (omega (arith, low)) (h.from_is.stop m last (omega (arith, low)) at_m) from race))
                 ]
-
-    -- none where the access is known to be free of races
-    pub free_rivals : (since : ℕ) → HasNone trace access.event → AreRivals trace spots x access since []
-    free_rivals since none = record {
-      races = λ a there. absurd (contains_none a there);
-      each = λ i l race at later. absurd (none i race);
-    }
 
     -- none where no other thread accessed the variable
     pub no_rivals : (run : Run) (since : ℕ) → access.thread ≡ run.thread → run.start ≤ since → IsRun trace x access.event run → AreRivals trace spots x access since []

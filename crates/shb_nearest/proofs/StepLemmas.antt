@@ -3,11 +3,11 @@ use Rattle.std.proofs.Common.{◌≡◌, ℕ, Bool, true, false, List, [], ◌�
 use Rattle.std.specs.Prelude.{slice_get}
 use Rattle.shb_lines.specs.declared.event.Event.{Event}
 use Rattle.shb_lines.specs.declared.event.Op.{Op}
-use Rattle.shb_lines.specs.declared.numbering.Step.{Step}
 use Rattle.shb_lines.specs.events.Events.{op_at, variable_of}
 use Rattle.shb_lines.specs.events.Tests.{is_write}
 use Rattle.shb_lines.proofs.events.Events.{op_is, thread_is}
 use Rattle.shb_stamps.specs.declared.stream_clocks.StreamClocks.{StreamClocks}
+use Rattle.shb_nearest.specs.declared.access.FoundAccess.{FoundAccess}
 use Rattle.shb_nearest.specs.declared.access.Spot.{Spot}
 use Rattle.shb_nearest.specs.Found.{access_op}
 use Rattle.shb_nearest.specs.Rivals.{IsNextAccess}
@@ -25,23 +25,23 @@ write_of : (writes : Bool) (x : ℕ) → is_write (access_op writes x) ≡ write
 write_of true x = refl
 write_of false x = refl
 
-module _ (past : List Event) (e : Event) (spots : List Spot) (clocks : StreamClocks) (step : Step) (event : ℕ) (spot : Spot) (next : IsNextEvent past e spots clocks step event spot) where
-  event_here : slice_get (past ++ e ∷ []) event ≡ Some e
-  event_here = last_at past e event (sym next.event_is)
+module _ (past : List Event) (e : Event) (spots : List Spot) (clocks : StreamClocks) (op : Op) (access : FoundAccess) (next : IsNextEvent past e spots clocks op access) where
+  event_here : slice_get (past ++ e ∷ []) access.event ≡ Some e
+  event_here = last_at past e access.event (sym next.event_is)
 
-  pub next_op : op_at (past ++ e ∷ []) event ≡ Some step.op
-  next_op = op_is (past ++ e ∷ []) event e event_here ∙ ap (λ (o : Op). Some o) next.same_op
+  pub next_op : op_at (past ++ e ∷ []) access.event ≡ Some op
+  next_op = op_is (past ++ e ∷ []) access.event e event_here ∙ ap (λ (o : Op). Some o) next.same_op
 
-  pub next_access : (x : ℕ) (writes : Bool) → variable_of step.op ≡ Some x → writes ≡ is_write step.op → IsNextAccess past e spots x clocks (record { event = event; thread = step.thread; writes = writes; spot = spot })
-  next_access x writes of_x is = record {
+  pub next_access : (x : ℕ) → variable_of op ≡ Some x → IsNextAccess past e spots x clocks access
+  next_access x of_x = record {
     disciplined = next.disciplined;
     streamed = next.streamed;
     event_is = next.event_is;
     thread_is = next.same_thread;
     own = record {
-      thread_is = thread_is (past ++ e ∷ []) event e event_here ∙ ap (λ (t : ℕ). Some t) next.same_thread;
-      op_is = (let k = access_kind step.op x of_x in
-          let w : writes ≡ k.0 = is ∙ (ap is_write k.1 ∙ write_of k.0 x) in
+      thread_is = thread_is (past ++ e ∷ []) access.event e event_here ∙ ap (λ (t : ℕ). Some t) next.same_thread;
+      op_is = (let k = access_kind op x of_x in
+          let w : access.writes ≡ k.0 = next.writes_is ∙ (ap is_write k.1 ∙ write_of k.0 x) in
           next_op ∙ (ap (λ (o : Op). Some o) k.1 ∙ ap (λ (v : Bool). Some (access_op v x)) (sym w)));
       spot_is = next.spot_is;
     };

@@ -1,5 +1,5 @@
 -- The tables after an access more, and after another event.
-use Rattle.std.proofs.Common.{◌≡◌, ℕ, ◌+◌, ◌-◌, ◌^◌, ◌<◌, ◌≤◌, inl, inr, Bool, true, false, cond, List, None, Option, Some, length, take, arith, refl, sym, ap, subst, ◌∙◌}
+use Rattle.std.proofs.Common.{◌≡◌, ℕ, ◌+◌, ◌-◌, ◌^◌, ◌<◌, ◌≤◌, inl, inr, Bool, true, false, cond, List, [], None, Option, Some, length, take, arith, refl, sym, ap, subst, ◌∙◌}
 use Rattle.std.specs.Prelude.{All, min, option_and_then, slice_get, unwrap_or}
 use Rattle.std.proofs.Math.ListN.{length-set, set}
 use Rattle.std.proofs.lemmas.Bool.{cases_Bool, cases_lt}
@@ -20,17 +20,19 @@ use Rattle.shb_nearest.specs.declared.access.FoundAccess.{FoundAccess}
 use Rattle.shb_nearest.specs.declared.access.Spot.{Spot}
 use Rattle.shb_nearest.specs.declared.classes.Class.{Class}
 use Rattle.shb_nearest.specs.declared.groups.Group.{Group}
-use Rattle.shb_nearest.specs.declared.groups.Groups.{Groups}
 use Rattle.shb_nearest.specs.declared.groups.Run.{Run}
 use Rattle.shb_nearest.specs.declared.tables.Tables.{Tables}
+use Rattle.shb_nearest.specs.declared.tables.Variable.{Variable}
 use Rattle.shb_nearest.specs.Classes.{AreClasses, HasPut, IsOfClass, newest_in, same_class}
 use Rattle.shb_nearest.specs.Found.{IsFoundAccess, access_op}
 use Rattle.shb_nearest.specs.Groups.{AreGroups, HasGroupAt, IsAt, IsGroup, IsKept, IsOfGroup, IsRun, IsSince, access_of, class_of}
-use Rattle.shb_nearest.specs.Screen.{IsScreened}
-use Rattle.shb_nearest.specs.Searched.{AreAllGroups, AreTables}
-use Rattle.shb_nearest.specs.Wide.{AreMoreGroups}
-use Rattle.shb_nearest.proofs.GroupLemmas.{class_self, group_empty, group_same, groups_later, one_class}
-use Rattle.shb_nearest.proofs.ClassLemmas.{class_own, class_with, op_variable}
+use Rattle.shb_nearest.specs.Places.{ArePlaces, PlaceEntry}
+use Rattle.shb_nearest.specs.Screen.{HasNone}
+use Rattle.shb_nearest.specs.Searched.{AreTables, AreVariables, IsVariable}
+use Rattle.shb_nearest.specs.Wide.{AreMoreVariables}
+use Rattle.shb_nearest.proofs.GroupLemmas.{class_self, group_empty, group_same, one_class}
+use Rattle.shb_nearest.proofs.ClassLemmas.{class_own, class_variable, class_with, op_variable}
+use Rattle.shb_nearest.proofs.LateLemmas.{late_none, late_skip}
 use Rattle.shb_nearest.proofs.Members.{member_at}
 use Rattle.shb_nearest.proofs.RivalLemmas.{variable_is}
 use Rattle.shb_nearest.proofs.ScreenLemmas.{screened_later, screened_never}
@@ -43,17 +45,14 @@ module _ (trace : List Event) (spots : List Spot) where
       let same : op ≡ access_op c.writes c.variable = (let s : Some op ≡ Some (access_op c.writes c.variable) = sym is ∙ h.op_is in cc) in
       let v = sym a ∙ (sym (ap variable_of same) ∙ none) in (let f : ⊥ = cc in f)
 
-  class_variable : (c : Class) (i : ℕ) → IsOfClass trace spots c i → variable_at trace i ≡ Some c.variable
-  class_variable c i h = ap (option_and_then variable_of) h.op_is ∙ op_variable c.writes c.variable
-
   no_race : (i j : ℕ) (op : Op) → op_at trace j ≡ Some op → variable_of op ≡ None → Race trace i j → ⊥
   no_race i j op is none race =
       let v = sym race.conflict.second_accesses ∙ (ap (option_and_then variable_of) is ∙ none) in (let f : ⊥ = cc in f)
 
   module _ (n : ℕ) where
     -- the classes, an access more
-    pub classes_put : (before newest : List (Class × ℕ)) (x : ℕ) (access : FoundAccess) → access.event ≡ n → IsFoundAccess trace spots x access → HasPut before newest (class_of x access) access.event → AreClasses trace spots n before → AreClasses trace spots (n + 1) newest
-    classes_put before newest x access at_n own put are = record { own = own_class }
+    pub classes_put : (before newest : List (Class × ℕ)) (x : ℕ) (access : FoundAccess) → access.event < n → IsFoundAccess trace spots x access → HasPut before newest (class_of x access) access.event → AreClasses trace spots n before → AreClasses trace spots n newest
+    classes_put before newest x access past own put are = record { own = own_class }
       where
         class : Class
         class = class_of x access
@@ -64,13 +63,13 @@ module _ (trace : List Event) (spots : List Spot) where
         is_old : (c : Class) → same_class (class_of x access) c ≡ false → newest_in newest c ≡ newest_in before c
         is_old c other = put c ∙ ap (λ (b : Bool). cond b (Some access.event) (newest_in before c)) other
 
-        own_class : (c : Class) (k : ℕ) → newest_in newest c ≡ Some k → IsOfClass trace spots c k × (k < n + 1)
+        own_class : (c : Class) (k : ℕ) → newest_in newest c ≡ Some k → IsOfClass trace spots c k × (k < n)
         own_class c k is = elim (cases_Bool (same_class (class_of x access) c)) [
-          | inr other ↦ (let h = are.own c k (sym (is_old c other) ∙ is) in (h.0, (let lt = h.1 in omega (arith, lt))))
+          | inr other ↦ are.own c k (sym (is_old c other) ∙ is)
           | inl same ↦ (
               let one = one_class (class_of x access) c same in
               let e : access.event ≡ k = (let s : Some access.event ≡ Some k = sym (is_new c one) ∙ is in cc) in
-              (subst (λ (m : ℕ). IsOfClass trace spots c m) e (subst (λ (d : Class). IsOfClass trace spots d access.event) one (class_own trace spots x access own)), omega (arith, e, at_n)))
+              (subst (λ (m : ℕ). IsOfClass trace spots c m) e (subst (λ (d : Class). IsOfClass trace spots d access.event) one (class_own trace spots x access own)), omega (arith, e, past)))
         ]
 
     -- an event more, without a change
@@ -112,43 +111,45 @@ module _ (trace : List Event) (spots : List Spot) where
       ];
     }
 
-    -- empty groups more
-    pub groups_space : (old mid : List Groups) → AreMoreGroups old mid → AreAllGroups trace spots n old → AreAllGroups trace spots n mid
-    groups_space old mid more are = record {
-      each = λ x groups at. elim (more.from x groups at) [
-        | inl was ↦ are.each x groups was
-        | inr empty ↦ record {
-          each = subst (λ (l : List Group). All (IsGroup trace spots x n) l) (sym empty.1) (All-nil (IsGroup trace spots x n));
-          covers = λ c k of_x is. absurd (let low = are.wide k c.variable is.past (class_variable c k is.own) in let high = empty.0 in let e : c.variable ≡ x = of_x in omega (arith, low, high, e));
-        }
-      ];
-      runs = λ x groups at. elim (more.from x groups at) [
-        | inl was ↦ are.runs x groups was
-        | inr empty ↦ record {
-          alone = λ i from lt is. absurd (let low = are.wide i x lt is in let high = empty.0 in omega (arith, low, high));
-        }
-      ];
-      screened = λ x groups at. elim (more.from x groups at) [
-        | inl was ↦ are.screened x groups was
-        | inr empty ↦ screened_never trace x n groups.latest (λ i lt is. let low = are.wide i x lt is in let high = empty.0 in omega (arith, low, high))
+    -- a variable that nothing accessed
+    variable_new : (x : ℕ) (variable : Variable) → ((i : ℕ) → i < n → variable_at trace i ≡ Some x → ⊥) → variable.accesses.groups.each.items ≡ [] → variable.accesses.late.items ≡ [] → IsVariable trace spots x n variable
+    variable_new x variable never no_group no_late = record {
+      accesses = record {
+        since = n;
+        groups = record {
+          each = subst (λ (l : List Group). All (IsGroup trace spots x n) l) (sym no_group) (All-nil (IsGroup trace spots x n));
+          covers = λ c k of_x is. absurd (never k is.past (class_variable trace spots c k is.own ∙ ap (λ (y : ℕ). Some y) of_x));
+        };
+        late = late_none trace spots x n variable.accesses.late.items no_late;
+      };
+      run = record { alone = λ i from lt is. absurd (never i lt is) };
+      screened = screened_never trace x n variable.latest never;
+    }
+
+    -- a variable without an access more
+    variable_later : (x : ℕ) (variable : Variable) → (variable_at trace n ≡ Some x → ⊥) → IsVariable trace spots x n variable → IsVariable trace spots x (n + 1) variable
+    variable_later x variable never is = record {
+      accesses = record { since = is.accesses.since; groups = is.accesses.groups; late = late_skip trace spots x n is.accesses.since variable.accesses.late.items never is.accesses.late };
+      run = run_later x variable.run never is.run;
+      screened = screened_later trace x n variable.latest never is.screened;
+    }
+
+    -- variables more
+    pub variables_space : (old mid : List Variable) → AreMoreVariables old mid → AreVariables trace spots n old → AreVariables trace spots n mid
+    variables_space old mid more are = record {
+      each = λ x variable at. elim (more.from x variable at) [
+        | inl was ↦ are.each x variable was
+        | inr empty ↦ variable_new x variable (λ i lt is. let low = are.wide i x lt is in let high = empty.0 in omega (arith, low, high)) empty.1 empty.2
       ];
       wide = λ i x lt is. (let low = are.wide i x lt is in let long = more.longer in omega (arith, low, long));
     }
 
-    -- the groups of all variables, an access of one more
-    pub groups_put : (x : ℕ) (access : FoundAccess) → access.event ≡ n → IsFoundAccess trace spots x access → (mid : List Groups) (new : Groups) → x < length mid → AreAllGroups trace spots n mid → AreGroups trace spots x (n + 1) new.each.items → IsRun trace x (n + 1) new.run → IsScreened trace x (n + 1) new.latest → AreAllGroups trace spots (n + 1) (set mid x new)
-    groups_put x access at_n found mid new low are own run screened = record {
-      each = λ y groups at. elim (set_cases mid x y new groups low at) [
-        | inl same ↦ subst (λ (z : ℕ). AreGroups trace spots z (n + 1) groups.each.items) (sym same.0) (subst (λ (g : Groups). AreGroups trace spots x (n + 1) g.each.items) (sym same.1) own)
-        | inr other ↦ groups_later trace spots y n groups.each.items (λ c of_y is. other.0 (sym of_y ∙ only c.variable (class_variable c n is))) (are.each y groups other.1)
-      ];
-      runs = λ y groups at. elim (set_cases mid x y new groups low at) [
-        | inl same ↦ subst (λ (z : ℕ). IsRun trace z (n + 1) groups.run) (sym same.0) (subst (λ (g : Groups). IsRun trace x (n + 1) g.run) (sym same.1) run)
-        | inr other ↦ run_later y groups.run (λ is. other.0 (only y is)) (are.runs y groups other.1)
-      ];
-      screened = λ y groups at. elim (set_cases mid x y new groups low at) [
-        | inl same ↦ subst (λ (z : ℕ). IsScreened trace z (n + 1) groups.latest) (sym same.0) (subst (λ (g : Groups). IsScreened trace x (n + 1) g.latest) (sym same.1) screened)
-        | inr other ↦ screened_later trace y n groups.latest (λ is. other.0 (only y is)) (are.screened y groups other.1)
+    -- the variables, an access of one more
+    pub variables_put : (x : ℕ) (access : FoundAccess) → access.event ≡ n → IsFoundAccess trace spots x access → (mid : List Variable) (new : Variable) → x < length mid → AreVariables trace spots n mid → IsVariable trace spots x (n + 1) new → AreVariables trace spots (n + 1) (set mid x new)
+    variables_put x access at_n found mid new low are own = record {
+      each = λ y variable at. elim (set_cases mid x y new variable low at) [
+        | inl same ↦ subst (λ (z : ℕ). IsVariable trace spots z (n + 1) variable) (sym same.0) (subst (λ (v : Variable). IsVariable trace spots x (n + 1) v) (sym same.1) own)
+        | inr other ↦ variable_later y variable (λ is. other.0 (only y is)) (are.each y variable other.1)
       ];
       wide = λ i y lt is. (let long = length-set mid x new in elim (cases_lt i n) [
         | inl past ↦ (let within = are.wide i y past is in omega (arith, within, long))
@@ -159,44 +160,44 @@ module _ (trace : List Event) (spots : List Spot) where
         only : (y : ℕ) → variable_at trace n ≡ Some y → y ≡ x
         only y is = (let s : Some y ≡ Some x = sym is ∙ subst (λ (m : ℕ). variable_at trace m ≡ Some x) at_n (variable_is trace spots x access found) in cc)
 
+    -- the places, an event more that races with none before it
+    pub places_later : (by_variable : Bool) (entries : List PlaceEntry) → HasNone trace n → ArePlaces by_variable trace spots n entries → ArePlaces by_variable trace spots (n + 1) entries
+    places_later by_variable entries none are = record {
+      each = λ p r at. (let h = are.each p r at in record {
+        accesses = h.accesses;
+        place_is = h.place_is;
+        is_race = h.is_race;
+        past = (let lt = h.past in omega (arith, lt));
+        nearest = λ k l lt race at. elim (cases_lt l n) [
+          | inl low ↦ h.nearest k l low race at
+          | inr high ↦ absurd (never k l lt high race)
+        ];
+      });
+      known = λ p i j lt race at. elim (cases_lt j n) [
+        | inl low ↦ are.known p i j low race at
+        | inr high ↦ absurd (never i j lt high race)
+      ];
+    }
+      where
+        never : (i j : ℕ) → j < n + 1 → n ≤ j → Race trace i j → ⊥
+        never i j lt high race = let same : j ≡ n = omega (arith, lt, high) in none i (subst (λ (m : ℕ). Race trace i m) same race)
+
     -- an event that is no access
     pub tables_skip : (by_variable : Bool) (tables : Tables) (op : Op) → op_at trace n ≡ Some op → variable_of op ≡ None → AreTables by_variable trace spots n tables → AreTables by_variable trace spots (n + 1) tables
     tables_skip by_variable tables op is none are = record {
-      classes = record {
-        own = λ c k at. (let h = are.classes.own c k at in (h.0, (let lt = h.1 in omega (arith, lt))));
-      };
-      groups = record {
-        each = λ x groups at. groups_later trace spots x n groups.each.items (λ c of_x h. no_class c n op is none h) (are.groups.each x groups at);
-        runs = λ x groups at. run_later x groups.run (no_access x) (are.groups.runs x groups at);
-        screened = λ x groups at. screened_later trace x n groups.latest (no_access x) (are.groups.screened x groups at);
+      classes = classes_later tables.classes.newest.entries are.classes;
+      variables = record {
+        each = λ x variable at. variable_later x variable (no_access x) (are.variables.each x variable at);
         wide = λ i x lt at. elim (cases_lt i n) [
-          | inl low ↦ are.groups.wide i x low at
+          | inl low ↦ are.variables.wide i x low at
           | inr high ↦ absurd (let same : i ≡ n = omega (arith, lt, high) in no_access x (subst (λ (m : ℕ). variable_at trace m ≡ Some x) same at))
         ];
       };
-      places = record {
-        each = λ p r at. (let h = are.places.each p r at in record {
-          accesses = h.accesses;
-          place_is = h.place_is;
-          is_race = h.is_race;
-          past = (let lt = h.past in omega (arith, lt));
-          nearest = λ k l lt race at. elim (cases_lt l n) [
-            | inl low ↦ h.nearest k l low race at
-            | inr high ↦ absurd (never k l lt high race)
-          ];
-        });
-        known = λ p i j lt race at. elim (cases_lt j n) [
-          | inl low ↦ are.places.known p i j low race at
-          | inr high ↦ absurd (never i j lt high race)
-        ];
-      };
+      places = places_later by_variable tables.places.races.entries (λ i race. no_race i n op is none race) are.places;
     }
       where
         no_access : (x : ℕ) → variable_at trace n ≡ Some x → ⊥
         no_access x at = let v = sym at ∙ (ap (option_and_then variable_of) is ∙ none) in (let f : ⊥ = cc in f)
-
-        never : (i j : ℕ) → j < n + 1 → n ≤ j → Race trace i j → ⊥
-        never i j lt high race = let same : j ≡ n = omega (arith, lt, high) in no_race i n op is none (subst (λ (m : ℕ). Race trace i m) same race)
 
 -- a number of events is one number
 number_one : (P : ℕ → Type 0) (m n : ℕ) → IsNumberOf P m → IsNumberOf P n → m ≡ n

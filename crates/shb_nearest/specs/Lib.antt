@@ -2,6 +2,7 @@ pub mod Nearest
 pub mod Found
 pub mod Classes
 pub mod Groups
+pub mod Late
 pub mod Rivals
 pub mod Screen
 pub mod Places

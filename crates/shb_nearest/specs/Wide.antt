@@ -1,13 +1,13 @@
--- Groups for variables that have none yet.
+-- Variables that have no access yet.
 use Rattle.std.specs.Prelude.{◌≡◌, ◌⊎◌, ◌<◌, ◌≤◌, ℕ, List, [], Some, length, slice_get}
-use Rattle.shb_nearest.specs.declared.groups.Groups.{Groups}
+use Rattle.shb_nearest.specs.declared.tables.Variable.{Variable}
 
--- the groups that were there stay, and those that are new are empty
-pub record AreMoreGroups (old new : List Groups) : Type 0 where
+-- the variables that were there stay, and those that are new have no access
+pub record AreMoreVariables (old new : List Variable) : Type 0 where
   pub longer : length old ≤ length new
-  pub from : (x : ℕ) (groups : Groups) → slice_get new x ≡ Some groups → (slice_get old x ≡ Some groups) ⊎ ((length old ≤ x) × (groups.each.items ≡ []))
+  pub from : (x : ℕ) (variable : Variable) → slice_get new x ≡ Some variable → (slice_get old x ≡ Some variable) ⊎ ((length old ≤ x) × (variable.accesses.groups.each.items ≡ []) × (variable.accesses.late.items ≡ []))
 
--- and a variable has groups
-pub record HasSpace (old new : List Groups) (variable : ℕ) : Type 0 where
-  pub wide : variable < length new
-  pub more : AreMoreGroups old new
+-- and there is one of this number
+pub record HasSpace (old new : List Variable) (number : ℕ) : Type 0 where
+  pub wide : number < length new
+  pub more : AreMoreVariables old new

@@ -10,7 +10,7 @@ pub struct Spot {
 }
 
 /// An access that is found.
-#[derive(Clone, Copy, Debug, PartialEq, Eq)]
+#[derive(Clone, Copy, Debug, Default, PartialEq, Eq)]
 pub struct FoundAccess {
     /// Its number, from 0.
     pub event: u32,

@@ -1,21 +1,21 @@
 //! The accesses that are kept of a variable, by thread and kind.
 
-ghost use Rattle.std.specs.Prelude.{AllPairs, ◌≡◌, ◌≤◌, ◌+◌, ◌++◌, ◌∷◌, [], ℕ, true, List, IfOk, IfSome, OnOk, Some, filter, length, slice_get};
+ghost use Rattle.std.specs.Prelude.{AllPairs, ◌≡◌, ◌<◌, ◌≤◌, ◌+◌, ◌++◌, ◌∷◌, [], ℕ, true, List, IfOk, IfSome, OnOk, Some, filter, length, slice_get};
 ghost use Rattle.shb_lines.specs.declared.event.Event.{Event};
-ghost use Rattle.shb_lines.specs.events.Discipline.{local_time};
 ghost use Rattle.shb_nearest.specs.Classes.{AreClasses};
 ghost use Rattle.shb_nearest.specs.Found.{IsFoundAccess};
 ghost use Rattle.shb_nearest.specs.Groups.{AreGroups, HasGroupAt, HasKept, HasLast, IsAt, IsEarlier, IsOfGroup, IsRun, IsSince, is_newest_kept};
+ghost use Rattle.shb_nearest.specs.Late.{IsLate};
 ghost use Rattle.shb_nearest.specs.declared.access.Spot.{Spot as SpotData};
 ghost use Rattle.shb_nearest.specs.declared.groups.Kept.{Kept as KeptData};
 
 use crate::access::{FoundAccess, Spot};
 use crate::classes::{Class, Classes};
-use crate::screen::Latest;
+use crate::indices::Indices;
+use crate::late::Late;
 use shb_io::NoMemory;
 use smallvec::SmallVec;
 use std::alloc::Global;
-use std::default::MadeWith;
 
 /// An access that a group keeps.
 #[derive(Clone, Copy, Default)]
@@ -45,13 +45,10 @@ pub struct Run {
     pub start: u32,
 }
 
-/// The groups of a variable, its run, and what is kept to know that most of its accesses race with none. Two groups, as
-/// a variable has that one thread reads and writes, need no memory of their own.
+/// The groups of a variable.
 #[derive(Drop)]
 pub struct Groups {
-    pub each: SmallVec<Group, 2>,
-    pub run: Run,
-    pub latest: Latest,
+    pub each: Vec<Group>,
 }
 
 /// A group that keeps so many accesses, or fewer, keeps one for each location: the next one there replaces it.
@@ -96,19 +93,14 @@ fn index_at(kept: &[Kept], location: u32) -> Option<usize>
     None
 }
 
-/// The index of the group of a thread and a kind, if there is one. The newest ones are looked at first.
-fn index_of(groups: &[Group], thread: u32, writes: bool) -> Option<usize>
-    ensures { IfSome result (λ at. (group : Group) × (slice_get groups.now at ≡ Some group) × IsOfGroup group thread writes) }
+/// Whether the group of a thread and a kind is at an index.
+pub fn is_at(groups: &[Group], at: usize, thread: u32, writes: bool) -> bool
+    ensures { result ≡ true → (group : Group) × (slice_get groups.now at ≡ Some group) × IsOfGroup group thread writes }
 {
-    let mut from = groups.len();
-    while from > 0 {
-        from -= 1;
-        let is_it = groups[from].is_of(thread, writes);
-        if is_it {
-            return Some(from);
-        }
+    match groups.get(at) {
+        Some(group) => group.is_of(thread, writes),
+        None => false,
     }
-    None
 }
 
 /// Forgets those that a table doesn't have.
@@ -242,32 +234,34 @@ impl Group {
     }
 }
 
-/// What stands in the place of a group that a list has no memory for yet.
-impl MadeWith<Global> for Group {
-    fn made_with(alloc: Global) -> Group {
-        Group::new(alloc, 0, false)
-    }
-}
-
 impl Groups {
-    /// The index of the group of a thread and a kind, which is made where there is none.
+    /// The index of the group of a thread and a kind, which is made where its index isn't noted.
     ///
     /// # Errors
     ///
     /// `NoMemory` where a growth was refused.
-    fn group_at(&mut self, alloc: Global, thread: u32, writes: bool) -> Result<usize, NoMemory>
+    fn group_at(
+        &mut self,
+        alloc: Global,
+        indices: &mut Indices,
+        thread: u32,
+        writes: bool,
+    ) -> Result<usize, NoMemory>
         ensures { IfOk result (HasGroupAt self.old.each.items self.new.each.items thread writes) }
     {
-        if let Some(at) = index_of(self.each.as_slice(), thread, writes) {
-            return Ok(at);
+        let noted = indices.index(thread, writes) as usize;
+        let found = is_at(self.each.as_slice(), noted, thread, writes);
+        if found {
+            return Ok(noted);
         }
         let at = self.each.len();
+        indices.note(thread, writes, at)?;
         self.each.push(Group::new(alloc, thread, writes))?;
         Ok(at)
     }
 
-    /// Takes an access in, with how many events its thread had, and answers an earlier access of its class, or 0: the
-    /// last one, where its group keeps few; else the one that the table of classes had, which takes this access.
+    /// Takes an access in, and answers an earlier access of its class, or 0: the last one, where its group keeps few;
+    /// else the one that the table of classes had, which takes this access. The indices are those of the groups.
     ///
     /// # Errors
     ///
@@ -276,18 +270,19 @@ impl Groups {
         &mut self,
         alloc: Global,
         classes: &mut Classes,
+        indices: &mut Indices,
         variable: u32,
-        access: FoundAccess,
-        time: u32,
+        late: Late,
     ) -> Result<u32, NoMemory>
-        ensures since { (trace : List Event) (spots : List SpotData) → AreGroups trace spots variable access.event self.old.each.items
-            → AreClasses trace spots access.event classes.old.newest.entries → IfOk result (IsSince trace spots variable access) }
-        ensures classes { (trace : List Event) (spots : List SpotData) → IsFoundAccess trace spots variable access
-            → AreClasses trace spots access.event classes.old.newest.entries → OnOk result (AreClasses trace spots (access.event + 1) classes.new.newest.entries) }
-        ensures groups { (trace : List Event) (spots : List SpotData) → AreGroups trace spots variable access.event self.old.each.items → IsFoundAccess trace spots variable access
-            → time ≡ local_time trace access.thread access.event → OnOk result (AreGroups trace spots variable (access.event + 1) self.new.each.items) }
+        ensures since { (trace : List Event) (spots : List SpotData) → AreGroups trace spots variable late.access.event self.old.each.items
+            → AreClasses trace spots late.access.event classes.old.newest.entries → IfOk result (IsSince trace spots variable late.access) }
+        ensures classes { (trace : List Event) (spots : List SpotData) (n : ℕ) → IsLate trace spots variable late → late.access.event < n
+            → AreClasses trace spots n classes.old.newest.entries → OnOk result (AreClasses trace spots n classes.new.newest.entries) }
+        ensures groups { (trace : List Event) (spots : List SpotData) → AreGroups trace spots variable late.access.event self.old.each.items
+            → IsLate trace spots variable late → OnOk result (AreGroups trace spots variable (late.access.event + 1) self.new.each.items) }
     {
-        let at = self.group_at(alloc, access.thread, access.writes)?;
+        let Late { access, time } = late;
+        let at = self.group_at(alloc, indices, access.thread, access.writes)?;
         let kept = Kept {
             event: access.event,
             time,

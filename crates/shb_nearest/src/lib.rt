@@ -5,16 +5,23 @@
 //!
 //! A *class* is the accesses of a variable at one location by one thread, all writes or all reads. A *group* is the
 //! classes of a variable by one thread, of one kind; `groups` keeps of each group some accesses, the newest one of each
-//! class among them. An access looks at the groups of its variable by other threads, and at the accesses that a group
-//! keeps from the newest one back. It stops at the first that is below its predecessor, since those behind it are too,
-//! and at the first that is before an earlier access of its own class, since what is behind that and races with this
-//! access raced with that one, and its place is known. It looks at nothing where its own thread alone accessed the
-//! variable since that access of its class (`Run`), nor where the last write of the variable is below its predecessor
-//! and, for a write, the newest read since is too (`screen`). All that it went over race with it. The last of them at
-//! each location (`Rivals`) is offered to the table of places. The earlier access of its class is the last one, where the own group keeps a few, and it
-//! replaces that one; else `classes` has one.
+//! class among them.
 //!
-//! So an access costs a step for each group of its variable, and one for each kept access that races with it and came
+//! An access races with none before it where the last write of its variable is below its predecessor and, for a write,
+//! the newest read since is too (`screen`). Such an access waits (`late`): it is put behind the others that wait, and
+//! touches no group. As many wait as the variable has groups, and two at least; then all are taken into their groups,
+//! which are found by thread and kind (`indices`). So an access that waits costs a few steps, however many groups there
+//! are.
+//!
+//! Any other access is taken into its group at once, after those that wait. Then it looks at the groups of its variable by
+//! other threads, and at the accesses that a group keeps from the newest one back. It stops at the first that is below its
+//! predecessor, since those behind it are too, and at the first that is before an earlier access of its own class, since
+//! what is behind that and races with this access raced with that one, and its place is known. It looks at nothing where
+//! its own thread alone accessed the variable since that access of its class (`Run`). All that it went over race with it.
+//! The last of them at each location (`Rivals`) is offered to the table of places. The earlier access of its class is the
+//! last one, where the own group keeps a few, and it replaces that one; else `classes` has one.
+//!
+//! So such an access costs a step for each group of its variable, and one for each kept access that races with it and came
 //! after the earlier access of its own class that is found. That is the last one, but where its group now keeps few
 //! accesses and now more: then it can be an older one, or none. A group forgets those that aren't the last at their
 //! location when it keeps more than twice as many as were left the last time, and more than a few. Memory grows with
@@ -24,6 +31,8 @@
 mod access;
 mod classes;
 mod groups;
+mod indices;
+mod late;
 pub mod laws;
 mod places;
 mod rivals;

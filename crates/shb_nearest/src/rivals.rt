@@ -4,7 +4,6 @@ ghost use Rattle.std.specs.Prelude.{◌≡◌, ◌+◌, ◌<◌, ◌≤◌, ◌+
 ghost use Rattle.shb_lines.specs.declared.event.Event.{Event};
 ghost use Rattle.shb_nearest.specs.Groups.{AreGroups, IsGroup, IsRun, access_of};
 ghost use Rattle.shb_nearest.specs.Rivals.{AreRivals, CanRace, HasAdded, HasMet, HasMetGroup, IsFrom, IsNextAccess, IsOver};
-ghost use Rattle.shb_nearest.specs.Screen.{HasNone};
 ghost use Rattle.shb_nearest.specs.declared.access.Spot.{Spot as SpotData};
 
 use crate::access::FoundAccess;
@@ -151,8 +150,7 @@ fn rivals_among(
 
 impl Rivals {
     /// Finds accesses that race with the next one: those that the groups of its variable, which have it already, keep from
-    /// the event `since` on. There are none where it is known to be free of races, or where by the run before it its thread
-    /// alone accessed the variable since then.
+    /// the event `since` on. There are none where by the run before it its thread alone accessed the variable since then.
     ///
     /// # Errors
     ///
@@ -160,7 +158,6 @@ impl Rivals {
     pub fn find(
         &mut self,
         clocks: &StreamClocks,
-        free: bool,
         run: Run,
         groups: &[Group],
         access: FoundAccess,
@@ -168,13 +165,9 @@ impl Rivals {
     ) -> Result<(), NoMemory>
         ensures { (past : List Event) (e : Event) (spots : List SpotData) (x : ℕ) → IsNextAccess past e spots x clocks.now access
             → AreGroups (past ++ e ∷ []) spots x (access.event + 1) groups.now → IsRun (past ++ e ∷ []) x access.event run
-            → (free ≡ true → HasNone (past ++ e ∷ []) access.event)
             → OnOk result (AreRivals (past ++ e ∷ []) spots x access since self.new.found.items) }
     {
         self.found.clear();
-        if free {
-            return Ok(());
-        }
         let alone = run.is_alone(access.thread, since);
         if alone {
             return Ok(());

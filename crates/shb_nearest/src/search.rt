@@ -10,7 +10,7 @@ ghost use Rattle.shb_nearest.specs.declared.access.Spot.{Spot as SpotData};
 use crate::access::{FoundAccess, FoundRace, Spot};
 use crate::tables::Tables;
 use shb_io::NoMemory;
-use shb_lines::Step;
+use shb_lines::{Op, Step};
 use shb_stamps::StreamClocks;
 use std::alloc::Global;
 use std::random::RandomSource;
@@ -26,27 +26,20 @@ pub struct NearestRaces {
     tables: Tables,
 }
 
-/// Takes an event into the tables, if it is an access.
+/// Takes an event into the tables, if its operation is an access, which is given.
 fn take_event(
     tables: &mut Tables,
     alloc: Global,
     clocks: &StreamClocks,
     by_variable: bool,
-    step: Step,
-    event: u32,
-    spot: Spot,
+    op: Op,
+    access: FoundAccess,
 ) -> Result<(), NoMemory>
-    ensures { (past : List Event) (e : Event) (spots : List SpotData) → IsNextEvent past e spots clocks.now step event spot
-        → AreTables by_variable (past ++ e ∷ []) spots event tables.old → OnOk result (AreTables by_variable (past ++ e ∷ []) spots (event + 1) tables.new) }
+    ensures { (past : List Event) (e : Event) (spots : List SpotData) → IsNextEvent past e spots clocks.now op access
+        → AreTables by_variable (past ++ e ∷ []) spots access.event tables.old → OnOk result (AreTables by_variable (past ++ e ∷ []) spots (access.event + 1) tables.new) }
 {
-    match step.op.variable() {
+    match op.variable() {
         Some(variable) => {
-            let access = FoundAccess {
-                event,
-                thread: step.thread,
-                writes: step.op.is_write(),
-                spot,
-            };
             tables.take(alloc, clocks, by_variable, variable, access)?;
             Ok(())
         }
@@ -98,14 +91,19 @@ impl NearestRaces {
             → IsDisciplined (past ++ e ∷ []) → HasSearched past spots self.old
             → OnOk result (HasSearched (past ++ e ∷ []) (spots ++ spot ∷ []) self.new) }
     {
+        let access = FoundAccess {
+            event: self.events,
+            thread: step.thread,
+            writes: step.op.is_write(),
+            spot,
+        };
         take_event(
             &mut self.tables,
             alloc,
             &self.clocks,
             self.by_variable,
-            step,
-            self.events,
-            spot,
+            step.op,
+            access,
         )?;
         self.clocks.take(alloc, step.thread, step.op)?;
         self.events = self.events.saturating_add(1);

@@ -10,32 +10,48 @@ ghost use Rattle.shb_nearest.specs.declared.access.Spot.{Spot as SpotData};
 use crate::access::FoundAccess;
 use crate::classes::Classes;
 use crate::groups::{Groups, Run};
+use crate::indices::Indices;
+use crate::late::{Accesses, Late};
 use crate::places::Places;
 use crate::rivals::Rivals;
-use crate::screen::{screen, unscreened};
+use crate::screen::{Latest, screen, unscreened};
 use shb_io::NoMemory;
 use shb_stamps::StreamClocks;
 use smallvec::SmallVec;
 use std::alloc::Global;
 use std::random::RandomSource;
 
-/// The groups of each variable, accesses by class where groups keep many, and the places that are found.
+/// What is kept of a variable: its accesses, its run, and that by which most of its accesses are known to race with none.
+#[derive(Drop)]
+pub struct Variable {
+    pub accesses: Accesses,
+    pub run: Run,
+    pub latest: Latest,
+}
+
+/// What is kept of each variable, accesses by class where groups keep many, and the places that are found.
 #[derive(Drop)]
 pub struct Tables {
     pub classes: Classes,
-    pub groups: Vec<Groups>,
+    pub indices: Indices,
+    pub variables: Vec<Variable>,
     pub places: Places,
     /// Those that race with an access while it is taken.
     pub rivals: Rivals,
 }
 
-/// Makes groups, so that a variable has some.
-fn make_space(groups: &mut Vec<Groups>, alloc: Global, variable: u32) -> Result<(), NoMemory>
-    ensures { OnOk result (HasSpace groups.old.items groups.new.items variable) }
+/// Makes variables, so that there is one of this number.
+fn make_space(variables: &mut Vec<Variable>, alloc: Global, variable: u32) -> Result<(), NoMemory>
+    ensures { OnOk result (HasSpace variables.old.items variables.new.items variable) }
 {
-    while groups.len() <= variable as usize {
-        groups.push(Groups {
-            each: SmallVec::new(alloc),
+    while variables.len() <= variable as usize {
+        variables.push(Variable {
+            accesses: Accesses {
+                groups: Groups {
+                    each: Vec::new(alloc),
+                },
+                late: SmallVec::new(alloc),
+            },
             run: Run {
                 thread: 0,
                 start: 0,
@@ -59,7 +75,8 @@ impl Tables {
         let places = Places::new(rt, alloc)?;
         Ok(Tables {
             classes,
-            groups: Vec::new(alloc),
+            indices: Indices::new(alloc),
+            variables: Vec::new(alloc),
             places,
             rivals: Rivals::new(alloc),
         })
@@ -81,25 +98,31 @@ impl Tables {
         ensures { (past : List Event) (e : Event) (spots : List SpotData) → HasRoom past → IsNextAccess past e spots variable clocks.now access
             → AreTables by_variable (past ++ e ∷ []) spots access.event self.old → OnOk result (AreTables by_variable (past ++ e ∷ []) spots (access.event + 1) self.new) }
     {
-        make_space(&mut self.groups, alloc, variable)?;
-        let groups = &mut self.groups[variable as usize];
-        let run = groups.run;
+        make_space(&mut self.variables, alloc, variable)?;
+        let known = &mut self.variables[variable as usize];
+        let run = known.run;
         let time = clocks
             .below_next(access.thread, access.thread)
             .saturating_add(1);
-        let screened = screen(clocks, groups.latest, access, time);
-        let since = groups.take(alloc, &mut self.classes, variable, access, time)?;
-        self.rivals.find(
-            clocks,
-            screened.free,
-            run,
-            groups.each.as_slice(),
-            access,
-            since,
-        )?;
-        groups.run = run.after(access);
-        groups.latest = screened.latest;
-        self.places.offer_all(by_variable, variable, access, self.rivals.found.as_slice())?;
+        let late = Late { access, time };
+        let screened = screen(clocks, known.latest, access, time);
+        known.run = run.after(access);
+        known.latest = screened.latest;
+        let (classes, indices) = (&mut self.classes, &mut self.indices);
+        if screened.free {
+            known
+                .accesses
+                .put_off(alloc, classes, indices, variable, late)?;
+            return Ok(());
+        }
+        let since = known
+            .accesses
+            .take(alloc, classes, indices, variable, late)?;
+        let groups = known.accesses.groups.each.as_slice();
+        self.rivals.find(clocks, run, groups, access, since)?;
+        let rivals = self.rivals.found.as_slice();
+        self.places
+            .offer_all(by_variable, variable, access, rivals)?;
         Ok(())
     }
 }

@@ -1,14 +1,10 @@
 use Rattle.std.proofs.Common.{List, [], ◌∷◌, ◌++◌, subst, sym}
 use Rattle.shb_nearest.specs.Rivals.{AreRivals}
 use Rattle.shb_nearest.specs.declared.access.FoundAccess.{FoundAccess}
-use Rattle.shb_nearest.proofs.RivalLemmas.{free_rivals, no_rivals}
+use Rattle.shb_nearest.proofs.RivalLemmas.{no_rivals}
 use Rattle.shb_nearest.proofs.rivals.Rivals.find.Goals as goal
 
-pub returns-then-free : goal.returns-then-free
-returns-then-free c past e spots x next groups is_run is_free =
-    subst (λ (l : List FoundAccess). AreRivals (past ++ e ∷ []) spots x c.args.access c.args.since l) (sym c.clear.ensures.items) (free_rivals (past ++ e ∷ []) spots x c.args.access next.own c.args.since (is_free c.if-free.true))
-
 pub returns-then-alone : goal.returns-then-alone
-returns-then-alone c past e spots x next groups is_run is_free =
+returns-then-alone c past e spots x next groups is_run =
     let alone = c.is_alone-alone.ensures c.if-alone.true in
     subst (λ (l : List FoundAccess). AreRivals (past ++ e ∷ []) spots x c.args.access c.args.since l) (sym c.clear.ensures.items) (no_rivals (past ++ e ∷ []) spots x c.args.access next.own c.args.run c.args.since alone.0 alone.1 is_run)

@@ -1,5 +1,6 @@
 use Rattle.std.proofs.Common.{ℕ, ◌+◌, ◌≡◌, [], ◌∷◌, ◌++◌, ◌∙◌, arith, length, subst, sym}
 use Rattle.std.proofs.lemmas.List.{length_push}
+use Rattle.shb_nearest.specs.declared.access.FoundAccess.{FoundAccess}
 use Rattle.shb_nearest.specs.Searched.{AreTables, IsNextEvent}
 use Rattle.shb_nearest.proofs.Carry.{tables_longer}
 use Rattle.shb_nearest.proofs.StepLemmas.{last_at}
@@ -13,13 +14,15 @@ returns-clause-searched c past spots e thread op room disciplined h =
     let more = length_push spots c.args.spot in
     let many = h.as_many in
     let one = c.saturating_add-self.ensures in
-    let next : IsNextEvent past e (spots ++ c.args.spot ∷ []) c.args.self.now.clocks c.args.step c.args.self.now.events c.args.spot = record {
+    let access : FoundAccess = record { event = c.args.self.now.events; thread = c.args.step.thread; writes = c.is_write.result; spot = c.args.spot } in
+    let next : IsNextEvent past e (spots ++ c.args.spot ∷ []) c.args.self.now.clocks c.args.step.op access = record {
       disciplined = disciplined;
       room = room;
       streamed = h.clocks;
       event_is = h.events_are;
       same_thread = thread;
       same_op = op;
+      writes_is = c.is_write.ensures;
       spot_is = last_at spots c.args.spot c.args.self.now.events (h.as_many ∙ sym h.events_are);
     } in
     let by_variable = c.args.self.now.by_variable in
