@@ -19,8 +19,8 @@
    To raise the count takes longer than all else in a hook, and is of use only while a waiter looks. So no hook raises it while
    `quick_holder` names its thread: from when that has accepted the turn until it gives it or a waiter *doubts*.  A waiter doubts
    before it looks: it takes the name away, and has all threads that run pass a barrier (membarrier).  After that each hook
-   raises the count, but for one that had begun; and only then the waiter reads the word.  It doubts as long as the word
-   is the same.
+   raises the count, but for one that had begun; and only then the waiter reads the word.  It begins to doubt where the word was
+   the same for a whole patience, and doubts as long as it is.
    tests/model.py searches all interleavings of this. */
 #define _GNU_SOURCE
 #include <errno.h>
@@ -290,13 +290,14 @@ static int gone_or_asleep(pid_t system_id, long *ticks) {
 /* While a waiter doubts: the turn's word, when it was first looked at the holder, and its time then, where it didn't work. */
 struct watch { int doubts; uint64_t word; long ticks; time_t since; };
 
-/* The word, which is doubted if it may be looked at the holder. */
+/* The word, which is doubted where it was the same for a whole patience. */
 static uint64_t doubted_word(struct watch *watch) {
     uint64_t word = atomic_load(&turn);
-    if (watch->doubts && word == watch->word) return word;
+    int is_same = word == watch->word;
+    if (watch->doubts && is_same) return word;
     if (watch->doubts) end_doubt();
-    else doubt();
-    *watch = (struct watch){.doubts = !watch->doubts, .word = atomic_load(&turn), .ticks = -1};
+    if (is_same) doubt();
+    *watch = (struct watch){.doubts = is_same, .word = atomic_load(&turn), .ticks = -1};
     return watch->word;
 }
 
@@ -355,7 +356,7 @@ static void leave_late_replay(const thread *t, uint64_t word, struct lateness *l
 }
 
 void take_turn(thread *t) {
-    struct watch watch = {0};
+    struct watch watch = {.word = atomic_load(&turn)};
     struct timespec patience = {0, waiters ? 10 * PATIENCE_NS : PATIENCE_NS};
     struct lateness late = {0, 0};
     int look = 0, saved = errno;

@@ -353,6 +353,7 @@ class Step:
                 yield self.to("end_doubt", word=True)
         else:
             yield self.to("take_name" if self.bug == NO_GUARD else "doubt")
+            yield self.to(self.before_sleep(), word=True)  # the word is another one than at its last look
 
     def doubt(self):
         yield from self.locked("take_name")
