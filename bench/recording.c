@@ -46,6 +46,16 @@ static long atomics(long *sum) {
     return *sum;
 }
 
+static long own_atomics(long *sum) {
+    atomic_long *own = (atomic_long *)(sum + 8);
+    for (long n = 0; n < rounds; n++) {
+        atomic_fetch_add_explicit(own, 1, memory_order_relaxed);
+        *sum += atomic_load_explicit(own, memory_order_relaxed);
+        atomic_fetch_sub_explicit(own, 1, memory_order_acq_rel);
+    }
+    return *sum;
+}
+
 static long lock_of_an_atomic(long *sum) {
     for (long n = 0; n < rounds; n++) {
         while (atomic_exchange_explicit(&is_locked, 1, memory_order_acquire)) ;
@@ -85,7 +95,7 @@ static long calls(long *sum) {
 
 static const struct { const char *name; long (*work)(long *); } kinds[] = {
     {"own_array", own_array}, {"private_writes", private_writes}, {"shared_table", shared_table}, {"mutex", under_a_mutex},
-    {"atomics", atomics}, {"atomic_lock", lock_of_an_atomic}, {"blocks", blocks}, {"random_order", random_order}, {"calls", calls}};
+    {"atomics", atomics}, {"own_atomics", own_atomics}, {"atomic_lock", lock_of_an_atomic}, {"blocks", blocks}, {"random_order", random_order}, {"calls", calls}};
 static long (*work)(long *);
 
 static void *run(void *sum) { return work(sum), sum; }

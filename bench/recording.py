@@ -19,7 +19,7 @@ import time
 TOP = pathlib.Path(__file__).resolve().parent.parent
 LIBRARY = TOP / "recorder" / "lib"
 HEADER_BYTES, RECORD_BYTES = 65536, 16
-ROUNDS = {"own_array": 2000, "private_writes": 6_000_000, "shared_table": 2000, "mutex": 200_000, "atomics": 600_000,
+ROUNDS = {"own_array": 2000, "private_writes": 6_000_000, "shared_table": 2000, "mutex": 200_000, "atomics": 600_000, "own_atomics": 300_000,
           "atomic_lock": 150_000, "blocks": 100_000, "random_order": 1_000_000, "calls": 200_000}
 
 

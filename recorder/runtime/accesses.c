@@ -49,10 +49,10 @@ __attribute__((noinline)) void note_access(enum operation operation, uint64_t ad
 void hold_elsewhere(thread *t, cell *c, uint64_t what, uint64_t address) {
     cell_use use = {what, kind_in(c, what, t->kind, t->reader)};
     uint64_t *word = word_of_use(c, address, t->serial, t->number, use);
-    int is_held = word && hold_quickly(t, word, operation_of_use(what), what);
+    if (word) hold_quickly(t, word, operation_of_use(what), what);
     end_quick_hook(t);
     if (t->deferred) deliver_deferred(t);
-    if (!is_held) note_access(operation_of_use(what), address, 1 << (what >> 54) % (1 << LOGARITHM_BITS), what & LOW_48_BITS);
+    if (!word) note_access(operation_of_use(what), address, 1 << (what >> 54) % (1 << LOGARITHM_BITS), what & LOW_48_BITS);
 }
 
 #define ACCESSES(kind, n) \
@@ -166,8 +166,15 @@ FETCH_16(fetch_nand, ~(old & value))
 #define DO_fetch_xor(p, value) __atomic_fetch_xor(p, value, __ATOMIC_SEQ_CST)
 #define DO_fetch_nand(p, value) __atomic_fetch_nand(p, value, __ATOMIC_SEQ_CST)
 
+#define IS_QUICK(operation, bits, p, order) \
+    begin_quick_atomic(operation, (uint64_t)(p), bits / 8, size_and_order(bits / 8, order), CALLER)
 #define UPDATE(bits, type, name, perform) \
     PUBLIC type __tsan_atomic##bits##_##name(volatile type *p, type value, int order) { \
+        if (IS_QUICK(OP_ATOMIC_UPDATE, bits, p, order)) { \
+            type before = perform(p, value); \
+            end_quick_atomic(*p != before); \
+            return before; \
+        } \
         thread *t = before_atomic(OP_ATOMIC_UPDATE, p, size_and_order(bits / 8, order), CALLER); \
         type old = perform(p, value); \
         after_atomic(t); \
@@ -184,12 +191,21 @@ FETCH_16(fetch_nand, ~(old & value))
 
 #define ATOMICS(bits, type, load, store, exchange) \
     PUBLIC type __tsan_atomic##bits##_load(const volatile type *p, int order) { \
+        if (IS_QUICK(OP_ATOMIC_LOAD, bits, p, order)) { \
+            type now = load(p); \
+            end_quick_atomic(1); \
+            return now; \
+        } \
         thread *t = before_atomic(OP_ATOMIC_LOAD, p, size_and_order(bits / 8, order), CALLER); \
         type value = load(p); \
         after_atomic(t); \
         return value; \
     } \
     PUBLIC void __tsan_atomic##bits##_store(volatile type *p, type value, int order) { \
+        if (IS_QUICK(OP_ATOMIC_STORE, bits, p, order)) { \
+            store(p, value); \
+            return end_quick_atomic(1); \
+        } \
         thread *t = before_atomic(OP_ATOMIC_STORE, p, size_and_order(bits / 8, order), CALLER); \
         store(p, value); \
         after_atomic(t); \

@@ -50,7 +50,8 @@ static inline uint64_t reader_of(uint32_t serial, uint16_t number) {
 static inline enum operation operation_of_use(uint64_t what) { return what >> 48 & 7; }
 static inline int has_depth(uint64_t what) { return operation_of_use(what) <= OP_WRITE && !(what >> 54 & IS_RANGE); }
 static inline int is_same(cell_use one, cell_use other) { return one.what == other.what && one.from == other.from; }
-static inline int is_read(uint64_t what) { return operation_of_use(what) == OP_READ || operation_of_use(what) == OP_ATOMIC_LOAD; }
+static inline int only_reads(enum operation operation) { return operation == OP_READ || operation == OP_ATOMIC_LOAD; }
+static inline int is_read(uint64_t what) { return only_reads(operation_of_use(what)); }
 static inline uint64_t what_of_use(uint64_t what, uint64_t address) {
     return what | address % GRAIN << FIRST_BYTE | (has_depth(what) ? OF_ALL_DEPTHS : 0);
 }

@@ -1,25 +1,35 @@
 /* The quick hook: an access that its thread repeats in a cell that it owns, or reads with others, is held back by a few instructions.
    It is quick where no waiter doubts that the thread needs the turn (turn.c), the functions that it is in are recorded, and the cell
    has the use already. Then nothing changes but the position of that use. Such a hook is a step, as others are.
-   All calls here are jumps, so no registers are saved. */
+   All calls of an access's hook are jumps, so no registers are saved. */
 #include "runtime.h"
 #include "cells.h"
 
 void note_access(enum operation operation, uint64_t address, uint64_t size, uint64_t caller);
 void hold_elsewhere(thread *t, cell *c, uint64_t what, uint64_t address);
 
+enum { MOST_QUICK_SPINS = 400 };       /* to hand the turn over takes as long as some hundreds */
+
 /* The word of a use that is made now. */
 static inline uint64_t word_now(const thread *t) { return (uint64_t)t->in->number << POSITION_BITS | (t->base + t->steps); }
 
-/* Is it held back? A read right after the same one isn't: a loop of these may wait for another thread (note_spin). */
-static inline int hold_quickly(thread *t, uint64_t *word, enum operation operation, uint64_t what) {
+/* A hook that may be one of a loop that waits for another thread: after so many that one shall run. */
+static inline void note_quick_spin(thread *t) {
+    if (++t->spins <= MOST_QUICK_SPINS) return;
+    t->spins = 0;
+    if (is_replaying) return;
+    t->quantum = 0;
+    t->limit = t->steps;
+}
+
+static inline void hold_quickly(thread *t, uint64_t *word, enum operation operation, uint64_t what) {
     uint64_t new = word_now(t);
-    if (operation == OP_READ && *word + 1 == new) return 0;
+    int is_repeated = only_reads(operation) && *word + 1 == new;
     *word = new;
     t->last = what;
     t->steps++;
-    changes += operation == OP_WRITE;
-    return 1;
+    changes += !only_reads(operation);
+    if (is_repeated) note_quick_spin(t);
 }
 
 /* Handlers of signals may come from here on. */
@@ -33,8 +43,18 @@ static inline int may_be_quick(const thread *t, uint64_t address, uint64_t size)
     return t && t->limit && size <= GRAIN && address % GRAIN <= GRAIN - size;
 }
 
-static inline int is_usual(const thread *t) {
-    return t->steps < t->limit && t == quick_holder && is_numbered(t->in);
+/* Null where the hook isn't quick. */
+static inline cell *usual_cell(const thread *t, uint64_t address) {
+    int is_usual = t->steps < t->limit && t == quick_holder && is_numbered(t->in) && address < CELL_ADDRESSES;
+    return is_usual ? find_cell(address) : 0;
+}
+
+/* The word of a use in a cell of the thread's, or of readers; null where it isn't in the line in which most are. */
+static inline uint64_t *word_near(const thread *t, cell *c, enum operation operation, uint64_t what) {
+    int is_of_readers = c->owner == READERS && only_reads(operation);
+    cell_use use = {what, is_of_readers ? t->kind | t->reader : t->kind};
+    uint32_t slot = slot_of_use(use.what, use.from);
+    return (c->owner == t->serial || is_of_readers) && is_same(cell_uses[slot], use) ? find_near(c, slot) : 0;
 }
 
 static inline __attribute__((always_inline))
@@ -43,19 +63,42 @@ void hook(enum operation operation, uint64_t address, uint64_t size, uint64_t ca
     if (!may_be_quick(t, address, size)) return note_access(operation, address, size, caller);
     t->inside = 1;                     /* so no handler of a signal comes, which may change all that is read below */
     KEEP_ORDER();
-    cell *c = is_usual(t) && address < CELL_ADDRESSES ? find_cell(address) : 0;
+    cell *c = usual_cell(t, address);
     uint64_t what = caller + what_of_use((uint64_t)operation << 48 | (uint64_t)__builtin_ctzl(size) << 54, size < GRAIN ? address : 0);
     if (c) {
-        uint64_t from = t->kind, *word = 0;
-        int is_of_readers = c->owner == READERS && operation == OP_READ;
-        if (is_of_readers) from |= t->reader;
-        uint32_t use = slot_of_use(what, from);
-        if ((c->owner == t->serial || is_of_readers) && cell_uses[use].what == what && cell_uses[use].from == from) word = find_near(c, use);
-        if (!word || !hold_quickly(t, word, operation, what)) return hold_elsewhere(t, c, what, address);
+        uint64_t *word = word_near(t, c, operation, what);
+        if (!word) return hold_elsewhere(t, c, what, address);
+        hold_quickly(t, word, operation, what);
         end_quick_hook(t);
         if (__builtin_expect(t->deferred, 0)) deliver_deferred(t);
         return;
     }
     end_quick_hook(t);
     note_access(operation, address, size, caller);
+}
+
+/* The hook of an atomic operation, in which it is made. It is held back as an access is: by the turn, which the thread has from the hook's
+   begin to its next one, nobody comes between the position and the operation, and by the cell, nobody else used the value since the phase
+   began. Whether it gives or takes hangs on its kind alone, so the last of a kind stands for all (cells.c).
+   Is it quick? Else it has to be recorded. */
+static inline __attribute__((always_inline))
+int begin_quick_atomic(enum operation operation, uint64_t address, uint64_t size, uint64_t size_and_order, uint64_t caller) {
+    thread *t = self;
+    if (!may_be_quick(t, address, size)) return 0;
+    t->inside = 1;
+    KEEP_ORDER();
+    cell *c = usual_cell(t, address);
+    uint64_t what = caller + what_of_use((uint64_t)operation << 48 | size_and_order << 54, address);
+    uint64_t *word = c ? word_near(t, c, operation, what) : 0;
+    if (word) hold_quickly(t, word, operation, what);
+    else end_quick_hook(t);
+    return word != 0;
+}
+
+/* A loop that leaves a value as it is may wait for another one: a lock of an atomic is taken so. */
+static inline void end_quick_atomic(int is_changed) {
+    thread *t = self;
+    if (!is_changed) note_quick_spin(t);
+    end_quick_hook(t);
+    if (__builtin_expect(t->deferred, 0)) deliver_deferred(t);
 }

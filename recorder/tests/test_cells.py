@@ -189,7 +189,7 @@ FAULTS = {  # to plant: the file, what stands there, and what in its place
     "atomic accesses of all orders are one use": ("cells.h", "(has_depth(what) ? OF_ALL_DEPTHS : 0)", "OF_ALL_DEPTHS"),
     "atomic accesses of all kinds are one use": (
         "cells.h", "    return what | address % GRAIN", "    if (operation_of_use(what) > OP_WRITE) what |= 7ull << 48;\n    return what | address % GRAIN"),
-    "atomic accesses are reads": ("cells.h", "return operation_of_use(what) == OP_READ || operation_of_use(what) == OP_ATOMIC_LOAD;", "return operation_of_use(what) != OP_WRITE;"),
+    "atomic accesses are reads": ("cells.h", "return operation == OP_READ || operation == OP_ATOMIC_LOAD;", "return operation != OP_WRITE;"),
     "a free ends no phase": ("cells.c", "if (operation == OP_FREE) free_range", "if (0) free_range"),
     "each page begins with a first phase": (
         "cells.c", "page->is_first = !cells && !page->is_whole && !has_freed(page);", "page->is_first = 1;"),
