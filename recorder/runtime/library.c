@@ -37,7 +37,7 @@ void note_range(uint64_t seen, enum operation operation, const volatile void *p,
     uint64_t from = (uint64_t)p;
     if (!p || !bytes || bytes >= MAX_SIZE || from >= FIRST_DESCRIPTOR || bytes > FIRST_DESCRIPTOR - from) return;
     int saved = errno;
-    thread *t = enter_access(NEVER_YIELD);
+    thread *t = enter_access(YIELDS_BY_LIST);
     if (t) {
         put(t, operation, p, bytes, seen);
         leave(t);

@@ -9,7 +9,7 @@
 
 /* The caller, and then the thread has the turn; or 0 where nothing is to be recorded. */
 uint64_t begin_call(uint64_t caller);
-/* Never yields, so the turn is kept until the thread's next hook.  Nothing of a null pointer, or of a range that can't
+/* Yields by the list alone, for a thread may have slept in the call before.  Nothing of a null pointer, or of a range that can't
    be there. */
 void note_range(uint64_t seen, enum operation operation, const volatile void *p, uint64_t bytes);
 #define READS(p, bytes) note_range(seen, OP_READ, p, bytes)

@@ -50,6 +50,13 @@ UNSEEN void *__libc_malloc(size_t size) {
     return __libc_memalign(16, size);
 }
 
+/* A stream's function, in which the C library sleeps. */
+static UNSEEN ssize_t reads(void *stream, char *to, size_t size) {
+    sleep_a_while();
+    *to = '\n';
+    return 1;
+}
+
 static void *works(void *x) {
     for (int i = 0; i < ROUNDS; i++) {
         shared++;
@@ -67,7 +74,10 @@ static void *begins(void *seen) {
 int main(void) {
     pthread_t worker, beginner;
     pthread_attr_t attributes;
-    long seen[2];
+    long seen[3];
+    FILE *stream = fopencookie(0, "r", (cookie_io_functions_t){.read = reads});
+    size_t room = 64;
+    char *line = malloc(room);
     sleeps = getenv("SLEEPS") != 0;
     pthread_attr_init(&attributes);
     pthread_create(&worker, 0, works, 0);
@@ -78,8 +88,10 @@ int main(void) {
     block = malloc(8);
     allocates = 0;
     seen[1] = shared;
+    getline(&line, &room, stream);
+    seen[2] = shared;
     pthread_join(beginner, 0);
     pthread_join(worker, 0);
-    printf("%ld %ld\n", seen[0], seen[1]);
+    printf("%ld %ld %ld\n", seen[0], seen[1], seen[2]);
     return 0;
 }
