@@ -5,9 +5,6 @@ import signal
 import time
 
 STOPS = {signal.SIGINT, signal.SIGTERM}
-# Of helpers: what the terminal or `timeout` sends to a whole group is for the command to take. With a function to call, a child begins as a
-# copy of the command, so what comes before its session is new meets the command's handlers. With `start_new_session` it would end the child.
-APART = {"preexec_fn": os.setsid}
 SAME_SECONDS = 1  # `timeout` sends its signal to the command and to the whole group: so soon the same one again is that one
 
 

@@ -10,11 +10,13 @@ COMMON = pathlib.Path(__file__).resolve().parents[1]
 # A command that was stopped, whose helper is sent the signal before its session is new.
 COMMAND = """
 import os, signal, subprocess, sys, time
-from shb_common.stops import APART, Stops
+from shb_common.children import apart
+from shb_common.stops import Stops
 Stops("stopped by {}".format).note(signal.SIGTERM, time.monotonic())
+how = apart()
 def begin():
     os.kill(os.getpid(), signal.SIGTERM)
-    APART["preexec_fn"]()
+    how["preexec_fn"]()
 sys.exit(subprocess.call([sys.executable, "-c", "import os; print(os.getsid(0) == os.getpid())"], preexec_fn=begin))
 """
 

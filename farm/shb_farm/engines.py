@@ -13,11 +13,11 @@ import sys
 import tempfile
 import time
 
+from shb_common.children import end_with
 from shb_common.faults import Refused
 from shb_common.progress import Progress
 from shb_common.words import counted
 from shb_farm import limits, passes
-from shb_farm.children import end_with
 
 # Without a PATH Python doesn't know its own name. A job needs nothing of this machine's packages, whose start costs time.
 JOB = [sys.executable or "python3", "-I", "-S", str(pathlib.Path(__file__).resolve().with_name("job.py"))]

@@ -15,10 +15,10 @@ import sys
 HOME = pathlib.Path(__file__).resolve().parents[1]
 sys.path[:0] = [str(HOME), str(HOME.parent / "common")]     # installed, all packages are in the first
 
+from shb_common.children import end_with
 from shb_common.files import open_regular, put
 from shb_common.standard import words_of
 from shb_farm import outcomes, passes, reports, running, traces
-from shb_farm.children import end_with, has_parent_in_session
 from shb_farm.outcomes import Cost
 from shb_farm.running import METER
 
@@ -45,6 +45,14 @@ def make_outcome(work, name):
     if new.kind == "failed":
         print(f"shb-farm: {name}: {new.words}", file=sys.stderr)
     return new.kind
+
+
+def has_parent_in_session():
+    """Whether the parent is of the same session, as what started this process was. Who has lost its parent has another one."""
+    try:
+        return os.getsid(os.getppid()) == os.getsid(0)
+    except ProcessLookupError:
+        return False
 
 
 def main(words):

@@ -6,7 +6,7 @@ import signal
 import typing
 
 from shb_common import analyser
-from shb_farm.children import end_with
+from shb_common.children import end_with
 from shb_farm.limits import MIB
 
 WORDS = {"list": analyser.SCAN, "full": [*analyser.FULL, "--workers", "1"]}

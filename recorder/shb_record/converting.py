@@ -9,8 +9,8 @@ import subprocess
 import tempfile
 import typing
 
+from shb_common.children import apart
 from shb_common.faults import Refused
-from shb_common.stops import APART
 from shb_common.uses import BadUses, Uses
 from shb_common.words import counted
 from shb_record.parts import CONVERTER
@@ -100,7 +100,7 @@ class Conversion:
 
     def places(self, scan, tell):
         """The places of the run, which are given to `tell` first. Where there are some the page's trace is there then."""
-        with tempfile.TemporaryFile() as said, subprocess.Popen(self.words, stdin=subprocess.PIPE, stdout=scan.descriptor, stderr=said, **APART) as ran:
+        with tempfile.TemporaryFile() as said, subprocess.Popen(self.words, stdin=subprocess.PIPE, stdout=scan.descriptor, stderr=said, **apart()) as ran:
             scan.begun()
             try:
                 places, fault = [], None
@@ -145,7 +145,7 @@ class Conversion:
         """Writes the trace of a page anew, around the races of these places."""
         with tempfile.TemporaryFile() as said, open(self.trace, "wb") as out:
             words = [CONVERTER, "--only", "/dev/stdin", "--uses", self.uses, "--stacks", self.stacks, *self.page_words]
-            self.end(subprocess.run(words, input=b"".join(lines_of(places)), stdout=out, stderr=said, **APART).returncode, said)
+            self.end(subprocess.run(words, input=b"".join(lines_of(places)), stdout=out, stderr=said, **apart()).returncode, said)
         self.numbers = self.numbers_of(places)
 
     def end(self, status, file):

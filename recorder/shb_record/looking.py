@@ -6,12 +6,12 @@ import shlex
 import sys
 
 from shb_common import known
+from shb_common.children import apart
 from shb_common.faults import Refused
 from shb_common.printable import printable
 from shb_common.programs import Origin
 from shb_common.stacks import BadStacks, Tables
 from shb_common.standard import words_of
-from shb_common.stops import APART
 from shb_common.words import counted
 from shb_record.converting import CRASHED, KILLED, Conversion, check_room, order_of, processes
 from shb_record.modules import Modules
@@ -216,7 +216,7 @@ class Look:
                  *(f"--about={line}" for line in self.meaning()), *(f"--source={folder}" for folder in self.options.source),
                  *again, "--text", "--no-notes", "--only", only, "--behind", behind, "--unseen", unseen, "--json", found, "--html", page, conversion.trace]
         from shb_view.command import explain  # takes its time, and a run without a place does without
-        if explain(list(map(os.fspath, words)), ANALYSER, sys.stderr, **APART):
+        if explain(list(map(os.fspath, words)), ANALYSER, sys.stderr, **apart()):
             print(lines.decode(errors="backslashreplace"), end="", file=sys.stderr)
             return
         self.pages.append(page)

@@ -5,9 +5,9 @@ import os
 import tempfile
 
 from shb_common import analyser
+from shb_common.children import apart
 from shb_common.faults import Refused
 from shb_common.report import BadReport, Report
-from shb_common.stops import APART
 from shb_record.parts import ANALYSER
 
 
@@ -24,7 +24,7 @@ class Scanning:
         self.events = 0  # of the run, when all is read
         reading, self.descriptor = os.pipe()
         with open(reading, "rb") as pipe:
-            self.run = analyser.Run([ANALYSER, *analyser.SCAN], pipe, self.text, **APART)
+            self.run = analyser.Run([ANALYSER, *analyser.SCAN], pipe, self.text, **apart())
 
     def begun(self):
         os.close(self.descriptor)

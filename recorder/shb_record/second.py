@@ -8,7 +8,7 @@ import contextlib
 import subprocess
 
 from shb_common.analyser import Place
-from shb_common.stops import APART
+from shb_common.children import apart
 from shb_record.scanning import scanning
 
 
@@ -25,7 +25,7 @@ class Second:
 
     def places(self, conversion, room):
         """The places of the trace without these accesses, with the events' numbers in the whole trace."""
-        with scanning(room) as scan, subprocess.Popen(conversion.scan_words, stdout=subprocess.PIPE, stderr=subprocess.DEVNULL, **APART) as ran:
+        with scanning(room) as scan, subprocess.Popen(conversion.scan_words, stdout=subprocess.PIPE, stderr=subprocess.DEVNULL, **apart()) as ran:
             try:
                 with contextlib.suppress(BrokenPipeError), open(scan.descriptor, "wb", closefd=False) as out:  # the scan's status says how it ended
                     self.write_rest(ran.stdout, out)

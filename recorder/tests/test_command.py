@@ -22,6 +22,14 @@ def text_of(path):
     return path.read_text()
 
 
+def is_running(number):
+    """Whether there is such a process, other than one that has ended and that nobody has asked of."""
+    try:
+        return not re.search(r"\) Z ", pathlib.Path(f"/proc/{number}/stat").read_text())
+    except (FileNotFoundError, ProcessLookupError):
+        return False
+
+
 class Command(recorder.Case):
     def program(self, name="status.c", *words, compiler="gcc", sanitized=("-fsanitize=thread",)):
         out = self.folder / pathlib.Path(name).stem
@@ -761,7 +769,7 @@ int main(int count, char **words) {
         sends = "".join(f"kill -{number} $PPID; " for number in signals)
         sent, waits = self.folder / "sent", "exec sleep 1000; " * (len(signals) > 1)
         sent.unlink(missing_ok=True)
-        fake.write_text(f'#!/bin/sh\nif [ ! -e {sent} ]; then touch {sent}; {sends}{waits}fi\nexec {real} "$@"\n')
+        fake.write_text(f'#!/bin/sh\nif [ ! -e {sent} ]; then echo $$ > {sent}; {sends}{waits}fi\nexec {real} "$@"\n')
         fake.chmod(0o755)
         shutil.copy(recorder.BUILT / "shb-record", tools)
         shutil.copytree(recorder.BUILT / "shb_record", tools / "shb_record", dirs_exist_ok=True)
@@ -782,6 +790,14 @@ int main(int count, char **words) {
             [record] = (self.folder / "status.shb").glob("*.rec")
             self.assertIn(f"the record is kept: {record}\n", said)
             recorder.must(recorder.convert(record))
+
+    def test_a_command_that_is_killed_leaves_no_helper(self):
+        for at in "shb", "shb-std":
+            self.assertEqual(self.stopped(["KILL", "KILL"], at)[0], -signal.SIGKILL)
+            helper, end = int((self.folder / "sent").read_text()), time.monotonic() + recorder.SECONDS
+            while is_running(helper):
+                self.assertLess(time.monotonic(), end, at)
+                time.sleep(0.01)
 
     def test_a_second_signal_while_a_page_is_made(self):
         """The places are known by then."""

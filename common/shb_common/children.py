@@ -16,9 +16,13 @@ def end_with(parent):
         os._exit(1)
 
 
-def has_parent_in_session():
-    """Whether the parent is of the same session, as what started this process was. Who has lost its parent has another one."""
-    try:
-        return os.getsid(os.getppid()) == os.getsid(0)
-    except ProcessLookupError:
-        return False
+def apart():
+    """How a helper is started: it ends with this process, and what the terminal or `timeout` sends to a whole group is for this one to
+    take. With a function to call, a child begins as a copy of the command, so what comes before its session is new meets the command's
+    handlers. With `start_new_session` it would end the child."""
+    parent = os.getpid()
+
+    def begin():
+        os.setsid()
+        end_with(parent)
+    return {"preexec_fn": begin}
