@@ -18,21 +18,20 @@ typedef struct { const char *at; u64 length; } part;         /* of a text, witho
 #endif
 
 /* records.c: the record. */
-extern u64 record_count;               /* before the first pass: no more than these */
+extern u64 record_count;               /* the passes may make it less */
 extern const char *recording_cut;      /* why the record is not that of the whole run; or null */
-void open_record(const char *path);
+void open_record(const char *path);    /* dies where it is damaged, or a copy that was cut or changed */
 extern u64 carried_count;              /* how many of them are of blocks that were there before */
-void carry_blocks(const char *path);   /* of the record's segment before: puts the file's records before all others */
+void carry_blocks(const char *path);   /* of the record's segment before: the file's records come before all others */
 u32 threads_met(void);                 /* after the first pass */
-int is_record(u64 i);                  /* in the first pass; after it there are `record_count` */
-void check_sum(void);                  /* after the first pass over all records; dies where a copy was cut or changed */
-enum { RECORDS_AT_ONCE = 1 << 20 };    /* a multiple of a page's; so many are in memory at a time */
-void forget_records(u64 from, u64 end);
+void begin_records(void);              /* each pass */
+extern u64 records_end;                /* the records before it can be asked for, from the end before on */
+void next_records(void);
+void forget_before(u64 i);             /* the entries of the file */
 enum operation operation_of(u64 i);
 u64 address_of(u64 i), caller_of(u64 i), size_of(u64 i);
 void name_piece(u64 i, char *piece);   /* of a record OP_NAME: NAME_PIECE bytes and an end */
 u64 depth_inside(u64 i);               /* DEPTH_BEFORE where it is told by records before */
-extern u32 thread_count;               /* of those met in this pass */
 void begin_thread_pass(void);
 int meet_fork(u64 i);                  /* each pass calls these for each fork and join; 0 where there are too many threads */
 void meet_join(u64 i);
@@ -45,8 +44,13 @@ int is_for_object(u64 i);
 int acquires(u64 i), releases(u64 i);  /* of an atomic access or a fence */
 u64 accessed_bytes(u64 i);
 
-/* late.c: gives the same entries with each access in its place that is late, and how many there are then. */
-struct record *with_late_in_place(const struct record *records, u64 *count, const char *path);
+/* late.c: the entries of a record with each access in its place that is late. */
+static inline enum operation operation_in(struct record r) { return r.what >> 48 & 63; }
+static inline int is_late(struct record r) { return operation_in(r) == OP_LATE; }
+static inline int is_of_two(struct record r) { return is_late(r) || r.what >> 54 == SIZE_FOLLOWS; }
+int is_good_late(u64 position, struct record access, u64 i); /* of an entry OP_LATE, and the one behind it */
+u64 find_late(const struct record *of_record, u64 record_entries);       /* gives how many entries there are with these in place */
+u64 merge(struct record *to, u64 room, u64 *at);             /* of the entries from `at` on, which is set to those behind: so many, or one more; 0: they are damaged */
 
 /* sources.c: the source files of modules, and how they are named. */
 extern int whole_paths;

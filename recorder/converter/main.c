@@ -88,13 +88,10 @@ static u32 threads_of_record;
 static inline __attribute__((always_inline)) void pass(void (*step)(u64), int is_first) {
     begin_memory_pass();
     begin_thread_pass();
+    begin_records();
     for (u64 i = 0; i < record_count && !cut_reason; i++) {
-        if (i && i % RECORDS_AT_ONCE == 0) forget_records(i - RECORDS_AT_ONCE, i);
+        if (i == records_end) next_records();
         if (!is_first && !known[i]) continue;
-        if (is_first && !is_record(i)) {
-            record_count = i;
-            break;
-        }
         enum operation operation = operation_of(i);
         if (operation == OP_SIZE) continue;
         if (operation == OP_FORK && !meet_fork(i)) {
@@ -228,7 +225,6 @@ int main(int count, char **words) {
     if (stacks_path) open_stacks(stacks_path);
     pass(meet_record, 1);
     threads_of_record = threads_met();
-    if (!shortened) check_sum();
     pass(find_cuts, 0);
     find_places();
     pass(find_sharing, 0);

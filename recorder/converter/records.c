@@ -10,20 +10,60 @@
 
 enum { MAX_FREED = 1024 };
 
-static struct record *records;
 static const char *record_path;
 u64 record_count;
 
-enum operation operation_of(u64 i) { return records[i].what >> 48 & 63; }
-u64 address_of(u64 i) { return records[i].where & LOW_48_BITS; }
-u64 caller_of(u64 i) { return records[i].what & LOW_48_BITS; }
+/* ---- the records at hand ---- */
+static const struct record *entries, *carried;               /* of the file; of the segment before */
+static u64 entry_count, entry_at;      /* those before are passed */
+static struct record *merged;          /* where some are late: those at hand */
+enum { AT_ONCE = 1 << 16 };            /* or one more */
+static uintptr_t at_hand;              /* where record 0 would stand, if all before them were */
+u64 records_end, carried_count;
+
+static inline const struct record *record_at(u64 i) { return (const struct record *)(at_hand + i * sizeof(struct record)); }
+
+static void have_at_hand(const struct record *from, u64 count) {
+    at_hand = (uintptr_t)from - records_end * sizeof *from;
+    records_end += count;
+}
+
+void begin_records(void) { records_end = entry_at = 0; }
+
+/* A pass over all has gone by those before: they needn't stay in memory. */
+void forget_before(u64 i) {
+    enum { PAGE = 4096 };
+    static u64 forgotten;
+    if (i < forgotten) forgotten = 0;
+    if (i - forgotten < AT_ONCE) return;
+    uintptr_t first = (uintptr_t)&entries[forgotten] & -PAGE, behind = (uintptr_t)&entries[i] & -PAGE;
+    madvise((void *)first, behind - first, MADV_DONTNEED);
+    forgotten = i;
+}
+
+void next_records(void) {
+    u64 left = entry_count - entry_at, count = left < AT_ONCE ? left : AT_ONCE;
+    forget_before(entry_at);
+    if (records_end < carried_count) have_at_hand(carried, carried_count);
+    else if (merged) {
+        if (!(count = merge(merged, AT_ONCE, &entry_at))) die("record of %s is damaged: an access that is late has no place", record_path);
+        have_at_hand(merged, count);
+    } else {
+        have_at_hand(&entries[entry_at], count);
+        entry_at += count;
+    }
+}
+
+enum operation operation_of(u64 i) { return operation_in(*record_at(i)); }
+u64 address_of(u64 i) { return record_at(i)->where & LOW_48_BITS; }
+u64 caller_of(u64 i) { return record_at(i)->what & LOW_48_BITS; }
 
 /* ---- threads: a number that was joined is used again by the next one that is forked with it ---- */
-u32 thread_count;
+static u32 thread_count;               /* of those met in this pass */
 static u32 with_number[THREAD_NUMBERS];
 static uint8_t is_joined[THREAD_NUMBERS];
 
-u32 thread_of(u64 i) { return with_number[records[i].where >> 48]; }
+u32 thread_of(u64 i) { return with_number[record_at(i)->where >> 48]; }
 u32 other_thread_of(u64 i) { return with_number[address_of(i)]; }
 
 void begin_thread_pass(void) {
@@ -55,88 +95,64 @@ int meet_fork(u64 i) {
 
 u32 threads_met(void) { return thread_count > own_numbers ? thread_count : own_numbers; }
 
-static int size_follows(u64 i) { return records[i].what >> 54 == SIZE_FOLLOWS; }
-static int is_access(u64 i) { return operation_of(i) == OP_READ || operation_of(i) == OP_WRITE; }
-static int is_late(u64 i) { return operation_of(i) == OP_LATE; }
+static int size_follows(const struct record *r) { return r->what >> 54 == SIZE_FOLLOWS; }
+static int is_access(const struct record *r) { return operation_in(*r) == OP_READ || operation_in(*r) == OP_WRITE; }
 
-u64 size_of(u64 i) {
-    u64 inside = records[i].what >> 54;
-    if (inside == SIZE_FOLLOWS) return records[i + 1].where;
-    if (!is_access(i)) return inside;
+static u64 size_in(const struct record *r) {
+    u64 inside = r->what >> 54;
+    if (inside == SIZE_FOLLOWS) return r[1].where;
+    if (!is_access(r)) return inside;
     return inside & IS_RANGE ? inside - IS_RANGE : 1ull << (inside & ((1 << LOGARITHM_BITS) - 1));
 }
 
-void name_piece(u64 i, char *piece) { piece_of_name(records[i], piece); }
+u64 size_of(u64 i) { return size_in(record_at(i)); }
+
+void name_piece(u64 i, char *piece) { piece_of_name(*record_at(i), piece); }
 
 u64 depth_inside(u64 i) {
-    u64 inside = records[i].what >> 54;
-    return is_access(i) && !(inside & IS_RANGE) ? inside >> LOGARITHM_BITS : DEPTH_BEFORE;
+    u64 inside = record_at(i)->what >> 54;
+    return is_access(record_at(i)) && !(inside & IS_RANGE) ? inside >> LOGARITHM_BITS : DEPTH_BEFORE;
 }
 
-static int is_good(u64 i) {
-    enum operation operation = operation_of(i);
-    if (operation == OP_NONE || operation >= OP_LATE) return 0;
-    if (records[i].where >> 48 >= THREAD_NUMBERS && operation != OP_SIZE) return 0;
-    if (operation == OP_SIZE) return i > 0 && size_follows(i - 1) && !size_follows(i);
-    if (is_access(i) && size_of(i) > 16 && !(records[i].what >> 54 & IS_RANGE)) return 0;
-    if (size_follows(i) && (operation_of(i + 1) != OP_SIZE || size_of(i) >= MAX_SIZE)) return 0;
-    if (operation == OP_FRAME) return size_of(i) < MOST_FRAMES;
-    if (operation == OP_CONTEXT) return size_of(i) <= 1;
-    if (operation == OP_NAME) return size_of(i) == 0 || size_of(i) == NAME_PIECE;
-    return (operation != OP_FORK && operation != OP_JOIN) || address_of(i) < THREAD_NUMBERS;
+/* ---- whether the entries are good ---- */
+static int is_good(const struct record *r) {
+    enum operation operation = operation_in(*r);
+    if (operation <= OP_SIZE || operation >= OP_LATE || r->where >> 48 >= THREAD_NUMBERS) return 0;
+    if (is_access(r) && size_in(r) > 16 && !(r->what >> 54 & IS_RANGE)) return 0;
+    if (size_follows(r) && (operation_in(r[1]) != OP_SIZE || size_follows(r + 1) || size_in(r) >= MAX_SIZE)) return 0;
+    if (operation == OP_FRAME) return size_in(r) < MOST_FRAMES;
+    if (operation == OP_CONTEXT) return size_in(r) <= 1;
+    if (operation == OP_NAME) return size_in(r) == 0 || size_in(r) == NAME_PIECE;
+    return (operation != OP_FORK && operation != OP_JOIN) || (r->where & LOW_48_BITS) < THREAD_NUMBERS;
 }
 
-u64 carried_count;
+/* The entry or the two at `r`, which are of the first `count` ones. Gives how many they are; 0 where they aren't whole. */
+static u64 check(const struct record *r, u64 i, u64 count) {
+    if (!r[i].what || (is_of_two(r[i]) && (i + 1 == count || !r[i + 1].what))) return 0;
+    const struct record *its = &r[i + is_late(r[i])];
+    if (!is_good(its) || (is_late(r[i]) && !is_good_late(r[i].where, *its, i))) die("record %lu of %s is damaged", i + 1, record_path);
+    note_number(its->where >> 48);
+    if (operation_in(*its) == OP_FORK || operation_in(*its) == OP_JOIN) note_number(its->where & LOW_48_BITS);
+    return 1 + is_of_two(r[i]);
+}
 
-/* What a record that is whole says of itself, and what was met of it in the first pass. */
-static u64 whole_count, whole_sum, met_sum;
+/* What a record that is whole says of itself. */
+static u64 whole_count, whole_sum;
 static int has_sum;
 
-static int is_whole(u64 i) {           /* or is cut in two */
-    return records[i].what && (!(size_follows(i) || is_late(i)) || (i + 1 < record_count && records[i + 1].what));
-}
-
-int is_record(u64 i) {
-    if (!is_whole(i)) return 0;
-    if (!is_good(i)) die("record %lu of %s is damaged", i + 1, record_path);
-    if (i >= carried_count) met_sum += entry_sum(i - carried_count, records[i]);
-    if (operation_of(i) != OP_SIZE) note_number(records[i].where >> 48);
-    if (operation_of(i) == OP_FORK || operation_of(i) == OP_JOIN) note_number(address_of(i));
-    return 1;
-}
-
-void check_sum(void) {
-    u64 count = record_count - carried_count;
-    if (has_sum && count < whole_count) die("%s was cut: %lu of its %lu records are there", record_path, count, whole_count);
-    if (has_sum && (count > whole_count || met_sum != whole_sum)) die("%s was changed after it was recorded", record_path);
-}
-
-/* ---- what is late ---- */
-static int is_merged;
-
-/* How many entries there are, up to the first that isn't whole. */
-static u64 count_entries(int *has_late) {
-    u64 end = 0, passed = RECORDS_AT_ONCE;
-    for (; end < record_count && is_whole(end); end += 1 + (size_follows(end) || is_late(end))) {
-        *has_late |= is_late(end);
-        if (end < passed) continue;
-        forget_records(passed - RECORDS_AT_ONCE, passed);
-        passed += RECORDS_AT_ONCE;
-    }
-    return end;
-}
-
-/* The sum is of the entries as they stand in the file. */
-static void put_late_in_place(void) {
+/* The entries up to the first that isn't whole. */
+static void check_entries(u64 most) {
+    u64 sum = 0;
     int has_late = 0;
-    u64 end = count_entries(&has_late);
-    if (!has_late) return;
-    record_count = end;
-    for (u64 i = 0; i < end; i++) met_sum += entry_sum(i, records[i]);
-    check_sum();
-    has_sum = 0;
-    records = with_late_in_place(records, &record_count, record_path);
-    is_merged = 1;
+    for (u64 more; entry_count < most && (more = check(entries, entry_count, most));) {
+        has_late |= is_late(entries[entry_count]);
+        for (; more; more--, entry_count++) sum += entry_sum(entry_count, entries[entry_count]);
+        forget_before(entry_count);
+    }
+    if (has_sum && entry_count < whole_count) die("%s was cut: %lu of its %lu records are there", record_path, entry_count, whole_count);
+    if (has_sum && (entry_count > whole_count || sum != whole_sum)) die("%s was changed after it was recorded", record_path);
+    record_count = has_late ? find_late(entries, entry_count) : entry_count;
+    if (has_late) merged = zeroed(AT_ONCE + 1, sizeof *merged);
 }
 
 static char *map_file(const char *path, u64 *size) {
@@ -174,13 +190,12 @@ void open_record(const char *path) {
     u64 size;
     char *file = map_file(path, &size);
     if (strncmp(file, RECORD_MAGIC, strlen(RECORD_MAGIC))) refuse(file, path);
-    records = (struct record *)(file + HEADER_BYTES);
+    entries = (struct record *)(file + HEADER_BYTES);
     record_path = path;
-    record_count = (size - HEADER_BYTES) / sizeof *records;
     memcpy(header, file, HEADER_BYTES);
     note_how_it_ended(header + ENDED_AT);
     header[ENDED_AT] = 0;
-    put_late_in_place();
+    check_entries((size - HEADER_BYTES) / sizeof *entries);
     read_modules(header);
 }
 
@@ -188,19 +203,14 @@ void carry_blocks(const char *path) {
     struct stat status;
     FILE *file = fopen(path, "r");
     if (!file || fstat(fileno(file), &status)) die("cannot read %s: %s", path, strerror(errno));
-    carried_count = status.st_size / sizeof *records;
-    struct record *all = zeroed(carried_count + record_count, sizeof *all);
-    if (fread(all, sizeof *all, carried_count, file) != carried_count) die("cannot read %s", path);
+    carried_count = status.st_size / sizeof *carried;
+    struct record *blocks = zeroed(carried_count, sizeof *blocks);
+    if (fread(blocks, sizeof *blocks, carried_count, file) != carried_count) die("cannot read %s", path);
     fclose(file);
-    memcpy(all + carried_count, records, record_count * sizeof *all);
-    records = all;
+    for (u64 i = 0, more; i < carried_count; i += more)
+        if (!(more = check(blocks, i, carried_count))) die("%s is damaged", path);
+    carried = blocks;
     record_count += carried_count;
-    is_merged = 1;
-}
-
-/* A pass has gone by these: they needn't stay in memory. */
-void forget_records(u64 from, u64 end) {
-    if (!is_merged) madvise(&records[from], (end - from) * sizeof *records, MADV_DONTNEED);
 }
 
 /* ---- what a record accesses ---- */

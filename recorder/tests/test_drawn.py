@@ -120,7 +120,7 @@ FAULTS = {  # to plant in the converter: the file, what stands there, and what i
     "cuts": ("accesses.c", "if (operation_of(i) != OP_FREE) cut(end_of(i));", ""),
     "atomics": ("accesses.c", "if (u.writes_atomically && is_read_by_others(users, t)) {", "if (u.writes_atomically && users->many_readers) {"),
     "reuse": ("memory.c", "u32 newest = grain > p->whole ? grain : p->whole;", "u32 newest = grain ? 1 : p->whole;"),
-    "late": ("late.c", "return one < other ? -1 : one > other;", "return one > other ? -1 : one < other;"),
+    "late": ("late.c", "return here != there ?", "return entry_behind(here) != entry_behind(there) ?"),
     "scan_name": ("events.c", "        part name = variable_name(p->at, block", "        part name = variable_name(p->at & ~1ul, block"),
     "shared_lock": ("objects.c", "    int orders = o->many_users || whole_trace;", "    int orders = whole_trace || is_atomic(i);"),
     "repeats": ("accesses.c", " && last->writes == this.writes", ""),
