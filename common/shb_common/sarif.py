@@ -62,13 +62,6 @@ class Access(typing.NamedTuple):
     files: dict
 
 
-class NoSources:
-    """Where no repository is named no file is found."""
-
-    def find(self, path, compiled=b""):
-        return None
-
-
 class Here:
     """The files of the repository that the working folder is in; without one, those below that folder."""
 
