@@ -96,23 +96,23 @@ class Conversion:
         self.words = [CONVERTER, "--scan", "--only", "/dev/stdin", "--page", self.trace, "--uses", self.uses, "--stacks", self.stacks,
                       *(["--left", self.left] if options.live else []), *self.page_words]
         self.size, self.notes, self.cuts = "", [], []  # known at the end: how much there is, what is said of it, what makes it a part
-        self.numbers = {}
+        self.numbers, self.has_page = {}, False
 
-    def places(self, scan, tell):
-        """The places of the run, which are given to `tell` first. Where there are some the page's trace is there then."""
+    def places(self, scan, choose):
+        """The places of the run. Of those that `choose` gives of them the page's trace is there then."""
         with tempfile.TemporaryFile() as said, subprocess.Popen(self.words, stdin=subprocess.PIPE, stdout=scan.descriptor, stderr=said, **apart()) as ran:
             scan.begun()
             try:
-                places, fault = [], None
+                places, chosen, fault = [], [], None
                 try:
                     places = scan.places()
-                    tell(self.process, places)
+                    chosen = choose(self.process, places)
                 except Refused as its:
                     fault = its
                 if places:
                     scan.copy(self.scan)
                 with contextlib.suppress(BrokenPipeError):  # its status says how it ended
-                    ran.stdin.write(b"".join(lines_of(places)))
+                    ran.stdin.write(b"".join(lines_of(chosen)))
                     ran.stdin.close()
                 status = ran.wait()
                 if fault and status in (0, NOT_WHOLE, -signal.SIGPIPE):
@@ -120,12 +120,12 @@ class Conversion:
                 self.end(status, said)
             finally:
                 ran.kill()
-        if places:
-            self.numbers = self.numbers_of(places)
+        if chosen:
+            self.note_page(chosen)
         return places
 
-    def numbers_of(self, places):
-        """`numbers`; the events of the page's trace that are those of races of the run have the same lines."""
+    def note_page(self, places):
+        """The page's trace is there: its events that are those of races of the run have the same lines."""
         try:
             uses = Uses(self.uses)
         except BadUses as fault:
@@ -139,14 +139,14 @@ class Conversion:
                     raise Contradiction(f"{self.process.name}: event {number:,} of the page's trace isn't that of `shb scan`")
         if wanted:
             raise Contradiction(f"{self.process.name}: the page's trace lacks {counted(len(wanted), 'event')} of `shb scan`")
-        return {race.events: pair for race in races for pair in [uses.pair(*race.events)] if pair}
+        self.numbers, self.has_page = {race.events: pair for race in races for pair in [uses.pair(*race.events)] if pair}, True
 
     def write_page(self, places):
         """Writes the trace of a page anew, around the races of these places."""
         with tempfile.TemporaryFile() as said, open(self.trace, "wb") as out:
             words = [CONVERTER, "--only", "/dev/stdin", "--uses", self.uses, "--stacks", self.stacks, *self.page_words]
             self.end(subprocess.run(words, input=b"".join(lines_of(places)), stdout=out, stderr=said, **apart()).returncode, said)
-        self.numbers = self.numbers_of(places)
+        self.note_page(places)
 
     def end(self, status, file):
         file.seek(0)

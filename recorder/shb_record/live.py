@@ -48,6 +48,7 @@ class Live(Look):
         self.last = {}  # of each process: the number of its last segment, by its file, and how many it has
         self.segments = self.dropped = self.events = self.failed = 0
         self.said = set()  # of notes each is said once
+        self.met, self.passed = {}, 0  # what `add_new` gave of a program's variable at a place; segments that had nothing else
 
     def next_one(self):
         """Looks at the segment that was closed first, if one is there. Gives whether it was."""
@@ -111,8 +112,26 @@ class Live(Look):
         self.last[base] = segment, count + missing + 1
         return base, count + missing + 1
 
-    def tell(self, process, places):
-        """What is new is shown soon, and the rest was shown."""
+    def choose(self, process, places):
+        """What is new is shown soon. Where nothing is, there is no page."""
+        if all(self.is_met(process, place) for place in places):
+            self.passed += bool(places)
+            return []
+        return places
+
+    def is_met(self, process, place):
+        """What is on a stack may be another local in each segment."""
+        return not place.has_more and all(way_to(process, place, variable) in self.met and not variable.startswith(b"stack.")
+                                          for variable in place.variables)
+
+    def add_new(self, process, looked, places, is_behind=False):
+        if places and not looked.conversion.has_page:
+            found = [(place, {variable: self.met[way_to(process, place, variable)] for variable in place.variables}) for place in places]
+            return [], [(next(key for key, _ in its.values()), place, {variable: name for variable, (_, name) in its.items()}) for place, its in found]
+        new, named = super().add_new(process, looked, places, is_behind)
+        if not is_behind:
+            self.met.update((way_to(process, place, variable), (key, name)) for key, place, names in named for variable, name in names.items())
+        return new, named
 
     def keep_failed(self, process):
         self.failed += 1
@@ -141,8 +160,15 @@ class Live(Look):
 
     def counts(self):
         yield f"{counted(self.segments, 'segment')} with {counted(self.events, 'event')} looked at"
+        if self.passed:
+            yield f"{counted(self.passed, 'segment')} had places of earlier ones alone, and no page"
         if self.dropped:
             yield f"{counted(self.dropped, 'segment')} dropped, since they came faster than they could be looked at: their races are missed"
+
+
+def way_to(process, place, variable):
+    """Which variable of a program at which place, in each segment alike."""
+    return process.program, place.first, place.second, known.lasting(variable)
 
 
 def segment_of(path):

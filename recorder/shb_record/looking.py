@@ -112,7 +112,7 @@ class Look:
         check_room(process, self.options.window)
         conversion = looked.conversion
         with scanning(self.results.work) as scan:
-            looked.places = conversion.places(scan, self.tell)
+            looked.places = conversion.places(scan, self.choose)
             looked.events = scan.events
         if looked.events:
             self.modules.add(process.modules)
@@ -138,11 +138,12 @@ class Look:
         conversion.trace, conversion.scan, conversion.uses, conversion.stacks = (
             self.results.keep(path, f"{process.base}{path.suffix}") for path in (conversion.trace, conversion.scan, conversion.uses, conversion.stacks))
 
-    def tell(self, process, places):
-        """Says which places there are where the command was told to end: what comes then takes its time."""
+    def choose(self, process, places):
+        """The places that are to be on a page. Where the command was told to end they are said: what comes then takes its time."""
         if self.stops.first and places:
             say(f"{process.name}: {counted(len(places), 'place')} with races:")
             say_places((place, place.variables) for place in places)
+        return places
 
     def look_again(self, process, looked):
         """Looks behind the known races of a process."""

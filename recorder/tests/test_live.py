@@ -76,6 +76,22 @@ class Live(recorder.Case):
         self.assertNotEqual(ran.returncode, 66, said)
         self.assertIn("0 unknown places with races, 2 known ones passed over", said)
 
+    def test_a_segment_with_known_places_alone_has_no_page(self):
+        """The program makes one record three times, as three segments. With known places there is a second look at each."""
+        program, record, known = (self.folder / name for name in ("status", "one.rec", "known"))
+        recorder.build(recorder.PROGRAMS / "status.c", "-O1", program)
+        recorder.call(program, "0", "race", env=recorder.settings(record))
+        known.write_text("status.c:9\tstatus.c:9\n")
+        copies = "for n in 1 2 3; do cp $0 $(echo $SHB_RECORD | sed s/%p/7/\\;s/%s/$n/); done"
+        for words, status, pages in ((), 66, 1), (("--known", known), 0, 0):
+            ran = recorder.call(recorder.BUILT / "shb-record", "--live", "-o", f"out{pages}", *words, "sh", "-c", copies, record, cwd=self.folder,
+                                env={**os.environ, "SHB": str(recorder.SHB)})
+            said = ran.stderr.decode()
+            self.assertEqual(ran.returncode, status, said)
+            self.assertIn("2 segments had places of earlier ones alone, and no page\n", said)
+            self.assertEqual(len(re.findall(r"(?m)^shb-record: page: .*run1\.7\.1\.html$", said)), pages, said)
+            self.assertEqual({path.stem for path in (self.folder / f"out{pages}").glob("run*")}, {"run1.7.1"})
+
     def test_the_segments_of_a_record(self):
         """They are few, the last of many, and each is a record of its own: with its threads' names, and no race of what a lock orders that
         was taken before it began."""
