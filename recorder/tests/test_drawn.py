@@ -114,6 +114,12 @@ class Decided(recorder.Case):
             places += len(found)
         self.assertGreater(places, 1000)
 
+    def test_a_record_that_is_read_a_few_entries_at_a_time(self):
+        few = test_open.planted(self.folder / "few", "records.c", "AT_ONCE = 1 << 16", "AT_ONCE = 3")
+        for seed in range(50):
+            _, path = draw_record(self.folder, seed)
+            self.assertEqual(recorder.must(recorder.call(few, path)).stdout, recorder.must(recorder.convert(path)).stdout, seed)
+
 
 FAULTS = {  # to plant in the converter: the file, what stands there, and what in its place
     "users": ("accesses.c", "if (b->user != t + 1 || with_others) b->many_users = 1;", "if (with_others) b->many_users = 1;"),
