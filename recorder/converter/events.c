@@ -187,8 +187,8 @@ void write_lines(void) {
     lines_bytes = 0;
 }
 
-static char *add_line(char *to, u32 t, const char *operation, part name, const char *tail, part place) {
-    to = add(to, name_of_thread(t));
+static char *add_line(char *to, part thread, const char *operation, part name, const char *tail, part place) {
+    to = add(to, thread);
     *to++ = '|';
     to = add_text(to, operation);
     *to++ = '(';
@@ -225,19 +225,13 @@ static void keep_line(const char *end, u32 stack) {
 }
 
 /* ---- the trace of a page ---- */
-static void keep_hold(const char *operation, part thread, part lock, part place, u32 stack) {
-    char *to = add(room_for_line(), thread);
-    *to++ = '|';
-    to = add_text(to, operation);
-    *to++ = '(';
-    to = add_text(add(to, lock), ")|");
-    to = add(to, place);
-    *to++ = '\n';
-    keep_line(to, stack);
+static void acquire_again(part thread, part lock, part place, u32 stack) {
+    keep_line(add_line(room_for_line(), thread, "acq", lock, "", place), stack);
 }
 
-static void acquire_again(part thread, part lock, part place, u32 stack) { keep_hold("acq", thread, lock, place, stack); }
-static void release_before(part thread, part lock, part place, u32 stack) { keep_hold("rel", thread, lock, place, 0); }
+static void release_before(part thread, part lock, part place, u32 stack) {
+    keep_line(add_line(room_for_line(), thread, "rel", lock, "", place), 0);
+}
 
 /* Gives whether the page's trace has the next event: all between two ends of a span, else forks and joins, and the first of a thread. */
 static enum page_step meet_page(void) {
@@ -270,7 +264,7 @@ void hold_event(u32 t, const char *operation, part name, const char *tail, u64 c
     enum page_step step = for_page ? meet_page() : PAGE_GOES_ON;
     char *line = room_for_line();
     part place = place_of(caller), thread = name_of_thread(t);
-    char *end = add_line(line, t, operation, name, tail, place);
+    char *end = add_line(line, thread, operation, name, tail, place);
     const char *operand = line + thread.length + strlen(operation) + 2;
     if (is_first) threads[t].number = trace_thread(thread.at, thread.length);
     if (written == event_limit && for_page) end_page();
@@ -280,7 +274,7 @@ void hold_event(u32 t, const char *operation, part name, const char *tail, u64 c
     need_event(trace_event(end - line - 1, kind, threads[t].number, (part){operand, name.length + strlen(tail)}, place, stack), line, end);
     events++;
     if (for_page && !is_for_page(step, kind, is_first)) return;
-    if ((kind == IS_ACQUIRE || kind == IS_RELEASE) && step != SPAN_BEGINS && step != PAGE_GOES_ON) end = add_line(line, t, "begin", thread, "", place);
+    if ((kind == IS_ACQUIRE || kind == IS_RELEASE) && step != SPAN_BEGINS && step != PAGE_GOES_ON) end = add_line(line, thread, "begin", thread, "", place);
     keep_line(end, stack);
     if (for_page) note_written(events, written);
 }
