@@ -182,7 +182,7 @@ narrow_batch trace sizes flags narrowed from to within settled are = record {
           | inl lt ↦ absurd (let f : true ≡ false = sym h ∙ are.outside x low (inl lt) in let bad : ⊥ = cc in bad)
           | inr ge ↦ elim (cases_lt x to) [
             | inl less ↦ (ge, less)
-            | inr past ↦ absurd (let f : true ≡ false = sym h ∙ are.outside x low (inr past) in let bad : ⊥ = cc in bad)
+            | inr history ↦ absurd (let f : true ≡ false = sym h ∙ are.outside x low (inr history) in let bad : ⊥ = cc in bad)
           ]
         ]),
         (λ h. elim (cases_Bool (is_open flags x)) [
@@ -222,9 +222,9 @@ below_between trace from (suc to) le = elim (cases_lt from (suc to)) [
       ∙ (ap (λ (l : List (ℕ × ℕ)). l ++ races_on trace to) before
       ∙ (append_assoc (races_below trace from) (races_between trace from to) (races_on trace to)
       ∙ ap (λ (l : List (ℕ × ℕ)). races_below trace from ++ l) (sym (between_next trace from to (omega (arith, less))))))))
-  | inr past ↦ (
-      let e : suc to ≡ from = omega (arith, le, past) in
-      ap (races_below trace) e ∙ sym (ap (λ (ks : List ℕ). races_below trace from ++ flat_map (races_on trace) ks) (nothing_between trace from (suc to) past) ∙ append-nil (races_below trace from)))
+  | inr history ↦ (
+      let e : suc to ≡ from = omega (arith, le, history) in
+      ap (races_below trace) e ∙ sym (ap (λ (ks : List ℕ). races_below trace from ++ flat_map (races_on trace) ks) (nothing_between trace from (suc to) history) ∙ append-nil (races_below trace from)))
 ]
 
 -- all of them are the race list
@@ -237,11 +237,11 @@ pub narrowed_more : (flags old new : List Bool) (n from to : ℕ) (b : Bool) →
 narrowed_more flags old new n from to b h many pushed inside_is outside_is = record {
   inside = λ x lt ge less. elim (cases_lt x n) [
     | inl before ↦ stays x before ∙ h.inside x before ge less
-    | inr past ↦ (let e : x ≡ n = omega (arith, lt, past) in last x e ∙ (inside_is (omega (arith, ge, e)) (omega (arith, less, e)) ∙ ap (is_open flags) (sym e)))
+    | inr history ↦ (let e : x ≡ n = omega (arith, lt, history) in last x e ∙ (inside_is (omega (arith, ge, e)) (omega (arith, less, e)) ∙ ap (is_open flags) (sym e)))
   ];
   outside = λ x lt out. elim (cases_lt x n) [
     | inl before ↦ stays x before ∙ h.outside x before out
-    | inr past ↦ (let e : x ≡ n = omega (arith, lt, past) in last x e ∙ outside_is (subst (λ (k : ℕ). (k < from) ⊎ (to ≤ k)) e out))
+    | inr history ↦ (let e : x ≡ n = omega (arith, lt, history) in last x e ∙ outside_is (subst (λ (k : ℕ). (k < from) ⊎ (to ≤ k)) e out))
   ];
 }
   where

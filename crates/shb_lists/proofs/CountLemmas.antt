@@ -17,7 +17,7 @@ use Rattle.shb_format.specs.Keyed.{Key, Keyed, counted_of, same_key, with_more}
 use Rattle.shb_format.specs.Report.{pair_of}
 use Rattle.shb_format.specs.declared.places.PlaceCount.{PlaceCount}
 use Rattle.shb_lists.specs.Counted.{HasCounted, IsCounted, by_number, only, times, with_places}
-use Rattle.shb_lists.specs.Unknown.{AreBelow, AreRacingCounts, number_in}
+use Rattle.shb_lists.specs.RacingCounts.{AreBelow, AreRacingCounts, number_in}
 use Rattle.shb_lists.specs.declared.counter.RaceCounter.{RaceCounter}
 use Rattle.shb_lists.proofs.CountsByPlace.{at_key, grown_at, grown_same, grown_zero, key_of, more_grown, not_yet, only_none, only_self, other_first, same_number}
 use Rattle.shb_lists.proofs.LeadingPlaces.{places_differ, places_empty}
@@ -209,11 +209,11 @@ module _ (numbers : List ℕ) (j : ℕ) where
       omega (arith, none, rest)
 
   times_past : (n : ℕ) (key : Key) → n ≤ key.0 → (firsts : List ℕ) → All (λ i. number_in numbers i < n) firsts → times numbers (pairs_with j firsts) key ≡ 0
-  times_past n key past [] below = refl
-  times_past n key past (i ∷ firsts) below =
+  times_past n key history [] below = refl
+  times_past n key history (i ∷ firsts) below =
       let here = below 0 i (omega arith) in
-      let none : cond {A = ℕ} (same_key (key_of (number_in numbers i) (number_in numbers j)) key) 1 0 ≡ 0 = ap (λ (b : Bool). cond {A = ℕ} b 1 0) (other_first (number_in numbers i) (number_in numbers j) key (λ e. omega (arith, here, past, e))) in
-      let rest = times_past n key past firsts (λ k d lt. below (suc k) d (omega arith)) in
+      let none : cond {A = ℕ} (same_key (key_of (number_in numbers i) (number_in numbers j)) key) 1 0 ≡ 0 = ap (λ (b : Bool). cond {A = ℕ} b 1 0) (other_first (number_in numbers i) (number_in numbers j) key (λ e. omega (arith, here, history, e))) in
+      let rest = times_past n key history firsts (λ k d lt. below (suc k) d (omega arith)) in
       omega (arith, none, rest)
 
   module _ (counts firsts : List ℕ) where
@@ -224,8 +224,8 @@ module _ (numbers : List ℕ) (j : ℕ) where
           let before = by_times n key (λ r l. are r (omega arith)) less in
           let here = only_none (key_of n (number_in numbers j)) (get_or counts n 0) key (other_first n (number_in numbers j) key (λ e. omega (arith, less, e))) in
           omega (arith, before, here))
-      | inr past ↦ (
-          let same : n ≡ key.0 = omega (arith, lt, past) in
+      | inr history ↦ (
+          let same : n ≡ key.0 = omega (arith, lt, history) in
           elim (eqb_tells (number_in numbers j) key.1) [
             | inl e ↦ (
                 let is : key_of n (number_in numbers j) ≡ key = ap (λ (a : ℕ). key_of a (number_in numbers j)) same ∙ ap (key_of key.0) e.1 in
@@ -235,7 +235,7 @@ module _ (numbers : List ℕ) (j : ℕ) where
                 let all = times_key n firsts in
                 subst (λ (k : Key). by_number (number_in numbers j) counts (suc n) k ≡ times numbers (pairs_with j firsts) k) is (omega (arith, before, here, many, all)))
             | inr e ↦ (
-                let before = not_yet (number_in numbers j) counts n key past in
+                let before = not_yet (number_in numbers j) counts n key history in
                 let here = only_none (key_of n (number_in numbers j)) (get_or counts n 0) key (ap (λ (b : Bool). nat_eq n key.0 && b) e.0 ∙ and_false (nat_eq n key.0)) in
                 let all = times_other key e.0 firsts in
                 omega (arith, before, here, all))
@@ -246,7 +246,7 @@ module _ (numbers : List ℕ) (j : ℕ) where
         → (key : Key) → by_number (number_in numbers j) counts n key ≡ times numbers (pairs_with j firsts) key
     all_times n are below key = elim (cases_lt key.0 n) [
       | inl less ↦ by_times n key are less
-      | inr past ↦ not_yet (number_in numbers j) counts n key past ∙ sym (times_past n key past firsts below)
+      | inr history ↦ not_yet (number_in numbers j) counts n key history ∙ sym (times_past n key history firsts below)
     ]
 
 module _ (trace : List Event) (numbers : List ℕ) (classes : ℕ) (counts : List ℕ) (j : ℕ) (are : AreBelow trace numbers classes) (within : j < length trace) (racing : AreRacingCounts trace numbers j classes counts) where

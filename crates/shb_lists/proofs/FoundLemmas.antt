@@ -16,7 +16,7 @@ use Rattle.shb_lines.proofs.events.Reach.{any_below_is, event_at_access, numbers
 use Rattle.shb_lists.specs.Occurs.{occurs}
 use Rattle.shb_lists.proofs.OccursLemmas.{occurs_filter, occurs_none, occurs_once, sorted_same}
 use Rattle.shb_pairs.proofs.Counting.{key_no}
-use Rattle.shb_lists.specs.Past.{IsAccess, racing_by}
+use Rattle.shb_lists.specs.History.{IsAccess, racing_by}
 use Rattle.shb_lists.specs.Rivals.{HasRivals, is_met}
 use Rattle.shb_lists.specs.declared.rivals.Rival.{Rival}
 use Rattle.shb_lists.specs.declared.search.Access.{Access}
@@ -41,7 +41,7 @@ sum_none f (x ∷ xs) same =
     omega (arith, a, rest, e)
 
 numbers_rise : (f : ℕ → Bool) (n : ℕ) → IsNonDecreasing (numbers_where f n)
-numbers_rise f n = λ i j d le lt. elim (cases_lt i j) [ inl less ↦ (let rise = AllPairs-from_increasing (numbers_where f n) (numbers_listed f n).rising i j d less lt in omega (arith, rise)) | inr past ↦ (let e : i ≡ j = omega arith in rw e (omega arith)) ]
+numbers_rise f n = λ i j d le lt. elim (cases_lt i j) [ inl less ↦ (let rise = AllPairs-from_increasing (numbers_where f n) (numbers_listed f n).rising i j d less lt in omega (arith, rise)) | inr history ↦ (let e : i ≡ j = omega arith in rw e (omega arith)) ]
 
 -- the thread of an access
 thread_known : (trace : List Event) (x k : ℕ) → variable_at trace k ≡ Some x → (t : ℕ) × (thread_at trace k ≡ Some t)

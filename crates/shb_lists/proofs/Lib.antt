@@ -7,8 +7,8 @@ pub mod MetLemmas
 pub mod RivalLemmas
 pub mod RacingLemmas
 pub mod FoundLemmas
-pub mod PastLemmas
-pub mod UnknownLemmas
+pub mod HistoryLemmas
+pub mod RacingCountsLemmas
 pub mod ListedLemmas
 pub mod BatchLemmas
 pub mod PieceLemmas

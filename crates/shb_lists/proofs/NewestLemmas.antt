@@ -37,7 +37,7 @@ newest_is f (suc n) k h = go (cases_Bool (f n)) (newest_is f n k)
           numbers = ap (λ (b : Bool). numbers_where f n ++ cond b (n ∷ []) []) failing ∙ (append-nil (numbers_where f n) ∙ r.numbers);
           greatest = λ i lt passes. elim (cases_lt i n) [
             | inl less ↦ r.greatest i less passes
-            | inr past ↦ absurd (let same : i ≡ n = omega (arith, lt, past) in let f_is : true ≡ false = sym passes ∙ (ap f same ∙ failing) in let bad : ⊥ = cc in bad)
+            | inr history ↦ absurd (let same : i ≡ n = omega (arith, lt, history) in let f_is : true ≡ false = sym passes ∙ (ap f same ∙ failing) in let bad : ⊥ = cc in bad)
           ];
         }
 

@@ -48,8 +48,8 @@ module _ (trace : TraceData) (flags : List Bool) (e number : ℕ) (numbers new_n
   there : (k : ℕ) → k < e + 1 → accesses_open flags trace.events k ≡ true → slice_get wider (get_or new_numbers k 0) ≡ Some (location_at trace k)
   there k below is = elim (cases_lt k e) [
     | inl low ↦ ap (slice_get wider) (before k low) ∙ stays k (get_or numbers k 0) (h.located k low is)
-    | inr past ↦ (
-        let here : e ≡ k = omega (arith, below, past) in
+    | inr history ↦ (
+        let here : e ≡ k = omega (arith, below, history) in
         subst (λ j. slice_get wider (get_or new_numbers j 0) ≡ Some (location_at trace j)) here
         (ap (slice_get wider) last ∙ next.located (ap (accesses_open flags trace.events) here ∙ is)))
   ]
@@ -57,8 +57,8 @@ module _ (trace : TraceData) (flags : List Bool) (e number : ℕ) (numbers new_n
   none_else : (k : ℕ) → k < e + 1 → accesses_open flags trace.events k ≡ false → get_or new_numbers k 0 ≡ 0
   none_else k below isnt = elim (cases_lt k e) [
     | inl low ↦ before k low ∙ h.others k low isnt
-    | inr past ↦ (
-        let here : e ≡ k = omega (arith, below, past) in
+    | inr history ↦ (
+        let here : e ≡ k = omega (arith, below, history) in
         subst (λ j. get_or new_numbers j 0 ≡ 0) here (last ∙ next.none (ap (accesses_open flags trace.events) here ∙ isnt)))
   ]
 

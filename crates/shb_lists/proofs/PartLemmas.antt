@@ -44,7 +44,7 @@ module _ (trace : List Event) (sizes : Sizes) (x : ℕ) (flags : List Bool) (wit
   ]
     where
       beside : (y : ℕ) → y ≢ x → (y < x) ⊎ (x + 1 ≤ y)
-      beside y ne = elim (cases_lt y x) [ inl less ↦ inl less | inr past ↦ inr (omega (arith, past, ne)) ]
+      beside y ne = elim (cases_lt y x) [ inl less ↦ inl less | inr history ↦ inr (omega (arith, history, ne)) ]
 
       other : (k : ℕ) → accesses_at trace x k ≡ false → (y : ℕ) × (variable_at trace k ≡ Some y) × (is_open flags y ≡ true) → ⊥
       other k fails v = elim (cases_eq v.0 x) [
@@ -86,7 +86,7 @@ until_front trace x n (suc m) le = elim (cases_lt n (suc m)) [
       let before = until_front trace x n m (omega (arith, less)) in
       let last = until_suc trace x m in
       (before.0 ++ last.0, last.1 ∙ (ap (λ (l : List (ℕ × ℕ)). l ++ last.0) before.1 ∙ append_assoc (races_until trace x n) before.0 last.0)))
-  | inr past ↦ ([], ap (races_until trace x) (let e : suc m ≡ n = omega (arith, le, past) in e) ∙ sym (append-nil (races_until trace x n)))
+  | inr history ↦ ([], ap (races_until trace x) (let e : suc m ≡ n = omega (arith, le, history) in e) ∙ sym (append-nil (races_until trace x n)))
 ]
 
 pub until_none : (trace : List Event) (x : ℕ) → races_until trace x 0 ≡ []

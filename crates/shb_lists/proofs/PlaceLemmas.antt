@@ -19,7 +19,7 @@ use Rattle.shb_format.proofs.LeadingLemmas.{leading_listed, pairs_back}
 use Rattle.shb_stamps.specs.Open.{is_open}
 use Rattle.shb_pairs.specs.Open.{AreOpen}
 use Rattle.shb_lists.specs.Counted.{AreNumbered, HasCounted, IsLocated}
-use Rattle.shb_lists.specs.Unknown.{AreBelow}
+use Rattle.shb_lists.specs.RacingCounts.{AreBelow}
 use Rattle.shb_lists.specs.declared.counter.RaceCounter.{RaceCounter}
 use Rattle.shb_lists.proofs.BatchLemmas.{accessed_within}
 use Rattle.shb_lists.proofs.ListedLemmas.{open_access}

@@ -21,7 +21,7 @@ use Rattle.shb_lists.specs.declared.plan.BatchPlan.{BatchPlan}
 use Rattle.shb_lists.proofs.BatchLemmas.{between_next, nothing_between}
 use Rattle.shb_lists.proofs.FewRaces.{races_few}
 use Rattle.shb_lists.proofs.PartLemmas.{until_none}
-use Rattle.shb_lists.proofs.PastLemmas.{shut_event}
+use Rattle.shb_lists.proofs.HistoryLemmas.{shut_event}
 
 -- ---- one event more
 
@@ -121,8 +121,8 @@ between_few trace plan from x left most le sum more low = elim (cases_lt from x)
   | inl less ↦ (
       let same = ap (λ (n : ℕ). length (races_between trace from n)) (let e : max x (from + 1) ≡ x = omega (arith, less) in e) in
       omega (arith, same, sum))
-  | inr past ↦ (
-      let same : x ≡ from = omega (arith, le, past) in
+  | inr history ↦ (
+      let same : x ≡ from = omega (arith, le, history) in
       let size = ap (λ (n : ℕ). length (races_between trace from n)) same in
       let none = between_none trace from in
       let own = ap (planned plan.races.items) same in

@@ -13,7 +13,7 @@ use Rattle.shb_lines.proofs.events.Reach.{reflect_race}
 use Rattle.shb_lists.specs.Occurs.{occurs}
 use Rattle.shb_lists.proofs.OccursLemmas.{occurs_append, occurs_filter, occurs_none}
 use Rattle.shb_pairs.proofs.Times.{rival_races, times_rise}
-use Rattle.shb_lists.specs.Past.{AreChained, IsAccess, racing_by}
+use Rattle.shb_lists.specs.History.{AreChained, IsAccess, racing_by}
 use Rattle.shb_lists.specs.Rivals.{IsNewest, is_met, newest_for, newest_where}
 use Rattle.shb_lists.specs.declared.rivals.Newest.{Newest}
 use Rattle.shb_lists.specs.declared.search.Access.{Access}
@@ -99,7 +99,7 @@ module _ (trace : List Event) (access : Access) (t : ℕ) where
             let above = (met_races k (omega (arith, lt, within)) met_k).0 ((reflect_race trace k access.event).0 race) in
             elim (cases_lt k first) [
               | inl less ↦ (let rise = times_rise trace t k first less r.thread in omega (arith, rise, above, le))
-              | inr past ↦ (let high = top k lt passes in let e : k ≡ first = omega (arith, past, high) in let same = ap (λ (n : ℕ). local_time trace t n) e in omega (arith, same, above, le))
+              | inr history ↦ (let high = top k lt passes in let e : k ≡ first = omega (arith, history, high) in let same = ap (λ (n : ℕ). local_time trace t n) e in omega (arith, same, above, le))
             ]
 
         nothing : occurs v (filter (λ i. is_race trace i access.event) (numbers_where (is_met trace access.writes access.variable t) m)) ≡ 0

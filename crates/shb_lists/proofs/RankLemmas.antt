@@ -35,7 +35,7 @@ module _ (f : ℕ → Bool) where
           | inl h ↦ (let one = suc_rank_yes k h in omega (arith, before, one))
           | inr h ↦ (let none = suc_rank_no k h in omega (arith, before, none))
         ])
-    | inr past ↦ (let e : i ≡ suc k = omega arith in rw e (omega arith))
+    | inr history ↦ (let e : i ≡ suc k = omega arith in rw e (omega arith))
   ]
 
   pub rank_less : (i k : ℕ) → i < k → f i ≡ true → rank i < rank k
@@ -70,9 +70,9 @@ module _ (f : ℕ → Bool) where
           let r = before less (is ∙ (ap (λ (l : List ℕ). get_or l p 0) (suc_yes n h) ∙ get_or_append_left (numbers_where f n) (n ∷ []) 0 p less)) in
           let low = r.below in
           record { below = omega (arith, low); passes = r.passes; rank_is = r.rank_is }
-      taken_in h (inr past) before =
+      taken_in h (inr history) before =
           let more = suc_rank_yes n h in
-          let here : length (numbers_where f n) ≡ p = omega (arith, more, lt, past) in
+          let here : length (numbers_where f n) ≡ p = omega (arith, more, lt, history) in
           let same : k ≡ n = is ∙ (ap (λ (l : List ℕ). get_or l p 0) (suc_yes n h) ∙ get_or_push (numbers_where f n) n 0 p here) in
           record { below = omega (arith, same); passes = ap f same ∙ h; rank_is = ap rank same ∙ here }
 

@@ -10,29 +10,29 @@ use Rattle.shb_lines.specs.declared.event.Sizes.{Sizes}
 use Rattle.shb_lines.specs.events.Race.{variable_at}
 use Rattle.shb_stamps.specs.Open.{accesses_open, is_open}
 use Rattle.shb_lists.specs.Counted.{AreRacing, AreTables}
-use Rattle.shb_lists.specs.Past.{IsAccess}
+use Rattle.shb_lists.specs.History.{IsAccess}
 use Rattle.shb_lists.specs.Rivals.{is_met}
-use Rattle.shb_lists.specs.Unknown.{Accessed, IsUnknown, accessed_by}
+use Rattle.shb_lists.specs.RacingCounts.{Accessed, IsRacingCounts, accessed_by}
 use Rattle.shb_lists.specs.declared.racing.Racing.{Racing}
 use Rattle.shb_lists.specs.declared.search.Access.{Access}
 use Rattle.shb_lists.specs.declared.tables.Table.{Table}
-use Rattle.shb_lists.specs.declared.unknown.Side.{Side}
-use Rattle.shb_lists.specs.declared.unknown.Unknown.{Unknown}
+use Rattle.shb_lists.specs.declared.racing_counts.Side.{Side}
+use Rattle.shb_lists.specs.declared.racing_counts.RacingCounts.{RacingCounts}
 use Rattle.shb_lists.proofs.MetLemmas.{met_from_test, met_other_variable, met_own}
-use Rattle.shb_lists.proofs.PastLemmas.{shut_event}
+use Rattle.shb_lists.proofs.HistoryLemmas.{shut_event}
 use Rattle.shb_lists.proofs.RivalLemmas.{get_cases}
-use Rattle.shb_lists.proofs.UnknownLemmas.{unknown_other_event}
+use Rattle.shb_lists.proofs.RacingCountsLemmas.{unknown_other_event}
 
-pub side_there : (unknown : Unknown) (s threads : ℕ) → length unknown.sides.items ≡ threads → s < threads → (side : Side) × (slice_get unknown.sides.items s ≡ Some side)
-side_there unknown s threads many lt = elim (slice_get_cases unknown.sides.items s).1 [
+pub side_there : (racing_counts : RacingCounts) (s threads : ℕ) → length racing_counts.sides.items ≡ threads → s < threads → (side : Side) × (slice_get racing_counts.sides.items s ≡ Some side)
+side_there racing_counts s threads many lt = elim (slice_get_cases racing_counts.sides.items s).1 [
   | inl there ↦ (there.0, there.2)
-  | inr past ↦ absurd (let low = past.0 in omega (arith, low, many, lt))
+  | inr history ↦ absurd (let low = history.0 in omega (arith, low, many, lt))
 ]
 
 abbrev pub accessed : List Event → ℕ → Bool → Accessed
 accessed trace x writes = record { trace = trace; x = x; writes = writes }
 
-pub both_sides : (trace : List Event) (x : ℕ) (numbers : List ℕ) (classes threads n : ℕ) (with_writes with_reads : Unknown) → IsUnknown (accessed trace x true) numbers classes threads n with_writes → IsUnknown (accessed trace x false) numbers classes threads n with_reads
+pub both_sides : (trace : List Event) (x : ℕ) (numbers : List ℕ) (classes threads n : ℕ) (with_writes with_reads : RacingCounts) → IsRacingCounts (accessed trace x true) numbers classes threads n with_writes → IsRacingCounts (accessed trace x false) numbers classes threads n with_reads
     → AreRacing trace x numbers classes threads n (record { with_writes = with_writes; with_reads = with_reads })
 both_sides trace x numbers classes threads n with_writes with_reads of_writes of_reads true = of_writes
 both_sides trace x numbers classes threads n with_writes with_reads of_writes of_reads false = of_reads
@@ -56,13 +56,13 @@ racing_skipped trace x numbers classes threads e racing other h false =
     unknown_other_event (accessed trace x false) numbers classes threads e racing.with_reads (λ t. met_other_variable trace false x t e other) (h false)
 
 -- the side of an access
-pub to_side : (trace : List Event) (access : Access) (b : Bool) (numbers : List ℕ) (classes threads n : ℕ) (unknown : Unknown) → access.writes ≡ b → IsUnknown (accessed trace access.variable b) numbers classes threads n unknown
-    → IsUnknown (accessed_by trace access) numbers classes threads n unknown
-to_side trace access b numbers classes threads n unknown is h = subst (λ (w : Bool). IsUnknown (accessed trace access.variable w) numbers classes threads n unknown) (sym is) h
+pub to_side : (trace : List Event) (access : Access) (b : Bool) (numbers : List ℕ) (classes threads n : ℕ) (racing_counts : RacingCounts) → access.writes ≡ b → IsRacingCounts (accessed trace access.variable b) numbers classes threads n racing_counts
+    → IsRacingCounts (accessed_by trace access) numbers classes threads n racing_counts
+to_side trace access b numbers classes threads n racing_counts is h = subst (λ (w : Bool). IsRacingCounts (accessed trace access.variable w) numbers classes threads n racing_counts) (sym is) h
 
-pub from_side : (trace : List Event) (access : Access) (b : Bool) (numbers : List ℕ) (classes threads n : ℕ) (unknown : Unknown) → access.writes ≡ b → IsUnknown (accessed_by trace access) numbers classes threads n unknown
-    → IsUnknown (accessed trace access.variable b) numbers classes threads n unknown
-from_side trace access b numbers classes threads n unknown is h = subst (λ (w : Bool). IsUnknown (accessed trace access.variable w) numbers classes threads n unknown) is h
+pub from_side : (trace : List Event) (access : Access) (b : Bool) (numbers : List ℕ) (classes threads n : ℕ) (racing_counts : RacingCounts) → access.writes ≡ b → IsRacingCounts (accessed_by trace access) numbers classes threads n racing_counts
+    → IsRacingCounts (accessed trace access.variable b) numbers classes threads n racing_counts
+from_side trace access b numbers classes threads n racing_counts is h = subst (λ (w : Bool). IsRacingCounts (accessed trace access.variable w) numbers classes threads n racing_counts) is h
 
 -- ---- the tables of each variable
 

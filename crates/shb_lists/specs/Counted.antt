@@ -12,15 +12,15 @@ use Rattle.shb_format.specs.Places.{location_at}
 use Rattle.shb_format.specs.Report.{pair_of}
 use Rattle.shb_stamps.specs.Open.{accesses_open, is_open}
 use Rattle.shb_pairs.specs.Races.{races_with}
-use Rattle.shb_lists.specs.Past.{IsAccess, IsPast}
+use Rattle.shb_lists.specs.History.{IsAccess, IsHistory}
 use Rattle.shb_lists.specs.Planned.{HasPlanned}
-use Rattle.shb_lists.specs.Unknown.{IsUnknown, number_in}
+use Rattle.shb_lists.specs.RacingCounts.{IsRacingCounts, number_in}
 use Rattle.shb_lists.specs.declared.counter.RaceCounter.{RaceCounter}
 use Rattle.shb_lists.specs.declared.counting.Counting.{Counting}
 use Rattle.shb_lists.specs.declared.racing.Racing.{Racing}
 use Rattle.shb_lists.specs.declared.search.Access.{Access}
 use Rattle.shb_lists.specs.declared.tables.Table.{Table}
-use Rattle.shb_lists.specs.declared.unknown.Unknown.{Unknown}
+use Rattle.shb_lists.specs.declared.racing_counts.RacingCounts.{RacingCounts}
 
 -- each of the first `count` events that accesses an open variable has the number of its location, and each other 0
 pub record AreNumbered (trace : TraceData) (flags : List Bool) (count : ℕ) (numbers : List ℕ) (locations : List (List ℕ)) : Type 0 where
@@ -96,11 +96,11 @@ pub record MayCount (asks : ℕ → Bool) (trace : List Event) (numbers : List �
   pub counted : (leading : List Pair) × (races : List (ℕ × ℕ)) × HasCounted numbers leading races counter
 
 -- what the accesses of x of one kind conflict with
-abbrev pub side_of : Bool → Racing → Unknown
+abbrev pub side_of : Bool → Racing → RacingCounts
 side_of writes racing = cond writes racing.with_writes racing.with_reads
 
 abbrev pub AreRacing : List Event → ℕ → List ℕ → ℕ → ℕ → ℕ → Racing → Type 0
-AreRacing trace x numbers classes threads n racing = (writes : Bool) → IsUnknown (record { trace = trace; x = x; writes = writes }) numbers classes threads n (side_of writes racing)
+AreRacing trace x numbers classes threads n racing = (writes : Bool) → IsRacingCounts (record { trace = trace; x = x; writes = writes }) numbers classes threads n (side_of writes racing)
 
 -- the tables of each open variable have its accesses before n
 pub record AreTables (trace : List Event) (sizes : Sizes) (flags : List Bool) (numbers : List ℕ) (classes n : ℕ) (tables : List Table) : Type 0 where
@@ -109,6 +109,6 @@ pub record AreTables (trace : List Event) (sizes : Sizes) (flags : List Bool) (n
 
 -- what is known of the accesses of open variables before n
 pub record IsCounting (trace : List Event) (sizes : Sizes) (flags : List Bool) (numbers : List ℕ) (classes n : ℕ) (counting : Counting) : Type 0 where
-  pub past : IsPast trace flags n sizes.variables counting.past
+  pub history : IsHistory trace flags n sizes.variables counting.history
   pub tables : AreTables trace sizes flags numbers classes n counting.tables.items
   pub planned : HasPlanned trace flags n sizes.variables counting.races.items

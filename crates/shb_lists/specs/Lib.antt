@@ -3,7 +3,7 @@ pub mod Counted
 pub mod Listed
 pub mod Occurs
 pub mod Parts
-pub mod Past
+pub mod History
 pub mod Planned
 pub mod Rivals
-pub mod Unknown
+pub mod RacingCounts

@@ -5,7 +5,7 @@ use Rattle.shb_lines.specs.events.Reach.{numbers_where}
 use Rattle.shb_pairs.specs.Accesses.{accesses_at}
 use Rattle.shb_pairs.specs.Races.{races_with}
 use Rattle.shb_lists.specs.Batches.{AreNarrowed}
-use Rattle.shb_lists.specs.Past.{IsPast}
+use Rattle.shb_lists.specs.History.{IsHistory}
 use Rattle.shb_lists.specs.declared.parts.RaceParts.{RaceParts}
 
 -- the races of x whose later event is before n
@@ -17,5 +17,5 @@ pub record IsPartly (trace : List Event) (variables x : ℕ) (parts : RaceParts)
   pub variable : parts.variable ≡ x
   pub within : parts.next ≤ length trace
   pub flags : AreNarrowed [] variables x (x + 1) parts.flags.items
-  pub past : IsPast trace parts.flags.items parts.next variables parts.past
+  pub history : IsHistory trace parts.flags.items parts.next variables parts.history
   pub sweep : parts.sweep ≡ record { trace = trace; next = parts.next }

@@ -8,12 +8,12 @@ ghost use Rattle.shb_format.specs.Report.{LeadingRaces, pair_of};
 ghost use Rattle.shb_lists.specs.Counted.{HasCounted};
 ghost use Rattle.shb_lists.specs.Listed.{races_before};
 ghost use Rattle.shb_lists.specs.Planned.{IsPlan};
-ghost use Rattle.shb_lists.specs.Unknown.{AreBelow};
+ghost use Rattle.shb_lists.specs.RacingCounts.{AreBelow};
 
 use crate::counter::RaceCounter;
 use crate::counting::Counting;
+use crate::history::AccessHistory;
 use crate::numbering::location_numbers;
-use crate::past::Past;
 use crate::plan::BatchPlan;
 use crate::settled::Settled;
 use crate::tables::tables_of;
@@ -54,7 +54,7 @@ fn count_events(
 {
     let variables = settled.disciplined.sizes.variables;
     let mut counting = Counting {
-        past: Past::new(alloc, variables)?,
+        history: AccessHistory::new(alloc, variables)?,
         tables: tables_of(alloc, settled, classes)?,
         found: Vec::new(alloc),
         races: vec![in alloc; 0; variables as usize]?,

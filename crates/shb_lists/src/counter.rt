@@ -5,7 +5,7 @@ ghost use Rattle.shb_lines.specs.declared.event.Event.{Event};
 ghost use Rattle.shb_lines.specs.declared.event.Pair.{Pair};
 ghost use Rattle.shb_format.specs.Keyed.{Key, Keyed};
 ghost use Rattle.shb_lists.specs.Counted.{HasCounted, IsCounted, by_number, key_in, only, with_places};
-ghost use Rattle.shb_lists.specs.Unknown.{number_in};
+ghost use Rattle.shb_lists.specs.RacingCounts.{number_in};
 
 use shb_format::{PlaceCount, PlaceTable};
 use shb_io::NoMemory;

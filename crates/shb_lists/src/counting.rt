@@ -6,10 +6,10 @@ ghost use Rattle.shb_stamps.specs.Open.{accesses_open, is_open as is_open_in};
 ghost use Rattle.shb_pairs.specs.Races.{races_with};
 ghost use Rattle.shb_lists.specs.Counted.{HasCounted, IsCounting, MayCount};
 ghost use Rattle.shb_lists.specs.Planned.{HasAdded, planned};
-ghost use Rattle.shb_lists.specs.Unknown.{AreBelow};
+ghost use Rattle.shb_lists.specs.RacingCounts.{AreBelow};
 
 use crate::counter::RaceCounter;
-use crate::past::{Past, access_at};
+use crate::history::{AccessHistory, access_at};
 use crate::search::Access;
 use crate::tables::{Table, count_tabled, note_tabled};
 use shb_io::NoMemory;
@@ -18,7 +18,7 @@ use shb_stamps::{Order, Ordered};
 /// What is known of the accesses before an event.
 #[derive(Drop)]
 pub(crate) struct Counting {
-    pub(crate) past: Past,
+    pub(crate) history: AccessHistory,
     /// By variable.
     pub(crate) tables: Vec<Table>,
     /// Room for the accesses that race with one.
@@ -61,7 +61,7 @@ impl Counting {
         if count_tabled(&mut self.tables, counter, numbers, ordered, access) {
             return Ok(());
         }
-        self.past.find(ordered, access, &mut self.found)?;
+        self.history.find(ordered, access, &mut self.found)?;
         counter.count_racing(numbers, self.found.as_slice(), access.event);
         Ok(())
     }
@@ -90,7 +90,7 @@ impl Counting {
         let before = counter.races;
         self.count_races(counter, numbers, ordered, access)?;
         note_tabled(&mut self.tables, numbers, ordered, access)?;
-        self.past.note(ordered, access)?;
+        self.history.note(ordered, access)?;
         add(&mut self.races, access.variable, counter.races - before);
         Ok(())
     }
@@ -122,7 +122,7 @@ impl Counting {
     {
         match access_at(ordered, flags, e) {
             Some(access) => self.count_access(counter, numbers, ordered, access),
-            None => self.past.skip(),
+            None => self.history.skip(),
         }
     }
 }

@@ -8,7 +8,7 @@ ghost use Rattle.shb_lists.specs.Batches.{AreKept, IsBatch, races_below, races_b
 ghost use Rattle.shb_pairs.specs.Listed.{pair_in, race_of};
 ghost use Rattle.shb_lists.specs.Listed.{IsListOf, races_before};
 
-use crate::past::Past;
+use crate::history::AccessHistory;
 use shb_discipline::Disciplined;
 use shb_io::NoMemory;
 use shb_lines::Events;
@@ -84,11 +84,11 @@ pub(crate) fn found_races<'a>(
         return Ok(Some(kept));
     }
     let mut found = Vec::new(alloc);
-    let mut past = Past::new(alloc, disciplined.sizes.variables)?;
+    let mut history = AccessHistory::new(alloc, disciplined.sizes.variables)?;
     let mut sweep = Sweep::new(alloc, Linked::new(&*disciplined, &*links))?;
     for e in 0..disciplined.events.len() as u32 {
         let ordered = Ordered::new(&sweep, &*disciplined, &*links);
-        past.pass(&ordered, flags, e, &mut found)?;
+        history.pass(&ordered, flags, e, &mut found)?;
         if !has_room(most, kept.len(), found.len()) {
             return Ok(None);
         }

@@ -9,7 +9,7 @@
 //!
 //! [`kept_races`] keeps what the sweep finds, and sorts it into the order of the race list; workers make pairs of it in
 //! pieces ([`pairs_in_pieces`]). Where there are too many, [`counted_races`] counts those of each place and variable in one
-//! sweep, many of them by the numbers of their locations, without a step for each (`unknown`). The [`BatchPlan`] that it
+//! sweep, many of them by the numbers of their locations, without a step for each (`racing_counts`). The [`BatchPlan`] that it
 //! gives finds those of as many variables as have few enough races, and [`RaceParts`] those of one variable a part at a
 //! time.
 #![tactic(auto)]
@@ -18,18 +18,18 @@ mod batches;
 mod counted;
 mod counter;
 mod counting;
+mod history;
 mod kept;
 mod numbering;
 mod parts;
-mod past;
 mod pieces;
 mod plan;
 mod racing;
+mod racing_counts;
 mod rivals;
 mod search;
 mod settled;
 mod tables;
-mod unknown;
 
 pub use counted::counted_races;
 pub use kept::kept_races;

@@ -5,8 +5,8 @@ ghost use Rattle.shb_pairs.specs.Listed.{pair_in};
 ghost use Rattle.shb_lists.specs.Parts.{IsPartly, races_until};
 
 use crate::batches::narrowed;
+use crate::history::AccessHistory;
 use crate::kept::add_races;
-use crate::past::Past;
 use crate::settled::Settled;
 use shb_io::NoMemory;
 use shb_links::Linked;
@@ -20,7 +20,7 @@ pub struct RaceParts<'a> {
     variable: u32,
     /// Flags that leave open this variable alone.
     flags: Vec<bool>,
-    past: Past,
+    history: AccessHistory,
     sweep: Sweep<'a>,
     /// The events before this one are passed.
     pub next: u32,
@@ -44,12 +44,12 @@ impl<'a> RaceParts<'a> {
     {
         let variables = settled.disciplined.sizes.variables;
         let flags = narrowed(alloc, &[], variables, variable, variable + 1)?;
-        let past = Past::new(alloc, variables)?;
+        let history = AccessHistory::new(alloc, variables)?;
         let sweep = Sweep::new(alloc, Linked::new(settled.disciplined, settled.links))?;
         Ok(RaceParts {
             variable,
             flags,
-            past,
+            history,
             sweep,
             next: 0,
         })
@@ -79,7 +79,7 @@ impl<'a> RaceParts<'a> {
         let mut found = Vec::new(alloc);
         for e in self.next..settled.disciplined.events.len() as u32 {
             let ordered = Ordered::new(&self.sweep, settled.disciplined, settled.links);
-            self.past.pass(&ordered, &self.flags, e, &mut found)?;
+            self.history.pass(&ordered, &self.flags, e, &mut found)?;
             add_races(&mut part, self.variable, e, found.as_slice())?;
             self.sweep.pass(alloc)?;
             self.next = e + 1;

@@ -5,12 +5,12 @@ ghost use Rattle.shb_lines.specs.declared.event.Event.{Event};
 ghost use Rattle.shb_lines.specs.declared.event.Pair.{Pair};
 ghost use Rattle.shb_pairs.specs.Races.{races_with};
 ghost use Rattle.shb_lists.specs.Counted.{AreRacing, HasCounted, MayCount};
-ghost use Rattle.shb_lists.specs.Past.{IsAccess};
-ghost use Rattle.shb_lists.specs.Unknown.{AreBelow, IsUnknown, accessed_by, number_in};
+ghost use Rattle.shb_lists.specs.History.{IsAccess};
+ghost use Rattle.shb_lists.specs.RacingCounts.{AreBelow, IsRacingCounts, accessed_by, number_in};
 
 use crate::counter::RaceCounter;
+use crate::racing_counts::RacingCounts;
 use crate::search::Access;
-use crate::unknown::Unknown;
 use shb_io::NoMemory;
 use shb_stamps::{Order, Ordered};
 use std::alloc::Global;
@@ -19,32 +19,32 @@ use std::alloc::Global;
 #[derive(Drop)]
 pub(crate) struct Racing {
     /// Where that access writes: the accesses.
-    pub(crate) with_writes: Unknown,
+    pub(crate) with_writes: RacingCounts,
     /// Where it reads: the writes.
-    pub(crate) with_reads: Unknown,
+    pub(crate) with_reads: RacingCounts,
 }
 
 /// Counts the races of an access by location, and says whether it did: not where they are fewer than the locations.
 fn count_learned<O: Order>(
-    unknown: &mut Unknown,
+    racing_counts: &mut RacingCounts,
     counter: &mut RaceCounter,
     numbers: &[u32],
     ordered: &Ordered<'_, O>,
     access: Access,
 ) -> bool
     requires may_count { MayCount (O.asks ordered.now.order.now) ordered.now.disciplined.now.events.now numbers.now access counter.old }
-    requires unknown { (classes : ℕ) × AreBelow ordered.now.disciplined.now.events.now numbers.now classes
-        × IsUnknown (accessed_by ordered.now.disciplined.now.events.now access) numbers.now classes ordered.now.disciplined.now.sizes.threads access.event unknown.old }
-    ensures unknown { (classes : ℕ) → AreBelow ordered.now.disciplined.now.events.now numbers.now classes
-        → IsUnknown (accessed_by ordered.now.disciplined.now.events.now access) numbers.now classes ordered.now.disciplined.now.sizes.threads access.event unknown.old
-        → IsUnknown (accessed_by ordered.now.disciplined.now.events.now access) numbers.now classes ordered.now.disciplined.now.sizes.threads access.event unknown.new }
+    requires racing_counts { (classes : ℕ) × AreBelow ordered.now.disciplined.now.events.now numbers.now classes
+        × IsRacingCounts (accessed_by ordered.now.disciplined.now.events.now access) numbers.now classes ordered.now.disciplined.now.sizes.threads access.event racing_counts.old }
+    ensures racing_counts { (classes : ℕ) → AreBelow ordered.now.disciplined.now.events.now numbers.now classes
+        → IsRacingCounts (accessed_by ordered.now.disciplined.now.events.now access) numbers.now classes ordered.now.disciplined.now.sizes.threads access.event racing_counts.old
+        → IsRacingCounts (accessed_by ordered.now.disciplined.now.events.now access) numbers.now classes ordered.now.disciplined.now.sizes.threads access.event racing_counts.new }
     ensures counted { IsTrue result → (leading : List Pair) (races : List (ℕ × ℕ)) → HasCounted numbers.now leading races counter.old
         → HasCounted numbers.now leading (races ++ races_with ordered.now.disciplined.now.events.now access.event) counter.new }
     ensures left { result ≡ false → counter.new ≡ counter.old }
 {
-    unknown.learn(ordered, numbers, access);
-    let counts = unknown.counts(access.thread);
-    if unknown.are_few(access.thread, counts.len()) {
+    racing_counts.learn(ordered, numbers, access);
+    let counts = racing_counts.counts(access.thread);
+    if racing_counts.are_few(access.thread, counts.len()) {
         return false;
     }
     let number = numbers[access.event as usize] as usize;
@@ -63,8 +63,8 @@ impl Racing {
         ensures { (trace : List Event) (x : ℕ) (numbers : List ℕ) → IfOk result (AreRacing trace x numbers classes threads 0) }
     {
         Ok(Racing {
-            with_writes: Unknown::new(alloc, threads, classes)?,
-            with_reads: Unknown::new(alloc, threads, classes)?,
+            with_writes: RacingCounts::new(alloc, threads, classes)?,
+            with_reads: RacingCounts::new(alloc, threads, classes)?,
         })
     }
 

@@ -3,7 +3,7 @@
 ghost use Rattle.std.specs.Prelude.{◌≡◌, ◌+◌, ◌<◌, ◌≤◌, ℕ, true, OnOk, length, sum_by};
 ghost use Rattle.shb_lines.specs.events.Reach.{is_race, numbers_where};
 ghost use Rattle.shb_lists.specs.Occurs.{occurs};
-ghost use Rattle.shb_lists.specs.Past.{AreChained, IsAccess, racing_by};
+ghost use Rattle.shb_lists.specs.History.{AreChained, IsAccess, racing_by};
 ghost use Rattle.shb_lists.specs.Rivals.{HasRivals, IsNewest};
 
 use crate::rivals::{Newest, Rival};

@@ -9,11 +9,11 @@ ghost use Rattle.shb_lines.specs.declared.event.Pair.{Pair};
 ghost use Rattle.shb_stamps.specs.Open.{is_open as is_open_in};
 ghost use Rattle.shb_pairs.specs.Races.{races_with};
 ghost use Rattle.shb_lists.specs.Counted.{AreRacing, AreTables, HasCounted, MayCount};
-ghost use Rattle.shb_lists.specs.Past.{IsAccess};
-ghost use Rattle.shb_lists.specs.Unknown.{AreBelow};
+ghost use Rattle.shb_lists.specs.History.{IsAccess};
+ghost use Rattle.shb_lists.specs.RacingCounts.{AreBelow};
 
 use crate::counter::RaceCounter;
-use crate::past::no_rivals;
+use crate::history::no_rivals;
 use crate::racing::Racing;
 use crate::rivals::Rivals;
 use crate::search::Access;

@@ -7,8 +7,8 @@ use Rattle.shb_lines.specs.text.TraceData.{TraceData}
 use Rattle.shb_lines.proofs.events.Increasing.{contains_cases, contains_none}
 use Rattle.shb_format.specs.Places.{location_at}
 use Rattle.shb_pairs.specs.Listed.{race_of}
-use Rattle.shb_search.specs.Found.{AreFound, FoundRace, Improves, IsCovered, IsFound, IsOffered}
-use Rattle.shb_search.proofs.FoundLemmas.{covered_later, covered_then, improves_self, known_then, same_places}
+use Rattle.shb_search.specs.PlaceRaces.{AreFound, FoundRace, Improves, IsCovered, IsFound, IsOffered}
+use Rattle.shb_search.proofs.PlaceRacesLemmas.{covered_later, covered_then, improves_self, known_then, same_places}
 use Rattle.shb_search.proofs.Lists.{same_entry}
 use Rattle.shb_search.specs.Searched.{IsAccessAt}
 use Rattle.shb_search.specs.Asked.{IsAnswered, IsPlaceOf, ArePairs, AskData, HasAsked, HasAskedEach, IsEarliestAt, IsOnlyNew, IsPair, cleans, done, finds, knew, next}

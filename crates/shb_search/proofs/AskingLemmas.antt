@@ -9,7 +9,7 @@ use Rattle.shb_lines.proofs.events.Increasing.{contains_cases, contains_head, co
 use Rattle.shb_numbers.specs.Numbers.{Numbers}
 use Rattle.shb_search.specs.Asked.{AskData, HasAsked, HasAskedEach, IsAnswered, IsEarliestIfAny, IsEarliestUpTo, IsOnlyNew, IsPlaceOf, cleans, done, finds, knew, next}
 use Rattle.shb_search.specs.Asking.{HasAskedAll, HasAskedSome, IsAsking, IsScene, IsToldOf}
-use Rattle.shb_search.specs.Found.{AreFound, FoundRace, IsKnown}
+use Rattle.shb_search.specs.PlaceRaces.{AreFound, FoundRace, IsKnown}
 use Rattle.shb_search.specs.Kept.{ClassData, SiteData}
 use Rattle.shb_search.specs.Tables.{data_of, list_at}
 use Rattle.shb_search.specs.declared.kept.Classes.{Classes}

@@ -23,7 +23,7 @@ use Rattle.shb_pairs.proofs.FlatMaps.{map_contains, map_parts}
 use Rattle.shb_pairs.proofs.Listing.{all_is_race_list, all_races}
 use Rattle.shb_pairs.specs.declared.listed.ListedRace.{ListedRace}
 use Rattle.shb_pairs.specs.Listed.{NotAfter, race_in, race_of}
-use Rattle.shb_search.specs.Found.{Covers, FoundRace, HasVariable, IsInListOrder}
+use Rattle.shb_search.specs.PlaceRaces.{Covers, FoundRace, HasVariable, IsInListOrder}
 use Rattle.shb_pairs.proofs.KeyOrder.{before_not_after, before_or_same, not_before}
 use Rattle.shb_search.proofs.LeadMembers.{at_contained, contained_at, lead_of, leading_ordered}
 use Rattle.shb_search.proofs.Lists.{contains_get, same_entry}

@@ -5,7 +5,7 @@ pub mod ClassLemmas
 pub mod CoveredLeading
 pub mod EarliestLemmas
 pub mod FirstLemmas
-pub mod FoundLemmas
+pub mod PlaceRacesLemmas
 pub mod HalvingLemmas
 pub mod JoinLemmas
 pub mod KeepLemmas

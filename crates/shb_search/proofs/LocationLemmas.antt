@@ -18,10 +18,10 @@ use Rattle.shb_lines.proofs.text.Numbers.{one_number}
 use Rattle.shb_format.specs.Leading.{place_at}
 use Rattle.shb_format.specs.Places.{location_at}
 use Rattle.shb_search.specs.Asking.{AreNumbered}
-use Rattle.shb_search.specs.Found.{AreFound, FoundRace, same_key}
+use Rattle.shb_search.specs.PlaceRaces.{AreFound, FoundRace, same_key}
 use Rattle.shb_search.specs.declared.sites.Site.{Site}
 use Rattle.shb_search.specs.declared.sites.Sites.{Sites}
-use Rattle.shb_search.proofs.FoundLemmas.{key_same}
+use Rattle.shb_search.proofs.PlaceRacesLemmas.{key_same}
 use Rattle.shb_search.proofs.Lists.{contains_get, get_cases, get_contains, same_entry}
 
 -- the location that a line has

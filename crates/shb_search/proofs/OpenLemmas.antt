@@ -5,7 +5,7 @@ use Rattle.shb_stamps.specs.Open.{is_open}
 use Rattle.shb_lines.specs.events.Race.{variable_at}
 use Rattle.shb_lines.specs.text.TraceData.{TraceData}
 use Rattle.shb_pairs.specs.Listed.{race_of}
-use Rattle.shb_search.specs.Found.{AreFound, FoundRace, IsCovered}
+use Rattle.shb_search.specs.PlaceRaces.{AreFound, FoundRace, IsCovered}
 use Rattle.shb_search.specs.Asked.{ArePairs}
 use Rattle.shb_search.specs.Kept.{AreClasses, AreSides, ClassData, HasAccess, IsUnread, Logs, SideData, SiteData}
 use Rattle.shb_search.specs.Searched.{AreSearched, AreTold, HasKeptTo, HasMoreSites, IsAccessAt, IsKept, IsOpened, SearchData, keeps, none_yet, numbers, passes}

@@ -29,7 +29,7 @@ use Rattle.shb_search.proofs.LoggedLemmas.{site_at}
 use Rattle.shb_search.proofs.MemberLemmas.{members_grow}
 use Rattle.shb_format.specs.Leading.{place_at}
 use Rattle.shb_pairs.specs.Open.{AreOpen}
-use Rattle.shb_search.specs.Found.{AreFound, Covers, FoundRace}
+use Rattle.shb_search.specs.PlaceRaces.{AreFound, Covers, FoundRace}
 use Rattle.shb_search.proofs.SearchLemmas.{all_searched, event_passed, nothing_searched, sites_come}
 
 abbrev with_paired : Search → Search → Search

@@ -12,8 +12,8 @@ use Rattle.shb_lines.specs.text.TraceData.{TraceData}
 use Rattle.shb_lines.proofs.events.Increasing.{contains_none}
 use Rattle.shb_format.specs.Leading.{place_at}
 use Rattle.shb_pairs.specs.Listed.{race_of}
-use Rattle.shb_search.specs.Found.{AreFound, Covers, FoundRace, Improves, IsCovered}
-use Rattle.shb_search.proofs.FoundLemmas.{covered_then, found_later, improves_self}
+use Rattle.shb_search.specs.PlaceRaces.{AreFound, Covers, FoundRace, Improves, IsCovered}
+use Rattle.shb_search.proofs.PlaceRacesLemmas.{covered_then, found_later, improves_self}
 use Rattle.shb_search.proofs.Lists.{get_cases, same_entry}
 use Rattle.shb_pairs.proofs.Counting.{accessed_within}
 use Rattle.shb_search.specs.Asked.{ArePairs, AskData}

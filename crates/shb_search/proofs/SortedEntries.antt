@@ -10,7 +10,7 @@ use Rattle.shb_lines.specs.events.Race.{variable_at}
 use Rattle.shb_pairs.proofs.FlatMaps.{map_ordered}
 use Rattle.shb_pairs.specs.declared.listed.ListedRace.{ListedRace}
 use Rattle.shb_pairs.specs.Listed.{race_in}
-use Rattle.shb_search.specs.Found.{HasVariable, IsInListOrder, IsNotAfter}
+use Rattle.shb_search.specs.PlaceRaces.{HasVariable, IsInListOrder, IsNotAfter}
 use Rattle.shb_pairs.proofs.KeyOrder.{race_cmp, race_not_less, race_renamed, race_total}
 
 -- so two entries that the sort left in this order have races in this order

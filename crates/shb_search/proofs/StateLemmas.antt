@@ -29,7 +29,7 @@ use Rattle.shb_search.specs.declared.sides.Sides.{Sides}
 use Rattle.shb_search.specs.declared.sites.Site.{Site}
 use Rattle.shb_search.specs.declared.sites.Sites.{Sites}
 use Rattle.shb_search.proofs.AskingLemmas.{data_at}
-use Rattle.shb_search.proofs.FoundLemmas.{found_later}
+use Rattle.shb_search.proofs.PlaceRacesLemmas.{found_later}
 use Rattle.shb_search.proofs.KindLemmas.{one_kind_of}
 use Rattle.shb_search.proofs.Lists.{get_cases, get_last, get_more, get_set, get_set_other, same_entry}
 use Rattle.shb_search.proofs.SearchLemmas.{side_comes}

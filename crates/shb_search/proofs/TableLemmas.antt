@@ -5,9 +5,9 @@ use Rattle.std.proofs.lemmas.Bool.{cases_eq}
 use Rattle.std.proofs.lemmas.List.{get_or-set_other, get_or-set_same, length-append}
 use Rattle.std.proofs.lemmas.List.Folds.{list_any_at}
 use Rattle.std.proofs.lemmas.Option.{get_or_from_slice_get, slice_get_within}
-use Rattle.shb_search.specs.Found.{same_key}
+use Rattle.shb_search.specs.PlaceRaces.{same_key}
 use Rattle.shb_search.specs.Tables.{HasPushed, IsNumbered, list_at}
-use Rattle.shb_search.proofs.FoundLemmas.{key_same, one_key}
+use Rattle.shb_search.proofs.PlaceRacesLemmas.{key_same, one_key}
 use Rattle.shb_search.proofs.Lists.{get_cases, get_more}
 
 -- the number of a pair in a set

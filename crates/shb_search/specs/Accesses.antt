@@ -5,7 +5,7 @@ use Rattle.shb_lines.specs.events.Events.{thread_at, op_at}
 use Rattle.shb_lines.specs.events.Race.{variable_at}
 use Rattle.shb_lines.specs.text.TraceData.{TraceData}
 use Rattle.shb_format.specs.Places.{location_at}
-use Rattle.shb_search.specs.Found.{FoundRace}
+use Rattle.shb_search.specs.PlaceRaces.{FoundRace}
 
 -- the event is an access of x by thread t, at the location of the event l, and writes or doesn't
 pub record IsAccessOf (trace : TraceData) (t x l : ℕ) (writes : Bool) (e : ℕ) : Type 0 where

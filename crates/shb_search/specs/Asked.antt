@@ -4,7 +4,7 @@ use Rattle.shb_lines.specs.events.Race.{Race, variable_at}
 use Rattle.shb_lines.specs.text.TraceData.{TraceData}
 use Rattle.shb_format.specs.Places.{location_at}
 use Rattle.shb_pairs.specs.Listed.{NotAfter, race_of}
-use Rattle.shb_search.specs.Found.{FoundRace, IsKnown, IsOffered}
+use Rattle.shb_search.specs.PlaceRaces.{FoundRace, IsKnown, IsOffered}
 use Rattle.shb_search.specs.Kept.{ClassData, HasAccess, IsNotedAt, SiteData}
 
 -- the race of i and j is the first race of its place on the variable of j

@@ -5,7 +5,7 @@ use Rattle.shb_lines.specs.text.TraceData.{TraceData}
 use Rattle.shb_numbers.specs.Numbers.{Numbers}
 use Rattle.shb_search.specs.Accesses.{HaveFirsts}
 use Rattle.shb_search.specs.Asked.{AskData, HasAsked, HasAskedEach, IsOnlyNew}
-use Rattle.shb_search.specs.Found.{AreFound, FoundRace}
+use Rattle.shb_search.specs.PlaceRaces.{AreFound, FoundRace}
 use Rattle.shb_search.specs.Kept.{ClassData, SiteData}
 use Rattle.shb_search.specs.Looks.{AreTable, side_of}
 use Rattle.shb_search.specs.Members.{members}

@@ -2,7 +2,7 @@ pub mod Accesses
 pub mod Asked
 pub mod Asking
 pub mod Classes
-pub mod Found
+pub mod PlaceRaces
 pub mod Kept
 pub mod Looks
 pub mod Members

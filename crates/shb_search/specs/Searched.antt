@@ -5,7 +5,7 @@ use Rattle.shb_lines.specs.events.Race.{Race, variable_at}
 use Rattle.shb_lines.specs.text.TraceData.{TraceData}
 use Rattle.shb_format.specs.Places.{location_at}
 use Rattle.shb_pairs.specs.Listed.{race_of}
-use Rattle.shb_search.specs.Found.{AreFound, FoundRace, IsCovered}
+use Rattle.shb_search.specs.PlaceRaces.{AreFound, FoundRace, IsCovered}
 use Rattle.shb_search.specs.Asked.{ArePairs, HasAskedEach}
 use Rattle.shb_search.specs.Kept.{AreClasses, AreSides, HasAccess, ClassData, HasLooked, IsAdded, IsLogged, IsNotedAt, IsUnread, Logs, Looked, SideData, SiteData}
 use Rattle.shb_search.specs.Sides.{IsOfKind, IsOfSide, Meets, Side}

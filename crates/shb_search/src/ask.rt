@@ -6,16 +6,16 @@ ghost use Rattle.shb_lines.specs.text.TraceData.{TraceData};
 ghost use Rattle.shb_search.specs.Asked.{AskData, IsAnswered, IsEarliestIfAny, IsEarliestUpTo, IsLesser, IsPlaceOf};
 ghost use Rattle.shb_search.specs.Asking.{AreAllClasses, AreNumbered, HasAskedAll, HasAskedSome, IsAsking, IsScene, IsToldOf};
 ghost use Rattle.shb_search.specs.Accesses.{HaveFirsts};
-ghost use Rattle.shb_search.specs.Found.{AreFound};
+ghost use Rattle.shb_search.specs.PlaceRaces.{AreFound};
 ghost use Rattle.shb_search.specs.Kept.{AreClasses, ClassData, IsEarliestIn, SiteData};
 ghost use Rattle.shb_search.specs.Looks.{side_of};
 ghost use Rattle.shb_search.specs.Searched.{IsAccessAt};
 ghost use Rattle.shb_search.specs.Tables.{data_of, list_at};
 
 use crate::classes::earliest_in;
-use crate::found::Found;
 use crate::kept::Classes;
 use crate::look::Access;
+use crate::place_races::PlaceRaces;
 use crate::sites::Sites;
 use shb_io::NoMemory;
 use shb_numbers::NumberSet;
@@ -29,7 +29,7 @@ use shb_stamps::{Order, Ordered};
 ///
 /// `NoMemory` where a growth was refused.
 pub fn answer(
-    found: &mut Found,
+    found: &mut PlaceRaces,
     place: (u32, u32),
     access: Access,
     earliest: Option<u32>,
@@ -116,7 +116,7 @@ fn ask_place<O: Order>(
     ordered: &Ordered<'_, O>,
     sites: &Sites,
     classes: &Classes,
-    found: &mut Found,
+    found: &mut PlaceRaces,
     s: u32,
     access: Access,
 ) -> Result<bool, NoMemory>
@@ -153,7 +153,7 @@ fn ask_site<O: Order>(
     classes: &Classes,
     paired: &mut NumberSet,
     dirty: &mut NumberSet,
-    found: &mut Found,
+    found: &mut PlaceRaces,
     k: u32,
     access: Access,
 ) -> Result<(), NoMemory>
@@ -195,7 +195,7 @@ pub fn ask<O: Order>(
     classes: &Classes,
     paired: &mut NumberSet,
     dirty: &mut NumberSet,
-    found: &mut Found,
+    found: &mut PlaceRaces,
     access: Access,
 ) -> Result<(), NoMemory>
     requires in_range { access.event < length ordered.now.disciplined.now.trace.now.events }

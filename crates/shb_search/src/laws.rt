@@ -10,7 +10,7 @@ ghost use Rattle.shb_lines.specs.events.Race.{Race, variable_at};
 ghost use Rattle.shb_lines.specs.text.TraceData.{TraceData};
 ghost use Rattle.shb_format.specs.Leading.{place_at};
 ghost use Rattle.shb_format.specs.Places.{location_at};
-ghost use Rattle.shb_search.specs.Found.{Covers, FoundRace};
+ghost use Rattle.shb_search.specs.PlaceRaces.{Covers, FoundRace};
 ghost use Rattle.shb_search.specs.Asked.{IsFirstOnVariable};
 ghost use Rattle.shb_search.specs.Kept.{ClassData, IsClass, IsNewest, IsRacingSuffix, SiteData};
 ghost use Rattle.shb_search.specs.Searched.{AreSearched, HasKeptTo, HasSearched, IsAccessAt, IsKept, IsOpened, SearchData};

@@ -6,9 +6,9 @@ ghost use Rattle.shb_lines.specs.events.Sizes.{IsNumberedByAccess};
 ghost use Rattle.shb_lines.specs.text.TraceData.{TraceData};
 ghost use Rattle.shb_format.specs.Report.{LeadingRaces};
 ghost use Rattle.shb_pairs.specs.Listed.{race_in};
-ghost use Rattle.shb_search.specs.Found.{Covers, HasVariable, IsInListOrder};
+ghost use Rattle.shb_search.specs.PlaceRaces.{Covers, HasVariable, IsInListOrder};
 
-use crate::found::Found;
+use crate::place_races::PlaceRaces;
 use shb_io::NoMemory;
 use shb_lines::Pair;
 use shb_pairs::{ListedRace, pairs_of};
@@ -31,7 +31,7 @@ fn in_list_order(alloc: Global, races: Vec<ListedRace>) -> Result<Vec<Pair>, NoM
 /// # Errors
 ///
 /// `NoMemory` where memory was refused.
-pub fn leading_of_found(alloc: Global, found: &Found) -> Result<Vec<Pair>, NoMemory>
+pub fn leading_of_found(alloc: Global, found: &PlaceRaces) -> Result<Vec<Pair>, NoMemory>
     ensures { (trace : TraceData) → IsNumberedByAccess trace.events → Covers trace found.now.races.entries
         → IfOk result (λ leading. LeadingRaces trace (map ends leading.items)) }
 {

@@ -17,7 +17,6 @@ ghost use Rattle.shb_format.specs.Report.{LeadingRaces};
 
 mod ask;
 mod classes;
-mod found;
 mod kept;
 pub mod laws;
 mod leading;
@@ -25,6 +24,7 @@ mod locations;
 mod log;
 mod look;
 mod numbering;
+mod place_races;
 mod rows;
 mod search;
 mod sides;

@@ -20,10 +20,10 @@ ghost use Rattle.shb_search.specs.Asking.{AreNumbered};
 ghost use Rattle.shb_search.specs.State.{HasFound, HasRoom, IsReady, IsSearching, IsWantingNone};
 
 use crate::ask::ask;
-use crate::found::Found;
 use crate::kept::{Classes, Kinds};
 use crate::log::{log_of, note};
 use crate::look::{Access, look};
+use crate::place_races::PlaceRaces;
 use crate::rows::empty_lists;
 use crate::sides::Sides;
 use crate::sites::Sites;
@@ -52,7 +52,7 @@ pub struct Search {
     pub logs: Lists,
     pub sides: Sides,
     pub paired: Vec<NumberSet>,
-    pub found: Found,
+    pub found: PlaceRaces,
 }
 
 /// Whether a site of a variable isn't among these pairs at which an access can conflict with one: with those that write, and
@@ -93,7 +93,7 @@ impl Search {
         let classes = Classes::new(rt, alloc, variables)?;
         let logs = empty_lists(alloc, variables as usize * 2)?;
         let sides = Sides::new(rt, alloc)?;
-        let found = Found::new(rt, alloc)?;
+        let found = PlaceRaces::new(rt, alloc)?;
         Ok(Search {
             sites,
             classes,

@@ -4,11 +4,11 @@ ghost use Rattle.std.specs.Prelude.{◌≡◌, ◌+◌, ◌<◌, true, IfOk, OnO
 ghost use Rattle.shb_pairs.specs.Open.{AreOpen};
 ghost use Rattle.shb_search.specs.Accesses.{AreFirsts};
 ghost use Rattle.shb_search.specs.Asking.{AreNumbered};
-ghost use Rattle.shb_search.specs.Found.{Covers};
+ghost use Rattle.shb_search.specs.PlaceRaces.{Covers};
 ghost use Rattle.shb_search.specs.State.{IsSearching};
 
-use crate::found::Found;
 use crate::locations::FirstAccesses;
+use crate::place_races::PlaceRaces;
 use crate::search::{Located, Search};
 use shb_discipline::Disciplined;
 use shb_io::NoMemory;
@@ -71,13 +71,13 @@ pub fn covering_races<'a, R: RandomSource>(
     disciplined: &'a Disciplined<'a>,
     links: &'a Links<'a>,
     flags: &[bool],
-) -> Result<Found, NoMemory>
+) -> Result<PlaceRaces, NoMemory>
     requires of_trace { links.now ≡ disciplined.now.events.now }
     requires settled { AreOpen disciplined.now.events.now flags.now }
     ensures { IfOk result (λ found. Covers disciplined.now.trace.now found.races.entries) }
 {
     if !any_open(flags, disciplined.sizes.variables) {
-        let none = Found::new(rt, alloc)?;
+        let none = PlaceRaces::new(rt, alloc)?;
         return Ok(none);
     }
     let mut locations = FirstAccesses::new(rt, alloc, &*disciplined)?;

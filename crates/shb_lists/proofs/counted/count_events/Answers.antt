@@ -16,7 +16,7 @@ loop-e-init c =
       of_trace = search rules;
       next = search rules;
       counting = record {
-        past = c.in_ok-new.ensures trace.events.now flags;
+        history = c.in_ok-new.ensures trace.events.now flags;
         tables = c.in_ok-tables_of.ensures trace.events.now flags c.args.numbers.now;
         planned = planned_none trace.events.now flags trace.sizes.variables _ (search rules);
       };

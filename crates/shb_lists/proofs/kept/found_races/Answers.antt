@@ -26,7 +26,7 @@ pub loop-e-init : goal.loop-e-init
 loop-e-init c = record {
   of_trace = search rules;
   next = search rules;
-  past = c.in_ok-past.ensures c.args.disciplined.now.events.now c.args.flags.now;
+  history = c.in_ok-history.ensures c.args.disciplined.now.events.now c.args.flags.now;
   kept = list_none c.args.disciplined.now.events.now c.args.flags.now c.new-kept.result.items c.new-kept.ensures.items;
   room = nothing_fits c.args.most (length c.new-kept.result.items) (ap length c.new-kept.ensures.items);
 }
@@ -37,7 +37,7 @@ loop-e-preserved c =
     record {
       of_trace = search rules;
       next = search rules;
-      past = search rules;
+      history = search rules;
       kept = list_more trace.events.now c.args.flags.now c.loop-e.e c.variable_of-variable.result c.pass.new.found.items c.loop-e.kept.items c.add_races.new.kept.items c.loop-e.invariant.kept
           (rw c.new-ordered.ensures.disciplined at c.in_ok-pass.ensures.found)
           c.variable_of-variable.ensures

@@ -4,7 +4,7 @@ use Rattle.std.proofs.lemmas.List.{take_all}
 use Rattle.std.proofs.lemmas.List.Sums.{sum_by_more}
 use Rattle.std.proofs.lemmas.Option.{slice_get-get_or}
 use Rattle.shb_lists.specs.Occurs.{occurs}
-use Rattle.shb_lists.specs.Past.{racing_by}
+use Rattle.shb_lists.specs.History.{racing_by}
 use Rattle.shb_lists.specs.declared.rivals.Rival.{Rival}
 use Rattle.shb_lists.proofs.search.find_unsorted.Goals as goal
 

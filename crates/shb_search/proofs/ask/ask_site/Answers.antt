@@ -1,4 +1,4 @@
-use Rattle.shb_search.specs.Found.{AreFound}
+use Rattle.shb_search.specs.PlaceRaces.{AreFound}
 use Rattle.std.proofs.Common.{◌≡◌, ◌+◌, map, Bool, true, length, arith, subst, ap, sym}
 use Rattle.std.proofs.lemmas.Option.{slice_get_past}
 use Rattle.std.specs.FinSet as fin

@@ -8,7 +8,7 @@ use Rattle.shb_lines.specs.text.TraceData.{TraceData}
 use Rattle.shb_stamps.specs.SweepData.{SweepData}
 use Rattle.shb_links.proofs.Owners.{variable_sized}
 use Rattle.shb_pairs.specs.Open.{AreOpen}
-use Rattle.shb_search.specs.Found.{Covers, FoundRace}
+use Rattle.shb_search.specs.PlaceRaces.{Covers, FoundRace}
 use Rattle.shb_search.specs.Accesses.{AreFirsts}
 use Rattle.shb_search.specs.State.{IsSearching}
 use Rattle.shb_search.proofs.LocationLemmas.{places_apart}

@@ -10,10 +10,10 @@ note_tabled-requires-clause-tables g c =
     let given = c.requires.counting in
     (given.0, given.1, given.2, given.3, (c.in_ok-count_races.ensures.counting given.0 given.1 given.2 given.3 given.4).tables)
 
-pub note-requires-clause-past : goal.note-requires-clause-past
-note-requires-clause-past g c =
+pub note-requires-clause-history : goal.note-requires-clause-history
+note-requires-clause-history g c =
     let given = c.requires.counting in
-    (given.0, given.2, (c.in_ok-count_races.ensures.counting given.0 given.1 given.2 given.3 given.4).past)
+    (given.0, given.2, (c.in_ok-count_races.ensures.counting given.0 given.1 given.2 given.3 given.4).history)
 
 pub overflow_sub-counter : goal.overflow_sub-counter
 overflow_sub-counter g c =
@@ -45,7 +45,7 @@ returns-clause-counting g c flags classes is below h =
     let counted = c.requires.may_count.counted in
     let more = counted_more c.args.numbers.now counted.0 counted.1 (races_with trace.events.now c.args.access.event) _ _ counted.2 (c.in_ok-count_races.ensures.counted counted.0 counted.1 counted.2) in
     record {
-      past = c.in_ok-note.ensures flags is after.past;
+      history = c.in_ok-note.ensures flags is after.history;
       tables = c.in_ok-note_tabled.ensures flags classes is after.tables;
       planned = planned_more trace.events.now flags c.args.access.event trace.sizes.variables c.args.access.variable _ _ _ c.requires.may_count.is_access.variable is (omega (arith, more)) after.planned c.add.ensures;
     }

@@ -19,11 +19,11 @@ count_racing-requires-clause-room g c =
 
 pub returns-then-count_tabled-clause-counting : goal.returns-then-count_tabled-clause-counting
 returns-then-count_tabled-clause-counting g c flags classes is below h =
-    record { past = h.past; tables = c.count_tabled.ensures.tables flags classes is below h.tables; planned = h.planned }
+    record { history = h.history; tables = c.count_tabled.ensures.tables flags classes is below h.tables; planned = h.planned }
 
 pub returns-clause-counting : goal.returns-clause-counting
 returns-clause-counting g c flags classes is below h =
-    record { past = h.past; tables = c.count_tabled.ensures.tables flags classes is below h.tables; planned = h.planned }
+    record { history = h.history; tables = c.count_tabled.ensures.tables flags classes is below h.tables; planned = h.planned }
 
 pub returns-clause-counted : goal.returns-clause-counted
 returns-clause-counted g c leading races has =

@@ -6,6 +6,6 @@ returns-clause-search c = record {
   variable = refl;
   within = omega arith;
   flags = c.in_ok-flags.ensures;
-  past = c.in_ok-past.ensures c.args.settled.now.disciplined.now.events.now c.in_ok-flags.flags.items;
+  history = c.in_ok-history.ensures c.args.settled.now.disciplined.now.events.now c.in_ok-flags.flags.items;
   sweep = search rules;
 }

@@ -22,7 +22,7 @@ loop-e-preserved c = record {
   same_flags = search rules;
   of_trace = search rules;
   swept = search rules;
-  past = search rules;
+  history = search rules;
   races = λ x h.
       let trace = c.args.settled.now.disciplined.now in
       part_more trace.events.now trace.sizes x c.deref.result.now trace.within (subst (AreNarrowed [] trace.sizes.variables x (x + 1)) (sym (c.deref.ensures.value ∙ c.loop-e.invariant.same_flags)) h.flags)

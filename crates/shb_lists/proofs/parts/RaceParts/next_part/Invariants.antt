@@ -1,7 +1,7 @@
 use Rattle.std.proofs.Common.{◌≡◌, ◌≤◌, ◌++◌, ℕ, length, map}
 use Rattle.shb_pairs.specs.Listed.{pair_in}
 use Rattle.shb_lists.specs.Parts.{IsPartly, races_until}
-use Rattle.shb_lists.specs.Past.{IsPast}
+use Rattle.shb_lists.specs.History.{IsHistory}
 use Rattle.shb_lists.proofs.parts.RaceParts.next_part.Given as goal
 
 abbrev pub invariant-loop-e : goal.invariant-loop-e
@@ -13,7 +13,7 @@ invariant-loop-e l = record {
   same_flags : l.self.flags.items ≡ l.initial.self.flags.items;
   of_trace : l.self.sweep.trace ≡ l.settled.disciplined.now.events.now;
   swept : l.self.sweep.next ≡ l.e;
-  past : IsPast l.settled.disciplined.now.events.now l.self.flags.items l.e l.settled.disciplined.now.sizes.variables l.self.past;
+  history : IsHistory l.settled.disciplined.now.events.now l.self.flags.items l.e l.settled.disciplined.now.sizes.variables l.self.history;
   races : (x : ℕ) → IsPartly l.settled.disciplined.now.events.now l.settled.disciplined.now.sizes.variables x l.initial.self
       → races_until l.settled.disciplined.now.events.now x l.e ≡ races_until l.settled.disciplined.now.events.now x l.initial.self.next ++ map pair_in l.part.items;
 }

@@ -2,8 +2,8 @@ use Rattle.std.proofs.Common.{true, false}
 use Rattle.shb_lists.proofs.TableLemmas.{both_sides, from_side, to_side}
 use Rattle.shb_lists.proofs.racing.Racing.count.Goals as goal
 
-pub count_learned-requires-clause-unknown : goal.count_learned-requires-clause-unknown
-count_learned-requires-clause-unknown g c =
+pub count_learned-requires-clause-racing_counts : goal.count_learned-requires-clause-racing_counts
+count_learned-requires-clause-racing_counts g c =
     let trace = c.args.ordered.now.disciplined.now in (
       c.requires.racing.0,
       c.requires.racing.1,
@@ -15,12 +15,12 @@ returns-then-access-clause-racing g c classes below racing =
     let trace = c.args.ordered.now.disciplined.now in
     let e = c.args.access.event in
     let numbers = c.args.numbers.now in
-    both_sides trace.events.now c.args.access.variable numbers classes trace.sizes.threads e c.count_learned.new.unknown c.args.self.now.with_reads
-    (from_side trace.events.now c.args.access true numbers classes trace.sizes.threads e c.count_learned.new.unknown c.if-access.true
-    (c.count_learned.ensures.unknown classes below (to_side trace.events.now c.args.access true numbers classes trace.sizes.threads e c.args.self.now.with_writes c.if-access.true (racing true)))) (racing false)
+    both_sides trace.events.now c.args.access.variable numbers classes trace.sizes.threads e c.count_learned.new.racing_counts c.args.self.now.with_reads
+    (from_side trace.events.now c.args.access true numbers classes trace.sizes.threads e c.count_learned.new.racing_counts c.if-access.true
+    (c.count_learned.ensures.racing_counts classes below (to_side trace.events.now c.args.access true numbers classes trace.sizes.threads e c.args.self.now.with_writes c.if-access.true (racing true)))) (racing false)
 
-pub count_learned-requires-2-clause-unknown : goal.count_learned-requires-2-clause-unknown
-count_learned-requires-2-clause-unknown g c =
+pub count_learned-requires-2-clause-racing_counts : goal.count_learned-requires-2-clause-racing_counts
+count_learned-requires-2-clause-racing_counts g c =
     let trace = c.args.ordered.now.disciplined.now in (
       c.requires.racing.0,
       c.requires.racing.1,
@@ -32,6 +32,6 @@ returns-clause-racing g c classes below racing =
     let trace = c.args.ordered.now.disciplined.now in
     let e = c.args.access.event in
     let numbers = c.args.numbers.now in
-    both_sides trace.events.now c.args.access.variable numbers classes trace.sizes.threads e c.args.self.now.with_writes c.count_learned-2.new.unknown (racing true)
-    (from_side trace.events.now c.args.access false numbers classes trace.sizes.threads e c.count_learned-2.new.unknown c.if-access.false
-    (c.count_learned-2.ensures.unknown classes below (to_side trace.events.now c.args.access false numbers classes trace.sizes.threads e c.args.self.now.with_reads c.if-access.false (racing false))))
+    both_sides trace.events.now c.args.access.variable numbers classes trace.sizes.threads e c.args.self.now.with_writes c.count_learned-2.new.racing_counts (racing true)
+    (from_side trace.events.now c.args.access false numbers classes trace.sizes.threads e c.count_learned-2.new.racing_counts c.if-access.false
+    (c.count_learned-2.ensures.racing_counts classes below (to_side trace.events.now c.args.access false numbers classes trace.sizes.threads e c.args.self.now.with_reads c.if-access.false (racing false))))

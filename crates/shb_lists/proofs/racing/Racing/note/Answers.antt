@@ -1,6 +1,6 @@
 use Rattle.std.proofs.Common.{◌+◌, true, false, ◌∙◌}
 use Rattle.shb_lists.proofs.TableLemmas.{accessed, both_sides, own_met, read_unmet}
-use Rattle.shb_lists.proofs.UnknownLemmas.{unknown_other_event}
+use Rattle.shb_lists.proofs.RacingCountsLemmas.{unknown_other_event}
 use Rattle.shb_lists.proofs.racing.Racing.note.Goals as goal
 
 pub note-requires : goal.note-requires
