@@ -29,8 +29,8 @@ mod whole;
 
 pub use entries::read_block;
 pub use keeping::Keeping;
-pub use listed::{BlockLines, Listed, Section, bytes_in, lines_at, section_of};
-pub use parts::{PlaceEntry, RaceEntry, Span};
+pub use listed::{BlockLines, Section, bytes_in, lines_at, section_of};
+pub use parts::PlaceEntry;
 pub use position::{Position, ReadStop};
 pub use report::{Report, ReportError, read_report, read_report_within};
-pub use whole::{Head, read_head, read_places, read_tail};
+pub use whole::{read_head, read_places, read_tail};

@@ -2,7 +2,7 @@
 //!
 //! [`read_scan`] reads a source once: a line at a time is taken (`EventReader` of `shb_lines`), its event is judged
 //! (`State` of `shb_discipline`) and searched for races (`NearestRaces` of `shb_nearest`), and then forgotten. What is
-//! left is a [`FoundScan`]: the nearest races, of each place or of each place and variable, with their places, and the
+//! left is a `FoundScan`: the nearest races, of each place or of each place and variable, with their places, and the
 //! names behind their numbers. [`write_found`] writes their list report. [`run_scan`] does both, and has the theorem as
 //! its contract.
 #![tactic(auto)]
@@ -18,7 +18,7 @@ mod statuses;
 mod writing;
 
 pub use errors::ScanError;
-pub use found::{FoundScan, write_found};
+pub use found::write_found;
 pub use reading::read_scan;
 pub use scan::run_scan;
 pub use statuses::{scan_line, scan_message, status_of_scan};
