@@ -1,4 +1,15 @@
-//! Results handed over through 64 slots.
+//! Results handed over through 64 slots. The word of a slot is 4 times the number of the piece that it is for, and 1, 2 or 3
+//! more once that is claimed, placed, and about to be lifted. The slot of the pieces 0 and 64, empty, whose word is 0:
+//!
+//! | Call | Answer | Word after it | In the slot |
+//! |---|---|---|---|
+//! | `claim` 0 | true | 1 | |
+//! | `lift` 0 | `None`: the word isn't 2 | 1 | |
+//! | `place` 0 | | 2 | the value of 0 |
+//! | `claim` 64 | false: the word isn't 256 | 2 | the value of 0 |
+//! | `lift` 0 | its value | 256 | |
+//! | `claim` 64 | true | 257 | |
+
 ghost use Rattle.std.specs.Prelude.{◌≡◌, ℕ, ◌+◌, ◌*◌, ◌∷◌, ◌++◌, [], ◌<◌, ◌≤◌, All, IsTrue, IsFalse, IfSome, IfNone, IfOk, length, slice_index, sum_by};
 ghost use Rattle.std.specs.Vec.{vec_capacity};
 ghost use Rattle.std.specs.Slots.{IsFull};

@@ -1,4 +1,14 @@
 //! What a sweep by stamps keeps: rows that never change, and stamps that name them.
+//!
+//! Four events of the threads A, B and C. A row has an entry for each thread, and row 0 is `0 0 0`. A stamp is a row, a
+//! thread and a local time.
+//!
+//! | Event | New row | Rows of A, B and C | Stamp of x |
+//! |---|---|---|---|
+//! | `A|w(x)` | | 0, 0, 0 | 0 A 1: the first event of A |
+//! | `B|r(x)` | 1: `1 0 0` | 0, 1, 0 | 1 A 1: the same clock, by the new row |
+//! | `C|r(x)` | none: the stamp names it | 0, 1, 1 | 1 A 1 |
+//! | `B|w(x)` | | 0, 1, 1 | 1 B 2: the clock `1 2 0` |
 
 ghost use Rattle.std.specs.Prelude.{◌≡◌, ℕ, ◌+◌, ◌<◌, ◌≤◌, ◌^◌, List, [], ◌∷◌, Some, false, true, IfOk, OnOk, length, replicate, slice_index_or};
 ghost use Rattle.shb_lines.specs.declared.event.Op.TheVariants.{Join, Read, Write};
