@@ -9,7 +9,7 @@ use Rattle.std.proofs.lemmas.List.Elements.{Contains-append_cases, Contains-appe
 use Rattle.std.proofs.lemmas.Option.{get_or_from_slice_get, slice_get_within}
 use Rattle.shb_lines.proofs.events.Increasing.{contains_head, contains_none}
 use Rattle.shb_nearest.specs.declared.access.FoundAccess.{FoundAccess}
-use Rattle.shb_nearest.specs.declared.groups.Kept.{Kept}
+use Rattle.shb_nearest.specs.declared.groups.KeptAccess.{KeptAccess}
 use Rattle.shb_nearest.specs.Rivals.{HasAdded, IsCovered}
 use Rattle.shb_nearest.proofs.Members.{member_at, member_set, stays_or_is}
 
@@ -34,11 +34,11 @@ added_more old mid new done a first then = record {
 }
 
 -- the kept accesses before n, and then the one at n
-pub added_kept : (old mid new : List FoundAccess) (f : Kept → FoundAccess) (kept : List Kept) (n : ℕ) (item : Kept) → slice_get kept n ≡ Some item → HasAdded old mid (map f (take n kept)) → HasAdded mid new (f item ∷ []) → HasAdded old new (map f (take (n + 1) kept))
+pub added_kept : (old mid new : List FoundAccess) (f : KeptAccess → FoundAccess) (kept : List KeptAccess) (n : ℕ) (item : KeptAccess) → slice_get kept n ≡ Some item → HasAdded old mid (map f (take n kept)) → HasAdded mid new (f item ∷ []) → HasAdded old new (map f (take (n + 1) kept))
 added_kept old mid new f kept n item at first then = subst (HasAdded old new) (sym more) (added_more old mid new (map f (take n kept)) (f item) first then)
   where
     longer : take (n + 1) kept ≡ take n kept ++ item ∷ []
-    longer = (let e : n + 1 ≡ suc n = omega arith in ap (λ (m : ℕ). take m kept) e) ∙ (take-suc kept n item (slice_get_within kept n item at) ∙ ap (λ (b : Kept). take n kept ++ b ∷ []) (get_or_from_slice_get kept n item item at))
+    longer = (let e : n + 1 ≡ suc n = omega arith in ap (λ (m : ℕ). take m kept) e) ∙ (take-suc kept n item (slice_get_within kept n item at) ∙ ap (λ (b : KeptAccess). take n kept ++ b ∷ []) (get_or_from_slice_get kept n item item at))
 
     more : map f (take (n + 1) kept) ≡ map f (take n kept) ++ f item ∷ []
     more = ap (map f) longer ∙ map-append f (take n kept) (item ∷ [])

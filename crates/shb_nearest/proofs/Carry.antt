@@ -12,11 +12,11 @@ use Rattle.shb_nearest.specs.declared.access.FoundRace.{FoundRace}
 use Rattle.shb_nearest.specs.declared.access.Spot.{Spot}
 use Rattle.shb_nearest.specs.declared.classes.Class.{Class}
 use Rattle.shb_nearest.specs.declared.groups.Group.{Group}
-use Rattle.shb_nearest.specs.declared.groups.Kept.{Kept}
+use Rattle.shb_nearest.specs.declared.groups.KeptAccess.{KeptAccess}
 use Rattle.shb_nearest.specs.declared.late.Late.{Late}
 use Rattle.shb_nearest.specs.declared.places.Place.{Place}
 use Rattle.shb_nearest.specs.declared.screen.Latest.{Latest}
-use Rattle.shb_nearest.specs.declared.screen.Mark.{Mark}
+use Rattle.shb_nearest.specs.declared.screen.Epoch.{Epoch}
 use Rattle.shb_nearest.specs.declared.tables.Tables.{Tables}
 use Rattle.shb_nearest.specs.Classes.{IsOfClass}
 use Rattle.shb_nearest.specs.Found.{IsFoundAccess, location_in}
@@ -56,7 +56,7 @@ module _ (past : List Event) (e : Event) (spots : List Spot) (s : Spot) (as_many
   class_back c k lt h = record { thread_is = sym (same_thread_at k lt) ∙ h.thread_is; op_is = sym (same_op_at k lt) ∙ h.op_is; location_is = sym (same_place k lt) ∙ h.location_is }
 
   module _ (x n : ℕ) (within : n ≤ length past) where
-    kept_longer : (t : ℕ) (w : Bool) (a : Kept) → IsKept past spots x n t w a → IsKept (past ++ e ∷ []) (spots ++ s ∷ []) x n t w a
+    kept_longer : (t : ℕ) (w : Bool) (a : KeptAccess) → IsKept past spots x n t w a → IsKept (past ++ e ∷ []) (spots ++ s ∷ []) x n t w a
     kept_longer t w a h = let before = h.past in record {
       own = access_longer x (access_of t w a) (omega (arith, before, within)) h.own;
       time_is = h.time_is ∙ sym (time_longer past (e ∷ []) t a.event (omega (arith, before, within)));
@@ -120,12 +120,12 @@ module _ (past : List Event) (e : Event) (spots : List Spot) (s : Spot) (as_many
     nearest = λ k l lt race at. (let own = race_back k l lt race in h.nearest k l lt own (at_place_back by_variable p k l own.earlier lt at));
   }
 
-  marked_longer : (mark : Mark) (k : ℕ) → IsMarked past (length past) mark k → IsMarked (past ++ e ∷ []) (length past) mark k
-  marked_longer mark k h = record {
+  marked_longer : (epoch : Epoch) (k : ℕ) → IsMarked past (length past) epoch k → IsMarked (past ++ e ∷ []) (length past) epoch k
+  marked_longer epoch k h = record {
     event = h.event;
     past = h.past;
     thread_is = same_thread_at h.event h.past ∙ h.thread_is;
-    time_is = h.time_is ∙ sym (time_longer past (e ∷ []) mark.thread h.event h.past);
+    time_is = h.time_is ∙ sym (time_longer past (e ∷ []) epoch.thread h.event h.past);
     ordered = elim h.ordered [ inl same ↦ inl same | inr below ↦ inr ((below_pred_longer past (e ∷ []) whole k h.event h.past).1 below) ];
   }
 

@@ -19,7 +19,7 @@ use Rattle.shb_nearest.specs.declared.access.FoundAccess.{FoundAccess}
 use Rattle.shb_nearest.specs.declared.access.Spot.{Spot}
 use Rattle.shb_nearest.specs.declared.classes.Class.{Class}
 use Rattle.shb_nearest.specs.declared.groups.Group.{Group}
-use Rattle.shb_nearest.specs.declared.groups.Kept.{Kept}
+use Rattle.shb_nearest.specs.declared.groups.KeptAccess.{KeptAccess}
 use Rattle.shb_nearest.specs.declared.groups.Run.{Run}
 use Rattle.shb_nearest.specs.Classes.{HasPut, IsNewestOf, IsOfClass, is_newest_in, newest_in, same_class}
 use Rattle.shb_nearest.specs.Found.{IsFoundAccess}
@@ -71,7 +71,7 @@ pub newest_passes : (newest : List (Class × ℕ)) (class : Class) (k event : �
 newest_passes newest class k event is same = ap (λ (o : Option ℕ). elim o [ Some m ↦ nat_eq m event | None ↦ false ]) is ∙ eq-eqb k event (sym same)
 
 module _ (trace : List Event) (spots : List Spot) (x n : ℕ) where
-  kept_later : (t : ℕ) (w : Bool) (a : Kept) → IsKept trace spots x n t w a → IsKept trace spots x (n + 1) t w a
+  kept_later : (t : ℕ) (w : Bool) (a : KeptAccess) → IsKept trace spots x n t w a → IsKept trace spots x (n + 1) t w a
   kept_later t w a h = record { own = h.own; time_is = h.time_is; past = (let lt = h.past in omega (arith, lt)) }
 
   pub group_later : (g : Group) → IsGroup trace spots x n g → IsGroup trace spots x (n + 1) g
@@ -79,8 +79,8 @@ module _ (trace : List Event) (spots : List Spot) (x n : ℕ) where
 
   pub group_empty : (m : ℕ) (g : Group) → g.kept.items ≡ [] → IsGroup trace spots x m g
   group_empty m g none = record {
-    each = subst (λ (l : List Kept). All (IsKept trace spots x m g.thread g.writes) l) (sym none) (All-nil (IsKept trace spots x m g.thread g.writes));
-    rising = subst (λ (l : List Kept). AllPairs IsEarlier l) (sym none) (λ i j d lt within. absurd (omega (arith, lt, within)));
+    each = subst (λ (l : List KeptAccess). All (IsKept trace spots x m g.thread g.writes) l) (sym none) (All-nil (IsKept trace spots x m g.thread g.writes));
+    rising = subst (λ (l : List KeptAccess). AllPairs IsEarlier l) (sym none) (λ i j d lt within. absurd (omega (arith, lt, within)));
   }
 
   -- no access of the variable came
@@ -90,7 +90,7 @@ module _ (trace : List Event) (spots : List Spot) (x n : ℕ) where
     covers = λ c k of_x is. are.covers c k of_x (newest_before trace spots n c k is (λ same. never c of_x (subst (λ (m : ℕ). IsOfClass trace spots c m) same is.own)));
   }
 
-  module _ (access : FoundAccess) (here : access.event ≡ n) (own : IsFoundAccess trace spots x access) (kept : Kept) (at_event : kept.event ≡ access.event) (at_spot : kept.spot ≡ access.spot) (time_is : kept.time ≡ local_time trace access.thread access.event) where
+  module _ (access : FoundAccess) (here : access.event ≡ n) (own : IsFoundAccess trace spots x access) (kept : KeptAccess) (at_event : kept.event ≡ access.event) (at_spot : kept.spot ≡ access.spot) (time_is : kept.time ≡ local_time trace access.thread access.event) where
     own_kept : IsKept trace spots x (n + 1) access.thread access.writes kept
     own_kept = record {
       own = subst (λ (a : FoundAccess). IsFoundAccess trace spots x a) (sym (λ i. made (at_event i) (at_spot i))) own;
@@ -101,11 +101,11 @@ module _ (trace : List Event) (spots : List Spot) (x n : ℕ) where
         made : ℕ → Spot → FoundAccess
         made e s = record { event = e; thread = access.thread; writes = access.writes; spot = s }
 
-    abbrev pub class_in : Group → Kept → Class
+    abbrev pub class_in : Group → KeptAccess → Class
     class_in g a = class_of x (access_of g.thread g.writes a)
 
     module _ (old new : Group) (is_of : IsOfGroup old access.thread access.writes) (h : HasKept x kept old new) (was : IsGroup trace spots x n old) where
-      abbrev pub pushed : List Kept
+      abbrev pub pushed : List KeptAccess
       pushed = old.kept.items ++ kept ∷ []
 
       pushed_each : All (IsKept trace spots x (n + 1) new.thread new.writes) pushed
@@ -121,7 +121,7 @@ module _ (trace : List Event) (spots : List Spot) (x n : ℕ) where
         gone_within : r.at < length old.kept.items
         gone_within = slice_get_within old.kept.items r.at r.gone r.there
 
-        abbrev left : List Kept
+        abbrev left : List KeptAccess
         left = remove old.kept.items r.at
 
         left_before : All (IsKept trace spots x n old.thread old.writes) left
@@ -133,21 +133,21 @@ module _ (trace : List Event) (spots : List Spot) (x n : ℕ) where
 
         group_replaced : IsGroup trace spots x (n + 1) new
         group_replaced = record {
-          each = subst (λ (l : List Kept). All (IsKept trace spots x (n + 1) new.thread new.writes) l) (sym r.items) (All-push (IsKept trace spots x (n + 1) new.thread new.writes) left kept left_each
+          each = subst (λ (l : List KeptAccess). All (IsKept trace spots x (n + 1) new.thread new.writes) l) (sym r.items) (All-push (IsKept trace spots x (n + 1) new.thread new.writes) left kept left_each
               (subst (λ (t : ℕ). IsKept trace spots x (n + 1) t new.writes kept) (sym (h.own.thread_is ∙ is_of.thread_is)) (subst (λ (w : Bool). IsKept trace spots x (n + 1) access.thread w kept) (sym (h.own.writes_is ∙ is_of.writes_is)) own_kept)));
-          rising = subst (λ (l : List Kept). AllPairs IsEarlier l) (sym r.items) (all_pairs_push IsEarlier left kept (all_pairs_remove IsEarlier old.kept.items r.at gone_within was.rising)
+          rising = subst (λ (l : List KeptAccess). AllPairs IsEarlier l) (sym r.items) (all_pairs_push IsEarlier left kept (all_pairs_remove IsEarlier old.kept.items r.at gone_within was.rising)
               (λ k d lt. let past = (left_before k d lt).past in omega (arith, past, at_event, here)));
         }
 
-        replaced_kept : (a : Kept) → Contains pushed a → ((b : Kept) → Contains pushed b → b.spot.location ≡ a.spot.location → b.event ≤ a.event) → Contains new.kept.items a
-        replaced_kept a there last = subst (λ (l : List Kept). Contains l a) (sym r.items) (elim (Contains-push_cases old.kept.items kept a there) [
-          | inr same ↦ subst (λ (b : Kept). Contains (left ++ kept ∷ []) b) same (Contains-push left kept)
+        replaced_kept : (a : KeptAccess) → Contains pushed a → ((b : KeptAccess) → Contains pushed b → b.spot.location ≡ a.spot.location → b.event ≤ a.event) → Contains new.kept.items a
+        replaced_kept a there last = subst (λ (l : List KeptAccess). Contains l a) (sym r.items) (elim (Contains-push_cases old.kept.items kept a there) [
+          | inr same ↦ subst (λ (b : KeptAccess). Contains (left ++ kept ∷ []) b) same (Contains-push left kept)
           | inl before ↦ (
               let k = index_of old.kept.items a before in
               Contains-append_left left (kept ∷ []) a (member_remove old.kept.items r.at k.0 a gone_within k.1
               (λ same. let s : Some a ≡ Some r.gone = sym k.1 ∙ (ap (slice_get old.kept.items) same ∙ r.there) in
               let e : a ≡ r.gone = cc in
-              let at_a : kept.spot.location ≡ a.spot.location = sym r.location_is ∙ ap (λ (b : Kept). b.spot.location) (sym e) in
+              let at_a : kept.spot.location ≡ a.spot.location = sym r.location_is ∙ ap (λ (b : KeptAccess). b.spot.location) (sym e) in
               let le = last kept (Contains-push old.kept.items kept) at_a in
               let past = (All-contains (IsKept trace spots x n old.thread old.writes) old.kept.items a was.each before).past in
               absurd (omega (arith, le, past, at_event, here)))))
@@ -156,26 +156,26 @@ module _ (trace : List Event) (spots : List Spot) (x n : ℕ) where
       pub group_kept : IsGroup trace spots x (n + 1) new
       group_kept = elim h.items [
         | inl all ↦ record {
-          each = subst (λ (l : List Kept). All (IsKept trace spots x (n + 1) new.thread new.writes) l) (sym all) pushed_each;
-          rising = subst (λ (l : List Kept). AllPairs IsEarlier l) (sym all) pushed_rising;
+          each = subst (λ (l : List KeptAccess). All (IsKept trace spots x (n + 1) new.thread new.writes) l) (sym all) pushed_each;
+          rising = subst (λ (l : List KeptAccess). AllPairs IsEarlier l) (sym all) pushed_rising;
         }
         | inr (inl one) ↦ group_replaced one
         | inr (inr some) ↦ record {
-          each = subst (λ (l : List Kept). All (IsKept trace spots x (n + 1) new.thread new.writes) l) (sym some.items) (All-filter (is_newest_kept some.newest x old.thread old.writes) (IsKept trace spots x (n + 1) new.thread new.writes) pushed pushed_each);
-          rising = subst (λ (l : List Kept). AllPairs IsEarlier l) (sym some.items) (AllPairs-filter IsEarlier (is_newest_kept some.newest x old.thread old.writes) pushed pushed_rising);
+          each = subst (λ (l : List KeptAccess). All (IsKept trace spots x (n + 1) new.thread new.writes) l) (sym some.items) (All-filter (is_newest_kept some.newest x old.thread old.writes) (IsKept trace spots x (n + 1) new.thread new.writes) pushed pushed_each);
+          rising = subst (λ (l : List KeptAccess). AllPairs IsEarlier l) (sym some.items) (AllPairs-filter IsEarlier (is_newest_kept some.newest x old.thread old.writes) pushed pushed_rising);
         }
       ]
 
       -- the last at a location is kept
-      pub newest_kept : (a : Kept) → Contains pushed a → ((b : Kept) → Contains pushed b → b.spot.location ≡ a.spot.location → b.event ≤ a.event) → Contains new.kept.items a
+      pub newest_kept : (a : KeptAccess) → Contains pushed a → ((b : KeptAccess) → Contains pushed b → b.spot.location ≡ a.spot.location → b.event ≤ a.event) → Contains new.kept.items a
       newest_kept a there last = elim h.items [
-        | inl all ↦ subst (λ (l : List Kept). Contains l a) (sym all) there
+        | inl all ↦ subst (λ (l : List KeptAccess). Contains l a) (sym all) there
         | inr (inl one) ↦ replaced_kept one a there last
-        | inr (inr some) ↦ subst (λ (l : List Kept). Contains l a) (sym some.items) (member_filter (is_newest_kept some.newest x old.thread old.writes) pushed a there (newest_passes some.newest (class_in old a) a.event a.event (some.last pushed_rising a there last) refl))
+        | inr (inr some) ↦ subst (λ (l : List KeptAccess). Contains l a) (sym some.items) (member_filter (is_newest_kept some.newest x old.thread old.writes) pushed a there (newest_passes some.newest (class_in old a) a.event a.event (some.last pushed_rising a there last) refl))
       ]
 
       -- each access of the group is of the class of its location
-      pub in_class : (b : Kept) → Contains pushed b → IsOfClass trace spots (class_in new b) b.event × (b.event < n + 1)
+      pub in_class : (b : KeptAccess) → Contains pushed b → IsOfClass trace spots (class_in new b) b.event × (b.event < n + 1)
       in_class b there = let k = All-contains (IsKept trace spots x (n + 1) new.thread new.writes) pushed b pushed_each there in (class_own trace spots x (access_of new.thread new.writes b) k.own, k.past)
 
     pub noted : (groups mid : List Group) (at : ℕ) (old new : Group) → AreGroups trace spots x n groups → HasGroupAt groups mid access.thread access.writes at → slice_get mid at ≡ Some old → HasKept x kept old new → AreGroups trace spots x (n + 1) (set mid at new)
@@ -197,7 +197,7 @@ module _ (trace : List Event) (spots : List Spot) (x n : ℕ) where
         in_new = member_set mid at new (slice_get_within mid at old at_old)
 
         -- what is in the group at the location of a newest access isn't after it
-        last_in : (c : Class) (k : ℕ) → IsNewestOf trace spots (n + 1) c k → c.variable ≡ x → new.thread ≡ c.thread → new.writes ≡ c.writes → (b : Kept) → Contains (old.kept.items ++ kept ∷ []) b → b.spot.location ≡ c.location → b.event ≤ k
+        last_in : (c : Class) (k : ℕ) → IsNewestOf trace spots (n + 1) c k → c.variable ≡ x → new.thread ≡ c.thread → new.writes ≡ c.writes → (b : KeptAccess) → Contains (old.kept.items ++ kept ∷ []) b → b.spot.location ≡ c.location → b.event ≤ k
         last_in c k is of_x thread writes b there at =
             let own_b = in_class old new is_of h was b there in
             is.last b.event own_b.1 (subst (λ (d : Class). IsOfClass trace spots d b.event) (λ i. class_made (sym of_x i) (at i) (thread i) (writes i)) own_b.0)
@@ -256,14 +256,14 @@ module _ (trace : List Event) (spots : List Spot) (x n : ℕ) where
         ]
 
 -- a table of the last access at each location, an access more
-pub last_more : (x thread : ℕ) (writes : Bool) (old new : List (Class × ℕ)) (kept : List Kept) (m : ℕ) (y : Kept) → AllPairs IsEarlier kept → slice_get kept m ≡ Some y → HasPut old new (class_of x (access_of thread writes y)) y.event → HasLast old x thread writes (take m kept) → HasLast new x thread writes (take (m + 1) kept)
-last_more x thread writes old new kept m y rising at put h a there last = elim (Contains-push_cases (take m kept) y a (subst (λ (l : List Kept). Contains l a) more there)) [
-  | inr same ↦ subst (λ (b : Kept). newest_in new (class_of x (access_of thread writes b)) ≡ Some b.event) same (put (class_of x (access_of thread writes y)) ∙ ap (λ (b : Bool). cond b (Some y.event) (newest_in old (class_of x (access_of thread writes y)))) (class_self (class_of x (access_of thread writes y))))
-  | inl before ↦ put (class_of x (access_of thread writes a)) ∙ (ap (λ (b : Bool). cond b (Some y.event) (newest_in old (class_of x (access_of thread writes a)))) (other before) ∙ h a before (λ b in_front at_b. last b (subst (λ (l : List Kept). Contains l b) (sym more) (Contains-append_left (take m kept) (y ∷ []) b in_front)) at_b))
+pub last_more : (x thread : ℕ) (writes : Bool) (old new : List (Class × ℕ)) (kept : List KeptAccess) (m : ℕ) (y : KeptAccess) → AllPairs IsEarlier kept → slice_get kept m ≡ Some y → HasPut old new (class_of x (access_of thread writes y)) y.event → HasLast old x thread writes (take m kept) → HasLast new x thread writes (take (m + 1) kept)
+last_more x thread writes old new kept m y rising at put h a there last = elim (Contains-push_cases (take m kept) y a (subst (λ (l : List KeptAccess). Contains l a) more there)) [
+  | inr same ↦ subst (λ (b : KeptAccess). newest_in new (class_of x (access_of thread writes b)) ≡ Some b.event) same (put (class_of x (access_of thread writes y)) ∙ ap (λ (b : Bool). cond b (Some y.event) (newest_in old (class_of x (access_of thread writes y)))) (class_self (class_of x (access_of thread writes y))))
+  | inl before ↦ put (class_of x (access_of thread writes a)) ∙ (ap (λ (b : Bool). cond b (Some y.event) (newest_in old (class_of x (access_of thread writes a)))) (other before) ∙ h a before (λ b in_front at_b. last b (subst (λ (l : List KeptAccess). Contains l b) (sym more) (Contains-append_left (take m kept) (y ∷ []) b in_front)) at_b))
 ]
   where
     more : take (m + 1) kept ≡ take m kept ++ y ∷ []
-    more = (let e : m + 1 ≡ suc m = omega arith in ap (λ (k : ℕ). take k kept) e) ∙ (take-suc kept m y (slice_get_within kept m y at) ∙ ap (λ (b : Kept). take m kept ++ b ∷ []) (get_or_from_slice_get kept m y y at))
+    more = (let e : m + 1 ≡ suc m = omega arith in ap (λ (k : ℕ). take k kept) e) ∙ (take-suc kept m y (slice_get_within kept m y at) ∙ ap (λ (b : KeptAccess). take m kept ++ b ∷ []) (get_or_from_slice_get kept m y y at))
 
     earlier : Contains (take m kept) a → a.event < y.event
     earlier before =
@@ -272,8 +272,8 @@ last_more x thread writes old new kept m y rising at put h a there last = elim (
         let lt : before.0 < m = omega (arith, long, low) in
         let in_list = get_or-take m kept before.0 a lt in
         let rise = rising before.0 m a lt (slice_get_within kept m y at) in
-        let at_a = ap (λ (b : Kept). b.event) (sym in_list ∙ before.2) in
-        let at_y = ap (λ (b : Kept). b.event) (get_or_from_slice_get kept m y a at) in
+        let at_a = ap (λ (b : KeptAccess). b.event) (sym in_list ∙ before.2) in
+        let at_y = ap (λ (b : KeptAccess). b.event) (get_or_from_slice_get kept m y a at) in
         omega (arith, rise, at_a, at_y)
 
     other : Contains (take m kept) a → same_class (class_of x (access_of thread writes y)) (class_of x (access_of thread writes a)) ≡ false
@@ -281,7 +281,7 @@ last_more x thread writes old new kept m y rising at put h a there last = elim (
       | inr differs ↦ differs
       | inl same ↦ absurd (
           let location = ap (λ (d : Class). d.location) (one_class (class_of x (access_of thread writes y)) (class_of x (access_of thread writes a)) same) in
-          let le = last y (subst (λ (l : List Kept). Contains l y) (sym more) (Contains-push (take m kept) y)) location in
+          let le = last y (subst (λ (l : List KeptAccess). Contains l y) (sym more) (Contains-push (take m kept) y)) location in
           let lt = earlier before in
           omega (arith, le, lt))
     ]
@@ -306,13 +306,13 @@ pub group_same : (g h : Group) → Some g ≡ Some h → g ≡ h
 group_same g h is = let e : g ≡ h = cc in e
 
 -- a group that kept an access and forgot others
-pub kept_some : (x : ℕ) (access : Kept) (old new : Group) → new.thread ≡ old.thread → new.writes ≡ old.writes → (pushed seen : List Kept) (newest : List (Class × ℕ)) → pushed ≡ old.kept.items ++ access ∷ [] → seen ≡ pushed
+pub kept_some : (x : ℕ) (access : KeptAccess) (old new : Group) → new.thread ≡ old.thread → new.writes ≡ old.writes → (pushed seen : List KeptAccess) (newest : List (Class × ℕ)) → pushed ≡ old.kept.items ++ access ∷ [] → seen ≡ pushed
     → (AllPairs IsEarlier seen → HasLast newest x old.thread old.writes seen) → new.kept.items ≡ filter (is_newest_kept newest x old.thread old.writes) pushed → HasKept x access old new
 kept_some x access old new of_t of_w pushed seen newest more same last forgot = record {
   own = record { thread_is = of_t; writes_is = of_w };
   items = inr (inr (record {
     newest = newest;
-    last = subst (λ (l : List Kept). AllPairs IsEarlier l → HasLast newest x old.thread old.writes l) (same ∙ more) last;
+    last = subst (λ (l : List KeptAccess). AllPairs IsEarlier l → HasLast newest x old.thread old.writes l) (same ∙ more) last;
     items = forgot ∙ ap (filter (is_newest_kept newest x old.thread old.writes)) more;
   }));
 }
@@ -342,8 +342,8 @@ retained_passing R test f says (x ∷ xs) ys h =
     h.6 ∙ (λ i. cond (said.0 i) (said.2 i ∷ rest i) (rest i))
 
 -- an access in place of the last one
-pub last_replaced : (old : List Kept) (at : ℕ) (access : Kept) → at + 1 ≡ length old → set old at access ≡ remove old at ++ access ∷ []
+pub last_replaced : (old : List KeptAccess) (at : ℕ) (access : KeptAccess) → at + 1 ≡ length old → set old at access ≡ remove old at ++ access ∷ []
 last_replaced [] at access is = absurd (omega (arith, is))
 last_replaced (a ∷ []) zero access is = refl
 last_replaced (a ∷ (b ∷ old)) zero access is = absurd (omega (arith, is))
-last_replaced (a ∷ old) (suc at) access is = ap (λ (l : List Kept). a ∷ l) (last_replaced old at access (omega (arith, is)))
+last_replaced (a ∷ old) (suc at) access is = ap (λ (l : List KeptAccess). a ∷ l) (last_replaced old at access (omega (arith, is)))

@@ -20,7 +20,7 @@ use Rattle.shb_nearest.specs.declared.access.FoundAccess.{FoundAccess}
 use Rattle.shb_nearest.specs.declared.access.Spot.{Spot}
 use Rattle.shb_nearest.specs.declared.classes.Class.{Class}
 use Rattle.shb_nearest.specs.declared.groups.Group.{Group}
-use Rattle.shb_nearest.specs.declared.groups.Kept.{Kept}
+use Rattle.shb_nearest.specs.declared.groups.KeptAccess.{KeptAccess}
 use Rattle.shb_nearest.specs.declared.groups.Run.{Run}
 use Rattle.shb_nearest.specs.Found.{IsFoundAccess, access_op, location_in}
 use Rattle.shb_nearest.specs.Groups.{AreGroups, IsGroup, IsKept, IsRun, access_of}
@@ -85,7 +85,7 @@ module _ (trace : List Event) (spots : List Spot) (x : ℕ) where
       rising = is.rising;
     }
       where
-        before : (a : Kept) → IsKept trace spots x (access.event + 1) group.thread group.writes a → IsKept trace spots x access.event group.thread group.writes a
+        before : (a : KeptAccess) → IsKept trace spots x (access.event + 1) group.thread group.writes a → IsKept trace spots x access.event group.thread group.writes a
         before a h = record {
           own = h.own;
           time_is = h.time_is;
@@ -96,17 +96,17 @@ module _ (trace : List Event) (spots : List Spot) (x : ℕ) where
         }
 
     module _ (group : Group) (kept : IsGroup trace spots x access.event group) where
-      is_kept : (a : Kept) → Contains group.kept.items a → IsKept trace spots x access.event group.thread group.writes a
+      is_kept : (a : KeptAccess) → Contains group.kept.items a → IsKept trace spots x access.event group.thread group.writes a
       is_kept a there = All-contains (IsKept trace spots x access.event group.thread group.writes) group.kept.items a kept.each there
 
       module _ (below : ℕ) (count : IsBelowPredCount trace group.thread access.event below) where
-        looked_races : CanRace group access → (a : Kept) → Contains group.kept.items a → below < a.time → Race trace a.event access.event
+        looked_races : CanRace group access → (a : KeptAccess) → Contains group.kept.items a → below < a.time → Race trace a.event access.event
         looked_races can a there above =
             let h = is_kept a there in
             races_where (access_of group.thread group.writes a) h.own h.past can.other can.one_writes
             (λ is_below. let le = local_from_below trace group.thread access.event below count a.event h.own.thread_is is_below in let time = h.time_is in omega (arith, le, time, above))
 
-        over_none : (since k m : ℕ) (a b : Kept) → slice_get group.kept.items k ≡ Some a → slice_get group.kept.items m ≡ Some b → k ≤ m → IsOver b below since → since ≤ a.event → Race trace a.event access.event → ⊥
+        over_none : (since k m : ℕ) (a b : KeptAccess) → slice_get group.kept.items k ≡ Some a → slice_get group.kept.items m ≡ Some b → k ≤ m → IsOver b below since → since ≤ a.event → Race trace a.event access.event → ⊥
         over_none since k m a b at_a at_b le over from race = elim over [
           | inl low ↦ race.unordered (elim order [
             | inl same ↦ subst (λ (e : ℕ). BelowPred trace e access.event) (sym same) (below_b low)
@@ -118,7 +118,7 @@ module _ (trace : List Event) (spots : List Spot) (x : ℕ) where
           ]
         ]
           where
-            member : (c : Kept) (i : ℕ) → slice_get group.kept.items i ≡ Some c → Contains group.kept.items c
+            member : (c : KeptAccess) (i : ℕ) → slice_get group.kept.items i ≡ Some c → Contains group.kept.items c
             member c i at = (i, slice_get_within group.kept.items i c at, get_or_from_slice_get group.kept.items i c c at)
 
             of_b : thread_at trace b.event ≡ Some group.thread
@@ -129,13 +129,13 @@ module _ (trace : List Event) (spots : List Spot) (x : ℕ) where
 
             order : (a.event ≡ b.event) ⊎ (a.event < b.event)
             order = elim (cases_eq k m) [
-              | inl same ↦ inl (let s : Some a ≡ Some b = sym at_a ∙ (ap (slice_get group.kept.items) same ∙ at_b) in let e : a ≡ b = cc in ap (λ (c : Kept). c.event) e)
+              | inl same ↦ inl (let s : Some a ≡ Some b = sym at_a ∙ (ap (slice_get group.kept.items) same ∙ at_b) in let e : a ≡ b = cc in ap (λ (c : KeptAccess). c.event) e)
               | inr ne ↦ inr (
                   let rise = kept.rising k m a (omega (arith, le, ne)) (slice_get_within group.kept.items m b at_b) in
                   let at_k = get_or_from_slice_get group.kept.items k a a at_a in
                   let at_m = get_or_from_slice_get group.kept.items m b a at_b in
-                  let ek = ap (λ (c : Kept). c.event) at_k in
-                  let em = ap (λ (c : Kept). c.event) at_m in
+                  let ek = ap (λ (c : KeptAccess). c.event) at_k in
+                  let em = ap (λ (c : KeptAccess). c.event) at_m in
                   omega (arith, rise, ek, em))
             ]
 
@@ -161,7 +161,7 @@ module _ (trace : List Event) (spots : List Spot) (x : ℕ) where
                 let race = looked_races can m.0 in_group (h.from_is.need.after k.0 m.0 k.1 k.2).0 in
                 subst (λ (b : FoundAccess). IsFoundAccess trace spots x b × Race trace b.event access.event) m.2 ((is_kept m.0 in_group).own, race)
 
-            looked : (a : Kept) → Contains group.kept.items a → since ≤ a.event → Race trace a.event access.event → Contains added (access_of group.thread group.writes a)
+            looked : (a : KeptAccess) → Contains group.kept.items a → since ≤ a.event → Race trace a.event access.event → Contains added (access_of group.thread group.writes a)
             looked a there from race =
                 let k = index_of group.kept.items a there in
                 elim (cases_lt k.0 h.from) [

@@ -15,7 +15,7 @@ use Rattle.shb_stamps.proofs.Locals.{time_at}
 use Rattle.shb_nearest.specs.declared.access.FoundAccess.{FoundAccess}
 use Rattle.shb_nearest.specs.declared.access.Spot.{Spot}
 use Rattle.shb_nearest.specs.declared.screen.Latest.{Latest}
-use Rattle.shb_nearest.specs.declared.screen.Mark.{Mark}
+use Rattle.shb_nearest.specs.declared.screen.Epoch.{Epoch}
 use Rattle.shb_nearest.specs.Found.{IsFoundAccess}
 use Rattle.shb_nearest.specs.Screen.{HasNone, IsMarked, IsPast, IsScreened, no_time}
 use Rattle.shb_nearest.proofs.RivalLemmas.{variable_is, writes_where}
@@ -33,8 +33,8 @@ chain_below : (trace : List Event) → IsDisciplined trace → (i w j : ℕ) →
 chain_below trace disciplined i w j below after = path_below trace i below.0 j below.2 (pred_below trace disciplined below.0 w j below.1 after)
 
 module _ (trace : List Event) (x n : ℕ) where
-  marked_later : (mark : Mark) (k : ℕ) → IsMarked trace n mark k → IsMarked trace (n + 1) mark k
-  marked_later mark k h = record { event = h.event; past = (let lt = h.past in omega (arith, lt)); thread_is = h.thread_is; time_is = h.time_is; ordered = h.ordered }
+  marked_later : (epoch : Epoch) (k : ℕ) → IsMarked trace n epoch k → IsMarked trace (n + 1) epoch k
+  marked_later epoch k h = record { event = h.event; past = (let lt = h.past in omega (arith, lt)); thread_is = h.thread_is; time_is = h.time_is; ordered = h.ordered }
 
   -- nothing is said where the write isn't known
   pub screened_unknown : (m : ℕ) (latest : Latest) → latest.write.time ≡ no_time → IsScreened trace x m latest
@@ -67,18 +67,18 @@ module _ (trace : List Event) (x n : ℕ) where
       ]
 
   module _ (disciplined : IsDisciplined trace) where
-    -- what a mark stands for, where it is past
-    marked_below : (mark : Mark) (k : ℕ) → IsMarked trace n mark k → IsPast trace mark n → BelowPred trace k n
-    marked_below mark k h past = elim h.ordered [
+    -- what an epoch stands for, where it is past
+    marked_below : (epoch : Epoch) (k : ℕ) → IsMarked trace n epoch k → IsPast trace epoch n → BelowPred trace k n
+    marked_below epoch k h past = elim h.ordered [
       | inl same ↦ subst (λ (m : ℕ). BelowPred trace m n) (sym same) event_below
       | inr below ↦ chain_below trace disciplined k h.event n below event_below
     ]
       where
         event_below : BelowPred trace h.event n
         event_below = elim past.below [
-          | inl none ↦ absurd (let own = time_at trace mark.thread h.event h.thread_is in let time = h.time_is in omega (arith, own, time, none))
-          | inr (inl same) ↦ thread_below_pred trace mark.thread h.event n h.past h.thread_is same
-          | inr (inr counted) ↦ (let time = h.time_is in let le = counted.2 in below_from_local trace mark.thread n counted.0 counted.1 h.event h.thread_is (omega (arith, time, le)))
+          | inl none ↦ absurd (let own = time_at trace epoch.thread h.event h.thread_is in let time = h.time_is in omega (arith, own, time, none))
+          | inr (inl same) ↦ thread_below_pred trace epoch.thread h.event n h.past h.thread_is same
+          | inr (inr counted) ↦ (let time = h.time_is in let le = counted.2 in below_from_local trace epoch.thread n counted.0 counted.1 h.event h.thread_is (omega (arith, time, le)))
         ]
 
     module _ (spots : List Spot) (access : FoundAccess) (here_is : access.event ≡ n) (own : IsFoundAccess trace spots x access) (latest : Latest) (h : IsScreened trace x n latest) (past : IsPast trace latest.write n) where
@@ -112,34 +112,34 @@ module _ (trace : List Event) (x n : ℕ) where
         | inr w ↦ no_write reads race.conflict.variable w
       ]
 
-      module _ (mark : Mark) (thread_is : mark.thread ≡ access.thread) (time_is : mark.time ≡ local_time trace access.thread access.event) where
-        own_thread : thread_at trace n ≡ Some mark.thread
+      module _ (epoch : Epoch) (thread_is : epoch.thread ≡ access.thread) (time_is : epoch.time ≡ local_time trace access.thread access.event) where
+        own_thread : thread_at trace n ≡ Some epoch.thread
         own_thread = subst (λ (m : ℕ). thread_at trace m ≡ Some access.thread) here_is own.thread_is ∙ ap (λ (t : ℕ). Some t) (sym thread_is)
 
-        own_time : mark.time ≡ local_time trace mark.thread n
+        own_time : epoch.time ≡ local_time trace epoch.thread n
         own_time = time_is ∙ (ap (local_time trace access.thread) here_is ∙ ap (λ (t : ℕ). local_time trace t n) (sym thread_is))
 
-        marked_own : IsMarked trace (n + 1) mark n
+        marked_own : IsMarked trace (n + 1) epoch n
         marked_own = record { event = n; past = omega arith; thread_is = own_thread; time_is = own_time; ordered = inl refl }
 
-        marked_after : (k : ℕ) → BelowPred trace k n → IsMarked trace (n + 1) mark k
+        marked_after : (k : ℕ) → BelowPred trace k n → IsMarked trace (n + 1) epoch k
         marked_after k below = record { event = n; past = omega arith; thread_is = own_thread; time_is = own_time; ordered = inr below }
 
-        marked_all : IsPast trace latest.read n → (k : ℕ) → k < n + 1 → variable_at trace k ≡ Some x → IsMarked trace (n + 1) mark k
+        marked_all : IsPast trace latest.read n → (k : ℕ) → k < n + 1 → variable_at trace k ≡ Some x → IsMarked trace (n + 1) epoch k
         marked_all also k lt of_k = elim (cases_eq k n) [
-          | inl same ↦ subst (λ (m : ℕ). IsMarked trace (n + 1) mark m) (sym same) marked_own
+          | inl same ↦ subst (λ (m : ℕ). IsMarked trace (n + 1) epoch m) (sym same) marked_own
           | inr other ↦ marked_after k (access_below also k (omega (arith, lt, other)) of_k)
         ]
 
         -- a write after all others
-        pub screened_write : IsPast trace latest.read n → (read : Mark) → IsScreened trace x (n + 1) (record { write = mark; read = read })
+        pub screened_write : IsPast trace latest.read n → (read : Epoch) → IsScreened trace x (n + 1) (record { write = epoch; read = read })
         screened_write also read = record {
           writes = λ known k lt writes. marked_all also k lt (ap (option_and_then variable_of) writes);
           accesses = λ known more k lt of_k. inl (marked_all also k lt of_k);
         }
 
         -- a read after all others
-        pub screened_read : access.writes ≡ false → IsPast trace latest.read n → IsScreened trace x (n + 1) (record { write = latest.write; read = mark })
+        pub screened_read : access.writes ≡ false → IsPast trace latest.read n → IsScreened trace x (n + 1) (record { write = latest.write; read = epoch })
         screened_read reads also = record {
           writes = λ known k lt writes. marked_later latest.write k (h.writes known k (not_here reads k lt writes) writes);
           accesses = λ known more k lt of_k. inr (marked_all also k lt of_k);
@@ -152,7 +152,7 @@ module _ (trace : List Event) (x n : ℕ) where
             ]
 
       -- a read that isn't known to be after the other reads
-      pub screened_unordered : access.writes ≡ false → (read : Mark) → read.time ≡ no_time → IsScreened trace x (n + 1) (record { write = latest.write; read = read })
+      pub screened_unordered : access.writes ≡ false → (read : Epoch) → read.time ≡ no_time → IsScreened trace x (n + 1) (record { write = latest.write; read = read })
       screened_unordered reads read none = record {
         writes = λ known k lt writes. marked_later latest.write k (h.writes known k (elim (cases_eq k n) [
           | inl same ↦ absurd (no_write reads x (subst (λ (m : ℕ). op_at trace m ≡ Some (Write x)) same writes))

@@ -11,11 +11,11 @@ use Rattle.shb_nearest.specs.declared.access.FoundAccess.{FoundAccess}
 use Rattle.shb_nearest.specs.declared.access.Spot.{Spot}
 use Rattle.shb_nearest.specs.declared.classes.Class.{Class}
 use Rattle.shb_nearest.specs.declared.groups.Group.{Group}
-use Rattle.shb_nearest.specs.declared.groups.Kept.{Kept}
+use Rattle.shb_nearest.specs.declared.groups.KeptAccess.{KeptAccess}
 use Rattle.shb_nearest.specs.declared.groups.Run.{Run}
 
 -- a kept access with what its group tells
-abbrev pub access_of : ℕ → Bool → Kept → FoundAccess
+abbrev pub access_of : ℕ → Bool → KeptAccess → FoundAccess
 access_of thread writes kept = record { event = kept.event; thread = thread; writes = writes; spot = kept.spot }
 
 -- the class of an access of a variable
@@ -23,13 +23,13 @@ abbrev pub class_of : ℕ → FoundAccess → Class
 class_of x access = record { variable = x; location = access.spot.location; thread = access.thread; writes = access.writes }
 
 -- the kept access is one before n, and has its local time
-pub record IsKept (trace : List Event) (spots : List Spot) (x n thread : ℕ) (writes : Bool) (kept : Kept) : Type 0 where
+pub record IsKept (trace : List Event) (spots : List Spot) (x n thread : ℕ) (writes : Bool) (kept : KeptAccess) : Type 0 where
   pub own : IsFoundAccess trace spots x (access_of thread writes kept)
   pub time_is : kept.time ≡ local_time trace thread kept.event
   pub past : kept.event < n
 
 -- one access is before another
-abbrev pub IsEarlier : Kept → Kept → Type 0
+abbrev pub IsEarlier : KeptAccess → KeptAccess → Type 0
 IsEarlier a b = a.event < b.event
 
 -- what a group keeps are accesses before n of its thread and kind, rising
@@ -43,7 +43,7 @@ pub record KeepsAccess (groups : List Group) (class : Class) (k : ℕ) : Type 0 
   pub there : Contains groups group
   pub thread_is : group.thread ≡ class.thread
   pub writes_is : group.writes ≡ class.writes
-  pub kept : Kept
+  pub kept : KeptAccess
   pub among : Contains group.kept.items kept
   pub event_is : kept.event ≡ k
   pub location_is : kept.spot.location ≡ class.location
@@ -67,35 +67,35 @@ pub record HasGroupAt (old new : List Group) (thread : ℕ) (writes : Bool) (at 
   pub from : (g : Group) → Contains new g → Contains old g ⊎ (g.kept.items ≡ [])
 
 -- whether a kept access is the newest of its class
-abbrev pub is_newest_kept : List (Class × ℕ) → ℕ → ℕ → Bool → Kept → Bool
+abbrev pub is_newest_kept : List (Class × ℕ) → ℕ → ℕ → Bool → KeptAccess → Bool
 is_newest_kept newest x thread writes kept = is_newest_in newest (class_of x (access_of thread writes kept)) kept.event
 
 -- a table has the last of some kept accesses at each location
-abbrev pub HasLast : List (Class × ℕ) → ℕ → ℕ → Bool → List Kept → Type 0
-HasLast newest x thread writes kept = (a : Kept) → Contains kept a → ((b : Kept) → Contains kept b → b.spot.location ≡ a.spot.location → b.event ≤ a.event) → newest_in newest (class_of x (access_of thread writes a)) ≡ Some a.event
+abbrev pub HasLast : List (Class × ℕ) → ℕ → ℕ → Bool → List KeptAccess → Type 0
+HasLast newest x thread writes kept = (a : KeptAccess) → Contains kept a → ((b : KeptAccess) → Contains kept b → b.spot.location ≡ a.spot.location → b.event ≤ a.event) → newest_in newest (class_of x (access_of thread writes a)) ≡ Some a.event
 
 -- of a group's accesses those stay that a table has, which has the last at each location
-pub record HasForgotten (x thread : ℕ) (writes : Bool) (old new : List Kept) : Type 0 where
+pub record HasForgotten (x thread : ℕ) (writes : Bool) (old new : List KeptAccess) : Type 0 where
   pub newest : List (Class × ℕ)
   pub last : AllPairs IsEarlier old → HasLast newest x thread writes old
   pub items : new ≡ filter (is_newest_kept newest x thread writes) old
 
 -- the access came last, and one at its location went
-pub record HasReplaced (access : Kept) (old new : List Kept) : Type 0 where
+pub record HasReplaced (access : KeptAccess) (old new : List KeptAccess) : Type 0 where
   pub at : ℕ
-  pub gone : Kept
+  pub gone : KeptAccess
   pub there : slice_get old at ≡ Some gone
   pub location_is : gone.spot.location ≡ access.spot.location
   pub items : new ≡ remove old at ++ access ∷ []
 
 -- the group keeps one access more, and perhaps not an earlier one at its location, or forgets those that aren't the last at theirs
-pub record HasKept (x : ℕ) (access : Kept) (old new : Group) : Type 0 where
+pub record HasKept (x : ℕ) (access : KeptAccess) (old new : Group) : Type 0 where
   pub own : IsOfGroup new old.thread old.writes
   pub items : (new.kept.items ≡ old.kept.items ++ access ∷ []) ⊎ (HasReplaced access old.kept.items new.kept.items ⊎ HasForgotten x old.thread old.writes (old.kept.items ++ access ∷ []) new.kept.items)
 
 -- an access of the kept ones at a location, or 0
-abbrev pub IsAt : List Kept → ℕ → ℕ → Type 0
-IsAt kept location event = (event ≡ 0) ⊎ ((a : Kept) × Contains kept a × (a.spot.location ≡ location) × (a.event ≡ event))
+abbrev pub IsAt : List KeptAccess → ℕ → ℕ → Type 0
+IsAt kept location event = (event ≡ 0) ⊎ ((a : KeptAccess) × Contains kept a × (a.spot.location ≡ location) × (a.event ≡ event))
 
 -- an earlier access of the class of the access, or 0
 abbrev pub IsSince : List Event → List Spot → ℕ → FoundAccess → ℕ → Type 0

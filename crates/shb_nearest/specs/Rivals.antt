@@ -10,21 +10,21 @@ use Rattle.shb_nearest.specs.Groups.{access_of}
 use Rattle.shb_nearest.specs.declared.access.FoundAccess.{FoundAccess}
 use Rattle.shb_nearest.specs.declared.access.Spot.{Spot}
 use Rattle.shb_nearest.specs.declared.groups.Group.{Group}
-use Rattle.shb_nearest.specs.declared.groups.Kept.{Kept}
+use Rattle.shb_nearest.specs.declared.groups.KeptAccess.{KeptAccess}
 
 -- the kept access, and so each before it, needs no look: it is one of the first `below` events of its thread, or before `since`
-abbrev pub IsOver : Kept → ℕ → ℕ → Type 0
+abbrev pub IsOver : KeptAccess → ℕ → ℕ → Type 0
 IsOver kept below since = (kept.time ≤ below) ⊎ (kept.event < since)
 
 -- the kept accesses from an index on need a look
-pub record NeedLook (kept : List Kept) (below since from : ℕ) : Type 0 where
+pub record NeedLook (kept : List KeptAccess) (below since from : ℕ) : Type 0 where
   pub within : from ≤ length kept
-  pub after : (k : ℕ) (a : Kept) → from ≤ k → slice_get kept k ≡ Some a → (below < a.time) × (since ≤ a.event)
+  pub after : (k : ℕ) (a : KeptAccess) → from ≤ k → slice_get kept k ≡ Some a → (below < a.time) × (since ≤ a.event)
 
 -- the index after the last kept access that needs no look
-pub record IsFrom (kept : List Kept) (below since from : ℕ) : Type 0 where
+pub record IsFrom (kept : List KeptAccess) (below since from : ℕ) : Type 0 where
   pub need : NeedLook kept below since from
-  pub stop : (k : ℕ) (a : Kept) → k + 1 ≡ from → slice_get kept k ≡ Some a → IsOver a below since
+  pub stop : (k : ℕ) (a : KeptAccess) → k + 1 ≡ from → slice_get kept k ≡ Some a → IsOver a below since
 
 -- one of the rivals is at the location of an access, and isn't before it
 pub record IsCovered (rivals : List FoundAccess) (access : FoundAccess) : Type 0 where
@@ -62,12 +62,12 @@ pub record IsNextAccess (past : List Event) (e : Event) (spots : List Spot) (x :
 pub record HasMetGroup (trace : List Event) (spots : List Spot) (x : ℕ) (access : FoundAccess) (since : ℕ) (group : Group) (old new : List FoundAccess) : Type 0 where
   pub stay : (a : FoundAccess) → IsCovered old a → IsCovered new a
   pub from : (a : FoundAccess) → Contains new a → Contains old a ⊎ (IsFoundAccess trace spots x a × Race trace a.event access.event)
-  pub met : (a : Kept) → Contains group.kept.items a → since ≤ a.event → Race trace a.event access.event → IsCovered new (access_of group.thread group.writes a)
+  pub met : (a : KeptAccess) → Contains group.kept.items a → since ≤ a.event → Race trace a.event access.event → IsCovered new (access_of group.thread group.writes a)
 
 -- the same of several groups
 pub record AreMet (trace : List Event) (spots : List Spot) (x : ℕ) (access : FoundAccess) (since : ℕ) (groups : List Group) (rivals : List FoundAccess) : Type 0 where
   pub races : (a : FoundAccess) → Contains rivals a → IsFoundAccess trace spots x a × Race trace a.event access.event
-  pub met : (g : Group) (a : Kept) → Contains groups g → Contains g.kept.items a → since ≤ a.event → Race trace a.event access.event → IsCovered rivals (access_of g.thread g.writes a)
+  pub met : (g : Group) (a : KeptAccess) → Contains groups g → Contains g.kept.items a → since ≤ a.event → Race trace a.event access.event → IsCovered rivals (access_of g.thread g.writes a)
 
 -- accesses that race with an access: for each that does, from `since` on, one at its location that isn't before it
 pub record AreRivals (trace : List Event) (spots : List Spot) (x : ℕ) (access : FoundAccess) (since : ℕ) (rivals : List FoundAccess) : Type 0 where

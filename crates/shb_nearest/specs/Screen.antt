@@ -7,23 +7,23 @@ use Rattle.shb_lines.specs.events.Events.{thread_at, op_at}
 use Rattle.shb_lines.specs.events.Order.{BelowPred, IsBelowPredCount}
 use Rattle.shb_lines.specs.events.Race.{Race, variable_at}
 use Rattle.shb_nearest.specs.declared.screen.Latest.{Latest}
-use Rattle.shb_nearest.specs.declared.screen.Mark.{Mark}
+use Rattle.shb_nearest.specs.declared.screen.Epoch.{Epoch}
 
 -- the local time of an access that isn't known any more
 abbrev pub no_time : ℕ
 no_time = 4294967295
 
--- what the mark stands for is SHB-below the predecessor of e: it is nothing, or an event of the thread of e, or its local time is among those below
-pub record IsPast (trace : List Event) (mark : Mark) (e : ℕ) : Type 0 where
-  pub known : mark.time ≢ no_time
-  pub below : (mark.time ≡ 0) ⊎ ((thread_at trace e ≡ Some mark.thread) ⊎ ((n : ℕ) × IsBelowPredCount trace mark.thread e n × (mark.time ≤ n)))
+-- what the epoch stands for is SHB-below the predecessor of e: it is nothing, or an event of the thread of e, or its local time is among those below
+pub record IsPast (trace : List Event) (epoch : Epoch) (e : ℕ) : Type 0 where
+  pub known : epoch.time ≢ no_time
+  pub below : (epoch.time ≡ 0) ⊎ ((thread_at trace e ≡ Some epoch.thread) ⊎ ((n : ℕ) × IsBelowPredCount trace epoch.thread e n × (epoch.time ≤ n)))
 
--- the mark stands for an event before n that is k, or that k is SHB-below the predecessor of
-pub record IsMarked (trace : List Event) (n : ℕ) (mark : Mark) (k : ℕ) : Type 0 where
+-- the epoch stands for an event before n that is k, or that k is SHB-below the predecessor of
+pub record IsMarked (trace : List Event) (n : ℕ) (epoch : Epoch) (k : ℕ) : Type 0 where
   pub event : ℕ
   pub past : event < n
-  pub thread_is : thread_at trace event ≡ Some mark.thread
-  pub time_is : mark.time ≡ local_time trace mark.thread event
+  pub thread_is : thread_at trace event ≡ Some epoch.thread
+  pub time_is : epoch.time ≡ local_time trace epoch.thread event
   pub ordered : (k ≡ event) ⊎ BelowPred trace k event
 
 -- unless they aren't known, the write stands for all writes of x before n, and write and read for all accesses

@@ -7,7 +7,7 @@ ghost use Rattle.shb_nearest.specs.Found.{IsFoundAccess};
 ghost use Rattle.shb_nearest.specs.Groups.{AreGroups, HasGroupAt, HasKept, HasLast, IsAt, IsEarlier, IsOfGroup, IsRun, IsSince, is_newest_kept};
 ghost use Rattle.shb_nearest.specs.Late.{IsLate};
 ghost use Rattle.shb_nearest.specs.declared.access.Spot.{Spot as SpotData};
-ghost use Rattle.shb_nearest.specs.declared.groups.Kept.{Kept as KeptData};
+ghost use Rattle.shb_nearest.specs.declared.groups.KeptAccess.{KeptAccess as KeptData};
 
 use crate::access::{FoundAccess, Spot};
 use crate::classes::{Class, Classes};
@@ -19,7 +19,7 @@ use std::alloc::Global;
 
 /// An access that a group keeps.
 #[derive(Clone, Copy, Default)]
-pub struct Kept {
+pub struct KeptAccess {
     pub event: u32,
     /// How many events its thread had, with this one.
     pub time: u32,
@@ -32,7 +32,7 @@ pub struct Kept {
 pub struct Group {
     pub thread: u32,
     pub writes: bool,
-    pub kept: SmallVec<Kept, 1>,
+    pub kept: SmallVec<KeptAccess, 1>,
     /// With more than so many it forgets those that aren't the last at their location.
     pub most: usize,
 }
@@ -61,7 +61,7 @@ fn newest_of(
     variable: u32,
     thread: u32,
     writes: bool,
-    kept: &[Kept],
+    kept: &[KeptAccess],
 ) -> Result<Classes, NoMemory>
     ensures { AllPairs IsEarlier kept.now → IfOk result (λ newest. HasLast newest.newest.entries variable thread writes kept.now) }
 {
@@ -79,7 +79,7 @@ fn newest_of(
 }
 
 /// The index of the last kept access at a location, if there is one.
-fn index_at(kept: &[Kept], location: u32) -> Option<usize>
+fn index_at(kept: &[KeptAccess], location: u32) -> Option<usize>
     ensures { IfSome result (λ at. (a : KeptData) × (slice_get kept.now at ≡ Some a) × (a.spot.location ≡ location)) }
 {
     let mut from = kept.len();
@@ -104,7 +104,13 @@ pub fn is_at(groups: &[Group], at: usize, thread: u32, writes: bool) -> bool
 }
 
 /// Forgets those that a table doesn't have.
-fn forget(kept: &mut SmallVec<Kept, 1>, classes: &Classes, variable: u32, thread: u32, writes: bool)
+fn forget(
+    kept: &mut SmallVec<KeptAccess, 1>,
+    classes: &Classes,
+    variable: u32,
+    thread: u32,
+    writes: bool,
+)
     ensures { kept.new.items ≡ filter (is_newest_kept classes.now.newest.entries variable thread writes) kept.old.items }
 {
     kept.retain(|access| {
@@ -163,7 +169,7 @@ impl Group {
     }
 
     /// Keeps an access in place of the last one, which is at this index and at its location, and answers that one.
-    fn replace_last(&mut self, at: usize, access: Kept) -> u32
+    fn replace_last(&mut self, at: usize, access: KeptAccess) -> u32
         requires last { at + 1 ≡ length self.old.kept.items }
         requires location { (a : KeptData) × (slice_get self.old.kept.items at ≡ Some a) × (a.spot.location ≡ access.spot.location) }
         ensures kept { (x : ℕ) → HasKept x access self.old self.new }
@@ -184,7 +190,7 @@ impl Group {
     /// # Errors
     ///
     /// `NoMemory` where a growth was refused.
-    fn replace(&mut self, access: Kept) -> Result<u32, NoMemory>
+    fn replace(&mut self, access: KeptAccess) -> Result<u32, NoMemory>
         ensures kept { (x : ℕ) → OnOk result (HasKept x access self.old self.new) }
         ensures before { IfOk result (IsAt self.old.kept.items access.spot.location) }
     {
@@ -212,7 +218,7 @@ impl Group {
         alloc: Global,
         classes: &Classes,
         variable: u32,
-        access: Kept,
+        access: KeptAccess,
     ) -> Result<(), NoMemory>
         ensures { OnOk result (HasKept variable access self.old self.new) }
     {
@@ -283,7 +289,7 @@ impl Groups {
     {
         let Late { access, time } = late;
         let at = self.group_at(alloc, indices, access.thread, access.writes)?;
-        let kept = Kept {
+        let kept = KeptAccess {
             event: access.event,
             time,
             spot: access.spot,

@@ -7,7 +7,7 @@ ghost use Rattle.shb_nearest.specs.Rivals.{AreRivals, CanRace, HasAdded, HasMet,
 ghost use Rattle.shb_nearest.specs.declared.access.Spot.{Spot as SpotData};
 
 use crate::access::FoundAccess;
-use crate::groups::{Group, Kept, Run};
+use crate::groups::{Group, KeptAccess, Run};
 use shb_io::NoMemory;
 use shb_lines::{item_or, put};
 use shb_stamps::StreamClocks;
@@ -23,7 +23,7 @@ pub struct Rivals {
 
 /// Whether a kept access, and so each one before it, needs no look: it is one of the first `below` events of its thread,
 /// or before the event `since`.
-fn is_over(access: Kept, below: u32, since: u32) -> bool
+fn is_over(access: KeptAccess, below: u32, since: u32) -> bool
     ensures over { result ≡ true → IsOver access below since }
     ensures not_over { result ≡ false → (below < access.time) × (since ≤ access.event) }
 {
@@ -31,7 +31,7 @@ fn is_over(access: Kept, below: u32, since: u32) -> bool
 }
 
 /// The index after the last kept access that needs no look.
-fn index_after(kept: &[Kept], below: u32, since: u32) -> usize
+fn index_after(kept: &[KeptAccess], below: u32, since: u32) -> usize
     ensures { IsFrom kept.now below since result }
 {
     let mut from = kept.len();
@@ -75,7 +75,7 @@ impl Rivals {
     }
 
     /// Takes kept accesses of a thread and a kind in.
-    fn add_all(&mut self, thread: u32, writes: bool, kept: &[Kept]) -> Result<(), NoMemory>
+    fn add_all(&mut self, thread: u32, writes: bool, kept: &[KeptAccess]) -> Result<(), NoMemory>
         ensures { OnOk result (HasAdded self.old.found.items self.new.found.items (map (access_of thread writes) kept.now)) }
     {
         for access in kept {

@@ -14,7 +14,7 @@ const NO_TIME: u32 = u32::MAX;
 
 /// An access by its local time, from 1, and its thread; or nothing, or an access that isn't known any more.
 #[derive(Clone, Copy)]
-pub struct Mark {
+pub struct Epoch {
     pub time: u32,
     pub thread: u32,
 }
@@ -23,8 +23,8 @@ pub struct Mark {
 /// before. Where the write isn't known, nothing is kept; where the read isn't, nothing of the reads.
 #[derive(Clone, Copy)]
 pub struct Latest {
-    pub write: Mark,
-    pub read: Mark,
+    pub write: Epoch,
+    pub read: Epoch,
 }
 
 /// Whether an access is known to race with no earlier one, and what is kept after it.
@@ -34,18 +34,18 @@ pub struct Screened {
     pub latest: Latest,
 }
 
-/// The mark of nothing, which each access is after.
-fn nothing() -> Mark
+/// The epoch of nothing, which each access is after.
+fn nothing() -> Epoch
     ensures { result.time ≡ 0 }
 {
-    Mark { time: 0, thread: 0 }
+    Epoch { time: 0, thread: 0 }
 }
 
-/// The mark that no access is known to be after.
-fn unknown() -> Mark
+/// The epoch that no access is known to be after.
+fn unknown() -> Epoch
     ensures { result.time ≡ no_time }
 {
-    Mark {
+    Epoch {
         time: NO_TIME,
         thread: 0,
     }
@@ -61,29 +61,29 @@ pub fn unscreened() -> Latest
     }
 }
 
-/// Whether the next access is known to be after what a mark stands for.
-fn is_past(clocks: &StreamClocks, mark: Mark, access: FoundAccess) -> bool
+/// Whether the next access is known to be after what an epoch stands for.
+fn is_past(clocks: &StreamClocks, epoch: Epoch, access: FoundAccess) -> bool
     ensures { (past : List Event) (e : Event) (spots : List SpotData) (x : ℕ) → IsNextAccess past e spots x clocks.now access
-        → result ≡ true → IsPast (past ++ e ∷ []) mark access.event }
+        → result ≡ true → IsPast (past ++ e ∷ []) epoch access.event }
 {
-    if mark.time == NO_TIME {
+    if epoch.time == NO_TIME {
         return false;
     }
-    if mark.time == 0 {
+    if epoch.time == 0 {
         return true;
     }
-    if mark.thread == access.thread {
+    if epoch.thread == access.thread {
         return true;
     }
-    let below = clocks.below_next(access.thread, mark.thread);
-    if mark.time <= below {
+    let below = clocks.below_next(access.thread, epoch.thread);
+    if epoch.time <= below {
         return true;
     }
     false
 }
 
 /// An access that races with none before it, and what is kept after it.
-fn free(write: Mark, read: Mark) -> Screened
+fn free(write: Epoch, read: Epoch) -> Screened
     ensures { result.latest ≡ (record { write = write; read = read }) }
 {
     Screened {
@@ -119,7 +119,7 @@ pub fn screen(clocks: &StreamClocks, latest: Latest, access: FoundAccess, time: 
         return not_free();
     }
     let after_read = is_past(clocks, latest.read, access);
-    let own = Mark {
+    let own = Epoch {
         time,
         thread: access.thread,
     };

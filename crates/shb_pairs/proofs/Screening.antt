@@ -18,7 +18,7 @@ use Rattle.shb_lines.proofs.events.Prefix.{below_from_local}
 use Rattle.shb_lines.proofs.events.Schedulable.{below_pred_closed, thread_below_pred}
 use Rattle.shb_links.specs.Sharing.{IsShared}
 use Rattle.shb_pairs.specs.declared.screen.Latest.{Latest}
-use Rattle.shb_pairs.specs.declared.screen.Mark.{Mark}
+use Rattle.shb_pairs.specs.declared.screen.Epoch.{Epoch}
 use Rattle.shb_pairs.specs.Open.{AreOpen}
 use Rattle.shb_pairs.specs.Screen.{AreScreened, IsPast, IsScreened, no_time}
 use Rattle.shb_lines.specs.events.Tests.{is_write}
@@ -38,17 +38,17 @@ path_below trace a b e (step {b = c} edge rest) below = below_pred_closed trace 
 chain_below : (trace : List Event) → IsDisciplined trace → (i w j : ℕ) → BelowPred trace i w → BelowPred trace w j → BelowPred trace i j
 chain_below trace disciplined i w j below after = path_below trace i below.0 j below.2 (pred_below trace disciplined below.0 w j below.1 after)
 
--- the event of a mark that is past
-pub mark_below : (trace : List Event) (mark : Mark) (e j : ℕ) → (thread_at trace e ≡ Some mark.thread) × (mark.time ≡ local_time trace mark.thread e) → e < j → IsPast trace mark j → BelowPred trace e j
-mark_below trace mark e j own lt past = elim past.below [
+-- the event of an epoch that is past
+pub mark_below : (trace : List Event) (epoch : Epoch) (e j : ℕ) → (thread_at trace e ≡ Some epoch.thread) × (epoch.time ≡ local_time trace epoch.thread e) → e < j → IsPast trace epoch j → BelowPred trace e j
+mark_below trace epoch e j own lt past = elim past.below [
   | inl none ↦ absurd (
-      let d = event_of_thread trace e mark.thread own.0 in
-      let more = count_more_yes (is_of mark.thread) trace e d.0 d.1 (is_of_true mark.thread d.0 d.2) in
+      let d = event_of_thread trace e epoch.thread own.0 in
+      let more = count_more_yes (is_of epoch.thread) trace e d.0 d.1 (is_of_true epoch.thread d.0 d.2) in
       let time = own.1 in
       omega (arith, none, more, time))
   | inr some ↦ elim some [
-    | inl same ↦ thread_below_pred trace mark.thread e j lt own.0 same
-    | inr counted ↦ (let time = own.1 in let le = counted.2 in below_from_local trace mark.thread j counted.0 counted.1 e own.0 (omega (arith, time, le)))
+    | inl same ↦ thread_below_pred trace epoch.thread e j lt own.0 same
+    | inr counted ↦ (let time = own.1 in let le = counted.2 in below_from_local trace epoch.thread j counted.0 counted.1 e own.0 (omega (arith, time, le)))
   ]
 ]
 
@@ -99,7 +99,7 @@ module _ (trace : List Event) (disciplined : IsDisciplined trace) (n x : ℕ) (l
   read_writes : (k e : ℕ) → k < n + 1 → n + 1 ≤ e → op_at trace k ≡ Some (Write x) → IsPast trace next.write e → BelowPred trace k e
   read_writes k e lt le writes later = elim (cases_eq k n) [
     | inl same ↦ absurd (reading (subst (λ (m : ℕ). op_at trace m ≡ Some (Write x)) same writes))
-    | inr ne ↦ h.writes k e (omega arith) (omega arith) writes (subst (λ (m : Mark). IsPast trace m e) same_write later)
+    | inr ne ↦ h.writes k e (omega arith) (omega arith) writes (subst (λ (m : Epoch). IsPast trace m e) same_write later)
   ]
 
   read_free : (i j : ℕ) → j < n + 1 → variable_at trace j ≡ Some x → Race trace i j → ⊥

@@ -7,16 +7,16 @@ use Rattle.shb_lines.specs.events.Order.{BelowPred, IsBelowPredCount}
 use Rattle.shb_lines.specs.events.Race.{Race, variable_at}
 use Rattle.shb_links.specs.Sharing.{IsShared}
 use Rattle.shb_pairs.specs.declared.screen.Latest.{Latest}
-use Rattle.shb_pairs.specs.declared.screen.Mark.{Mark}
+use Rattle.shb_pairs.specs.declared.screen.Epoch.{Epoch}
 
--- the local time of no event: an access is not known to be ordered after what such a mark stands for
+-- the local time of no event: an access is not known to be ordered after what such an epoch stands for
 abbrev pub no_time : ℕ
 no_time = 4294967295
 
--- what the mark stands for is SHB-below the predecessor of e: it is nothing, or an event of the thread of e, or its local time is among those below
-pub record IsPast (trace : List Event) (mark : Mark) (e : ℕ) : Type 0 where
-  pub known : mark.time ≢ no_time
-  pub below : (mark.time ≡ 0) ⊎ ((thread_at trace e ≡ Some mark.thread) ⊎ ((n : ℕ) × IsBelowPredCount trace mark.thread e n × (mark.time ≤ n)))
+-- what the epoch stands for is SHB-below the predecessor of e: it is nothing, or an event of the thread of e, or its local time is among those below
+pub record IsPast (trace : List Event) (epoch : Epoch) (e : ℕ) : Type 0 where
+  pub known : epoch.time ≢ no_time
+  pub below : (epoch.time ≡ 0) ⊎ ((thread_at trace e ≡ Some epoch.thread) ⊎ ((n : ℕ) × IsBelowPredCount trace epoch.thread e n × (epoch.time ≤ n)))
 
 -- an event at which the write is past is after all writes of x before n, and one at which the read is past too is after all accesses; unless the write is unordered, x has no race before n
 pub record IsScreened (trace : List Event) (n x : ℕ) (latest : Latest) : Type 0 where

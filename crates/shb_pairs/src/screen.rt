@@ -20,7 +20,7 @@ const NO_TIME: u32 = u32::MAX;
 /// An event by its local time, from 1, and its thread; or nothing, or an event that isn't
 /// known any more.
 #[derive(Clone, Copy)]
-struct Mark {
+struct Epoch {
     time: u32,
     thread: u32,
 }
@@ -29,45 +29,45 @@ struct Mark {
 /// write are ordered before. Where the write is unordered, the variable is open; where the read is, they aren't.
 #[derive(Clone, Copy)]
 struct Latest {
-    write: Mark,
-    read: Mark,
+    write: Epoch,
+    read: Epoch,
 }
 
-/// The mark of nothing, after which each event is.
-fn nothing() -> Mark
+/// The epoch of nothing, after which each event is.
+fn nothing() -> Epoch
     ensures { result.time ≡ 0 }
 {
-    Mark { time: 0, thread: 0 }
+    Epoch { time: 0, thread: 0 }
 }
 
-/// The mark after which no event is.
-fn unordered() -> Mark
+/// The epoch after which no event is.
+fn unordered() -> Epoch
     ensures { result.time ≡ no_time }
 {
-    Mark {
+    Epoch {
         time: NO_TIME,
         thread: 0,
     }
 }
 
-/// Whether what a mark stands for is SHB-below the predecessor of an event.
-fn is_past<O: Order>(ordered: &Ordered<'_, O>, mark: Mark, e: u32) -> bool
+/// Whether what an epoch stands for is SHB-below the predecessor of an event.
+fn is_past<O: Order>(ordered: &Ordered<'_, O>, epoch: Epoch, e: u32) -> bool
     requires in_range { e < length ordered.now.disciplined.now.events.now }
     requires asked { O.asks ordered.now.order.now e ≡ true }
-    ensures { IsTrue result → IsPast ordered.now.disciplined.now.events.now mark e }
+    ensures { IsTrue result → IsPast ordered.now.disciplined.now.events.now epoch e }
 {
-    if mark.time == NO_TIME {
+    if epoch.time == NO_TIME {
         false
     } else {
         // What asks the order nothing comes first.
-        mark.time == 0
-            || mark.thread == ordered.disciplined.events.thread(e)
-            || mark.time <= ordered.order.below_pred(e, mark.thread)
+        epoch.time == 0
+            || epoch.thread == ordered.disciplined.events.thread(e)
+            || epoch.time <= ordered.order.below_pred(e, epoch.thread)
     }
 }
 
-/// The mark of an event that is after what a mark stands for; another event isn't known any more.
-fn mark_after<O: Order>(ordered: &Ordered<'_, O>, kept: Mark, e: u32) -> Mark
+/// The epoch of an event that is after what an epoch stands for; another event isn't known any more.
+fn mark_after<O: Order>(ordered: &Ordered<'_, O>, kept: Epoch, e: u32) -> Epoch
     requires in_range { e < length ordered.now.disciplined.now.events.now }
     requires asked { O.asks ordered.now.order.now e ≡ true }
     ensures { (result.time ≡ no_time) ⊎ (IsPast ordered.now.disciplined.now.events.now kept e
@@ -75,7 +75,7 @@ fn mark_after<O: Order>(ordered: &Ordered<'_, O>, kept: Mark, e: u32) -> Mark
         × (result.time ≡ local_time ordered.now.disciplined.now.events.now result.thread e)) }
 {
     if is_past(ordered, kept, e) {
-        Mark {
+        Epoch {
             time: ordered.links.local(e),
             thread: ordered.disciplined.events.thread(e),
         }

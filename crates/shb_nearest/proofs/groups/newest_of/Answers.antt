@@ -2,7 +2,7 @@ use Rattle.std.proofs.Common.{List, arith, subst}
 use Rattle.std.proofs.lemmas.List.{take_all}
 use Rattle.std.proofs.lemmas.Option.{slice_get-get_or}
 use Rattle.shb_nearest.specs.Groups.{HasLast}
-use Rattle.shb_nearest.specs.declared.groups.Kept.{Kept}
+use Rattle.shb_nearest.specs.declared.groups.KeptAccess.{KeptAccess}
 use Rattle.shb_nearest.proofs.GroupLemmas.{last_more}
 use Rattle.shb_nearest.proofs.groups.newest_of.Goals as goal
 
@@ -11,4 +11,4 @@ loop-access-preserved c rising = last_more c.args.variable c.args.thread c.args.
     (slice_get-get_or c.args.kept.now c.loop-access.access-index _ (let low = c.loop-access-test.true in omega (arith, low))) c.in_ok-put.ensures.updates (c.loop-access.invariant rising)
 
 pub returns : goal.returns
-returns c rising = subst (λ (l : List Kept). HasLast c.loop-access.newest.newest.entries c.args.variable c.args.thread c.args.writes l) (take_all c.loop-access.access-index c.args.kept.now (let done = c.loop-access-test.false in omega (arith, done))) (c.loop-access.invariant rising)
+returns c rising = subst (λ (l : List KeptAccess). HasLast c.loop-access.newest.newest.entries c.args.variable c.args.thread c.args.writes l) (take_all c.loop-access.access-index c.args.kept.now (let done = c.loop-access-test.false in omega (arith, done))) (c.loop-access.invariant rising)

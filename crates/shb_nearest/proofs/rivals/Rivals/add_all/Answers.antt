@@ -1,11 +1,11 @@
 use Rattle.std.proofs.Common.{false, arith, get_or}
 use Rattle.std.proofs.lemmas.Option.{slice_get-get_or}
-use Rattle.shb_nearest.specs.declared.groups.Kept.{Kept}
+use Rattle.shb_nearest.specs.declared.groups.KeptAccess.{KeptAccess}
 use Rattle.shb_nearest.specs.Groups.{access_of}
 use Rattle.shb_nearest.proofs.AddedLemmas.{added_kept}
 use Rattle.shb_nearest.proofs.rivals.Rivals.add_all.Goals as goal
 
-abbrev none : Kept
+abbrev none : KeptAccess
 none = record { event = 0; time = 0; spot = record { location = 0; barred = false } }
 
 pub loop-access-preserved : goal.loop-access-preserved
