@@ -42,9 +42,9 @@ static _Atomic int is_half_told;
 
 static uint64_t least_of(uint64_t a, uint64_t b) { return a < b ? a : b; }
 
-/* How many records, where SHB_RECORDS doesn't say: a position counts no more, and the converter has memory for them, 20 bytes for each
-   and as much for what they access. They are mapped, which takes no more than a quarter of the addresses that the program may have. */
-enum { BYTES_TO_CONVERT = 40, PARTS_OF_ADDRESSES = 4 };
+/* How many records, where SHB_RECORDS doesn't say: a position counts no more, and the converter has memory for them, 8 bytes for each
+   and 20 for what they access. They are mapped, which takes no more than a quarter of the addresses that the program may have. */
+enum { BYTES_TO_CONVERT = 28, PARTS_OF_ADDRESSES = 4 };
 static uint64_t most_by_default(void) {
     struct sysinfo machine;
     struct rlimit addresses;
