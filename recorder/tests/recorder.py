@@ -117,5 +117,5 @@ def part(answer):
 
 def places(trace):
     """The pairs of places that the analyser lists for a trace, without order."""
-    listed = must(call(SHB, "races", "--list", input=trace)).stdout.decode(errors="surrogateescape")
+    listed = must(call(SHB, "places", "--list", input=trace)).stdout.decode(errors="surrogateescape")
     return {tuple(sorted(pair)) for pair in re.findall(r"^at (.*)\nand (.*)$", listed, re.M)}
