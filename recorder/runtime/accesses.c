@@ -49,10 +49,10 @@ __attribute__((noinline)) void note_access(enum operation operation, uint64_t ad
 void hold_elsewhere(thread *t, cell *c, uint64_t what, uint64_t address) {
     cell_use use = {what, kind_in(c, what, t->kind, t->reader)};
     uint64_t *word = word_of_use(c, address, t->serial, t->number, use);
-    if (word) hold_quickly(t, word, operation_of_use(what), what);
+    int is_held = word && hold_quickly(t, word, operation_of_use(what), what);
     end_quick_hook(t);
     if (t->deferred) deliver_deferred(t);
-    if (!word) note_access(operation_of_use(what), address, 1 << (what >> 54) % (1 << LOGARITHM_BITS), what & LOW_48_BITS);
+    if (!is_held) note_access(operation_of_use(what), address, 1 << (what >> 54) % (1 << LOGARITHM_BITS), what & LOW_48_BITS);
 }
 
 #define ACCESSES(kind, n) \

@@ -8,7 +8,7 @@
 void note_access(enum operation operation, uint64_t address, uint64_t size, uint64_t caller);
 void hold_elsewhere(thread *t, cell *c, uint64_t what, uint64_t address);
 
-enum { MOST_QUICK_SPINS = 400 };       /* to hand the turn over takes as long as some hundreds */
+enum { MOST_QUICK_SPINS = 16 };
 
 /* The word of a use that is made now. */
 static inline uint64_t word_now(const thread *t) { return (uint64_t)t->in->number << POSITION_BITS | (t->base + t->steps); }
@@ -22,14 +22,15 @@ static inline void note_quick_spin(thread *t) {
     t->limit = t->steps;
 }
 
-static inline void hold_quickly(thread *t, uint64_t *word, enum operation operation, uint64_t what) {
+/* Is it held back? A read right after the same one isn't: a loop of these may wait for another thread (note_spin). */
+static inline int hold_quickly(thread *t, uint64_t *word, enum operation operation, uint64_t what) {
     uint64_t new = word_now(t);
-    int is_repeated = only_reads(operation) && *word + 1 == new;
+    if (only_reads(operation) && *word + 1 == new) return 0;
     *word = new;
     t->last = what;
     t->steps++;
     changes += !only_reads(operation);
-    if (is_repeated) note_quick_spin(t);
+    return 1;
 }
 
 /* Handlers of signals may come from here on. */
@@ -67,8 +68,7 @@ void hook(enum operation operation, uint64_t address, uint64_t size, uint64_t ca
     uint64_t what = caller + what_of_use((uint64_t)operation << 48 | (uint64_t)__builtin_ctzl(size) << 54, size < GRAIN ? address : 0);
     if (c) {
         uint64_t *word = word_near(t, c, operation, what);
-        if (!word) return hold_elsewhere(t, c, what, address);
-        hold_quickly(t, word, operation, what);
+        if (!word || !hold_quickly(t, word, operation, what)) return hold_elsewhere(t, c, what, address);
         end_quick_hook(t);
         if (__builtin_expect(t->deferred, 0)) deliver_deferred(t);
         return;
@@ -90,9 +90,9 @@ int begin_quick_atomic(enum operation operation, uint64_t address, uint64_t size
     cell *c = usual_cell(t, address);
     uint64_t what = caller + what_of_use((uint64_t)operation << 48 | size_and_order << 54, address);
     uint64_t *word = c ? word_near(t, c, operation, what) : 0;
-    if (word) hold_quickly(t, word, operation, what);
-    else end_quick_hook(t);
-    return word != 0;
+    int is_held = word && hold_quickly(t, word, operation, what);
+    if (!is_held) end_quick_hook(t);
+    return is_held;
 }
 
 /* A loop that leaves a value as it is may wait for another one: a lock of an atomic is taken so. */

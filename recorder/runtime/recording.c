@@ -213,7 +213,7 @@ void put_late(struct record r, uint64_t position) {
     records[written++] = r;
 }
 
-/* How many accesses can be held back before the next record. Then also a repeated read is one: else none could be held back any more. */
+/* How many accesses can be held back before the next record. */
 static uint64_t positions_left(void) {
     if (written >> (POSITION_BITS - ORDER_BITS)) return 0;
     if (last_position >> ORDER_BITS != written) last_position = written << ORDER_BITS;
@@ -266,7 +266,7 @@ static void put_now(thread *t, enum operation operation, const volatile void *ad
         changes += !only_reads(operation);
         return;
     }
-    if ((is_repeated(t, operation, r) && positions_left()) || !make_room(ROOM)) return;
+    if (is_repeated(t, operation, r) || !make_room(ROOM)) return;
     tell_context(t, recordable_depth(t), inside >> LOGARITHM_BITS == DEPTH_BEFORE || !has_depth_inside(operation, size));
     uint64_t way = is_plain(operation) ? 0 : way_to(t, t->depth, caller);
     if (way) add(t, OP_WAY, 0, 0, way);
