@@ -2,10 +2,6 @@
 #include "hold.h"
 
 /* ---- accesses ---- */
-/* What a thread's last hook was. Its operation stands where a record has it. */
-static uint64_t read_at(const volatile void *p, uint64_t caller) {
-    return ((caller ^ (uint64_t)p << 20) & ~(63ull << 48)) | (uint64_t)OP_READ << 48;
-}
 static uint64_t size_in_last(uint64_t size) {
     return size <= 16 && !(size & (size - 1)) ? (uint64_t)__builtin_ctzl(size) : IS_RANGE | size % IS_RANGE;
 }
@@ -28,7 +24,7 @@ static void note_read(const void *p, uint64_t size, uint64_t caller) {
     thread *t = self;
     if (!others || !size || !t || !enter_access(ends_copy(t, size, caller) ? NEVER_YIELD : MAY_YIELD)) return;
     put(t, OP_READ, p, size, caller);
-    note_spin(t, read_at(p, caller));
+    note_spin(t, read_at((uint64_t)p, caller));
     leave(t);
 }
 
@@ -105,20 +101,23 @@ static thread *before_atomic(enum operation operation, const volatile void *p, u
     thread *t = enter(MAY_YIELD);
     if (!t) return 0;
     if (others) put(t, operation, p, size_and_order, caller);
-    if (operation == OP_ATOMIC_STORE) t->last = 0;
-    else note_spin(t, read_at(p, caller));
     return t;
 }
 
-static void after_atomic(thread *t) { if (t) leave(t); }
+/* What the hook has last, by whether it changed the value: a loop that leaves it as it is may wait for another thread. */
+static uint64_t last_of(int is_changed, const volatile void *p, uint64_t caller) { return is_changed ? 0 : read_at((uint64_t)p, caller); }
+
+static void after_atomic(thread *t, uint64_t last) {
+    if (!t) return;
+    if (last) note_spin(t, last);
+    else t->last = 0;
+    leave(t);
+}
 
 /* Whether a compare-and-exchange is an update or a load is known after it. */
 static void after_exchange(thread *t, int done, const volatile void *p, uint64_t size_and_order, uint64_t caller) {
-    if (!t) return;
-    if (others) put(t, done ? OP_ATOMIC_UPDATE : OP_ATOMIC_LOAD, p, size_and_order, caller);
-    if (done) t->last = 0;
-    else note_spin(t, read_at(p, caller));
-    leave(t);
+    if (t && others) put(t, done ? OP_ATOMIC_UPDATE : OP_ATOMIC_LOAD, p, size_and_order, caller);
+    after_atomic(t, last_of(done, p, caller));
 }
 
 /* Of 16 bytes, for which the compiler would call another library. */
@@ -172,12 +171,12 @@ FETCH_16(fetch_nand, ~(old & value))
     PUBLIC type __tsan_atomic##bits##_##name(volatile type *p, type value, int order) { \
         if (IS_QUICK(OP_ATOMIC_UPDATE, bits, p, order)) { \
             type before = perform(p, value); \
-            end_quick_atomic(*p != before); \
+            end_quick_atomic(last_of(*p != before, p, CALLER)); \
             return before; \
         } \
         thread *t = before_atomic(OP_ATOMIC_UPDATE, p, size_and_order(bits / 8, order), CALLER); \
         type old = perform(p, value); \
-        after_atomic(t); \
+        after_atomic(t, last_of(*p != old, p, CALLER)); \
         return old; \
     }
 
@@ -193,22 +192,22 @@ FETCH_16(fetch_nand, ~(old & value))
     PUBLIC type __tsan_atomic##bits##_load(const volatile type *p, int order) { \
         if (IS_QUICK(OP_ATOMIC_LOAD, bits, p, order)) { \
             type now = load(p); \
-            end_quick_atomic(1); \
+            end_quick_atomic(last_of(0, p, CALLER)); \
             return now; \
         } \
         thread *t = before_atomic(OP_ATOMIC_LOAD, p, size_and_order(bits / 8, order), CALLER); \
         type value = load(p); \
-        after_atomic(t); \
+        after_atomic(t, last_of(0, p, CALLER)); \
         return value; \
     } \
     PUBLIC void __tsan_atomic##bits##_store(volatile type *p, type value, int order) { \
         if (IS_QUICK(OP_ATOMIC_STORE, bits, p, order)) { \
             store(p, value); \
-            return end_quick_atomic(1); \
+            return end_quick_atomic(0); \
         } \
         thread *t = before_atomic(OP_ATOMIC_STORE, p, size_and_order(bits / 8, order), CALLER); \
         store(p, value); \
-        after_atomic(t); \
+        after_atomic(t, 0); \
     } \
     COMPARE_EXCHANGE(bits, type, compare_exchange_strong, exchange) \
     COMPARE_EXCHANGE(bits, type, compare_exchange_weak, exchange) \

@@ -280,11 +280,12 @@ static int hold_new(cell *c, uint64_t address, uint32_t use, uint64_t word) {
     return c->is_first;
 }
 
-/* Of the cell's owner, or of one of its readers. Is it held back? */
+/* Of the cell's owner, or of one of its readers. Is it held back? Right behind the same one, with nothing in between, it has that one's position. */
 static int hold_in_cell(cell *c, uint64_t address, cell_use use, uint64_t word) {
     if (!is_read(use.what)) c->is_only_read = 0;
     uint32_t number = word ? number_of_use(use) : 0;
     uint64_t *held = number ? find_word(c, number) : 0;
+    if (held && *held + 1 == word) return IS_HELD_ALREADY;
     if (held) *held = word;
     return held || (number && hold_new(c, address, number, word));
 }

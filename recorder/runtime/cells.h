@@ -82,7 +82,9 @@ void unlock_cells(void);
 void limit_cells(uint64_t bytes);      /* takes no more than so many from here on */
 
 /* A record that is to be made now, of a thread with this serial number, which no other has. `bytes` is how many it accesses; of
-   OP_ALLOC and OP_START how many are new. Is it held back? Then the word's position is used, and it was made in a context of this kind. With NO_POSITION it isn't. Puts late ones. */
+   OP_ALLOC and OP_START how many are new. Is it held back? Then the word's position is used, and it was made in a context of this kind; or it
+   isn't used, where the same one is held back right before. With NO_POSITION it is recorded. Puts late ones. */
+enum { IS_HELD = 1, IS_HELD_ALREADY };
 int hold_back(uint32_t serial, struct record r, uint64_t bytes, uint64_t kind, uint64_t word);
 /* The word of a use in a cell, by its owner or one of its readers: it is held back by a new word. Null where it may not be, where that needs
    a record or memory, or the use has no number yet. */

@@ -8,19 +8,13 @@
 void note_access(enum operation operation, uint64_t address, uint64_t size, uint64_t caller);
 void hold_elsewhere(thread *t, cell *c, uint64_t what, uint64_t address);
 
-enum { MOST_QUICK_SPINS = 16 };
+/* What a thread's last hook was, where it left the value as it was. Its operation stands where a record has it. */
+static inline uint64_t read_at(uint64_t address, uint64_t caller) {
+    return ((caller ^ address << 20) & ~(63ull << 48)) | (uint64_t)OP_READ << 48;
+}
 
 /* The word of a use that is made now. */
 static inline uint64_t word_now(const thread *t) { return (uint64_t)t->in->number << POSITION_BITS | (t->base + t->steps); }
-
-/* A hook that may be one of a loop that waits for another thread: after so many that one shall run. */
-static inline void note_quick_spin(thread *t) {
-    if (++t->spins <= MOST_QUICK_SPINS) return;
-    t->spins = 0;
-    if (is_replaying) return;
-    t->quantum = 0;
-    t->limit = t->steps;
-}
 
 /* Is it held back? A read right after the same one isn't: a loop of these may wait for another thread (note_spin). */
 static inline int hold_quickly(thread *t, uint64_t *word, enum operation operation, uint64_t what) {
@@ -80,11 +74,11 @@ void hook(enum operation operation, uint64_t address, uint64_t size, uint64_t ca
 /* The hook of an atomic operation, in which it is made. It is held back as an access is: by the turn, which the thread has from the hook's
    begin to its next one, nobody comes between the position and the operation, and by the cell, nobody else used the value since the phase
    began. Whether it gives or takes hangs on its kind alone, so the last of a kind stands for all (cells.c).
-   Is it quick? Else it has to be recorded. */
+   Is it quick? Not where it repeats one that left the value as it was: a loop of these may wait for another thread, too. */
 static inline __attribute__((always_inline))
 int begin_quick_atomic(enum operation operation, uint64_t address, uint64_t size, uint64_t size_and_order, uint64_t caller) {
     thread *t = self;
-    if (!may_be_quick(t, address, size)) return 0;
+    if (!may_be_quick(t, address, size) || t->last == read_at(address, caller)) return 0;
     t->inside = 1;
     KEEP_ORDER();
     cell *c = usual_cell(t, address);
@@ -95,10 +89,9 @@ int begin_quick_atomic(enum operation operation, uint64_t address, uint64_t size
     return is_held;
 }
 
-/* A loop that leaves a value as it is may wait for another one: a lock of an atomic is taken so. */
-static inline void end_quick_atomic(int is_changed) {
+static inline void end_quick_atomic(uint64_t last) {
     thread *t = self;
-    if (!is_changed) note_quick_spin(t);
+    t->last = last;
     end_quick_hook(t);
     if (__builtin_expect(t->deferred, 0)) deliver_deferred(t);
 }

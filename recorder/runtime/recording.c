@@ -252,9 +252,9 @@ static uint64_t bytes_of(enum operation operation, const volatile void *address,
 
 static int is_held_back(thread *t, enum operation operation, struct record r, uint64_t bytes) {
     uint64_t position = is_plain(operation) || is_atomic(operation) ? position_now(t) : NO_POSITION;
-    if (!has_cells || !hold_back(t->serial, r, bytes, t->kind, position)) return 0;
-    last_position++;
-    return 1;
+    int held = has_cells ? hold_back(t->serial, r, bytes, t->kind, position) : 0;
+    last_position += held == IS_HELD;
+    return held;
 }
 
 static void put_now(thread *t, enum operation operation, const volatile void *address, uint64_t size, uint64_t caller) {

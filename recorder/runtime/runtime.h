@@ -56,7 +56,7 @@ typedef struct thread {
     _Atomic char began;                /* it was at its first hook */
     char may_be_held;                  /* there */
     int quantum;                       /* hooks until it gives the turn to a waiter */
-    int spins;                         /* how often in a row it made its last read */
+    int spins;                         /* how often in a row its last hook left the value as it was */
     struct read { uint64_t where, what, changes; const context *context; } recent[RECENT_READS];     /* its last ones in the record */
     unsigned next_recent;
     char joined;
@@ -112,7 +112,7 @@ int let_another_run(thread *t);        /* if it may help; says whether */
 int note_unusual(thread *t);           /* with the turn: what was asked for wasn't there, or the like; gives 1 */
 int was_unusual(thread *t);            /* with the turn, in a replay: it was so at this step; else 0 */
 int waits_for_list(thread *t);         /* in a replay, in the place of a call that waits; 0 where the call has to */
-void note_spin(thread *t, uint64_t read);
+void note_spin(thread *t, uint64_t last);        /* in a hook that leaves the value as it was */
 extern thread *volatile quick_holder;  /* who has the turn, where no waiter doubts that it needs it still; else NOBODY_IS_QUICK */
 #define NOBODY_IS_QUICK ((thread *)1)
 

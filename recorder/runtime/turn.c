@@ -471,10 +471,10 @@ void leave(thread *t) {
     if (t->deferred) deliver_deferred(t);
 }
 
-/* A loop that makes one read again and again waits for another thread: that one shall run. */
-void note_spin(thread *t, uint64_t read) {
-    if (t->last != read) {
-        t->last = read;
+/* A loop that makes one read again and again, or an update that leaves the value as it is, waits for another thread: that one shall run. */
+void note_spin(thread *t, uint64_t last) {
+    if (t->last != last) {
+        t->last = last;
         t->spins = 0;
     } else if (++t->spins > 3) {
         t->spins = 0;

@@ -66,7 +66,7 @@ static int is_held_back(uint64_t i, uint64_t bytes) {
     uint32_t serial = serials[in[i].where >> 48];
     if ((i + 2) % 3 && is_held_quickly(i, bytes, kind, word)) return 1;      /* as hooks, of which some are slow */
     int is_held = hold_back(serial, in[i], bytes, kind, word);
-    held_there += is_held;
+    held_there += is_held == IS_HELD;
     return is_held;
 }
 

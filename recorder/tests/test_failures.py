@@ -92,7 +92,7 @@ class Failures(recorder.Case):
 
     def test_loops_that_wait_do_not_reach_it(self):
         path = self.folder / "app.rec"
-        ran = recorder.must(recorder.call(self.program("spin.c"), env=recorder.settings(path, SHB_RECORDS="1000")))
+        ran = recorder.must(recorder.call(self.program("spin.c"), env=recorder.settings(path, SHB_RECORDS="300")))
         self.assertEqual(ran.stderr, b"")
         self.assertEqual(recorder.places(recorder.must(recorder.convert(path)).stdout), {("spin.c:13", "spin.c:13")})
 
