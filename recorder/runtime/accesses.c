@@ -71,8 +71,6 @@ PUBLIC void __tsan_read_range_pc(void *p, unsigned long size, void *at) { note_r
 PUBLIC void __tsan_write_range_pc(void *p, unsigned long size, void *at) { note_write(p, size, (uint64_t)at); }
 PUBLIC void __tsan_vptr_read(void **p) { note_read(p, 8, CALLER); }
 PUBLIC void __tsan_vptr_update(void **p, void *value) { if (*p != value) note_write(p, 8, CALLER); }
-PUBLIC void __tsan_ignore_thread_begin(void) {}
-PUBLIC void __tsan_ignore_thread_end(void) {}
 
 /* A program may have these do an access that isn't aligned. */
 #define UNALIGNED(bits) \

@@ -1,5 +1,5 @@
 /* What a program tells ThreadSanitizer of itself, by the names of its library: so each program that was built for it runs.
-   What orders threads is recorded; what asks for silence (benign races, accesses to be ignored) is not followed. */
+   What orders threads is recorded; what asks for silence (benign races, accesses to be ignored) is not followed (forward.S). */
 #include <stdlib.h>
 #include <string.h>
 #include <sys/mman.h>
@@ -7,12 +7,12 @@
 #include "runtime.h"
 
 /* ---- order ---- */
-PUBLIC void __tsan_acquire(void *p) { note(OP_WAIT, p, CALLER); }
-PUBLIC void __tsan_release(void *p) { note(OP_POST, p, CALLER); }
-PUBLIC void AnnotateHappensBefore(const char *file, int line, const volatile void *p) { note(OP_POST, p, CALLER); }
-PUBLIC void AnnotateHappensAfter(const char *file, int line, const volatile void *p) { note(OP_WAIT, p, CALLER); }
-PUBLIC void WTFAnnotateHappensBefore(const char *file, int line, const volatile void *p) { note(OP_POST, p, CALLER); }
-PUBLIC void WTFAnnotateHappensAfter(const char *file, int line, const volatile void *p) { note(OP_WAIT, p, CALLER); }
+#define NOTES(name, operation, ...) PUBLIC void name(__VA_ARGS__ void *p) { note(operation, p, CALLER); }
+#define NOTES_AT(name, operation) NOTES(name, operation, const char *file, int line,)
+NOTES(__tsan_acquire, OP_WAIT) NOTES(__tsan_java_acquire, OP_WAIT)
+NOTES(__tsan_release, OP_POST) NOTES(__tsan_java_release, OP_POST) NOTES(__tsan_java_release_store, OP_POST)
+NOTES_AT(AnnotateHappensBefore, OP_POST) NOTES_AT(WTFAnnotateHappensBefore, OP_POST)
+NOTES_AT(AnnotateHappensAfter, OP_WAIT) NOTES_AT(WTFAnnotateHappensAfter, OP_WAIT)
 
 PUBLIC void AnnotateThreadName(const char *file, int line, const char *name) {
     if (name) note_name(pthread_self(), name);
@@ -28,9 +28,7 @@ static void note_taken(const volatile void *lock, int to_write, uint64_t caller)
 PUBLIC void AnnotateRWLockAcquired(const char *file, int line, const volatile void *lock, long to_write) {
     note_taken(lock, to_write, CALLER);
 }
-PUBLIC void AnnotateRWLockReleased(const char *file, int line, const volatile void *lock, long to_write) {
-    note(OP_RW_UNLOCK, lock, CALLER);
-}
+NOTES_AT(AnnotateRWLockReleased, OP_RW_UNLOCK)
 PUBLIC void __tsan_mutex_post_lock(void *lock, unsigned flags, int depth) {
     if (!(flags & TRY_FAILED)) note_taken(lock, !(flags & READ_LOCK), CALLER);
 }
@@ -45,15 +43,8 @@ PUBLIC void __tsan_java_move(void *from, void *to, size_t size) { allocated(to, 
 PUBLIC void __tsan_java_mutex_lock(void *lock) { note_taken(lock, 1, CALLER); }
 PUBLIC void __tsan_java_mutex_lock_rec(void *lock, int depth) { note_taken(lock, 1, CALLER); }
 PUBLIC void __tsan_java_mutex_read_lock(void *lock) { note_taken(lock, 0, CALLER); }
-PUBLIC void __tsan_java_mutex_unlock(void *lock) { note(OP_RW_UNLOCK, lock, CALLER); }
-PUBLIC void __tsan_java_mutex_read_unlock(void *lock) { note(OP_RW_UNLOCK, lock, CALLER); }
-PUBLIC int __tsan_java_mutex_unlock_rec(void *lock) {
-    note(OP_RW_UNLOCK, lock, CALLER);
-    return 1;                          /* how often it was held */
-}
-PUBLIC void __tsan_java_acquire(void *p) { note(OP_WAIT, p, CALLER); }
-PUBLIC void __tsan_java_release(void *p) { note(OP_POST, p, CALLER); }
-PUBLIC void __tsan_java_release_store(void *p) { note(OP_POST, p, CALLER); }
+NOTES(__tsan_java_mutex_unlock, OP_RW_UNLOCK) NOTES(__tsan_java_mutex_read_unlock, OP_RW_UNLOCK)
+PUBLIC int __tsan_java_mutex_unlock_rec(void *, unsigned) __attribute__((alias("__tsan_mutex_pre_unlock")));
 
 /* ---- fibers: a switch gives what was done before, and the switch to the same fiber takes it ---- */
 enum { NO_ORDER = 1 };
@@ -91,7 +82,6 @@ PUBLIC void __tsan_destroy_fiber(void *old) {
     munmap(((fiber *)old)->frames, MOST_FRAMES * sizeof(frame));
     __libc_free(old);
 }
-PUBLIC void __tsan_set_fiber_name(void *which, const char *name) {}
 /* The thread is in the functions of the fiber that it runs. */
 static void take_functions_of(fiber *next) {
     thread *t = self;
@@ -118,58 +108,6 @@ PUBLIC void __tsan_switch_to_fiber(void *next, unsigned flags) {
     }
 SWITCHES_CONTEXT(swapcontext, (ucontext_t *from, const ucontext_t *to), from, to)
 SWITCHES_CONTEXT(setcontext, (const ucontext_t *to), to)
-
-/* ---- nothing is recorded of these ---- */
-#define IGNORES(name, ...) PUBLIC void name(__VA_ARGS__) {}
-#define IGNORES_AT(name, ...) IGNORES(name, const char *file, int line, ##__VA_ARGS__)
-IGNORES(__tsan_mutex_create, void *lock, unsigned flags)
-IGNORES(__tsan_mutex_destroy, void *lock, unsigned flags)
-IGNORES(__tsan_mutex_pre_lock, void *lock, unsigned flags)
-IGNORES(__tsan_mutex_post_unlock, void *lock, unsigned flags)
-IGNORES(__tsan_mutex_pre_signal, void *lock, unsigned flags)
-IGNORES(__tsan_mutex_post_signal, void *lock, unsigned flags)
-IGNORES(__tsan_mutex_pre_divert, void *lock, unsigned flags)
-IGNORES(__tsan_mutex_post_divert, void *lock, unsigned flags)
-IGNORES(__tsan_flush_memory, void)
-IGNORES(__tsan_external_register_header, void *tag, const char *header)
-IGNORES(__tsan_external_assign_tag, void *p, void *tag)
-IGNORES(__sanitizer_set_report_path, const char *path)
-IGNORES(__sanitizer_set_report_fd, void *descriptor)
-IGNORES(__sanitizer_set_death_callback, void (*function)(void))
-IGNORES(__sanitizer_print_stack_trace, void)
-IGNORES_AT(AnnotateRWLockCreate, const volatile void *lock)
-IGNORES_AT(AnnotateRWLockCreateStatic, const volatile void *lock)
-IGNORES_AT(AnnotateRWLockDestroy, const volatile void *lock)
-IGNORES_AT(AnnotateBenignRace, const volatile void *p, const char *why)
-IGNORES_AT(AnnotateBenignRaceSized, const volatile void *p, unsigned long size, const char *why)
-IGNORES_AT(WTFAnnotateBenignRaceSized, const volatile void *p, unsigned long size, const char *why)
-IGNORES_AT(AnnotateCondVarWait, const volatile void *condition, const volatile void *lock)
-IGNORES_AT(AnnotateCondVarSignal, const volatile void *condition)
-IGNORES_AT(AnnotateCondVarSignalAll, const volatile void *condition)
-IGNORES_AT(AnnotateMutexIsNotPHB, const volatile void *lock)
-IGNORES_AT(AnnotateMutexIsUsedAsCondVar, const volatile void *lock)
-IGNORES_AT(AnnotateEnableRaceDetection, int enable)
-IGNORES_AT(AnnotateExpectRace, const volatile void *p, const char *why)
-IGNORES_AT(AnnotateFlushExpectedRaces)
-IGNORES_AT(AnnotateFlushState)
-IGNORES_AT(AnnotateIgnoreReadsBegin)
-IGNORES_AT(AnnotateIgnoreReadsEnd)
-IGNORES_AT(AnnotateIgnoreWritesBegin)
-IGNORES_AT(AnnotateIgnoreWritesEnd)
-IGNORES_AT(AnnotateIgnoreSyncBegin)
-IGNORES_AT(AnnotateIgnoreSyncEnd)
-IGNORES_AT(AnnotateMemoryIsInitialized, const volatile void *p, unsigned long size)
-IGNORES_AT(AnnotateMemoryIsUninitialized, const volatile void *p, unsigned long size)
-IGNORES_AT(AnnotateNewMemory, const volatile void *p, unsigned long size)
-IGNORES_AT(AnnotateNoOp, const volatile void *p)
-IGNORES_AT(AnnotatePCQCreate, const volatile void *queue)
-IGNORES_AT(AnnotatePCQDestroy, const volatile void *queue)
-IGNORES_AT(AnnotatePCQGet, const volatile void *queue)
-IGNORES_AT(AnnotatePCQPut, const volatile void *queue)
-IGNORES_AT(AnnotatePublishMemoryRange, const volatile void *p, unsigned long size)
-IGNORES_AT(AnnotateUnpublishMemoryRange, const volatile void *p, unsigned long size)
-IGNORES_AT(AnnotateTraceMemory, const volatile void *p)
-PUBLIC void *__tsan_external_register_tag(const char *name) { return 0; }
 
 /* By the first the OpenMP run-time's archer sees that somebody listens; it then tells the order as above. */
 PUBLIC int RunningOnValgrind(void) { return 0; }

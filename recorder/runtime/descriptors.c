@@ -204,13 +204,11 @@ RECEIVES(int, epoll_pwait2, (int f, struct epoll_event *p, int n, const struct t
          GETS_BYTES(r * sizeof *p))
 /* At a place of a file, which is no order: a pipe has none. */
 BEFORE(ssize_t, pwrite, (int f, const void *p, size_t n, off_t at), (f, p, n, at), READS(p, least(n, MOST_BYTES)))
-BEFORE(ssize_t, pwrite64, (int f, const void *p, size_t n, off64_t at), (f, p, n, at), READS(p, least(n, MOST_BYTES)))
 BEFORE(ssize_t, pwritev, (int f, const struct iovec *p, int n, off_t at), (f, p, n, at), SENDS_PIECES)
-BEFORE(ssize_t, pwritev64, (int f, const struct iovec *p, int n, off64_t at), (f, p, n, at), SENDS_PIECES)
 AFTER(ssize_t, pread, (int f, void *p, size_t n, off_t at), (f, p, n, at), if (r > 0) WRITES(p, r))
-AFTER(ssize_t, pread64, (int f, void *p, size_t n, off64_t at), (f, p, n, at), if (r > 0) WRITES(p, r))
 AFTER(ssize_t, preadv, (int f, const struct iovec *p, int n, off_t at), (f, p, n, at), if (r > 0) GETS_PIECES)
-AFTER(ssize_t, preadv64, (int f, const struct iovec *p, int n, off64_t at), (f, p, n, at), if (r > 0) GETS_PIECES)
+PUBLIC __typeof__(pwrite) pwrite64 __attribute__((alias("pwrite"))); PUBLIC __typeof__(pwritev) pwritev64 __attribute__((alias("pwritev")));
+PUBLIC __typeof__(pread) pread64 __attribute__((alias("pread"))); PUBLIC __typeof__(preadv) preadv64 __attribute__((alias("preadv")));
 /* A number that is given again; an accepted connection gets what was done before it was made, too. */
 #define GIVES_NUMBER(name, know, parameters, arguments) \
     PUBLIC int name parameters { \
@@ -269,17 +267,15 @@ PUBLIC int dup3(int f, int g, int flags) {
     return has_data_of(f, REAL(dup3)(f, g, flags));
 }
 PUBLIC int dup(int f) { return has_data_of(f, REAL(dup)(f)); }
-#define CONTROLS(name) \
-    PUBLIC int name(int f, int command, ...) { \
-        va_list more; \
-        va_start(more, command); \
-        void *argument = va_arg(more, void *); \
-        va_end(more); \
-        int r = REAL(name)(f, command, argument); \
-        return command == F_DUPFD || command == F_DUPFD_CLOEXEC ? has_data_of(f, r) : r; \
-    }
-CONTROLS(fcntl)
-CONTROLS(fcntl64)
+PUBLIC int fcntl(int f, int command, ...) {
+    va_list more;
+    va_start(more, command);
+    void *argument = va_arg(more, void *);
+    va_end(more);
+    int r = REAL(fcntl)(f, command, argument);
+    return command == F_DUPFD || command == F_DUPFD_CLOEXEC ? has_data_of(f, r) : r;
+}
+PUBLIC __typeof__(fcntl) fcntl64 __attribute__((alias("fcntl")));
 
 PUBLIC int close_range(unsigned first, unsigned last, int flags) {
     unsigned ours = next_kept(first);

@@ -60,6 +60,27 @@ static int is_one_of(char kind, const char *kinds) { return strchr(kinds, kind) 
 static int is_wide(const struct conversion *c) { return c->size == 8 || c->kind == 'S' || c->kind == 'C'; }
 static size_t wide_text(const wchar_t *s, size_t most) { return least(wcsnlen(s, most) + 1, most) * sizeof *s; }
 
+/* A function with its arguments one by one, and the one that takes a list of them, `more`; r is what it gives. By their symbols, for a header
+   may give the functions of the C standard other names. */
+#define ALL(...) __VA_ARGS__
+#define IN_BOTH_FORMS(name, vname, parameters, ...) \
+    KNOW(vname); \
+    int as_##vname(ALL parameters, va_list more) __asm__(#vname); \
+    PUBLIC int as_##vname(ALL parameters, va_list more) { \
+        uint64_t seen = begin_call(CALLER); \
+        __VA_ARGS__ \
+        return r; \
+    } \
+    int as_##name(ALL parameters, ...) __asm__(#name); \
+    PUBLIC int as_##name(ALL parameters, ...) { \
+        uint64_t seen = begin_call(CALLER); \
+        va_list more; \
+        va_start(more, format); \
+        __VA_ARGS__ \
+        va_end(more); \
+        return r; \
+    }
+
 /* ---- output ---- */
 static void note_text_of(uint64_t seen, const struct conversion *c, const void *s, int precision) {
     size_t most = precision < 0 ? SIZE_MAX : (size_t)precision;
@@ -84,31 +105,13 @@ static void note_output(uint64_t seen, const char *format, va_list given) {
     va_end(more);
 }
 
-#define ALL(...) __VA_ARGS__
 #define OUTPUTS(vname, arguments, sends, ...) \
         if (seen) note_output(seen, format, more); \
         if (seen) { sends; } \
-        int r = KNOWN(vname, __typeof__(&vname))(ALL arguments, more); \
+        int r = KNOWN(vname, __typeof__(&as_##vname))(ALL arguments, more); \
         if (seen && r >= 0) { __VA_ARGS__; }
-/* A function with its arguments one by one, and the one that takes a list of them; r is how many bytes it prints. */
 #define PRINTS(name, vname, parameters, arguments, ...) PRINTS_TO(name, vname, parameters, arguments, , __VA_ARGS__)
-#define PRINTS_TO(name, vname, parameters, arguments, sends, ...) \
-    KNOW(vname); \
-    int vname(ALL parameters, va_list more); \
-    PUBLIC int vname(ALL parameters, va_list more) { \
-        uint64_t seen = begin_call(CALLER); \
-        OUTPUTS(vname, arguments, sends, __VA_ARGS__) \
-        return r; \
-    } \
-    int name(ALL parameters, ...); \
-    PUBLIC int name(ALL parameters, ...) { \
-        uint64_t seen = begin_call(CALLER); \
-        va_list more; \
-        va_start(more, format); \
-        OUTPUTS(vname, arguments, sends, __VA_ARGS__) \
-        va_end(more); \
-        return r; \
-    }
+#define PRINTS_TO(name, vname, parameters, arguments, sends, ...) IN_BOTH_FORMS(name, vname, parameters, OUTPUTS(vname, arguments, sends, __VA_ARGS__))
 #define WRITES_TEXT(s) WRITES(s, (size_t)r + 1)
 #define WRITES_TEXT_WITHIN(s, n) WRITES(s, least((size_t)r + 1, n))
 #define WRITES_NEW_TEXT(s) WRITES(s, sizeof *s), WRITES_TEXT(*s)
@@ -161,24 +164,7 @@ static void note_input(uint64_t seen, const char *format, va_list more, int stor
         if (seen) { gets; } \
         if (seen && r >= 0) note_input(seen, format, given, r); \
         va_end(given);
-/* By their symbols, for a header may give the functions of the C standard other names. */
-#define SCANS(name, vname, parameters, arguments, gets, ...) \
-    KNOW(vname); \
-    int as_##vname(ALL parameters, va_list more) __asm__(#vname); \
-    PUBLIC int as_##vname(ALL parameters, va_list more) { \
-        uint64_t seen = begin_call(CALLER); \
-        INPUTS(vname, arguments, gets, __VA_ARGS__) \
-        return r; \
-    } \
-    int as_##name(ALL parameters, ...) __asm__(#name); \
-    PUBLIC int as_##name(ALL parameters, ...) { \
-        uint64_t seen = begin_call(CALLER); \
-        va_list more; \
-        va_start(more, format); \
-        INPUTS(vname, arguments, gets, __VA_ARGS__) \
-        va_end(more); \
-        return r; \
-    }
+#define SCANS(name, vname, parameters, arguments, gets, ...) IN_BOTH_FORMS(name, vname, parameters, INPUTS(vname, arguments, gets, __VA_ARGS__))
 #define SCANS_BY_NAMES(name, vname, parameters, arguments, gets, ...) \
     SCANS(name, vname, parameters, arguments, gets, __VA_ARGS__) \
     SCANS(__isoc99_##name, __isoc99_##vname, parameters, arguments, gets, __VA_ARGS__) \

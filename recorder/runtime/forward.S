@@ -71,5 +71,40 @@ forward_first:
     jmp *%r11
     .size forward_first, . - forward_first
 
+/* Names of ThreadSanitizer's library at which nothing is done, for the record has nothing of it, or that ask for what there isn't. Whatever
+   their words are, the answer is 0 or a null pointer. */
+.macro NOTHING names:vararg
+    .irp name, \names
+    .globl \name
+    .type \name, @function
+\name:
+    .endr
+.endm
+    NOTHING AnnotateBenignRace, AnnotateBenignRaceSized, AnnotateCondVarSignal, AnnotateCondVarSignalAll, AnnotateCondVarWait
+    NOTHING AnnotateEnableRaceDetection, AnnotateExpectRace, AnnotateFlushExpectedRaces, AnnotateFlushState, AnnotateIgnoreReadsBegin
+    NOTHING AnnotateIgnoreReadsEnd, AnnotateIgnoreSyncBegin, AnnotateIgnoreSyncEnd, AnnotateIgnoreWritesBegin, AnnotateIgnoreWritesEnd
+    NOTHING AnnotateMemoryIsInitialized, AnnotateMemoryIsUninitialized, AnnotateMutexIsNotPHB, AnnotateMutexIsUsedAsCondVar, AnnotateNewMemory
+    NOTHING AnnotateNoOp, AnnotatePCQCreate, AnnotatePCQDestroy, AnnotatePCQGet, AnnotatePCQPut, AnnotatePublishMemoryRange, AnnotateRWLockCreate
+    NOTHING AnnotateRWLockCreateStatic, AnnotateRWLockDestroy, AnnotateTraceMemory, AnnotateUnpublishMemoryRange, WTFAnnotateBenignRaceSized
+    NOTHING __tsan_external_assign_tag, __tsan_external_register_header, __tsan_external_register_tag, __tsan_flush_memory
+    NOTHING __tsan_get_alloc_stack, __tsan_get_current_report, __tsan_get_report_data, __tsan_get_report_loc, __tsan_get_report_loc_object_type
+    NOTHING __tsan_get_report_mop, __tsan_get_report_mutex, __tsan_get_report_stack, __tsan_get_report_tag, __tsan_get_report_thread
+    NOTHING __tsan_get_report_unique_tid, __tsan_ignore_thread_begin, __tsan_ignore_thread_end, __tsan_java_finalize, __tsan_java_find
+    NOTHING __tsan_java_fini, __tsan_java_free, __tsan_java_init, __tsan_mutex_create, __tsan_mutex_destroy, __tsan_mutex_post_divert
+    NOTHING __tsan_mutex_post_signal, __tsan_mutex_post_unlock, __tsan_mutex_pre_divert, __tsan_mutex_pre_lock, __tsan_mutex_pre_signal
+    NOTHING __tsan_set_fiber_name, __tsan_testonly_shadow_stack_current_size
+    NOTHING __sanitizer_cov_8bit_counters_init, __sanitizer_cov_bool_flag_init, __sanitizer_cov_dump, __sanitizer_cov_pcs_init
+    NOTHING __sanitizer_cov_reset, __sanitizer_cov_trace_cmp, __sanitizer_cov_trace_cmp1, __sanitizer_cov_trace_cmp2, __sanitizer_cov_trace_cmp4
+    NOTHING __sanitizer_cov_trace_cmp8, __sanitizer_cov_trace_const_cmp1, __sanitizer_cov_trace_const_cmp2, __sanitizer_cov_trace_const_cmp4
+    NOTHING __sanitizer_cov_trace_const_cmp8, __sanitizer_cov_trace_div4, __sanitizer_cov_trace_div8, __sanitizer_cov_trace_gep
+    NOTHING __sanitizer_cov_trace_pc_guard, __sanitizer_cov_trace_pc_guard_init, __sanitizer_cov_trace_pc_indir, __sanitizer_cov_trace_switch
+    NOTHING __sanitizer_dump_coverage, __sanitizer_dump_trace_pc_guard_coverage
+    NOTHING __sanitizer_get_module_and_offset_for_pc, __sanitizer_get_report_path, __sanitizer_get_unmapped_bytes
+    NOTHING __sanitizer_install_malloc_and_free_hooks, __sanitizer_print_stack_trace, __sanitizer_report_error_summary
+    NOTHING __sanitizer_sandbox_on_notify, __sanitizer_set_death_callback, __sanitizer_set_report_fd, __sanitizer_set_report_path
+    endbr64
+    xorl %eax, %eax
+    ret
+
 #include "forwarded.inc"
     .section .note.GNU-stack, "", @progbits

@@ -20,7 +20,6 @@ PUBLIC size_t __sanitizer_get_heap_size(void) {
     return now.arena + now.hblkhd;
 }
 PUBLIC size_t __sanitizer_get_free_bytes(void) { return mallinfo2().fordblks; }
-PUBLIC size_t __sanitizer_get_unmapped_bytes(void) { return 0; }
 
 /* ---- reports and names of code: there are none while the program runs ---- */
 PUBLIC const char *__tsan_locate_address(void *p, char *name, size_t name_size, void **region, size_t *region_size) {
@@ -34,59 +33,8 @@ PUBLIC int __sanitizer_acquire_crash_state(void) {           /* it is the first 
     return !atomic_exchange(&asked, 1);
 }
 
-/* Whatever the words are, the answer is 0 or a null pointer: there is none, or it was not done. */
-#define ANSWERS_NONE(name) PUBLIC long name(void) { return 0; }
-ANSWERS_NONE(__tsan_get_current_report)
-ANSWERS_NONE(__tsan_get_report_data)
-ANSWERS_NONE(__tsan_get_report_tag)
-ANSWERS_NONE(__tsan_get_report_stack)
-ANSWERS_NONE(__tsan_get_report_mop)
-ANSWERS_NONE(__tsan_get_report_loc)
-ANSWERS_NONE(__tsan_get_report_loc_object_type)
-ANSWERS_NONE(__tsan_get_report_mutex)
-ANSWERS_NONE(__tsan_get_report_thread)
-ANSWERS_NONE(__tsan_get_report_unique_tid)
-ANSWERS_NONE(__tsan_get_alloc_stack)
-ANSWERS_NONE(__tsan_testonly_shadow_stack_current_size)
-ANSWERS_NONE(__tsan_java_find)
-ANSWERS_NONE(__tsan_java_fini)
-ANSWERS_NONE(__sanitizer_get_report_path)
-ANSWERS_NONE(__sanitizer_get_module_and_offset_for_pc)
-ANSWERS_NONE(__sanitizer_install_malloc_and_free_hooks)
-
-/* ---- nothing is done at these ---- */
-#define DOES_NOTHING(name) PUBLIC void name(void) {}
-DOES_NOTHING(__tsan_java_init)
-DOES_NOTHING(__tsan_java_free)
-DOES_NOTHING(__tsan_java_finalize)
-DOES_NOTHING(__sanitizer_report_error_summary)
-DOES_NOTHING(__sanitizer_sandbox_on_notify)
-
 /* ---- coverage (-fsanitize-coverage), of which nothing is written ---- */
 PUBLIC __thread uint64_t __sancov_lowest_stack __attribute__((tls_model("initial-exec")));
-DOES_NOTHING(__sanitizer_cov_trace_pc_guard)
-DOES_NOTHING(__sanitizer_cov_trace_pc_guard_init)
-DOES_NOTHING(__sanitizer_cov_trace_pc_indir)
-DOES_NOTHING(__sanitizer_cov_trace_cmp)
-DOES_NOTHING(__sanitizer_cov_trace_cmp1)
-DOES_NOTHING(__sanitizer_cov_trace_cmp2)
-DOES_NOTHING(__sanitizer_cov_trace_cmp4)
-DOES_NOTHING(__sanitizer_cov_trace_cmp8)
-DOES_NOTHING(__sanitizer_cov_trace_const_cmp1)
-DOES_NOTHING(__sanitizer_cov_trace_const_cmp2)
-DOES_NOTHING(__sanitizer_cov_trace_const_cmp4)
-DOES_NOTHING(__sanitizer_cov_trace_const_cmp8)
-DOES_NOTHING(__sanitizer_cov_trace_switch)
-DOES_NOTHING(__sanitizer_cov_trace_div4)
-DOES_NOTHING(__sanitizer_cov_trace_div8)
-DOES_NOTHING(__sanitizer_cov_trace_gep)
-DOES_NOTHING(__sanitizer_cov_8bit_counters_init)
-DOES_NOTHING(__sanitizer_cov_bool_flag_init)
-DOES_NOTHING(__sanitizer_cov_pcs_init)
-DOES_NOTHING(__sanitizer_cov_dump)
-DOES_NOTHING(__sanitizer_cov_reset)
-DOES_NOTHING(__sanitizer_dump_coverage)
-DOES_NOTHING(__sanitizer_dump_trace_pc_guard_coverage)
 
 /* ---- the barrier of ThreadSanitizer's own tests: threads meet there, and it orders none of them ---- */
 typedef struct { uint32_t threads; _Atomic uint32_t arrived; } meeting;

@@ -102,24 +102,10 @@ NEW(_ZnamSt11align_val_t, (size_t n, size_t align), align, 0)
 NEW(_ZnwmSt11align_val_tRKSt9nothrow_t, (size_t n, size_t align, const void *nothrow), align, nothrow)
 NEW(_ZnamSt11align_val_tRKSt9nothrow_t, (size_t n, size_t align, const void *nothrow), align, nothrow)
 
-#define DELETE(name, ...) \
-    void name(void *, ##__VA_ARGS__); \
-    PUBLIC void name(void *p, ##__VA_ARGS__) { \
-        will_free(p, CALLER); \
-        __libc_free(p); \
-    }
-DELETE(_ZdlPv)
-DELETE(_ZdaPv)
-DELETE(_ZdlPvm, size_t n)
-DELETE(_ZdaPvm, size_t n)
-DELETE(_ZdlPvRKSt9nothrow_t, const void *nothrow)
-DELETE(_ZdaPvRKSt9nothrow_t, const void *nothrow)
-DELETE(_ZdlPvSt11align_val_t, size_t align)
-DELETE(_ZdaPvSt11align_val_t, size_t align)
-DELETE(_ZdlPvmSt11align_val_t, size_t n, size_t align)
-DELETE(_ZdaPvmSt11align_val_t, size_t n, size_t align)
-DELETE(_ZdlPvSt11align_val_tRKSt9nothrow_t, size_t align, const void *nothrow)
-DELETE(_ZdaPvSt11align_val_tRKSt9nothrow_t, size_t align, const void *nothrow)
+#define DELETES(name) PUBLIC void name(void *) __attribute__((alias("free"), copy(free)));
+DELETES(_ZdlPv) DELETES(_ZdaPv) DELETES(_ZdlPvm) DELETES(_ZdaPvm) DELETES(_ZdlPvRKSt9nothrow_t) DELETES(_ZdaPvRKSt9nothrow_t)
+DELETES(_ZdlPvSt11align_val_t) DELETES(_ZdaPvSt11align_val_t) DELETES(_ZdlPvmSt11align_val_t) DELETES(_ZdaPvmSt11align_val_t)
+DELETES(_ZdlPvSt11align_val_tRKSt9nothrow_t) DELETES(_ZdaPvSt11align_val_tRKSt9nothrow_t)
 
 /* ---- ranges: never yields, for this may be the tail of a structure's copy ---- */
 static void note_copy(void *to, const void *from, size_t n, uint64_t caller) {

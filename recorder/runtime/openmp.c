@@ -64,27 +64,22 @@ static void end_region(team *m) {
     free(m);
 }
 
-#define REGION(type, name, parameters, arguments) \
+#define DONE(call) ({ call; 0; })      /* of a call that gives nothing */
+#define REGION_BY(type, name, real, parameters) \
     PUBLIC type name parameters { \
         team *m = begin_region(f, data, CALLER); \
-        type r = REAL(name) arguments; \
+        __typeof__(real) r = (real); \
         end_region(m); \
-        return r; \
+        return (type)r; \
     }
-#define PLAIN_REGION(name, parameters, arguments) \
-    PUBLIC void name parameters { \
-        team *m = begin_region(f, data, CALLER); \
-        REAL(name) arguments; \
-        end_region(m); \
-    }
+#define REGION(name, parameters, arguments) REGION_BY(void, name, DONE(REAL(name) arguments), parameters)
 #define LOOP(name) \
-    PLAIN_REGION(name, (function f, void *data, unsigned n, long a, long b, long i, long c, unsigned k), \
-                 (run_region, m, n, a, b, i, c, k))
+    REGION(name, (function f, void *data, unsigned n, long a, long b, long i, long c, unsigned k), (run_region, m, n, a, b, i, c, k))
 #define RUNTIME_LOOP(name) \
-    PLAIN_REGION(name, (function f, void *data, unsigned n, long a, long b, long i, unsigned k), (run_region, m, n, a, b, i, k))
-PLAIN_REGION(GOMP_parallel, (function f, void *data, unsigned n, unsigned k), (run_region, m, n, k))
-PLAIN_REGION(GOMP_parallel_sections, (function f, void *data, unsigned n, unsigned c, unsigned k), (run_region, m, n, c, k))
-REGION(unsigned, GOMP_parallel_reductions, (function f, void *data, unsigned n, unsigned k), (run_region, m, n, k))
+    REGION(name, (function f, void *data, unsigned n, long a, long b, long i, unsigned k), (run_region, m, n, a, b, i, k))
+REGION(GOMP_parallel, (function f, void *data, unsigned n, unsigned k), (run_region, m, n, k))
+REGION(GOMP_parallel_sections, (function f, void *data, unsigned n, unsigned c, unsigned k), (run_region, m, n, c, k))
+REGION_BY(unsigned, GOMP_parallel_reductions, REAL(GOMP_parallel_reductions)(run_region, m, n, k), (function f, void *data, unsigned n, unsigned k))
 LOOP(GOMP_parallel_loop_static)
 LOOP(GOMP_parallel_loop_dynamic)
 LOOP(GOMP_parallel_loop_guided)
@@ -106,25 +101,17 @@ static void depart(uint64_t caller) {
     note(OP_WAIT, now->team->tasks, caller);
 }
 
-#define BARRIER(name) \
-    PUBLIC void name(void) { \
+#define BARRIER_BY(type, name, real, parameters) \
+    PUBLIC type name parameters { \
         arrive(CALLER); \
-        REAL(name)(); \
+        int r = (real); \
         depart(CALLER); \
+        return (type)r; \
     }
-#define CANCEL_BARRIER(name) \
-    PUBLIC bool name(void) { \
-        arrive(CALLER); \
-        bool r = REAL(name)(); \
-        depart(CALLER); \
-        return r; \
-    }
-BARRIER(GOMP_barrier)
-BARRIER(GOMP_loop_end)
-BARRIER(GOMP_sections_end)
-CANCEL_BARRIER(GOMP_barrier_cancel)
-CANCEL_BARRIER(GOMP_loop_end_cancel)
-CANCEL_BARRIER(GOMP_sections_end_cancel)
+#define BARRIER(name) BARRIER_BY(void, name, DONE(REAL(name)()), (void))
+#define CANCEL_BARRIER(name) BARRIER_BY(bool, name, REAL(name)(), (void))
+BARRIER(GOMP_barrier) BARRIER(GOMP_loop_end) BARRIER(GOMP_sections_end)
+CANCEL_BARRIER(GOMP_barrier_cancel) CANCEL_BARRIER(GOMP_loop_end_cancel) CANCEL_BARRIER(GOMP_sections_end_cancel)
 
 /* The thread that gets null does the work and gives its data to the others, which wait. */
 PUBLIC void *GOMP_single_copy_start(void) {
@@ -133,11 +120,7 @@ PUBLIC void *GOMP_single_copy_start(void) {
     if (r) depart(CALLER);
     return r;
 }
-PUBLIC void GOMP_single_copy_end(void *data) {
-    arrive(CALLER);
-    REAL(GOMP_single_copy_end)(data);
-    depart(CALLER);
-}
+BARRIER_BY(void, GOMP_single_copy_end, DONE(REAL(GOMP_single_copy_end)(data)), (void *data))
 
 /* ---- locks ---- */
 static object critical, atomic;
@@ -225,27 +208,19 @@ PUBLIC void GOMP_task(function f, void *data, void (*copy)(void *, void *), long
     REAL(GOMP_task)(run_task, &t, 0, sizeof t, sizeof t, deferred, flags, depend, priority, detach);
 }
 
-PUBLIC void GOMP_taskwait(void) {
-    let_others_run();
-    REAL(GOMP_taskwait)();
-    if (now) note(OP_WAIT, now->children, CALLER);
-}
-
-PUBLIC void GOMP_taskwait_depend(void **depend) {
-    let_others_run();
-    REAL(GOMP_taskwait_depend)(depend);
-    if (now) note(OP_WAIT, now->children, CALLER);
-}
-
-PUBLIC void GOMP_taskgroup_end(void) {
-    let_others_run();
-    REAL(GOMP_taskgroup_end)();
-    if (now) note(OP_WAIT, now->team->tasks, CALLER);
-}
+#define WAITS_FOR_TASKS(name, parameters, arguments, tasks) \
+    PUBLIC void name parameters { \
+        let_others_run(); \
+        REAL(name) arguments; \
+        if (now) note(OP_WAIT, tasks, CALLER); \
+    }
+WAITS_FOR_TASKS(GOMP_taskwait, (void), (), now->children)
+WAITS_FOR_TASKS(GOMP_taskwait_depend, (void **depend), (depend), now->children)
+WAITS_FOR_TASKS(GOMP_taskgroup_end, (void), (), now->team->tasks)
 
 /* ---- what isn't seen: each is said once ---- */
-enum unseen { TASKLOOP, DOACROSS, TARGET, TEAMS, UNSEEN };
-static const char *const unseen_texts[UNSEEN] = {
+enum unseen { TASKLOOP, DOACROSS, TARGET, TEAMS, UNSEEN_KINDS };
+static const char *const unseen_texts[UNSEEN_KINDS] = {
     "taskloop, whose order isn't seen: false races are possible\n",
     "doacross loops, whose order isn't seen: false races are possible\n",
     "target regions. What runs on another device isn't seen, and the order of those with nowait isn't: false races are possible\n",
@@ -253,33 +228,22 @@ static const char *const unseen_texts[UNSEEN] = {
 };
 
 static void tell_of(enum unseen what) {
-    static _Atomic int told[UNSEEN];
+    static _Atomic int told[UNSEEN_KINDS];
     if (!recording || atomic_exchange(&told[what], 1)) return;
     tell("shb recorder: the program uses OpenMP's %s", unseen_texts[what]);
 }
 
 typedef void (*copy_function)(void *, void *);
-PUBLIC void GOMP_taskloop(function f, void *data, copy_function copy, long size, long align, unsigned flags, unsigned long n,
-                          int priority, long from, long to, long step) {
-    tell_of(TASKLOOP);
-    REAL(GOMP_taskloop)(f, data, copy, size, align, flags, n, priority, from, to, step);
-}
-PUBLIC void GOMP_doacross_post(long *counts) {
-    tell_of(DOACROSS);
-    REAL(GOMP_doacross_post)(counts);
-}
-
-PUBLIC void GOMP_target(int device, function f, const void *unused, size_t count, void **addresses, size_t *sizes,
-                        unsigned char *kinds) {
-    tell_of(TARGET);
-    REAL(GOMP_target)(device, f, unused, count, addresses, sizes, kinds);
-}
-PUBLIC void GOMP_target_ext(int device, function f, size_t count, void **addresses, size_t *sizes, unsigned short *kinds,
-                            unsigned flags, void **depend, void **arguments) {
-    tell_of(TARGET);
-    REAL(GOMP_target_ext)(device, f, count, addresses, sizes, kinds, flags, depend, arguments);
-}
-PUBLIC void GOMP_teams_reg(function f, void *data, unsigned teams, unsigned thread_limit, unsigned flags) {
-    tell_of(TEAMS);
-    REAL(GOMP_teams_reg)(f, data, teams, thread_limit, flags);
-}
+#define UNSEEN(what, name, parameters, arguments) \
+    PUBLIC void name parameters { \
+        tell_of(what); \
+        REAL(name) arguments; \
+    }
+UNSEEN(TASKLOOP, GOMP_taskloop, (function f, void *data, copy_function copy, long size, long align, unsigned flags, unsigned long n, int priority,
+       long from, long to, long step), (f, data, copy, size, align, flags, n, priority, from, to, step))
+UNSEEN(DOACROSS, GOMP_doacross_post, (long *counts), (counts))
+UNSEEN(TARGET, GOMP_target, (int device, function f, const void *unused, size_t count, void **addresses, size_t *sizes, unsigned char *kinds),
+       (device, f, unused, count, addresses, sizes, kinds))
+UNSEEN(TARGET, GOMP_target_ext, (int device, function f, size_t count, void **addresses, size_t *sizes, unsigned short *kinds, unsigned flags,
+       void **depend, void **arguments), (device, f, count, addresses, sizes, kinds, flags, depend, arguments))
+UNSEEN(TEAMS, GOMP_teams_reg, (function f, void *data, unsigned teams, unsigned most, unsigned flags), (f, data, teams, most, flags))

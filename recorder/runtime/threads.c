@@ -211,7 +211,7 @@ static int start_blocked(thread *t, thread *child, pthread_t *created, const pth
 
 /* Records the fork and starts the thread, whose function and argument are in `start`; NOT_STARTED where it can't have a number. */
 enum { NOT_STARTED = -1 };
-static int create(thread *t, thread start, pthread_t *handle, const pthread_attr_t *attributes, uint64_t caller) {
+static int create_in_hook(thread *t, thread start, pthread_t *handle, const pthread_attr_t *attributes, uint64_t caller) {
     begin_work(t);
     thread *child = new_thread();
     move_to_file();
@@ -235,25 +235,21 @@ static int create(thread *t, thread start, pthread_t *handle, const pthread_attr
     return error;
 }
 
-PUBLIC int pthread_create(pthread_t *handle, const pthread_attr_t *attributes, void *(*function)(void *), void *argument) {
+static int create(thread start, pthread_t *handle, const pthread_attr_t *attributes, uint64_t caller) {
     thread *t = enter(MAY_YIELD);
-    if (!t) {
-        tell_of_child();
-        return REAL(pthread_create)(handle, attributes, function, argument);
-    }
-    int error = create(t, (thread){.function = function, .argument = argument}, handle, attributes, CALLER);
-    leave(t);
+    if (!t) tell_of_child();
+    int error = t ? create_in_hook(t, start, handle, attributes, caller) : NOT_STARTED;
+    if (t) leave(t);
+    return error;
+}
+
+PUBLIC int pthread_create(pthread_t *handle, const pthread_attr_t *attributes, void *(*function)(void *), void *argument) {
+    int error = create((thread){.function = function, .argument = argument}, handle, attributes, CALLER);
     return error == NOT_STARTED ? REAL(pthread_create)(handle, attributes, function, argument) : error;
 }
 
 PUBLIC int thrd_create(thrd_t *handle, thrd_start_t function, void *argument) {
-    thread *t = enter(MAY_YIELD);
-    if (!t) {
-        tell_of_child();
-        return REAL(thrd_create)(handle, function, argument);
-    }
-    int error = create(t, (thread){.c11_function = function, .argument = argument}, handle, 0, CALLER);
-    leave(t);
+    int error = create((thread){.c11_function = function, .argument = argument}, handle, 0, CALLER);
     if (error == NOT_STARTED) return REAL(thrd_create)(handle, function, argument);
     return !error ? thrd_success : error == EAGAIN || error == ENOMEM ? thrd_nomem : thrd_error;
 }

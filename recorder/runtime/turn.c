@@ -123,19 +123,16 @@ static void name_quick_holder(void) { quick_holder = holder && recording && !dou
 
 static int ask_for_barrier(int command) { return !syscall(SYS_membarrier, command, 0, 0); }
 
-static void doubt(void) {
+static void add_doubters(int count) {
     lock_guard();
-    doubters++;
+    doubters += count;
     name_quick_holder();
     unlock_guard();
-    if (has_barrier) has_barrier = ask_for_barrier(MEMBARRIER_CMD_PRIVATE_EXPEDITED);
 }
 
-static void end_doubt(void) {
-    lock_guard();
-    doubters--;
-    name_quick_holder();
-    unlock_guard();
+static void doubt(void) {
+    add_doubters(1);
+    if (has_barrier) has_barrier = ask_for_barrier(MEMBARRIER_CMD_PRIVATE_EXPEDITED);
 }
 
 static int are_slices_short(void) { return slice < last_slice; }
@@ -295,7 +292,7 @@ static uint64_t doubted_word(struct watch *watch) {
     uint64_t word = atomic_load(&turn);
     int is_same = word == watch->word;
     if (watch->doubts && is_same) return word;
-    if (watch->doubts) end_doubt();
+    if (watch->doubts) add_doubters(-1);
     if (is_same) doubt();
     *watch = (struct watch){.doubts = is_same, .word = atomic_load(&turn), .ticks = -1};
     return watch->word;
