@@ -66,7 +66,9 @@ void find_cuts(u64 i) {
 typedef struct { u32 thread; int writes, writes_atomically, reads; } use;
 
 static use use_of(u64 i) {
-    return (use){thread_of(i), writes_plainly(i), writes_atomically(i), operation_of(i) == OP_READ};
+    enum operation operation = operation_of(i);
+    int writes = operation == OP_WRITE || operation == OP_FREE || operation == OP_DESTROY;
+    return (use){thread_of(i), writes, is_atomic(operation) && operation != OP_ATOMIC_LOAD, operation == OP_READ};
 }
 
 static void note_atomic_writer(u32 number, u32 thread) {
@@ -145,9 +147,9 @@ enum { RECENT = 1 << 18 };
 typedef struct { u64 site, epoch, locks; u32 piece, writes; } read;
 static read *recent;
 
-static int repeats(u64 i, use u, u32 number) {
+static int repeats(use u, u64 own, u32 number) {
     if (!recent) recent = zeroed(RECENT, sizeof *recent);
-    u64 site = own_place(u.thread, caller_of(i)) | (u64)u.thread << 48, epoch = thread_epoch(u.thread) + 1;
+    u64 site = own | (u64)u.thread << 48, epoch = thread_epoch(u.thread) + 1;
     read this = {site, epoch | (u64)(u.thread >> 16) << 48, held_locks(u.thread), number, piece_of(number)->writes};
     read *last = &recent[(mix(this.site, 0) + number) & (RECENT - 1)];           /* neighbours stand side by side */
     int same = last->site == this.site && last->piece == number && last->writes == this.writes && last->epoch == this.epoch
@@ -160,12 +162,12 @@ enum { NOBODY = -1u };
 
 /* An event of the variable itself, or of that which stands for its atomic writes by one thread. The page's trace lacks those of variables
    in no race, but each thread's first one. */
-static void piece_event(u64 i, u32 number, const char *operation, u32 writer, int is_kept) {
+static void piece_event(u64 i, u64 own, u32 number, const char *operation, u32 writer, int is_kept) {
     char tail[100];
     const piece *p = piece_of(number);
     u32 t = thread_of(i);
     if (!is_kept && has_events(t)) pass_event(t, *operation == 'w');
-    else if (writer == NOBODY) access_event(t, operation, number, caller_of(i));
+    else if (writer == NOBODY) access_event(t, operation, number, caller_of(i), own);
     else {
         snprintf(tail, sizeof tail, "!%s", thread_name(writer));
         event(t, operation, variable_name(p->at, block_of(p->block)), tail, caller_of(i));
@@ -182,17 +184,18 @@ static void piece_events(u64 i, use u, u32 number, int is_kept) {
     u32 t = u.thread;
     int shared = is_shared(users) || whole_trace;
     if (!shared && !u.writes_atomically && !users->written_atomically) return;
-    if (!u.writes && !u.writes_atomically && repeats(i, u, number)) return;
+    u64 own = own_place(t, caller_of(i));
+    if (!u.writes && !u.writes_atomically && repeats(u, own, number)) return;
     piece *p = piece_of(number);
-    if (shared) piece_event(i, number, u.writes ? "w" : "r", NOBODY, is_kept);
+    if (shared) piece_event(i, own, number, u.writes ? "w" : "r", NOBODY, is_kept);
     if (u.writes) p->writes++;
     if (u.writes_atomically && is_read_by_others(users, t)) {
-        piece_event(i, number, "w", t, is_kept);
+        piece_event(i, own, number, "w", t, is_kept);
         p->writes++;
     }
     if (!u.reads) return;
     for (u32 k = p->atomic_writers; k; k = list_entries[k - 1].next)
-        if (list_entries[k - 1].thread != t) piece_event(i, number, "r", list_entries[k - 1].thread, is_kept);
+        if (list_entries[k - 1].thread != t) piece_event(i, own, number, "r", list_entries[k - 1].thread, is_kept);
 }
 
 static char word_of(u64 i, use u) { return operation_of(i) == OP_FREE ? 'f' : u.writes ? 'w' : u.writes_atomically ? 'a' : 'r'; }

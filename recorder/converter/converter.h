@@ -39,8 +39,9 @@ u32 thread_bound(void);                /* all threads are below it */
 u32 next_thread(u32 t);                /* the one after it, of those that there may be */
 u32 thread_of(u64 i);
 u32 other_thread_of(u64 i);            /* of a fork or join */
-int writes_plainly(u64 i), is_atomic(u64 i), writes_atomically(u64 i);
-int is_for_object(u64 i);
+static inline int is_plain(enum operation operation) { return operation == OP_READ || operation == OP_WRITE; }
+static inline int is_atomic(enum operation operation) { return operation >= OP_ATOMIC_LOAD && operation <= OP_ATOMIC_UPDATE; }
+static inline int is_for_object(enum operation operation) { return is_atomic(operation) || (operation >= OP_LOCK_INIT && operation < OP_USE); }
 int acquires(u64 i), releases(u64 i);  /* of an atomic access or a fence */
 u64 accessed_bytes(u64 i);
 
@@ -49,6 +50,7 @@ static inline enum operation operation_in(struct record r) { return r.what >> 48
 static inline int is_late(struct record r) { return operation_in(r) == OP_LATE; }
 static inline int is_of_two(struct record r) { return is_late(r) || r.what >> 54 == SIZE_FOLLOWS; }
 int is_good_late(u64 position, struct record access, u64 i); /* of an entry OP_LATE, and the one behind it */
+void count_late(u64 position, u64 most_entries);             /* of each entry OP_LATE, before these are found */
 u64 find_late(const struct record *of_record, u64 record_entries);       /* gives how many entries there are with these in place */
 u64 merge(struct record *to, u64 room, u64 *at);             /* of the entries from `at` on, which is set to those behind: so many, or one more; 0: they are damaged */
 
@@ -228,6 +230,6 @@ void pass_event(u32 t, int writes);    /* an access that the page's trace lacks 
 part name_of_thread(u32 t);
 part variable_name(u64 address, const block *b);             /* it stands until the next call */
 void event(u32 t, const char *operation, part name, const char *tail, u64 caller);
-void access_event(u32 t, const char *operation, u32 piece, u64 caller);                  /* the same of a piece */
+void access_event(u32 t, const char *operation, u32 piece, u64 caller, u64 own);         /* the same of a piece; own: the caller's own_place */
 void hold_event(u32 t, const char *operation, part name, const char *tail, u64 caller, u32 stack);       /* orders no thread */
 void write_lines(void);                /* the last of the trace */

@@ -313,10 +313,10 @@ static char *add_access(char *to, u32 t, char word, part name, part line_end) {
 }
 
 /* Most events are accesses of the run's trace by a thread that is in it: they take less than others. */
-void access_event(u32 t, const char *operation, u32 number, u64 caller) {
+void access_event(u32 t, const char *operation, u32 number, u64 caller, u64 own) {
     part name = piece_name(number);
     int is_usual = !for_page && !holds_unwritten(t) && threads[t].number && name.length && written < event_limit;
-    char *line = room_for_line(), *end = is_usual ? add_access(line, t, *operation, name, line_end_of(own_place(t, caller))) : line;
+    char *line = room_for_line(), *end = is_usual ? add_access(line, t, *operation, name, line_end_of(own)) : line;
     if (!is_usual || bytes + (end - line) > byte_limit) {
         event(t, operation, name, "", caller);
         return;

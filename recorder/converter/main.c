@@ -20,9 +20,10 @@ static int is_of_stack(enum operation operation) { return operation >= OP_FRAME 
 static void meet_record(u64 i) {
     enum operation operation = operation_of(i);
     find_users(i);
+    if (is_plain(operation)) return;
     if (operation == OP_FREE) end_block(address_of(i));
     if (is_of_stack(operation)) note_call(i);
-    if (operation == OP_READ || operation == OP_WRITE || operation == OP_NAME || is_of_stack(operation)) return;
+    if (operation == OP_NAME || is_of_stack(operation)) return;
     if (operation == OP_FENCE) has_fences = 1;
     note_caller(caller_of(i));
 }
@@ -39,7 +40,7 @@ static void find_sharing(u64 i) {
     if (operation_of(i) == OP_FRAME || operation_of(i) == OP_CONTEXT) name_by_own(thread_of(i), i);
     share_pieces(i);
     if (operation_of(i) == OP_FENCE) share_fence(i);
-    if (is_for_object(i)) share_object(i);
+    if (is_for_object(operation_of(i))) share_object(i);
     if (!is_of_stack(operation_of(i))) note_record(i);
 }
 
@@ -66,7 +67,7 @@ static void write_events(u64 i) {
     else if (operation == OP_JOIN) write_join(thread_of(i), other_thread_of(i), caller_of(i));
     else if (operation == OP_FENCE) fence_events(i);
     else if (operation == OP_CRASH) note_crash(i);
-    else if (is_for_object(i)) object_events(i);
+    else if (is_for_object(operation)) object_events(i);
     else {
         u64 before = written;
         access_events(i);

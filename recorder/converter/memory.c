@@ -195,7 +195,7 @@ u32 *pieces_at(u64 *cut, u64 end, u32 *count) {
     u32 *slots = slot_of(p, from % PAGE);
     *count = __builtin_popcountll(cuts);
     range_steps += *count - 1;
-    if (has_empty(slots, *count)) make_pieces(from, cuts, slots);
+    if (*count == 1 ? !*slots : has_empty(slots, *count)) make_pieces(from, cuts, slots);
     *cut = end <= stop ? end : next_cut(from + 63 - __builtin_clzll(cuts), end);
     return slots;
 }

@@ -34,7 +34,7 @@ static u64 version_count, version_capacity;
 
 /* A program's own lock may have an atomic and what is told of it at one address: these are two objects. */
 static object *object_of(u64 i) {
-    u64 at = address_of(i), of_atomic = (u64)is_atomic(i) << 63, of_other = ~of_atomic & 1ull << 63;
+    u64 at = address_of(i), of_atomic = (u64)is_atomic(operation_of(i)) << 63, of_other = ~of_atomic & 1ull << 63;
     u32 block = block_number(block_at(at)), number = map_number(&object_map, at | of_atomic, block);
     if (number > object_count) {
         const char *mark = map_find(&object_map, at | of_other, block) ? "@@" : "@";
@@ -503,7 +503,7 @@ void object_events(u64 i) {
     object *o = object_of(i);
     int orders = o->many_users || whole_trace;
     holds_before(i, o, !orders);
-    if (!is_atomic(i) || !orders) access_events(i);
+    if (!is_atomic(operation_of(i)) || !orders) access_events(i);
     if (orders) order_events(i, o);
     else if (operation_of(i) == OP_RW_UNLOCK && o->holder == thread_of(i) + 1) o->holder = 0;
     holds_after(i, o, !orders);

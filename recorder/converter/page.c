@@ -145,7 +145,7 @@ int is_racing(u32 number) {
     }
     if (answers[number]) return answers[number] == YES;
     part name = variable_name(piece_of(number)->at, block_of(piece_of(number)->block));
-    snprintf(text, sizeof text, "%.*s", (int)name.length, name.at);
+    *(char *)mempcpy(text, name.at, name.length) = 0;
     int found = bsearch(&key, racing_names, racing_count, sizeof *racing_names, by_name) != 0;
     answers[number] = found ? YES : NO;
     return found;

@@ -96,7 +96,7 @@ int meet_fork(u64 i) {
 u32 threads_met(void) { return thread_count > own_numbers ? thread_count : own_numbers; }
 
 static int size_follows(const struct record *r) { return r->what >> 54 == SIZE_FOLLOWS; }
-static int is_access(const struct record *r) { return operation_in(*r) == OP_READ || operation_in(*r) == OP_WRITE; }
+static int is_access(const struct record *r) { return is_plain(operation_in(*r)); }
 
 static u64 size_in(const struct record *r) {
     u64 inside = r->what >> 54;
@@ -145,7 +145,10 @@ static void check_entries(u64 most) {
     u64 sum = 0;
     int has_late = 0;
     for (u64 more; entry_count < most && (more = check(entries, entry_count, most));) {
-        has_late |= is_late(entries[entry_count]);
+        if (is_late(entries[entry_count])) {
+            count_late(entries[entry_count].where, most);
+            has_late = 1;
+        }
         for (; more; more--, entry_count++) sum += entry_sum(entry_count, entries[entry_count]);
         forget_before(entry_count);
     }
@@ -214,20 +217,10 @@ void carry_blocks(const char *path) {
 }
 
 /* ---- what a record accesses ---- */
-int is_atomic(u64 i) { return operation_of(i) >= OP_ATOMIC_LOAD && operation_of(i) <= OP_ATOMIC_UPDATE; }
-int writes_atomically(u64 i) { return is_atomic(i) && operation_of(i) != OP_ATOMIC_LOAD; }
-
 /* The memory order of an atomic access or a fence: does it take over what a release gave, does it give on? */
 static u64 order_of(u64 i) { return operation_of(i) == OP_FENCE ? size_of(i) : size_of(i) >> ATOMIC_SIZE_BITS; }
 int acquires(u64 i) { return order_of(i) != __ATOMIC_RELAXED && order_of(i) != __ATOMIC_RELEASE; }
 int releases(u64 i) { return order_of(i) >= __ATOMIC_RELEASE; }
-
-int writes_plainly(u64 i) {
-    enum operation operation = operation_of(i);
-    return operation == OP_WRITE || operation == OP_FREE || operation == OP_DESTROY;
-}
-
-int is_for_object(u64 i) { return is_atomic(i) || (operation_of(i) >= OP_LOCK_INIT && operation_of(i) < OP_USE); }
 
 /* The use of a lock is a read of its first byte.  A descriptor is no memory; who leaves a barrier uses it no more, for
    POSIX lets another thread end it then. */
@@ -246,8 +239,8 @@ static u64 freed_bytes(u64 address) {
 
 u64 accessed_bytes(u64 i) {
     enum operation operation = operation_of(i);
-    if (operation == OP_READ || operation == OP_WRITE) return size_of(i);
-    if (is_atomic(i)) return size_of(i) & ((1 << ATOMIC_SIZE_BITS) - 1);
+    if (is_plain(operation)) return size_of(i);
+    if (is_atomic(operation)) return size_of(i) & ((1 << ATOMIC_SIZE_BITS) - 1);
     switch (operation) {
     case OP_FREE: return freed_bytes(address_of(i));
     case OP_DESTROY: return 1;
