@@ -6,6 +6,7 @@
    counts.  README.md has the table of what becomes what. */
 #define _GNU_SOURCE
 #include <errno.h>
+#include <fcntl.h>
 #include <getopt.h>
 #include <stdio.h>
 #include <stdlib.h>
@@ -197,10 +198,12 @@ static void write_to(const char *path) {
     if (!freopen(path, "w", stdout)) die("cannot write to %s: %s", path, strerror(errno));
 }
 
-/* Standard output ends with the trace for shb scan, so that that ends too. Gives why it is cut, or null. */
+/* Standard output ends with the trace for shb scan, so that that ends too. In a pipe with room the two give way to each other less often.
+   Gives why it is cut, or null. */
 static const char *write_scan(void) {
     u64 limit = event_limit;
     use_limits_of_scan();
+    fcntl(fileno(stdout), F_SETPIPE_SZ, 1 << 20);            /* bytes, the most that the system gives */
     pause_stacks(1);
     write_trace();
     pause_stacks(0);

@@ -241,9 +241,6 @@ u64 accessed_bytes(u64 i) {
     enum operation operation = operation_of(i);
     if (is_plain(operation)) return size_of(i);
     if (is_atomic(operation)) return size_of(i) & ((1 << ATOMIC_SIZE_BITS) - 1);
-    switch (operation) {
-    case OP_FREE: return freed_bytes(address_of(i));
-    case OP_DESTROY: return 1;
-    default: return uses_object(i);
-    }
+    if (operation == OP_FREE) return freed_bytes(address_of(i));
+    return operation == OP_DESTROY || uses_object(i);
 }
