@@ -3,9 +3,11 @@ use Rattle.std.specs.Prelude.{◌≡◌, ◌+◌, ◌<◌, ◌≤◌, ℕ, List,
 use Rattle.shb_lines.specs.declared.event.Event.{Event}
 use Rattle.shb_lines.specs.events.Discipline.{local_time}
 use Rattle.shb_lines.specs.events.Race.{variable_at}
+use Rattle.shb_nearest.specs.Classes.{AreClasses}
 use Rattle.shb_nearest.specs.Found.{IsFoundAccess}
 use Rattle.shb_nearest.specs.Groups.{AreGroups}
 use Rattle.shb_nearest.specs.declared.access.Spot.{Spot}
+use Rattle.shb_nearest.specs.declared.classes.Classes.{Classes}
 use Rattle.shb_nearest.specs.declared.late.Accesses.{Accesses}
 use Rattle.shb_nearest.specs.declared.late.Late.{Late}
 
@@ -29,3 +31,9 @@ pub record AreAccesses (trace : List Event) (spots : List Spot) (x n : ℕ) (acc
   pub since : ℕ
   pub groups : AreGroups trace spots x since accesses.groups.each.items
   pub late : AreLate trace spots x n since accesses.late.items
+
+-- the groups have the accesses before n, none waits, and the table of classes has those before n, if it had those before m
+pub record HasTakenAll (trace : List Event) (spots : List Spot) (x m n : ℕ) (before after : Classes) (accesses : Accesses) : Type 0 where
+  pub groups : AreGroups trace spots x n accesses.groups.each.items
+  pub none : accesses.late.items ≡ []
+  pub classes : AreClasses trace spots m before.newest.entries → AreClasses trace spots n after.newest.entries

@@ -4,7 +4,7 @@ ghost use Rattle.std.specs.Prelude.{◌≡◌, ◌+◌, [], ℕ, true, List, IfO
 ghost use Rattle.shb_lines.specs.declared.event.Event.{Event};
 ghost use Rattle.shb_nearest.specs.Classes.{AreClasses};
 ghost use Rattle.shb_nearest.specs.Groups.{AreGroups, IsSince};
-ghost use Rattle.shb_nearest.specs.Late.{AreAccesses, AreLate, IsLate};
+ghost use Rattle.shb_nearest.specs.Late.{AreAccesses, AreLate, HasTakenAll, IsLate};
 ghost use Rattle.shb_nearest.specs.declared.access.Spot.{Spot as SpotData};
 
 use crate::access::FoundAccess;
@@ -84,11 +84,8 @@ impl Accesses {
         indices: &mut Indices,
         variable: u32,
     ) -> Result<(), NoMemory>
-        ensures groups { (trace : List Event) (spots : List SpotData) (n : ℕ) → AreAccesses trace spots variable n self.old
-            → OnOk result (AreGroups trace spots variable n self.new.groups.each.items) }
-        ensures none { OnOk result (self.new.late.items ≡ []) }
-        ensures classes { (trace : List Event) (spots : List SpotData) (n : ℕ) → AreAccesses trace spots variable n self.old
-            → AreClasses trace spots n classes.old.newest.entries → OnOk result (AreClasses trace spots n classes.new.newest.entries) }
+        ensures { (trace : List Event) (spots : List SpotData) (n : ℕ) → AreAccesses trace spots variable n self.old
+            → OnOk result (HasTakenAll trace spots variable n n classes.old classes.new self.new) }
     {
         indices.note_all(self.groups.each.as_slice())?;
         let waiting = self.late.as_slice();
@@ -138,11 +135,8 @@ impl Accesses {
     ) -> Result<u32, NoMemory>
         ensures since { (trace : List Event) (spots : List SpotData) → AreAccesses trace spots variable late.access.event self.old
             → AreClasses trace spots late.access.event classes.old.newest.entries → IfOk result (IsSince trace spots variable late.access) }
-        ensures groups { (trace : List Event) (spots : List SpotData) → AreAccesses trace spots variable late.access.event self.old → IsLate trace spots variable late
-            → OnOk result (AreGroups trace spots variable (late.access.event + 1) self.new.groups.each.items) }
-        ensures none { OnOk result (self.new.late.items ≡ []) }
-        ensures classes { (trace : List Event) (spots : List SpotData) → AreAccesses trace spots variable late.access.event self.old → IsLate trace spots variable late
-            → AreClasses trace spots late.access.event classes.old.newest.entries → OnOk result (AreClasses trace spots (late.access.event + 1) classes.new.newest.entries) }
+        ensures all { (trace : List Event) (spots : List SpotData) → AreAccesses trace spots variable late.access.event self.old → IsLate trace spots variable late
+            → OnOk result (HasTakenAll trace spots variable late.access.event (late.access.event + 1) classes.old classes.new self.new) }
     {
         let ready = self.is_ready(&*indices, late.access);
         if !ready {

@@ -11,11 +11,11 @@ returns-clause-accesses c trace spots are is =
     let x = c.args.variable in
     let n = c.args.late.access.event in
     let mid : AreAccesses trace spots c.args.variable c.args.late.access.event c.if-full.self = elim c.if-full.branch [
-      | then-full+in_ok-catch_up w ↦ subst (λ (a : Accesses). AreAccesses trace spots c.args.variable c.args.late.access.event a) (sym w.self-is) (record {
+      | then-full+in_ok-catch_up w ↦ (let all = w.in_ok-catch_up.ensures trace spots c.args.late.access.event are in subst (λ (a : Accesses). AreAccesses trace spots c.args.variable c.args.late.access.event a) (sym w.self-is) (record {
         since = c.args.late.access.event;
-        groups = w.in_ok-catch_up.ensures.groups trace spots c.args.late.access.event are;
-        late = late_none trace spots c.args.variable c.args.late.access.event w.catch_up.new.self.late.items w.in_ok-catch_up.ensures.none;
-      })
+        groups = all.groups;
+        late = late_none trace spots c.args.variable c.args.late.access.event w.catch_up.new.self.late.items all.none;
+      }))
       | else-full w ↦ subst (λ (a : Accesses). AreAccesses trace spots c.args.variable c.args.late.access.event a) (sym w.self-is) are
     ] in
     record {

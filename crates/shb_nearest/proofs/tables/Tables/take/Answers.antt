@@ -49,12 +49,12 @@ returns c past e spots room next are =
     let time = time_next trace next.disciplined access.thread n c.below_next.result c.saturating_add-time.result next.own.thread_is (omega (arith, room, at_end))
     (subst (λ (m : ℕ). IsBelowPredCount (past ++ e ∷ []) c.args.access.thread m c.below_next.result) (sym next.event_is) (c.below_next.ensures past e next.thread_is next.disciplined next.streamed)) c.saturating_add-time.ensures in
     let since = c.in_ok-since.ensures.since trace spots was.accesses are.classes in
-    let taken = c.in_ok-since.ensures.groups trace spots was.accesses (record { own = next.own; time_is = time }) in
-    let rivals = c.in_ok-find.ensures past e spots x next (subst (λ (l : List Group). AreGroups (past ++ e ∷ []) spots c.args.variable (c.args.access.event + 1) l) (sym c.as_slice-groups.ensures.value) taken) was.run in
+    let taken = c.in_ok-since.ensures.all trace spots was.accesses (record { own = next.own; time_is = time }) in
+    let rivals = c.in_ok-find.ensures past e spots x next (subst (λ (l : List Group). AreGroups (past ++ e ∷ []) spots c.args.variable (c.args.access.event + 1) l) (sym c.as_slice-groups.ensures.value) taken.groups) was.run in
     record {
-      classes = c.in_ok-since.ensures.classes trace spots was.accesses (record { own = next.own; time_is = time }) are.classes;
+      classes = taken.classes are.classes;
       variables = variables_put trace spots n x access refl next.own mid (record { accesses = c.take.new.self; run = c.after-known.result; latest = c.screen-screened.result.latest }) space.wide all (record {
-        accesses = record { since = n + 1; groups = taken; late = late_none trace spots x (n + 1) c.take.new.self.late.items c.in_ok-since.ensures.none };
+        accesses = record { since = n + 1; groups = taken.groups; late = late_none trace spots x (n + 1) c.take.new.self.late.items taken.none };
         run = c.after-known.ensures trace spots x next.own was.run;
         screened = c.screen-screened.ensures.latest past e spots x next time was.screened;
       });
