@@ -17,12 +17,6 @@ pub contains_both : (near : Numbers) (far : List ℕ) (q : ℕ) → fin.contains
 unfolding both
 contains_both near far q = fin.contains-union nat_cmp_total near (fin.from_list far) q ∙ ap (λ b. fin.contains near q || b) (fin.contains-from_list nat_cmp_total far q)
 
-pub none_both : (near : Numbers) (far : List ℕ) → near ≡ fin.empty → far ≡ [] → both near far ≡ fin.empty
-none_both near far none empty =
-    same_numbers (both near far) fin.empty
-    (λ q. contains_both near far q ∙ ap (λ ks. fin.contains near q || has_key ks q) empty ∙ ap (λ s. fin.contains s q || false) none
-    ∙ ap (λ b. b || false) (fin.contains-empty nat_cmp q) ∙ sym (fin.contains-empty nat_cmp q))
-
 tied : (k : ℕ) → eq_by_cmp nat_cmp k k ≡ true
 tied k = unsigned_tied k k ∙ eq-eqb k k refl
 

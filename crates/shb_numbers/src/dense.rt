@@ -1,6 +1,6 @@
 //! A set of numbers, a bit each.
 
-ghost use Rattle.std.specs.Prelude.{◌≡◌, ◌^◌, ℕ, ◌<◌, ◌≤◌, ◌∷◌, length, slice_index, OnOk, OnErr, IfNone, IfSome, MatchOption, max};
+ghost use Rattle.std.specs.Prelude.{◌≡◌, ◌^◌, [], ℕ, ◌<◌, ◌≤◌, ◌∷◌, length, slice_index, OnOk, OnErr, IfNone, IfSome, MatchOption, max};
 ghost use Rattle.std.specs.FinSet as set;
 ghost use Rattle.shb_numbers.specs.Numbers.{HasNone, IsLeast, marked};
 
@@ -34,12 +34,12 @@ impl Model for Dense {
 }
 
 impl Dense {
-    /// No numbers.
-    pub fn new(alloc: Global) -> Dense
-        ensures { result ≡ set.empty }
+    /// The numbers below 64 that a word has bits for.
+    pub fn of_word(alloc: Global, word: u64) -> Dense
+        ensures { result ≡ marked (word ∷ []) }
     {
         Dense {
-            first: 0,
+            first: word,
             more: Vec::new(alloc),
         }
     }
@@ -121,7 +121,7 @@ impl Dense {
 
 /// The same of the words of two sets.
 #[inline(always)]
-fn first_of_words(here: Words<'_>, there: Words<'_>, from: u32, end: u32) -> Option<u32>
+pub fn first_of_words(here: Words<'_>, there: Words<'_>, from: u32, end: u32) -> Option<u32>
     ensures none { IfNone result (HasNone
         (set.difference (marked (here.entry.first ∷ here.entry.more.now)) (marked (there.entry.first ∷ there.entry.more.now)))
         from end) }

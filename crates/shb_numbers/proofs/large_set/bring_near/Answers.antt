@@ -1,6 +1,6 @@
 use Rattle.std.proofs.Common.{◌∙◌}
 use Rattle.shb_numbers.proofs.FarLemmas.{brought}
-use Rattle.shb_numbers.proofs.number_set.bring_near.Goals as goal
+use Rattle.shb_numbers.proofs.large_set.bring_near.Goals as goal
 
 pub loop-preserved : goal.loop-preserved
 loop-preserved c =

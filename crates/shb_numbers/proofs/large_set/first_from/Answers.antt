@@ -1,5 +1,5 @@
 use Rattle.shb_numbers.proofs.FarLemmas.{least_key, no_key, no_keys}
-use Rattle.shb_numbers.proofs.number_set.first_from.Goals as goal
+use Rattle.shb_numbers.proofs.large_set.first_from.Goals as goal
 
 pub returns-then-is_empty : goal.returns-then-is_empty
 returns-then-is_empty c = no_keys c.args.far.now.keys c.args.from (c.is_empty.ensures.0 c.if-is_empty.true)

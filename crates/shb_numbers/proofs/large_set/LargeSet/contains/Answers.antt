@@ -2,7 +2,7 @@ use Rattle.std.proofs.Common.{◌||◌, ◌∙◌, ap, sym}
 use Rattle.std.specs.FinSet as fin
 use Rattle.shb_numbers.specs.Far.{has_key}
 use Rattle.shb_numbers.proofs.FarLemmas.{contains_both}
-use Rattle.shb_numbers.proofs.number_set.NumberSet.contains.Goals as goal
+use Rattle.shb_numbers.proofs.large_set.LargeSet.contains.Goals as goal
 
 pub returns-then-contains : goal.returns-then-contains
 returns-then-contains c =

@@ -2,7 +2,7 @@ use Rattle.std.proofs.Common.{arith, subst}
 use Rattle.std.specs.FinSet as fin
 use Rattle.shb_numbers.specs.Numbers.{HasNone, IsLeast, Numbers}
 use Rattle.shb_numbers.proofs.FarLemmas.{far_least, near_least, none_of_both}
-use Rattle.shb_numbers.proofs.number_set.NumberSet.first_of_both.Goals as goal
+use Rattle.shb_numbers.proofs.large_set.LargeSet.first_of_both.Goals as goal
 
 pub returns-in-Some-far_not_in : goal.returns-in-Some-far_not_in
 returns-in-Some-far_not_in c =

@@ -2,7 +2,7 @@ use Rattle.std.proofs.Common.{◌∙◌, arith, subst, sym}
 use Rattle.std.specs.FinSet as fin
 use Rattle.shb_numbers.specs.Numbers.{HasNone, IsLeast, Numbers}
 use Rattle.shb_numbers.proofs.FarLemmas.{least_near, none_near, passed_near}
-use Rattle.shb_numbers.proofs.number_set.near_not_in.Goals as goal
+use Rattle.shb_numbers.proofs.large_set.near_not_in.Goals as goal
 
 pub returns-in_default : goal.returns-in_default
 returns-in_default c =

@@ -1,6 +1,6 @@
 use Rattle.std.proofs.Common.{◌∙◌, arith, sym}
 use Rattle.shb_numbers.proofs.FarLemmas.{least_far, none_below, none_far, passed_far}
-use Rattle.shb_numbers.proofs.number_set.far_not_in.Goals as goal
+use Rattle.shb_numbers.proofs.large_set.far_not_in.Goals as goal
 
 pub returns-in_default : goal.returns-in_default
 returns-in_default c =

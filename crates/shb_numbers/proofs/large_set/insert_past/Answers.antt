@@ -2,7 +2,7 @@ use Rattle.std.proofs.Common.{◌∙◌, ap}
 use Rattle.std.proofs.lemmas.Result.{on_ok_weaker}
 use Rattle.std.specs.FinSet as fin
 use Rattle.shb_numbers.proofs.FarLemmas.{far_more, near_more}
-use Rattle.shb_numbers.proofs.number_set.insert_past.Goals as goal
+use Rattle.shb_numbers.proofs.large_set.insert_past.Goals as goal
 
 pub returns-then-are_too_few-clause-inserted : goal.returns-then-are_too_few-clause-inserted
 returns-then-are_too_few-clause-inserted c =

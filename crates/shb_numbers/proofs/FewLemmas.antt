@@ -1,0 +1,83 @@
+-- Sets whose numbers are all below 64, or that are large.
+use Rattle.std.proofs.Common.{◌≡◌, ◌≢◌, ℕ, ◌%◌, ◌<◌, ◌≤◌, List, [], ◌∷◌, ◌∙◌, Bool, true, false, Option, None, Some, MatchOption, ap, arith, refl, subst, sym}
+use Rattle.std.specs.FinSet as fin
+use Rattle.std.specs.Global.{Global}
+use Rattle.std.specs.Int.{bit_at}
+use Rattle.std.specs.Prelude.{Box, IfNone, IfSome}
+use Rattle.shb_numbers.specs.Few.{numbers_of}
+use Rattle.shb_numbers.specs.Numbers.{HasNone, IsLeast, Numbers, marked}
+use Rattle.shb_numbers.proofs.FarLemmas.{all_there, only_near}
+use Rattle.shb_numbers.proofs.SetLemmas.{first_inserted, first_removed, none_less}
+
+-- the numbers of a set with no large one, and of one that is large
+few_is : (few : ℕ) → numbers_of few None ≡ marked (few ∷ [])
+unfolding numbers_of
+few_is few = refl
+
+pub none_few : (s : Numbers) → marked (0 ∷ []) ≡ s → numbers_of 0 None ≡ s
+none_few s is = few_is 0 ∙ is
+
+pub many_is : (few : ℕ) (set : Box Numbers Global) (s : Numbers) → set.value ≡ s → numbers_of few (Some set) ≡ s
+unfolding numbers_of
+many_is few set s is = is
+
+pub none_is : (many : Option (Box Numbers Global)) → ((set : Box Numbers Global) → many ≡ Some set → ⊥) → many ≡ None
+none_is None other = refl
+none_is (Some set) other = absurd (other set refl)
+
+pub few_are : (few : ℕ) (many : Option (Box Numbers Global)) (s : Numbers) → many ≡ None → numbers_of few many ≡ s → marked (few ∷ []) ≡ s
+few_are few many s none is = sym (few_is few) ∙ ap (numbers_of few) (sym none) ∙ is
+
+pub many_are : (few : ℕ) (many : Option (Box Numbers Global)) (set : Box Numbers Global) (s : Numbers) → many ≡ Some set → numbers_of few many ≡ s → set.value ≡ s
+many_are few many set s some is = sym (many_is few set set.value refl) ∙ ap (numbers_of few) (sym some) ∙ is
+
+-- a number below 64 comes, or goes; no other is there to go
+module _ (few word : ℕ) (many : Option (Box Numbers Global)) (s : Numbers) (number : ℕ) (none : many ≡ None) (is : numbers_of few many ≡ s) where
+  was : marked (few ∷ []) ≡ s
+  was = few_are few many s none is
+
+  after : numbers_of word many ≡ marked (word ∷ [])
+  after = ap (numbers_of word) none ∙ few_is word
+
+  pub few_inserted : number < 64 → bit_at word number ≡ 1 → ((k : ℕ) → k ≢ number → bit_at word k ≡ bit_at few k) → numbers_of word many ≡ fin.insert s number
+  few_inserted low one others =
+      let own : number % 64 ≡ number = omega (arith, low) in
+      after
+      ∙ first_inserted few word [] number (omega (arith, low)) (λ k small other. others k (λ same. other (same ∙ sym own))) (ap (bit_at word) own ∙ one)
+      ∙ ap (λ (t : Numbers). fin.insert t number) was
+
+  pub few_removed : number < 64 → bit_at word number ≡ 0 → ((k : ℕ) → k < 64 → k ≢ number → bit_at word k ≡ bit_at few k) → numbers_of word many ≡ fin.remove s number
+  few_removed low zero others =
+      let own : number % 64 ≡ number = omega (arith, low) in
+      after
+      ∙ first_removed few word [] number (omega (arith, low)) (λ k small other. others k small (λ same. other (same ∙ sym own))) (ap (bit_at word) own ∙ zero)
+      ∙ ap (λ (t : Numbers). fin.remove t number) was
+
+  pub few_past : 64 ≤ number → numbers_of few many ≡ fin.remove s number
+  few_past high = is ∙ sym was ∙ none_less (few ∷ []) number (omega (arith, high)) ∙ ap (λ (t : Numbers). fin.remove t number) was
+
+-- the same sets under other names
+pub same_first : (r : Option ℕ) (h t here there : Numbers) (from end : ℕ) → h ≡ here → t ≡ there
+    → MatchOption r (HasNone (fin.difference h t) from end) (IsLeast (fin.difference h t) from end)
+    → MatchOption r (HasNone (fin.difference here there) from end) (IsLeast (fin.difference here there) from end)
+same_first r h t here there from end h_is t_is first =
+    subst (λ (s : Numbers). MatchOption r (HasNone (fin.difference here s) from end) (IsLeast (fin.difference here s) from end)) t_is
+    (subst (λ (s : Numbers). MatchOption r (HasNone (fin.difference s t) from end) (IsLeast (fin.difference s t) from end)) h_is first)
+
+pub same_more : (r : Bool) (h t here there : Numbers) → h ≡ here → t ≡ there
+    → (r ≡ false → (k : ℕ) → fin.contains h k ≡ true → fin.contains t k ≡ true)
+    → r ≡ false → (k : ℕ) → fin.contains here k ≡ true → fin.contains there k ≡ true
+same_more r h t here there h_is t_is more less k is =
+    subst (λ (s : Numbers). fin.contains s k ≡ true) t_is (more less k (subst (λ (s : Numbers). fin.contains s k ≡ true) (sym h_is) is))
+
+-- words that stand for few numbers
+pub words_are : (first few : ℕ) (more : List ℕ) → first ≡ few → more ≡ [] → marked (first ∷ more) ≡ marked (few ∷ [])
+words_are first few more is none = ap (λ (n : ℕ). marked (n ∷ more)) is ∙ ap (λ (m : List ℕ). marked (few ∷ m)) none
+
+pub first_of : (r : Option ℕ) (h t : Numbers) (from end : ℕ) → IfNone r (HasNone (fin.difference h t) from end) → IfSome r (IsLeast (fin.difference h t) from end)
+    → MatchOption r (HasNone (fin.difference h t) from end) (IsLeast (fin.difference h t) from end)
+first_of None h t from end none some = none
+first_of (Some n) h t from end none some = some
+
+pub all_in : (here there : Numbers) → fin.difference here there ≡ fin.empty → (k : ℕ) → fin.contains here k ≡ true → fin.contains there k ≡ true
+all_in here there none k is = subst (λ (s : Numbers). fin.contains s k ≡ true) (only_near there [] refl) (all_there here there [] none k is)
