@@ -1,30 +1,9 @@
--- Numbers of pairs, and lists that grow.
-use Rattle.std.proofs.Common.{◌≡◌, ◌+◌, ◌<◌, ◌≤◌, inl, inr, ℕ, zero, suc, Bool, true, false, not, cond, List, [], ◌∷◌, ◌++◌, Some, length, get_or, set, slice_get, arith, refl, subst, ap, sym, ◌∙◌}
-use Rattle.std.specs.List.{list_any}
+-- Lists that grow.
+use Rattle.std.proofs.Common.{◌≡◌, ◌+◌, ◌<◌, ◌≤◌, inl, inr, ℕ, zero, suc, List, [], ◌∷◌, ◌++◌, Some, length, get_or, set, slice_get, arith, refl, subst, ap, sym, ◌∙◌}
 use Rattle.std.proofs.lemmas.Bool.{cases_eq}
 use Rattle.std.proofs.lemmas.List.{get_or-set_other, get_or-set_same, length-append}
-use Rattle.std.proofs.lemmas.List.Folds.{list_any_at}
-use Rattle.std.proofs.lemmas.Option.{get_or_from_slice_get, slice_get_within}
-use Rattle.shb_search.specs.PlaceRaces.{same_key}
-use Rattle.shb_search.specs.Tables.{HasPushed, IsNumbered, list_at}
-use Rattle.shb_search.proofs.PlaceRacesLemmas.{key_same, one_key}
-use Rattle.shb_search.proofs.Lists.{get_cases, get_more}
-
--- the number of a pair in a set
-pub numbered_pair : (old new : List (ℕ × ℕ)) (pair stored : ℕ × ℕ) (number : ℕ) (is_new : Bool) → new ≡ cond (list_any (same_key pair) old) old (old ++ pair ∷ []) → is_new ≡ not (list_any (same_key pair) old) → slice_get new number ≡ Some stored → same_key pair stored ≡ true → IsNumbered old new pair number is_new
-numbered_pair old new pair stored number is_new put is at same = by (list_any (same_key pair) old) refl put is
-  where
-    there : slice_get new number ≡ Some pair
-    there = at ∙ ap (λ (p : ℕ × ℕ). Some p) (sym (one_key pair stored same))
-
-    by : (b : Bool) → list_any (same_key pair) old ≡ b → new ≡ cond b old (old ++ pair ∷ []) → is_new ≡ not b → IsNumbered old new pair number is_new
-    by true any put is = subst (λ (b : Bool). IsNumbered old new pair number b) (sym is) (subst (λ (l : List (ℕ × ℕ)). slice_get l number ≡ Some pair) put there, put)
-    by false any put is = subst (λ (b : Bool). IsNumbered old new pair number b) (sym is) (elim (get_cases old pair number pair (subst (λ (l : List (ℕ × ℕ)). slice_get l number ≡ Some pair) put there)) [
-      | inl was ↦ absurd (
-          let found = list_any_at (same_key pair) old number pair (slice_get_within old number pair was) (key_same pair (get_or old number pair) (sym (get_or_from_slice_get old number pair pair was))) in
-          let f : true ≡ false = sym found ∙ any in (let n : ⊥ = cc in n))
-      | inr last ↦ (last.0, put)
-    ])
+use Rattle.shb_search.specs.Tables.{HasPushed, list_at}
+use Rattle.shb_search.proofs.Lists.{get_more}
 
 -- an empty list more is none
 pub list_more : (lists : List (List ℕ)) (k : ℕ) → list_at (lists ++ [] ∷ []) k ≡ list_at lists k

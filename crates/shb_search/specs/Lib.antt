@@ -6,6 +6,7 @@ pub mod PlaceRaces
 pub mod Kept
 pub mod Looks
 pub mod Members
+pub mod Numbered
 pub mod Searched
 pub mod Sides
 pub mod State

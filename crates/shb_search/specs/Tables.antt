@@ -4,11 +4,6 @@ use Rattle.shb_search.specs.Kept.{SiteData}
 use Rattle.shb_search.specs.declared.sites.Site.{Site}
 use Rattle.shb_search.specs.declared.sites.Sites.{Sites}
 
--- the number of a pair: that which it had, or that of a new last one
-abbrev pub IsNumbered : List (ℕ × ℕ) → List (ℕ × ℕ) → ℕ × ℕ → ℕ → Bool → Type 0
-IsNumbered old new pair number true = (number ≡ length old) × (new ≡ old ++ pair ∷ [])
-IsNumbered old new pair number false = (slice_get old number ≡ Some pair) × (new ≡ old)
-
 -- the list of a number, an empty one past the last
 abbrev pub list_at : List (List ℕ) → ℕ → List ℕ
 list_at lists number = slice_index_or lists number []

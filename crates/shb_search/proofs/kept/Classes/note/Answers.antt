@@ -2,7 +2,7 @@ use Rattle.std.proofs.Common.{◌≡◌, ℕ, Bool, true, false, [], ◌∷◌, 
 use Rattle.std.proofs.lemmas.List.{length-append, length-map, length-set}
 use Rattle.std.proofs.lemmas.Option.{slice_get_within}
 use Rattle.shb_search.specs.Classes.{HasPut, begins, class_key, extends}
-use Rattle.shb_search.specs.Tables.{IsNumbered}
+use Rattle.shb_search.specs.Numbered.{IsNumbered}
 use Rattle.shb_search.specs.declared.look.Class.{Class}
 use Rattle.shb_search.proofs.NotedLemmas.{known_class}
 use Rattle.shb_search.proofs.Lists.{read_same, same_entry}

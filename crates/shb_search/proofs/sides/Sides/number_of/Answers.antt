@@ -1,6 +1,6 @@
 use Rattle.std.proofs.Common.{◌++◌, ◌∷◌, [], ℕ, Bool, true, false, Some, refl, subst, ap, ◌∙◌}
 use Rattle.shb_search.specs.State.{comes, is_known}
-use Rattle.shb_search.specs.Tables.{IsNumbered}
+use Rattle.shb_search.specs.Numbered.{IsNumbered}
 use Rattle.shb_search.proofs.sides.Sides.number_of.Goals as goal
 
 pub returns-then-not-is_new : goal.returns-then-not-is_new

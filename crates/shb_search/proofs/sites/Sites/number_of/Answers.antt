@@ -1,6 +1,7 @@
 use Rattle.std.proofs.Common.{inl, inr, ℕ, Bool, true, false, length, ap, subst, sym, ◌∙◌}
 use Rattle.std.proofs.lemmas.List.{length-map}
-use Rattle.shb_search.specs.Tables.{HasCome, IsNumbered, IsSite}
+use Rattle.shb_search.specs.Numbered.{IsNumbered}
+use Rattle.shb_search.specs.Tables.{HasCome, IsSite}
 use Rattle.shb_search.proofs.SiteLemmas.{came_from, came_more, came_site, came_sites, known_more, known_site, sites_later}
 use Rattle.shb_search.proofs.sites.Sites.number_of.Goals as goal
 
