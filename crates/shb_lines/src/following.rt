@@ -66,6 +66,9 @@ pub struct Guess {
 /// How many guesses are kept at most: more would be slower to look up than the names themselves.
 const MOST: usize = 1 << 14;
 
+/// How many places each name has at least while they are fewer than the most: with fewer, many names would share one.
+const ROOM: usize = 4;
+
 /// Numbers by keys of their names. Each is a guess, and the caller compares the name. Of two names with one place the later
 /// one stays.
 #[derive(Drop)]
@@ -106,7 +109,7 @@ impl Guesses {
     /// A name of this key has this number.
     pub fn learn(&mut self, key: u64, number: u32) -> Result<(), NoMemory> {
         let len = self.all.len();
-        if len <= number as usize && len < MOST {
+        if len / ROOM <= number as usize && len < MOST {
             let more = if len == 0 { 1024 } else { len * 2 };
             self.all
                 .resize(more.min(MOST), Guess { number: 0, tag: 0 })?;

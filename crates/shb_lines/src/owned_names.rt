@@ -218,12 +218,28 @@ impl OwnedNames {
         }
     }
 
-    /// The number of a name, by a look-up.
+    /// The number of a name, if it has one, by a look-up.
+    fn found(&self, name: &[u8]) -> Option<u32>
+        requires { length (names_of self.now) < 2 ^ 32 }
+        ensures { IfSome result (λ number. slice_get (names_of self.now) number ≡ Some name.now) }
+    {
+        let found = self.table.get_index_of(TextKey { bytes: name })? as u32;
+        if self.is_named(found, name) {
+            Some(found)
+        } else {
+            None
+        }
+    }
+
+    /// The number of a name, by a look-up. A name that is new is put last, and copied.
     fn looked_up(&mut self, alloc: Global, name: &[u8]) -> Result<u32, NoMemory>
         requires room { length (names_of self.old) < 2 ^ 32 }
         ensures names { OnOk result (names_of self.new ≡ with_name (names_of self.old) name.now) }
         ensures number { IfOk result (λ number. slice_get (names_of self.new) number ≡ Some name.now) }
     {
+        if let Some(number) = self.found(name) {
+            return Ok(number);
+        }
         let (number, _) = self.table.insert_full(OwnedText::copied(alloc, name)?)?;
         Ok(number as u32)
     }
