@@ -51,9 +51,23 @@ fn take_all(
 }
 
 impl Accesses {
-    /// Whether as many accesses wait as there are groups, and two at least. So taking them in costs a few steps for each.
+    /// How many accesses the groups keep.
+    fn kept_count(&self) -> usize {
+        let mut count = 0;
+        for group in self.groups.each.as_slice() {
+            count = group.kept.len().saturating_add(count);
+        }
+        count
+    }
+
+    /// Whether as many accesses wait as the groups keep, and two at least. So taking them in costs a few steps for each. Those
+    /// that are kept are counted only where the memory of those that wait is full.
     fn is_full(&self) -> bool {
-        self.late.len() >= self.groups.each.len().max(2)
+        let waiting = self.late.len();
+        if waiting < self.late.capacity() {
+            return false;
+        }
+        waiting >= self.kept_count()
     }
 
     /// Whether none waits, and the group of an access is where its index says.

@@ -9,9 +9,8 @@
 //!
 //! An access races with none before it where the last write of its variable is below its predecessor and, for a write,
 //! the newest read since is too (`screen`). Such an access waits (`late`): it is put behind the others that wait, and
-//! touches no group. As many wait as the variable has groups, and two at least; then all are taken into their groups,
-//! which are found by thread and kind (`indices`). So an access that waits costs a few steps, however many groups there
-//! are.
+//! touches no group. At least as many wait as the groups keep, and two; then all are taken into their groups, which are
+//! found by thread and kind (`indices`). So an access that waits costs a few steps, however many groups there are.
 //!
 //! Any other access is taken into its group at once, after those that wait. Then it looks at the groups of its variable by
 //! other threads, and at the accesses that a group keeps from the newest one back. It stops at the first that is below its
