@@ -13,7 +13,7 @@ use Rattle.shb_lines.specs.declared.event.Event.{Event}
 use Rattle.shb_lines.specs.events.Discipline.{local_time}
 use Rattle.shb_lines.specs.events.Order.{ShbBelow}
 use Rattle.shb_stamps.specs.Fronts.{IsFrontBut}
-use Rattle.shb_stamps.specs.Stamps.{AreCurrent, AreStamps, IsLatestStamp, of_event, of_none, IsRowFor, empty_stamp}
+use Rattle.shb_stamps.specs.Stamps.{IsLatestStamp, of_event, of_none, IsRowFor, empty_stamp}
 
 -- what was moved stays so as the new rows grow
 pub row_further : (old new more : List (List ℕ)) → AreMore new more → (a b : ℕ) → IsMovedRow old new a b → IsMovedRow old more a b
@@ -178,12 +178,6 @@ module _ (trace : List Event) (old new : List (List ℕ)) where
   pub row_moved : (t a b : ℕ) (P : ℕ → Type 0) → IsMovedRow old new a b → IsRowFor trace old t P a → IsRowFor trace new t P b
   row_moved t a b P h row = record { in_range = h.in_range; front = subst (IsFrontBut trace t P) (sym h.same) row.front }
 
-  pub current_moved : (n threads : ℕ) (before after : List ℕ) → AreAlike 0 (MovesRow old new) before after → AreCurrent trace old n threads before → AreCurrent trace new n threads after
-  current_moved n threads before after alike h = record {
-    as_many = alike.as_many ∙ h.as_many;
-    each = λ t lt. (let row = h.each t lt in row_moved t (get_or before t 0) (get_or after t 0) _ (alike.each t (let many = h.as_many in omega (arith, many, lt)) row.in_range) row);
-  }
-
   pub latest_moved : (P : ℕ → Type 0) (n : ℕ) (a b : Stamp) → IsMovedStamp (MovesRow old new) a b → IsLatestStamp trace old P n a → IsLatestStamp trace new P n b
   latest_moved P n a b moved (of_event e latest is) = of_event e latest (record {
     of_thread = is.of_thread ∙ ap (λ (t : ℕ). Some t) (sym moved.thread);
@@ -191,9 +185,3 @@ module _ (trace : List Event) (old new : List (List ℕ)) where
     row_is = subst (λ (t : ℕ). IsRowFor trace new t (λ k. ShbBelow trace k e) b.row) (sym moved.thread) (row_moved a.thread a.row b.row (λ k. ShbBelow trace k e) (moved.row is.row_is.in_range) is.row_is);
   })
   latest_moved P n a b moved (of_none absent none) = of_none absent (moved.time ∙ none)
-
-  pub stamps_moved : (P : ℕ → ℕ → Type 0) (n size : ℕ) (before after : List Stamp) → AreAlike empty_stamp (IsMovedStamp (MovesRow old new)) before after → AreStamps trace old P n size before → AreStamps trace new P n size after
-  stamps_moved P n size before after alike h = record {
-    as_many = alike.as_many ∙ h.as_many;
-    each = λ x lt. latest_moved (P x) n (get_or before x empty_stamp) (get_or after x empty_stamp) (alike.each x (let many = h.as_many in omega (arith, many, lt))) (h.each x lt);
-  }

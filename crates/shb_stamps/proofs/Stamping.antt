@@ -1,27 +1,28 @@
--- The sweep by stamps, an event at a time.
+-- What an event learns of others, and the row and the stamps after it.
 use Rattle.std.proofs.lemmas.Grind.{common_steps}
-use Rattle.std.proofs.Common.{◌≡◌, ◌≢◌, ℕ, ◌+◌, ◌<◌, ◌≤◌, ◌⊎◌, inl, inr, true, false, List, [], ◌∷◌, ◌++◌, Option, Some, length, get_or, take, arith, subst, ap, sym, ◌∙◌, refl, get_or-set_same, get_or-set_other}
-use Rattle.std.specs.Prelude.{◌↔◌, ◌==◌, count_by, max, option_and_then, replicate, slice_get}
-use Rattle.std.proofs.Math.ListN.{set, length-set, length-replicate, get_or-replicate}
+use Rattle.std.proofs.Common.{◌≡◌, ◌≢◌, ℕ, ◌+◌, ◌<◌, ◌≤◌, ◌⊎◌, inl, inr, Bool, true, false, List, [], ◌∷◌, ◌++◌, Option, Some, get_or, take, arith, subst, ap, sym, ◌∙◌, refl}
+use Rattle.std.specs.Prelude.{◌↔◌, ◌==◌, option_and_then, slice_get}
 use Rattle.std.proofs.lemmas.Bool.{cases_lt, cases_eq, cases_order, cases_Bool, eqb-true, ne_eqb}
 use Rattle.std.proofs.lemmas.List.{get_or_append_left, length_push}
 use Rattle.shb_lines.specs.declared.event.Event.{Event}
 use Rattle.shb_lines.specs.declared.event.Op.{Op}
-use Rattle.shb_lines.specs.declared.event.Op.TheVariants.{Read, Write, Acquire, Release, Fork, Join}
+use Rattle.shb_lines.specs.declared.event.Op.TheVariants.{Read, Write, Acquire, Release, Fork}
 use Rattle.shb_lines.specs.events.Events.{thread_at, op_at, variable_of}
-use Rattle.shb_lines.specs.events.Discipline.{IsDisciplined, MayDo, acquires, releases, only, is_acquire, is_release, is_fork, is_of, local_time}
+use Rattle.shb_lines.specs.events.Discipline.{IsDisciplined, MayDo, acquires, releases, only, is_acquire, is_release, is_fork}
 use Rattle.shb_lines.specs.events.Order.{ShbBelow, here, step, same_thread, lock_passed, forked, happens_before, BelowPred, IsPred, in_thread, by_fork}
 use Rattle.shb_lines.proofs.events.Counts.{count_mono, counted_before}
 use Rattle.shb_lines.proofs.events.Events.{thread_is, op_is, event_of_op, fork_allowed, fork_earlier, is_fork_true, is_acquire_parts}
 use Rattle.shb_lines.proofs.events.Schedulable.{thread_below_pred, fork_below_pred, pred_earlier}
 use Rattle.shb_links.specs.Latest.{IsLatestBefore, OfThread, ReleasesLock}
 use Rattle.shb_links.proofs.Balance.{HasHolder, IsPassing, balanced, disciplined_below, holder_after, some_counted}
-use Rattle.shb_stamps.specs.Fronts.{IsFront, BelowRelease, Learns, StrictlyBelow, IsFrontBut}
-use Rattle.shb_stamps.specs.Rows.{AreMore, RowsData}
-use Rattle.shb_stamps.specs.Stamps.{AreCurrent, AreStamps, HasGrown, IsKnown, IsLatestStamp, of_event, of_none, IsRowFor, IsSource, from_event, nothing_new, IsStampOf, WritesShared, empty_stamp}
+use Rattle.shb_links.specs.Sharing.{IsShared}
+use Rattle.shb_stamps.specs.Clocks.{KeepsWrite}
+use Rattle.shb_stamps.specs.Fronts.{BelowRelease, Learns, StrictlyBelow, IsFrontBut}
+use Rattle.shb_stamps.specs.Rows.{AreMore}
+use Rattle.shb_stamps.specs.Stamps.{IsKnown, IsLatestStamp, of_event, of_none, IsRowFor, IsSource, from_event, nothing_new, IsStampOf}
 use Rattle.shb_stamps.specs.declared.stamp.Stamp.{Stamp}
-use Rattle.shb_stamps.proofs.Fronts.{front_but_same, front_whole, thread_same}
-use Rattle.shb_stamps.proofs.Sources.{acquire_learns, join_learns, latest_join, learns_read, read_learns, path_append, edge_path, strictly_below_below, below_cases}
+use Rattle.shb_stamps.proofs.Fronts.{front_but_same, thread_same}
+use Rattle.shb_stamps.proofs.Sources.{acquire_learns, learns_read, read_learns, path_append, edge_path, strictly_below_below, below_cases}
 
 -- rows that grow
 pub more_same : (rows : List (List ℕ)) → AreMore rows rows
@@ -29,15 +30,6 @@ more_same rows = record { as_long = omega arith; same = λ i lt. refl }
 
 pub more_push : (rows new : List (List ℕ)) (row : List ℕ) → new ≡ rows ++ row ∷ [] → AreMore rows new
 more_push rows new row is = grind (arith, common_steps, length_push, get_or_append_left)
-
-pub more_chain : (one two three : List (List ℕ)) → AreMore one two → AreMore two three → AreMore one three
-more_chain one two three first second = grind (arith, common_steps)
-
-pub grown_same : (rows : RowsData) → HasGrown rows rows
-grown_same rows = record { width = refl; more = more_same rows.rows; few = omega arith }
-
-pub grown_push : (old new : RowsData) (row : List ℕ) → new.width ≡ old.width → new.rows ≡ old.rows ++ row ∷ [] → HasGrown old new
-grown_push old new row width is = record { width = width; more = more_push old.rows new.rows row is; few = (let size = ap length is ∙ length_push old.rows row in omega (arith, size)) }
 
 module _ (trace : List Event) where
   -- what is known of the rows stays known as they grow
@@ -57,9 +49,6 @@ module _ (trace : List Event) where
   latest_more rows more P n stamp grown (of_event e latest is) = of_event e latest (stamp_more rows more e stamp grown is)
   latest_more rows more P n stamp grown (of_none absent zero) = of_none absent zero
 
-  pub stamps_more : (rows more : List (List ℕ)) (P : ℕ → ℕ → Type 0) (n size : ℕ) (stamps : List Stamp) → AreMore rows more → AreStamps trace rows P n size stamps → AreStamps trace more P n size stamps
-  stamps_more rows more P n size stamps grown h = record { as_many = h.as_many; each = λ x lt. latest_more rows more (P x) n _ grown (h.each x lt) }
-
   -- the stamp of event n is that of the latest of x, and of no other number
   pub latest_skip : (rows : List (List ℕ)) (P : ℕ → Type 0) (n : ℕ) (stamp : Stamp) → (P n → ⊥) → IsLatestStamp trace rows P n stamp → IsLatestStamp trace rows P (n + 1) stamp
   latest_skip rows P n stamp fails (of_event e latest is) = of_event e (record {
@@ -68,26 +57,6 @@ module _ (trace : List Event) where
     last = λ m low high h. elim (cases_lt m n) [ inl lt ↦ latest.last m low lt h | inr le ↦ fails (subst P (let g : m ≡ n = omega (arith, high, le) in g) h) ];
   }) is
   latest_skip rows P n stamp fails (of_none absent zero) = of_none (λ k lt h. elim (cases_lt k n) [ inl low ↦ absent k low h | inr le ↦ fails (subst P (let g : k ≡ n = omega (arith, lt, le) in g) h) ]) zero
-
-  pub stamps_set : (rows : List (List ℕ)) (P : ℕ → ℕ → Type 0) (n size x : ℕ) (stamps : List Stamp) (stamp : Stamp) → x < size → P x n → ((y : ℕ) → P y n → y ≡ x) → IsStampOf trace rows n stamp → AreStamps trace rows P n size stamps → AreStamps trace rows P (n + 1) size (set stamps x stamp)
-  stamps_set rows P n size x stamps stamp low holds alone is h = record {
-    as_many = length-set stamps x stamp ∙ h.as_many;
-    each = λ y lt. go y lt (cases_eq y x);
-  }
-    where
-      go : (y : ℕ) → y < size → (y ≡ x) ⊎ (y ≡ x → ⊥) → IsLatestStamp trace rows (P y) (n + 1) (get_or (set stamps x stamp) y empty_stamp)
-      go y lt (inl same) = rw same (rw (get_or-set_same stamps x stamp empty_stamp (let many = h.as_many in omega (arith, many, low))) (of_event n (record { earlier = omega arith; holds = holds; last = λ m above below g. absurd (omega (arith, above, below)) }) is))
-      go y lt (inr ne) = rw (get_or-set_other stamps x y stamp empty_stamp ne) (latest_skip rows (P y) n (get_or stamps y empty_stamp) (λ g. ne (alone y g)) (h.each y lt))
-
-  pub stamps_skip : (rows : List (List ℕ)) (P : ℕ → ℕ → Type 0) (n size : ℕ) (stamps : List Stamp) → ((y : ℕ) → P y n → ⊥) → AreStamps trace rows P n size stamps → AreStamps trace rows P (n + 1) size stamps
-  stamps_skip rows P n size stamps none h = record { as_many = h.as_many; each = λ y lt. latest_skip rows (P y) n (get_or stamps y empty_stamp) (none y) (h.each y lt) }
-
-  -- before the first event
-  pub stamps_start : (rows : List (List ℕ)) (P : ℕ → ℕ → Type 0) (size : ℕ) (stamps : List Stamp) → stamps ≡ replicate size empty_stamp → AreStamps trace rows P 0 size stamps
-  stamps_start rows P size stamps is = record {
-    as_many = ap length is ∙ length-replicate size empty_stamp;
-    each = λ x lt. subst (IsLatestStamp trace rows (P x) 0) (sym (ap (λ (xs : List Stamp). get_or xs x empty_stamp) is ∙ get_or-replicate size x empty_stamp empty_stamp lt)) (of_none (λ k below h. absurd (omega (arith, below))) refl);
-  }
 
 module _ (trace : List Event) (disciplined : IsDisciplined trace) where
   -- a later release of a lock is above an earlier one
@@ -209,22 +178,19 @@ module _ (trace : List Event) (disciplined : IsDisciplined trace) where
   source_acquire rows e l stamp takes (of_event r latest is) = from_event r latest.earlier is (λ k. let one = below_last_release l e r k latest in let two = acquire_learns trace disciplined e l k takes in ((λ path. two.0 (one.0 path)), (λ learns. one.1 (two.1 learns))))
   source_acquire rows e l stamp takes (of_none absent zero) = nothing_new (λ k learns. absurd (let h = (acquire_learns trace disciplined e l k takes).1 learns in absent h.release h.earlier h.releases)) zero
 
-  -- a write of x that another thread reads is one of a shared variable
-  write_shared : (w e x : ℕ) → op_at trace w ≡ Some (Write x) → op_at trace e ≡ Some (Read x) → thread_at trace w ≢ thread_at trace e → WritesShared trace x w
-  write_shared w e x writes reads other = (
-    record {
-      first = w;
-      second = e;
-      first_accesses = ap (λ (o : Option Op). option_and_then variable_of o) writes;
-      second_accesses = ap (λ (o : Option Op). option_and_then variable_of o) reads;
-      other_thread = other;
-    },
-    writes,
-  )
+  -- a variable that one thread writes and another reads is shared
+  write_shared : (w e x : ℕ) → op_at trace w ≡ Some (Write x) → op_at trace e ≡ Some (Read x) → thread_at trace w ≢ thread_at trace e → IsShared trace x
+  write_shared w e x writes reads other = record {
+    first = w;
+    second = e;
+    first_accesses = ap (λ (o : Option Op). option_and_then variable_of o) writes;
+    second_accesses = ap (λ (o : Option Op). option_and_then variable_of o) reads;
+    other_thread = other;
+  }
 
   -- a read of a variable of which no write is kept learns nothing that its thread doesn't know
-  read_known : (e x k : ℕ) → op_at trace e ≡ Some (Read x) → ((w : ℕ) → w < e → ¬ WritesShared trace x w) → Learns trace e k → BelowPred trace k e
-  read_known e x k reads absent learns =
+  pub read_known : (all : Bool) (e x k : ℕ) → op_at trace e ≡ Some (Read x) → ((w : ℕ) → w < e → ¬ KeepsWrite all trace x w) → Learns trace e k → BelowPred trace k e
+  read_known all e x k reads absent learns =
       let from = learns_read trace disciplined e x k reads learns in
       let w = from.write in
       let writes : op_at trace w ≡ Some (Write x) = from.last.writes ∙ ap (λ (y : ℕ). Some (Write y)) (let h = from.last.reads in let s : Some (Read from.last.variable) ≡ Some (Read x) = sym h ∙ reads in cc) in
@@ -234,22 +200,13 @@ module _ (trace : List Event) (disciplined : IsDisciplined trace) where
       let of_e = thread_is trace e b.0 b.1 in
       let below : BelowPred trace w e = elim (cases_eq a.0.thread b.0.thread) [
         | inl same ↦ thread_below_pred trace b.0.thread w e from.last.earlier (of_w ∙ ap (λ (n : ℕ). Some n) same) of_e
-        | inr ne ↦ absurd (absent w from.last.earlier (write_shared w e x writes reads (λ one. ne (let s : Some a.0.thread ≡ Some b.0.thread = sym of_w ∙ (one ∙ of_e) in cc))))
+        | inr ne ↦ absurd (absent w from.last.earlier (inr (write_shared w e x writes reads (λ one. ne (let s : Some a.0.thread ≡ Some b.0.thread = sym of_w ∙ (one ∙ of_e) in cc))), writes))
       ] in
       (below.0, below.1, path_append trace k w below.0 from.below below.2)
 
-  pub source_read : (rows : List (List ℕ)) (e x : ℕ) (stamp : Stamp) → op_at trace e ≡ Some (Read x) → IsLatestStamp trace rows (WritesShared trace x) e stamp → IsSource trace rows e stamp
-  source_read rows e x stamp reads (of_event w latest is) = from_event w latest.earlier is (λ k. read_learns trace disciplined e x w k reads (record { variable = x; reads = reads; writes = latest.holds.1; earlier = latest.earlier; latest = λ m low high writes. latest.last m low high (latest.holds.0, writes) }))
-  source_read rows e x stamp reads (of_none absent zero) = nothing_new (λ k learns. read_known e x k reads absent learns) zero
-
-  pub source_join : (rows : List (List ℕ)) (e v last : ℕ) (stamp : Stamp) → op_at trace e ≡ Some (Join v) → IsLatestBefore (OfThread trace v) (length trace) last → stamp.thread ≡ v → stamp.time ≡ local_time trace v last → IsRowFor trace rows v (IsKnown trace v e) stamp.row → IsSource trace rows e stamp
-  source_join rows e v last stamp joins latest thread time row =
-      let so_far = latest_join trace trace disciplined e v last refl joins latest in
-      from_event last so_far.earlier (record {
-        of_thread = latest.holds ∙ ap (λ (n : ℕ). Some n) (sym thread);
-        time_is = time ∙ ap (λ (n : ℕ). local_time trace n last) (sym thread);
-        row_is = subst (λ (n : ℕ). IsRowFor trace rows n (λ k. ShbBelow trace k last) stamp.row) (sym thread) (row_same trace rows v stamp.row (IsKnown trace v e) (λ k. ShbBelow trace k last) (λ s k of_k ne. known_latest e last v so_far k) row);
-      }) (λ k. join_learns trace disciplined e v last k joins so_far)
+  pub source_read : (all : Bool) (rows : List (List ℕ)) (e x : ℕ) (stamp : Stamp) → op_at trace e ≡ Some (Read x) → IsLatestStamp trace rows (KeepsWrite all trace x) e stamp → IsSource trace rows e stamp
+  source_read all rows e x stamp reads (of_event w latest is) = from_event w latest.earlier is (λ k. read_learns trace disciplined e x w k reads (record { variable = x; reads = reads; writes = latest.holds.1; earlier = latest.earlier; latest = λ m low high writes. latest.last m low high (latest.holds.0, writes) }))
+  source_read all rows e x stamp reads (of_none absent zero) = nothing_new (λ k learns. read_known all e x k reads absent learns) zero
 
   -- the row after an event of thread u
   module _ (rows : List (List ℕ)) (e u before : ℕ) (of_e : thread_at trace e ≡ Some u) (row : IsRowFor trace rows u (λ k. BelowPred trace k e) before) where
@@ -283,75 +240,3 @@ module _ (trace : List Event) (disciplined : IsDisciplined trace) where
     pub source_new : (source : Stamp) → IsSource trace rows e source → ((source.thread ≡ u) ⊎ (source.time ≤ get_or (get_or rows before []) source.thread 0) → ⊥) → (r : ℕ) × (r < e) × IsStampOf trace rows r source × ((k : ℕ) → ShbBelow trace k r ↔ Learns trace e k)
     source_new source (from_event r lt is same) unknown = (r, lt, is, same)
     source_new source (nothing_new nothing zero) unknown = absurd (unknown (inr (omega (arith, zero))))
-
-    pub row_joined : (source : Stamp) (joined : List ℕ) → IsSource trace rows e source → ((source.thread ≡ u) ⊎ (source.time ≤ get_or (get_or rows before []) source.thread 0) → ⊥) → source.thread < length (get_or rows source.row []) → ((t : ℕ) → get_or joined t 0 ≡ max (get_or (get_or rows before []) t 0) (get_or (set (get_or rows source.row []) source.thread source.time) t 0)) → IsFrontBut trace u (λ k. ShbBelow trace k e) joined
-    row_joined source joined is unknown wide each = record { within = λ t ne. within t ne; exact = λ t k of_k ne. (down t k of_k ne, up t k of_k ne) }
-      where
-        found : (r : ℕ) × (r < e) × IsStampOf trace rows r source × ((k : ℕ) → ShbBelow trace k r ↔ Learns trace e k)
-        found = source_new source is unknown
-
-        clock : IsFront trace (λ k. ShbBelow trace k found.0) (set (get_or rows source.row []) source.thread source.time)
-        clock = subst (λ (n : ℕ). IsFront trace (λ k. ShbBelow trace k found.0) (set (get_or rows source.row []) source.thread n)) (sym found.2.time_is) (front_whole trace found.0 source.thread (get_or rows source.row []) found.2.of_thread wide found.2.row_is.front)
-
-        within : (t : ℕ) → t ≢ u → get_or joined t 0 ≤ count_by (is_of t) trace
-        within t ne = let a = row.front.within t ne in let b = clock.within t in let m = each t in omega (arith, a, b, m)
-
-        down : (t k : ℕ) → thread_at trace k ≡ Some t → t ≢ u → local_time trace t k ≤ get_or joined t 0 → ShbBelow trace k e
-        down t k of_k ne le = elim (cases_lt (get_or (get_or rows before []) t 0) (local_time trace t k)) [
-          | inr low ↦ strictly_below_below trace disciplined k e (inl ((row.front.exact t k of_k ne).0 low))
-          | inl high ↦ strictly_below_below trace disciplined k e (inr ((found.3 k).0 ((clock.exact t k of_k).0 (let m = each t in omega (arith, m, high, le)))))
-        ]
-
-        up : (t k : ℕ) → thread_at trace k ≡ Some t → t ≢ u → ShbBelow trace k e → local_time trace t k ≤ get_or joined t 0
-        up t k of_k ne path = from_others (λ j. local_time trace t j ≤ get_or joined t 0) t k of_k ne (λ h. elim h [
-          | inl below ↦ (let le = (row.front.exact t k of_k ne).1 below in let m = each t in omega (arith, m, le))
-          | inr learns ↦ (let le = (clock.exact t k of_k).1 ((found.3 k).1 learns) in let m = each t in omega (arith, m, le))
-        ]) path
-
-  -- the rows of the threads, one event more
-  module _ (rows : List (List ℕ)) (n threads : ℕ) (current : List ℕ) (stamp : Stamp) (is : IsStampOf trace rows n stamp) (low : stamp.thread < threads) (old : AreCurrent trace rows n threads current) where
-    own_latest : IsLatestBefore (OfThread trace stamp.thread) (n + 1) n
-    own_latest = record { earlier = omega arith; holds = is.of_thread; last = λ m above below of_m. omega (arith, above, below) }
-
-    own_row : IsRowFor trace rows stamp.thread (IsKnown trace stamp.thread (n + 1)) stamp.row
-    own_row = row_same trace rows stamp.thread stamp.row (λ k. ShbBelow trace k n) (IsKnown trace stamp.thread (n + 1)) (λ s k of_k ne. (let h = known_latest (n + 1) n stamp.thread own_latest k in (h.1, h.0))) is.row_is
-
-    other_row : (t : ℕ) → t < threads → op_at trace n ≢ Some (Fork t) → t ≢ stamp.thread → IsRowFor trace rows t (IsKnown trace t (n + 1)) (get_or current t 0)
-    other_row t lt no_fork ne = row_same trace rows t (get_or current t 0) (IsKnown trace t n) (IsKnown trace t (n + 1)) (λ s k of_k apart. known_other n t (λ of_t. ne (thread_same trace n t stamp.thread of_t is.of_thread)) no_fork k) (old.each t lt)
-
-    row_of_thread : (t : ℕ) → t < threads → op_at trace n ≢ Some (Fork t) → (t ≡ stamp.thread) ⊎ (t ≢ stamp.thread) → IsRowFor trace rows t (IsKnown trace t (n + 1)) (get_or (set current stamp.thread stamp.row) t 0)
-    row_of_thread t lt no_fork (inl same) = rw same (rw (get_or-set_same current stamp.thread stamp.row 0 (let many = old.as_many in omega (arith, many, low))) own_row)
-    row_of_thread t lt no_fork (inr ne) = rw (get_or-set_other current stamp.thread t stamp.row 0 ne) (other_row t lt no_fork ne)
-
-    pub current_set : ((t : ℕ) → op_at trace n ≢ Some (Fork t)) → AreCurrent trace rows (n + 1) threads (set current stamp.thread stamp.row)
-    current_set no_fork = record { as_many = length-set current stamp.thread stamp.row ∙ old.as_many; each = λ t lt. row_of_thread t lt (no_fork t) (cases_eq t stamp.thread) }
-
-    -- where the thread's row is the stamp's already
-    pub current_kept : get_or current stamp.thread 0 ≡ stamp.row → ((t : ℕ) → op_at trace n ≢ Some (Fork t)) → AreCurrent trace rows (n + 1) threads current
-    current_kept own no_fork = record { as_many = old.as_many; each = λ t lt. row_kept t lt (cases_eq t stamp.thread) }
-      where
-        row_kept : (t : ℕ) → t < threads → (t ≡ stamp.thread) ⊎ (t ≢ stamp.thread) → IsRowFor trace rows t (IsKnown trace t (n + 1)) (get_or current t 0)
-        row_kept t lt (inl same) = rw same (rw own own_row)
-        row_kept t lt (inr ne) = other_row t lt (no_fork t) ne
-
-    pub current_forked : (more : List (List ℕ)) (child row : ℕ) → op_at trace n ≡ Some (Fork child) → child < threads → AreMore rows more → row < length more → get_or more row [] ≡ set (get_or rows stamp.row []) stamp.thread stamp.time → stamp.thread < length (get_or rows stamp.row []) → AreCurrent trace more (n + 1) threads (set (set current stamp.thread stamp.row) child row)
-    current_forked more child row forks below grown in_range row_is wide = record {
-      as_many = length-set (set current stamp.thread stamp.row) child row ∙ (length-set current stamp.thread stamp.row ∙ old.as_many);
-      each = λ t lt. go t lt (cases_eq t child);
-    }
-      where
-        clock : IsFront trace (λ k. ShbBelow trace k n) (get_or more row [])
-        clock = subst (IsFront trace (λ k. ShbBelow trace k n)) (sym row_is) (subst (λ (m : ℕ). IsFront trace (λ k. ShbBelow trace k n) (set (get_or rows stamp.row []) stamp.thread m)) (sym is.time_is) (front_whole trace n stamp.thread (get_or rows stamp.row []) is.of_thread wide is.row_is.front))
-
-        child_row : IsRowFor trace more child (IsKnown trace child (n + 1)) row
-        child_row = record {
-          in_range = in_range;
-          front = record {
-            within = λ t ne. clock.within t;
-            exact = λ t k of_k ne. (let h = clock.exact t k of_k in let s = known_forked n child forks k in ((λ le. s.0 (h.0 le)), (λ known. h.1 (s.1 known))));
-          };
-        }
-
-        go : (t : ℕ) → t < threads → (t ≡ child) ⊎ (t ≢ child) → IsRowFor trace more t (IsKnown trace t (n + 1)) (get_or (set (set current stamp.thread stamp.row) child row) t 0)
-        go t lt (inl same) = rw same (rw (get_or-set_same (set current stamp.thread stamp.row) child row 0 (let many = old.as_many in let size = length-set current stamp.thread stamp.row in omega (arith, many, size, below))) child_row)
-        go t lt (inr ne) = rw (get_or-set_other (set current stamp.thread stamp.row) child t row 0 ne) (row_more trace rows more t _ _ grown (row_of_thread t lt (λ again. ne (let s : Some (Fork t) ≡ Some (Fork child) = sym again ∙ forks in cc)) (cases_eq t stamp.thread)))

@@ -1,5 +1,5 @@
 -- What is kept of the events so far says the same of them when an event more comes.
-use Rattle.std.proofs.Common.{◌≡◌, ◌≢◌, ℕ, ◌+◌, ◌<◌, ◌≤◌, ◌⊎◌, inl, inr, List, [], ◌∷◌, ◌++◌, Some, length, get_or, arith, length-append, sym, subst, ◌∙◌, ap}
+use Rattle.std.proofs.Common.{◌≡◌, ◌≢◌, ℕ, ◌+◌, ◌<◌, ◌≤◌, ◌⊎◌, inl, inr, true, List, [], ◌∷◌, ◌++◌, Some, length, get_or, arith, length-append, refl, sym, subst, ◌∙◌, ap}
 use Rattle.std.specs.Prelude.{◌↔◌, cond, count_by}
 use Rattle.std.proofs.lemmas.Bool.{cases_lt}
 use Rattle.std.proofs.lemmas.List.{take-append-le, take_all}
@@ -10,8 +10,9 @@ use Rattle.shb_lines.specs.events.Discipline.{is_of, local_time}
 use Rattle.shb_lines.specs.events.Order.{ShbBelow}
 use Rattle.shb_lines.proofs.events.Longer.{below_longer, op_longer, thread_longer, time_longer}
 use Rattle.shb_lines.proofs.events.Schedulable.{path_forward}
-use Rattle.shb_links.specs.Latest.{ReleasesLock, WritesVariable}
-use Rattle.shb_stamps.specs.Stamps.{IsKnown, IsLatestStamp, of_event, of_none, IsRowFor, IsStampOf}
+use Rattle.shb_links.specs.Latest.{ReleasesLock}
+use Rattle.shb_stamps.specs.Clocks.{AreClocks, KeepsWrite}
+use Rattle.shb_stamps.specs.Stamps.{IsKnown, IsLatestStamp, of_event, of_none, IsRowFor, IsStampOf, empty_stamp}
 use Rattle.shb_stamps.specs.declared.stamp.Stamp.{Stamp}
 use Rattle.shb_stamps.proofs.Fronts.{thread_in_range}
 use Rattle.shb_stamps.proofs.Locals.{time_at}
@@ -85,8 +86,18 @@ module _ (past : List Event) (e : Event) where
   latest_longer rows P Q stamp same (of_event r latest is) = of_event r (record { earlier = latest.earlier; holds = (same r latest.earlier).0 latest.holds; last = λ m low high q. latest.last m low high ((same m high).1 q) }) (stamp_longer rows r stamp latest.earlier is)
   latest_longer rows P Q stamp same (of_none absent zero) = of_none (λ k lt q. absent k lt ((same k lt).1 q)) zero
 
-  pub lock_longer : (rows : List (List ℕ)) (l : ℕ) (stamp : Stamp) → IsLatestStamp past rows (ReleasesLock past l) n stamp → IsLatestStamp now rows (ReleasesLock now l) n stamp
+  lock_longer : (rows : List (List ℕ)) (l : ℕ) (stamp : Stamp) → IsLatestStamp past rows (ReleasesLock past l) n stamp → IsLatestStamp now rows (ReleasesLock now l) n stamp
   lock_longer rows l stamp = latest_longer rows (ReleasesLock past l) (ReleasesLock now l) stamp (λ k lt. ((λ h. op_longer past (e ∷ []) k lt ∙ h), (λ h. sym (op_longer past (e ∷ []) k lt) ∙ h)))
 
-  pub variable_longer : (rows : List (List ℕ)) (x : ℕ) (stamp : Stamp) → IsLatestStamp past rows (WritesVariable past x) n stamp → IsLatestStamp now rows (WritesVariable now x) n stamp
-  variable_longer rows x stamp = latest_longer rows (WritesVariable past x) (WritesVariable now x) stamp (λ k lt. ((λ h. op_longer past (e ∷ []) k lt ∙ h), (λ h. sym (op_longer past (e ∷ []) k lt) ∙ h)))
+  variable_longer : (rows : List (List ℕ)) (x : ℕ) (stamp : Stamp) → IsLatestStamp past rows (KeepsWrite true past x) n stamp → IsLatestStamp now rows (KeepsWrite true now x) n stamp
+  variable_longer rows x stamp = latest_longer rows (KeepsWrite true past x) (KeepsWrite true now x) stamp (λ k lt. ((λ h. (inl refl, op_longer past (e ∷ []) k lt ∙ h.1)), (λ h. (inl refl, sym (op_longer past (e ∷ []) k lt) ∙ h.1))))
+
+  -- the clocks before the event
+  pub clocks_longer : (rows : List (List ℕ)) (current : List ℕ) (locks variables : List Stamp) → AreClocks past n true rows current locks variables → AreClocks now n true rows current locks variables
+  clocks_longer rows current locks variables old = record {
+    some = old.some;
+    few = old.few;
+    current_are = λ t. current_longer rows t (get_or current t 0) (old.current_are t);
+    locks_are = λ l. lock_longer rows l (get_or locks l empty_stamp) (old.locks_are l);
+    variables_are = λ x. variable_longer rows x (get_or variables x empty_stamp) (old.variables_are x);
+  }

@@ -1,12 +1,10 @@
 -- What is kept for look-ups after the first of some listed events.
-use Rattle.std.specs.Prelude.{◌≡◌, ℕ, ◌≤◌, List, length}
+use Rattle.std.specs.Prelude.{ℕ, ◌≤◌, List, length}
 use Rattle.shb_lines.specs.declared.event.Event.{Event}
-use Rattle.shb_lines.specs.declared.event.Sizes.{Sizes}
 use Rattle.shb_stamps.specs.Listed.{HasListedRows}
 use Rattle.shb_stamps.specs.declared.kept_rows.KeptRows.{KeptRows}
 
 -- what is kept after the first n of the listed events
-pub record AreListedRows (trace : List Event) (events : List ℕ) (n : ℕ) (sizes : Sizes) (kept : KeptRows) : Type 0 where
-  pub width : kept.rows.width ≡ sizes.threads
-  pub few : length kept.rows.rows ≤ n
-  pub before : HasListedRows trace kept.rows.rows events n kept.before.items
+pub record AreListedRows (trace : List Event) (events : List ℕ) (n : ℕ) (kept : KeptRows) : Type 0 where
+  pub few : length kept.rows ≤ n
+  pub before : HasListedRows trace kept.rows events n kept.before.items

@@ -1,3 +1,4 @@
+pub mod Clocks
 pub mod Fronts
 pub mod KeptRows
 pub mod Listed
@@ -8,5 +9,4 @@ pub mod Rows
 pub mod Spans
 pub mod Stamps
 pub mod StreamClocks
-pub mod Streamed
 pub mod SweepData

@@ -5,48 +5,13 @@ ghost use Rattle.shb_stamps.specs.Moved.{AreKept, HasMoved, IsMovedRow};
 
 use crate::moving::Moving;
 use crate::row_list::RowList;
-use crate::rows::Rows;
 use crate::stamp::Stamp;
 use shb_io::NoMemory;
 use std::alloc::Global;
 
-/// The rows with these numbers, in this order, in the memory of rows that aren't used any more.
-fn moved_rows(old: &Rows, kept: &[u32], unused: Rows) -> Result<Rows, NoMemory>
-    requires low { (b : ℕ) → b < length kept.now → slice_index_or kept.now b 0 < length old.now.rows }
-    requires few { length kept.now < 2 ^ 32 }
-    ensures width { IfOk result (λ rows. rows.width ≡ old.now.width) }
-    ensures rows { IfOk result (λ rows. AreKept old.now.rows kept.now (length kept.now) rows.rows) }
-{
-    let mut rows = unused.reused(old.width());
-    for b in 0..kept.len() {
-        rows.push(old.row(kept[b]))?;
-    }
-    Ok(rows)
-}
-
-/// The rows that these tables name, and no others, in the memory of rows that aren't used any more. The
-/// tables name each by its new number then.
-pub fn compacted(
-    alloc: Global,
-    old: &Rows,
-    unused: Rows,
-    current: &mut Vec<u32>,
-    locks: &mut Vec<Stamp>,
-    variables: &mut Vec<Stamp>,
-) -> Result<Rows, NoMemory>
-    ensures width { IfOk result (λ rows. rows.width ≡ old.now.width) }
-    ensures moved { IfOk result (λ rows. HasMoved old.now.rows rows.rows current.old.items current.new.items
-        locks.old.items locks.new.items variables.old.items variables.new.items) }
-{
-    let mut moving = Moving::new(alloc, old.count())?;
-    moving.tables(current, locks, variables)?;
-    let rows = moved_rows(old, moving.kept.as_slice(), unused)?;
-    Ok(rows)
-}
-
 /// The first row, and those that these tables name, and no others, in the memory of rows that aren't used any more.
 /// The first stays the first, and the tables name each by its new number then.
-pub fn compacted_list(
+pub fn compacted(
     alloc: Global,
     old: &RowList,
     unused: RowList,

@@ -8,26 +8,27 @@
 //! trace by its type.
 //!
 //! A vector clock of a property of events has for each thread the number of its events, from the
-//! first on, that have the property (`IsFront`). Clocks are rows of one flat list, and a row says
+//! first on, that have the property (`IsFront`). Clocks are rows of one memory, and a row says
 //! nothing of its own thread: the event's local time stands in when it is read. So an event at which its
 //! thread learns nothing new shares the row before.
 //!
-//! `stamps` makes the rows in one forward pass. A stamp is a row, a thread and a local time, which together
-//! are an event's clock; one is kept for the last release of each lock and the last write of each shared
-//! variable, and for each thread the row of what it knows. An acquire, a read or a join asks whether its
-//! thread's row has the stamp's local time already, and adds a row only where it hasn't. A fork adds the
-//! forked thread's first row. Where all that a thread knew is below a write that it reads, its new row is
+//! `clocks` makes the rows in one forward pass, for a stored trace (`trace_clocks`) and for a stream
+//! ([`StreamClocks`], which counts each thread's events besides). A stamp is a row, a thread and a local time, which
+//! together are an event's clock; one is kept for the last release of each lock and the last write of each variable,
+//! of a stored trace only where it is shared, and for each thread the row of what it knows. An acquire, a read or a
+//! join asks whether its thread's row has the stamp's local time already, and adds a row only where it hasn't. A fork
+//! adds the forked thread's first row. Where all that a thread knew is below a write that it reads, its new row is
 //! the write's clock. The stamp of the write names that row from then on, so other readers take over its
 //! number, and no row is made for them. Rows are never changed. When there are many, `compact` moves those
 //! that these tables name to new ones, and the memory of the old ones is used the next time; `moving` says
-//! which these are and what numbers they get, here and for a stream. `KeptRows`
+//! which these are and what numbers they get. `KeptRows`
 //! copies the row before each listed event to rows that stay. A table of copies has the
 //! number of each row's copy, so a row is copied once, whichever threads share it. When rows were moved
 //! the table is emptied.
 #![tactic(auto)]
 
-mod answer;
 mod clock;
+mod clocks;
 mod compact;
 mod copies;
 mod kept_rows;
@@ -38,11 +39,10 @@ mod open;
 mod order;
 mod ordered;
 mod row_list;
-mod rows;
 mod stamp;
-mod stamps;
 mod stream_clocks;
 mod sweep;
+mod trace_clocks;
 
 pub use listed_rows::{ListedRows, at_events};
 pub use open::is_open;

@@ -4,13 +4,12 @@ ghost use Rattle.std.specs.Prelude.{◌≡◌, ℕ, ◌+◌, ◌<◌, ◌≤◌,
 ghost use Rattle.std.specs.List.Sorted.{IsStrictlyIncreasing};
 ghost use Rattle.shb_stamps.specs.KeptRows.{AreListedRows};
 ghost use Rattle.shb_stamps.specs.Listed.{HasListedRows, ListedTrace, is_listed};
-ghost use Rattle.shb_stamps.specs.Stamps.{IsSwept};
 
-use crate::answer::count_below;
+use crate::clocks::Clocks;
 use crate::kept_rows::KeptRows;
 use crate::order::Order;
-use crate::rows::Rows;
-use crate::stamps::Stamps;
+use crate::row_list::RowList;
+use crate::trace_clocks::{count_below, pass_up_to};
 use shb_io::NoMemory;
 use shb_links::Linked;
 use std::alloc::Global;
@@ -25,7 +24,7 @@ pub struct ListedRows<'a> {
     linked: Linked<'a>,
     /// The events that it can be asked about, each once and rising.
     events: Vec<u32>,
-    rows: Rows,
+    rows: RowList,
     /// For each of these events the number of the row of what its thread knew before it.
     before: Vec<u32>,
 }
@@ -36,7 +35,7 @@ impl<'a> Model for ListedRows<'a> {
     ghost view = { λ o. record { trace = o.linked.events.now; events = o.events.items } };
 
     ghost invariant = { λ o. IsStrictlyIncreasing o.events.items
-        × HasListedRows o.linked.events.now o.rows.rows o.events.items (length o.events.items) o.before.items };
+        × HasListedRows o.linked.events.now o.rows o.events.items (length o.events.items) o.before.items };
 }
 
 /// These numbers, each once and rising.
@@ -67,15 +66,15 @@ fn position_of(numbers: &[u32], e: u32) -> usize
 fn listed_rows(alloc: Global, linked: &Linked<'_>, events: &[u32]) -> Result<KeptRows, NoMemory>
     requires rising { IsStrictlyIncreasing events.now }
     requires of_trace { All (λ e. e < length linked.now.events.now) events.now }
-    ensures { IfOk result (AreListedRows linked.now.events.now events.now (length events.now) linked.now.sizes) }
+    ensures { IfOk result (AreListedRows linked.now.events.now events.now (length events.now)) }
 {
-    let mut stamps = Stamps::new(alloc, linked)?;
-    let mut kept = KeptRows::new(alloc, linked)?;
+    let mut clocks = Clocks::new(alloc, linked.sizes)?;
+    let mut kept = KeptRows::new(alloc);
     let mut next = 0;
     for at in 0..events.len() {
         let e = events[at];
-        stamps.pass_up_to(alloc, linked, next, e, &mut kept.copies)?;
-        kept.note_listed(linked, &stamps, events, at)?;
+        pass_up_to(&mut clocks, alloc, linked, next, e, &mut kept.copies)?;
+        kept.note_listed(linked, &clocks, events, at)?;
         next = e;
     }
     Ok(kept)

@@ -89,7 +89,18 @@ impl RowList {
         }
     }
 
+    /// The row of a number that there is.
+    #[inline(always)]
+    pub fn row_at(&self, number: u32) -> &[u32]
+        requires { number < length self.now }
+        ensures { result.now ≡ slice_index_or self.now number [] }
+    {
+        let span = self.spans[number as usize];
+        &self.entries[span.start..span.start + span.len]
+    }
+
     /// Adds a row, and gives its number. Numbers count from 0.
+    #[inline(always)]
     pub fn push(&mut self, row: &[u32]) -> Result<u32, NoMemory>
         ensures rows { OnOk result (self.new ≡ self.old ++ row.now ∷ []) }
         ensures number { length self.old < 2 ^ 32 → IfOk result (λ number. number ≡ length self.old) }

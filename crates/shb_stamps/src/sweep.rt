@@ -1,11 +1,12 @@
 //! An order that is asked event by event.
 
-ghost use Rattle.std.specs.Prelude.{◌≡◌, ◌+◌, ◌<◌, ◌==◌, IfOk, OnOk, length};
-ghost use Rattle.shb_stamps.specs.Stamps.{IsSwept};
+ghost use Rattle.std.specs.Prelude.{◌≡◌, ◌+◌, ◌<◌, ◌==◌, IfOk, OnOk, false, length};
+ghost use Rattle.shb_stamps.specs.Clocks.{IsBefore};
 ghost use Rattle.shb_stamps.specs.SweepData.{SweepData};
 
+use crate::clocks::Clocks;
 use crate::order::Order;
-use crate::stamps::Stamps;
+use crate::trace_clocks::{count_below, pass, row_before};
 use shb_io::NoMemory;
 use shb_links::Linked;
 use std::alloc::Global;
@@ -13,12 +14,12 @@ use std::marker::Model;
 
 /// An order that is asked event by event, in trace order: it can be asked about the next event alone.
 /// Contracts see it as the trace and the number of the next event. Memory: twelve bytes for each lock
-/// and variable, and four bytes a thread for each row. When there are twice as many rows as were in use
-/// the last time, those in use are moved to a second memory, and the two are used in turn.
+/// and variable, and for each row 16 bytes and four for each thread up to the last one that it knows. Where the
+/// rows have grown to twice what those in use took, these are moved to a second memory.
 #[derive(Drop)]
 pub struct Sweep<'a> {
     linked: Linked<'a>,
-    stamps: Stamps,
+    clocks: Clocks,
     next: u32,
 }
 
@@ -28,7 +29,7 @@ impl<'a> Model for Sweep<'a> {
     ghost view = { λ s. record { trace = s.linked.events.now; next = s.next } };
 
     ghost invariant = { λ s. s.next < length s.linked.events.now
-        → IsSwept s.linked.events.now s.next s.linked.sizes s.stamps };
+        → IsBefore s.linked.events.now s.next false s.clocks };
 }
 
 impl<'a> Sweep<'a> {
@@ -40,10 +41,10 @@ impl<'a> Sweep<'a> {
     pub fn new(alloc: Global, linked: Linked<'a>) -> Result<Sweep<'a>, NoMemory>
         ensures { IfOk result (λ sweep. sweep ≡ record { trace = linked.entry.events.now; next = 0 }) }
     {
-        let stamps = Stamps::new(alloc, &linked)?;
+        let clocks = Clocks::new(alloc, linked.sizes)?;
         Ok(Sweep {
             linked,
-            stamps,
+            clocks,
             next: 0,
         })
     }
@@ -53,6 +54,7 @@ impl<'a> Sweep<'a> {
     /// # Errors
     ///
     /// `NoMemory` where memory is refused; the sweep can be asked about no event then.
+    #[inline(always)]
     pub fn pass(&mut self, alloc: Global) -> Result<(), NoMemory>
         requires { self.old.next < length self.old.trace }
         ensures { OnOk result (self.new ≡ record self.old { next = self.old.next + 1 }) }
@@ -60,7 +62,7 @@ impl<'a> Sweep<'a> {
         let e = self.next;
         // where memory is refused there is no next event
         self.next = self.linked.events.len() as u32;
-        self.stamps.pass(alloc, &self.linked, e)?;
+        pass(&mut self.clocks, alloc, &self.linked, e)?;
         self.next = e + 1;
         Ok(())
     }
@@ -72,6 +74,7 @@ impl<'a> Order for Sweep<'a> {
     ghost asks = { λ s e. e == s.next };
 
     fn below_pred(&self, e: u32, t: u32) -> u32 {
-        self.stamps.below_pred(&self.linked, e, t)
+        let row = row_before(&self.clocks, &self.linked, e);
+        count_below(&self.linked, &self.clocks.rows, row, e, t)
     }
 }

@@ -35,7 +35,11 @@ const ANSWERS: [(u32, u32, u32); 6] = [
 #[test]
 fn rows_that_nothing_names_are_freed(rt: HostRuntime) -> Result<(), Fail> {
     let clocks = after_turns(&rt)?;
-    holds(&rt, clocks.rows.size() < 2_000_000, "the size of the rows");
+    holds(
+        &rt,
+        clocks.clocks.rows.size() < 2_000_000,
+        "the size of the rows",
+    );
     for row in 0..ANSWERS.len() {
         let (thread, other, below) = ANSWERS[row];
         same_in_row(&rt, &clocks.below_next(thread, other), &below, row);

@@ -1,22 +1,22 @@
-use Rattle.std.proofs.Common.{◌≡◌, ℕ, length, arith, subst}
+use Rattle.std.proofs.Common.{◌≡◌, ℕ, false, length, arith, subst}
 use Rattle.shb_stamps.specs.KeptRows.{AreListedRows}
 use Rattle.shb_stamps.proofs.ListedLemmas.{rising_order}
 use Rattle.shb_stamps.proofs.listed_rows.listed_rows.Goals as goal
 
 pub loop-at-init : goal.loop-at-init
 loop-at-init c = record {
-  swept = c.in_ok-stamps.ensures;
+  before = c.in_ok-clocks.ensures c.args.linked.now.events.now false;
   passed = λ i low lt. omega arith;
-  kept = c.in_ok-kept.ensures.listed c.args.events.now;
-  copies = c.in_ok-kept.ensures.copies c.in_ok-stamps.stamps.rows.rows;
+  kept = c.new-kept.ensures.listed c.args.linked.now.events.now c.args.events.now;
+  copies = c.new-kept.ensures.copies c.in_ok-clocks.clocks.rows;
 }
 
 pub note_listed-requires-clause-copies : goal.note_listed-requires-clause-copies
-note_listed-requires-clause-copies c = c.in_ok-pass_up_to.ensures.copies c.loop-at.kept.rows.rows c.loop-at.invariant.copies
+note_listed-requires-clause-copies c = c.in_ok-pass_up_to.ensures.copies c.loop-at.kept.rows c.loop-at.invariant.copies
 
 pub loop-at-preserved : goal.loop-at-preserved
 loop-at-preserved c = record {
-  swept = c.in_ok-pass_up_to.ensures.swept;
+  before = c.in_ok-pass_up_to.ensures.passed;
   passed = λ i low lt. rising_order c.args.events.now c.requires.rising c.loop-at.at i 0 (omega (arith, low)) lt;
   kept = c.in_ok-note_listed.ensures.kept;
   copies = c.in_ok-note_listed.ensures.copies;
@@ -27,4 +27,4 @@ returns c =
     let past = c.loop-at-test.false in
     let within = c.loop-at.auto.at-end in
     let same : c.loop-at.at ≡ length c.args.events.now = omega (arith, past, within) in
-    subst (λ (n : ℕ). AreListedRows c.args.linked.now.events.now c.args.events.now n c.args.linked.now.sizes c.loop-at.kept) same c.loop-at.invariant.kept
+    subst (λ (n : ℕ). AreListedRows c.args.linked.now.events.now c.args.events.now n c.loop-at.kept) same c.loop-at.invariant.kept

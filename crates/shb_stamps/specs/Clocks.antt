@@ -1,0 +1,48 @@
+-- What is kept of the order of a trace before one of its events.
+use Rattle.std.specs.Prelude.{◌≡◌, ℕ, ◌+◌, ◌<◌, ◌≤◌, ◌⊎◌, ◌++◌, ◌∷◌, ◌^◌, Bool, true, false, List, [], Some, length, max, slice_index_or, take, count_by}
+use Rattle.shb_lines.specs.Growing.{IsPut}
+use Rattle.shb_lines.specs.declared.event.Event.{Event}
+use Rattle.shb_lines.specs.declared.event.Op.{Op}
+use Rattle.shb_lines.specs.declared.event.Op.TheVariants.{Join, Write}
+use Rattle.shb_lines.specs.events.Discipline.{IsDisciplined, is_of, local_time}
+use Rattle.shb_lines.specs.events.Events.{op_at, thread_at}
+use Rattle.shb_links.specs.Latest.{ReleasesLock}
+use Rattle.shb_links.specs.Sharing.{IsShared}
+use Rattle.shb_stamps.specs.Stamps.{IsKnown, IsLatestStamp, IsRowFor, KnowsStamp, empty_stamp}
+use Rattle.shb_stamps.specs.declared.clocks.AfterSource.{AfterSource}
+use Rattle.shb_stamps.specs.declared.clocks.Clocks.{Clocks}
+use Rattle.shb_stamps.specs.declared.stamp.Stamp.{Stamp}
+
+-- the event at k writes the variable x, of which each write is kept, or each if it is shared
+abbrev pub KeepsWrite : Bool → List Event → ℕ → ℕ → Type 0
+KeepsWrite all trace x k = ((all ≡ true) ⊎ IsShared trace x) × (op_at trace k ≡ Some (Write x))
+
+-- before event n: for each thread the row of what it knows, for each lock the stamp of its last release, and for each variable that of its last write that is kept; past the end of a table the row that knows nothing, and a stamp of no event
+pub record AreClocks (trace : List Event) (n : ℕ) (all : Bool) (rows : List (List ℕ)) (current : List ℕ) (locks variables : List Stamp) : Type 0 where
+  pub some : 0 < length rows
+  pub few : length rows ≤ n + 1
+  pub current_are : (t : ℕ) → IsRowFor trace rows t (IsKnown trace t n) (slice_index_or current t 0)
+  pub locks_are : (l : ℕ) → IsLatestStamp trace rows (ReleasesLock trace l) n (slice_index_or locks l empty_stamp)
+  pub variables_are : (x : ℕ) → IsLatestStamp trace rows (KeepsWrite all trace x) n (slice_index_or variables x empty_stamp)
+
+-- the clocks before event n
+abbrev pub IsBefore : List Event → ℕ → Bool → Clocks → Type 0
+IsBefore trace n all clocks = AreClocks trace n all clocks.rows clocks.current.items clocks.locks.items clocks.variables.items
+
+-- event n of a disciplined trace is of this thread, has this local time and does this; where it joins a thread, that one had so many events
+pub record IsNext (trace : List Event) (n thread : ℕ) (op : Op) (time joined : ℕ) : Type 0 where
+  pub disciplined : IsDisciplined trace
+  pub few : n + 1 < 2 ^ 32
+  pub of_thread : thread_at trace n ≡ Some thread
+  pub does : op_at trace n ≡ Some op
+  pub time_is : time ≡ local_time trace thread n
+  pub joined_is : (t : ℕ) → op ≡ Join t → joined ≡ count_by (is_of t) (take n trace)
+
+-- the row of a thread after an event: the one before where it knows the source already; that of the source where it is the source's clock and the row before is below it; or a new one, in which each entry is the greater of the two; it renames the source where it is its clock
+pub data HasRowAfter (old new : List (List ℕ)) (thread before : ℕ) (source : Stamp) (after : AfterSource) : Type 0 where
+  knows : KnowsStamp (slice_index_or old before []) thread source → new ≡ old → after.row ≡ before → after.renames ≡ false → HasRowAfter old new thread before source after
+  shares : (KnowsStamp (slice_index_or old before []) thread source → ⊥) → slice_index_or (slice_index_or old source.row []) source.thread 0 ≡ source.time
+      → ((t : ℕ) → slice_index_or (slice_index_or old before []) t 0 ≤ slice_index_or (slice_index_or old source.row []) t 0) → new ≡ old → after.row ≡ source.row → after.renames ≡ false → HasRowAfter old new thread before source after
+  learns : (KnowsStamp (slice_index_or old before []) thread source → ⊥) → (clock joined : List ℕ) → IsPut 0 source.thread source.time (slice_index_or old source.row []) clock
+      → ((t : ℕ) → slice_index_or joined t 0 ≡ max (slice_index_or clock t 0) (slice_index_or (slice_index_or old before []) t 0)) → new ≡ old ++ joined ∷ [] → (length old < 2 ^ 32 → after.row ≡ length old)
+      → (after.renames ≡ true → joined ≡ clock) → HasRowAfter old new thread before source after

@@ -1,0 +1,421 @@
+//! What the threads know before an event: rows that never change, and stamps that name them.
+//!
+//! Four events of the threads A, B and C, which are 0, 1 and 2. Row 0 has no entry. A stamp is a row, a thread and a
+//! local time.
+//!
+//! | Event | New row | Rows of A, B and C | Stamp of x |
+//! |---|---|---|---|
+//! | `A|w(x)` | | 0, 0, 0 | 0 A 1: the first event of A |
+//! | `B|r(x)` | 1: `1` | 0, 1, 0 | 1 A 1: the same clock, by the new row |
+//! | `C|r(x)` | none: the stamp names it | 0, 1, 1 | 1 A 1 |
+//! | `B|w(x)` | | 0, 1, 1 | 1 B 2: the clock `1 2` |
+
+ghost use Rattle.std.specs.Prelude.{◌≡◌, ◌+◌, ◌<◌, ◌≤◌, ◌↔◌, ◌^◌, ℕ, Bool, List, [], IfOk, IsTrue, OnOk, false, true, length, max, slice_index_or};
+ghost use Rattle.shb_lines.specs.Growing.{IsPut};
+ghost use Rattle.shb_lines.specs.declared.event.Event.{Event};
+ghost use Rattle.shb_lines.specs.declared.event.Op.TheVariants.{Fork, Read, Release, Write};
+ghost use Rattle.shb_stamps.specs.Clocks.{HasRowAfter, IsBefore, IsNext, KeepsWrite};
+ghost use Rattle.shb_stamps.specs.Rows.{AreMore};
+ghost use Rattle.shb_stamps.specs.Stamps.{IsSource, KnowsStamp, empty_stamp};
+
+use crate::clock::{entry, is_below, zeros};
+use crate::compact::compacted;
+use crate::row_list::RowList;
+use crate::stamp::{Stamp, is_joined, no_stamps};
+use shb_io::NoMemory;
+use shb_lines::{Op, Sizes, item_or, put};
+use std::alloc::Global;
+use std::mem;
+
+/// What is known of the order before an event. Threads, locks and variables are told by their numbers, and each
+/// event may name new ones. A row has an entry for each thread up to the last one that it knows, and never
+/// changes. Where the rows have grown to twice what those in use took, the ones that a thread, a lock or a
+/// variable names are moved to a second memory, and that of the others is used the next time.
+#[derive(Drop)]
+pub struct Clocks {
+    pub rows: RowList,
+    /// For each thread the number of the row of what it knows, 0 for nothing.
+    pub current: Vec<u32>,
+    /// For each lock the stamp of its last release.
+    pub locks: Vec<Stamp>,
+    /// For each variable the stamp of its last write that is kept.
+    pub variables: Vec<Stamp>,
+    /// Space to make a row in.
+    pub clock: Vec<u32>,
+    /// The memory of rows that were moved, for the next ones that are.
+    pub unused: RowList,
+    /// The size of the rows at which those that nothing names are freed.
+    pub limit: usize,
+}
+
+/// The number of a thread's row after an event, and whether it is a new one that is the clock of what the thread
+/// learned of.
+#[derive(Clone, Copy)]
+pub struct AfterSource {
+    pub row: u32,
+    pub renames: bool,
+}
+
+/// The size of the rows at which the next compaction is due: twice that of those in use, at least 1 MiB, and at
+/// least the bytes of all stamps, which a compaction looks at.
+fn size_limit(used: usize, stamps: usize) -> usize {
+    used.saturating_mul(2)
+        .max(stamps.saturating_mul(12))
+        .max(1_048_576)
+}
+
+/// The memory of rows that were moved, of which so many bytes are in use, for the next ones that are. It is freed
+/// where more than two thirds are in use: then more will be, and it wouldn't be enough.
+fn memory_of(alloc: Global, old: RowList, used: usize) -> RowList {
+    if used > old.size() - old.size() / 3 {
+        return RowList::empty(alloc);
+    }
+    old
+}
+
+/// Gives a clock so many entries. Those behind the old ones are 0.
+#[inline(always)]
+fn set_length(clock: &mut Vec<u32>, size: usize) -> Result<(), NoMemory>
+    ensures long { OnOk result (length clock.new.items ≡ size) }
+    ensures same { length clock.old.items ≤ size → OnOk result ((t : ℕ) → slice_index_or clock.new.items t 0 ≡ slice_index_or clock.old.items t 0) }
+{
+    if clock.len() != size {
+        clock.resize(size, 0)?;
+    }
+    Ok(())
+}
+
+/// Makes a clock that of a row, with a time put at a thread.
+#[inline(always)]
+fn set_clock(clock: &mut Vec<u32>, row: &[u32], thread: u32, time: u32) -> Result<(), NoMemory>
+    ensures { OnOk result (IsPut 0 thread time row.now clock.new.items) }
+{
+    set_length(clock, row.len())?;
+    clock.copy_from_slice(row);
+    put(clock, thread, time, 0)?;
+    Ok(())
+}
+
+/// Raises the first entries of a clock to those of another.
+#[tactic(auto, using(crate::proofs::Raised::raised_set, crate::proofs::Raised::raised_whole))]
+fn raise(clock: &mut [u32], other: &[u32])
+    requires { length other.now ≤ length clock.old }
+    ensures { (t : ℕ) → slice_index_or clock.new t 0 ≡ max (slice_index_or clock.old t 0) (slice_index_or other.now t 0) }
+{
+    for t in 0..other.len() {
+        clock[t] = clock[t].max(other[t]);
+    }
+}
+
+/// Whether no entry of a clock is above that of another, where it is asked.
+fn is_asked_below(asks: bool, clock: &[u32], other: &[u32]) -> bool
+    ensures { result ≡ true → (t : ℕ) → slice_index_or clock.now t 0 ≤ slice_index_or other.now t 0 }
+{
+    if asks {
+        return is_below(clock, other);
+    }
+    false
+}
+
+/// Raises each entry of a clock to that of another. Where it is asked, says whether the clock is the same.
+#[inline(always)]
+fn join(clock: &mut Vec<u32>, other: &[u32], asks: bool) -> Result<bool, NoMemory>
+    ensures raised { OnOk result ((t : ℕ) → slice_index_or clock.new.items t 0 ≡ max (slice_index_or clock.old.items t 0) (slice_index_or other.now t 0)) }
+    ensures same { IfOk result (λ same. same ≡ true → clock.new.items ≡ clock.old.items) }
+{
+    let below = is_asked_below(asks, other, clock.as_slice());
+    if below {
+        return Ok(true);
+    }
+    let size = clock.len().max(other.len());
+    set_length(clock, size)?;
+    raise(clock.as_mut_slice(), other);
+    Ok(false)
+}
+
+/// Whether it is a read.
+fn is_read(op: Op) -> bool {
+    matches!(op, Op::Read(_))
+}
+
+/// The row of what a thread knows after an event that learns of the source: the one before it where it knows the
+/// source, or that of the source; no row is made then. Else a new one. Where the event reads, it may rename the
+/// source. The clock is space to work in.
+fn row_after(
+    rows: &mut RowList,
+    clock: &mut Vec<u32>,
+    thread: u32,
+    before: u32,
+    source: Stamp,
+    reads: bool,
+) -> Result<AfterSource, NoMemory>
+    ensures { IfOk result (HasRowAfter rows.old rows.new thread before source) }
+{
+    let known = rows.row(before);
+    let told = source.is_known(thread, known);
+    if told {
+        return Ok(AfterSource {
+            row: before,
+            renames: false,
+        });
+    }
+    let given = rows.row(source.row);
+    let shared = is_joined(known, given, source);
+    if shared {
+        return Ok(AfterSource {
+            row: source.row,
+            renames: false,
+        });
+    }
+    set_clock(clock, given, source.thread, source.time)?;
+    let renames = join(clock, known, reads)?;
+    let row = rows.push(clock.as_slice())?;
+    Ok(AfterSource { row, renames })
+}
+
+/// Where a read's new row is the clock of the variable's last write, names this row in the write's stamp. So the
+/// next reads of it need no row of their own.
+fn rename(
+    variables: &mut Vec<Stamp>,
+    variable: u32,
+    source: Stamp,
+    after: AfterSource,
+) -> Result<(), NoMemory>
+    ensures kept { after.renames ≡ false → OnOk result (variables.new.items ≡ variables.old.items) }
+    ensures named { after.renames ≡ true → OnOk result (IsPut empty_stamp variable (record source { row = after.row }) variables.old.items variables.new.items) }
+{
+    if after.renames {
+        let stamp = Stamp {
+            row: after.row,
+            thread: source.thread,
+            time: source.time,
+        };
+        put(variables, variable, stamp, Stamp::empty())?;
+    }
+    Ok(())
+}
+
+impl Clocks {
+    /// What is known before the first event. There is room for so many threads, locks and variables.
+    pub fn new(alloc: Global, sizes: Sizes) -> Result<Clocks, NoMemory>
+        ensures { (trace : List Event) (all : Bool) → IfOk result (IsBefore trace 0 all) }
+    {
+        let stamps = (sizes.locks as usize).saturating_add(sizes.variables as usize);
+        Ok(Clocks {
+            rows: RowList::new(alloc)?,
+            current: zeros(alloc, sizes.threads)?,
+            locks: no_stamps(alloc, sizes.locks)?,
+            variables: no_stamps(alloc, sizes.variables)?,
+            clock: Vec::new(alloc),
+            unused: RowList::empty(alloc),
+            limit: size_limit(0, stamps),
+        })
+    }
+
+    /// The number of the row of what a thread knows.
+    #[inline(always)]
+    pub fn row_number(&self, thread: u32) -> u32
+        ensures { result ≡ slice_index_or self.now.current.items thread 0 }
+    {
+        item_or(self.current.as_slice(), thread, 0)
+    }
+
+    /// The stamp of a lock's last release.
+    fn lock_stamp(&self, lock: u32) -> Stamp
+        ensures { result ≡ slice_index_or self.now.locks.items lock empty_stamp }
+    {
+        item_or(self.locks.as_slice(), lock, Stamp::empty())
+    }
+
+    /// The stamp of a variable's last write.
+    #[inline(always)]
+    fn write_stamp(&self, variable: u32) -> Stamp
+        ensures { result ≡ slice_index_or self.now.variables.items variable empty_stamp }
+    {
+        item_or(self.variables.as_slice(), variable, Stamp::empty())
+    }
+
+    /// The stamp of what an event learns of other threads: by an acquire that of the lock's last release, by a read
+    /// that of the variable's last write, and by a join that of the last event of the thread, which had so many.
+    fn source(&self, op: Op, joined: u32) -> Stamp
+        ensures source { (trace : List Event) (n thread time : ℕ) (all : Bool) → IsNext trace n thread op time joined → IsBefore trace n all self.now
+            → IsSource trace self.now.rows n result }
+        ensures write { (x : ℕ) → op ≡ Read x → result ≡ slice_index_or self.now.variables.items x empty_stamp }
+    {
+        match op {
+            Op::Acquire(lock) => self.lock_stamp(lock),
+            Op::Read(variable) => self.write_stamp(variable),
+            Op::Join(child) => {
+                let row = self.row_number(child);
+                Stamp {
+                    row,
+                    thread: child,
+                    time: joined,
+                }
+            }
+            _ => Stamp::empty(),
+        }
+    }
+
+    /// How many events of another thread a thread knows.
+    #[inline(always)]
+    pub fn known_of(&self, thread: u32, other: u32) -> u32
+        ensures { result ≡ slice_index_or (slice_index_or self.now.rows (slice_index_or self.now.current.items thread 0) []) other 0 }
+    {
+        let number = self.row_number(thread);
+        let row = self.rows.row(number);
+        entry(row, other)
+    }
+
+    /// Whether a thread knows the last write of a variable. Nothing changes when it reads it then.
+    #[inline(always)]
+    pub fn knows_write(&self, thread: u32, variable: u32) -> bool
+        ensures { (trace : List Event) (n time joined : ℕ) (all : Bool) → IsNext trace n thread (Read variable) time joined → IsBefore trace n all self.now
+            → result ≡ true → IsBefore trace (n + 1) all self.now }
+    {
+        let source = self.write_stamp(variable);
+        if source.thread == thread {
+            return true;
+        }
+        let known = self.known_of(thread, source.thread);
+        if source.time <= known {
+            return true;
+        }
+        false
+    }
+
+    /// Takes a write, and keeps its stamp. Its thread learns nothing of others.
+    #[inline(always)]
+    pub fn take_write(&mut self, thread: u32, variable: u32, time: u32) -> Result<(), NoMemory>
+        ensures taken { (trace : List Event) (n joined : ℕ) (all : Bool) → IsNext trace n thread (Write variable) time joined
+            → KeepsWrite all trace variable n → IsBefore trace n all self.old → OnOk result (IsBefore trace (n + 1) all self.new) }
+        ensures rows { self.new.rows ≡ self.old.rows }
+    {
+        let row = self.row_number(thread);
+        let stamp = Stamp { row, thread, time };
+        put(&mut self.variables, variable, stamp, Stamp::empty())?;
+        Ok(())
+    }
+
+    /// Takes a release, and keeps its stamp. Its thread learns nothing of others.
+    fn take_release(&mut self, thread: u32, lock: u32, time: u32) -> Result<(), NoMemory>
+        ensures taken { (trace : List Event) (n joined : ℕ) (all : Bool) → IsNext trace n thread (Release lock) time joined
+            → IsBefore trace n all self.old → OnOk result (IsBefore trace (n + 1) all self.new) }
+        ensures rows { self.new.rows ≡ self.old.rows }
+    {
+        let row = self.row_number(thread);
+        let stamp = Stamp { row, thread, time };
+        put(&mut self.locks, lock, stamp, Stamp::empty())?;
+        Ok(())
+    }
+
+    /// Takes a fork: the forked thread knows its clock. Its own thread learns nothing of others.
+    fn take_fork(&mut self, thread: u32, child: u32, time: u32) -> Result<(), NoMemory>
+        ensures taken { (trace : List Event) (n joined : ℕ) (all : Bool) → IsNext trace n thread (Fork child) time joined
+            → IsBefore trace n all self.old → OnOk result (IsBefore trace (n + 1) all self.new) }
+        ensures more { OnOk result (AreMore self.old.rows self.new.rows) }
+    {
+        let own = self.row_number(thread);
+        set_clock(&mut self.clock, self.rows.row(own), thread, time)?;
+        let forked = self.rows.push(self.clock.as_slice())?;
+        put(&mut self.current, child, forked, 0)?;
+        Ok(())
+    }
+
+    /// Takes an event whose thread may learn of others.
+    fn learn(&mut self, thread: u32, op: Op, time: u32, joined: u32) -> Result<(), NoMemory>
+        requires no_write { (x : ℕ) → op ≡ Write x → ⊥ }
+        requires no_release { (l : ℕ) → op ≡ Release l → ⊥ }
+        requires no_fork { (t : ℕ) → op ≡ Fork t → ⊥ }
+        ensures taken { (trace : List Event) (n : ℕ) (all : Bool) → IsNext trace n thread op time joined → IsBefore trace n all self.old
+            → OnOk result (IsBefore trace (n + 1) all self.new) }
+        ensures more { OnOk result (AreMore self.old.rows self.new.rows) }
+    {
+        let source = self.source(op, joined);
+        let before = self.row_number(thread);
+        let reads = is_read(op);
+        let after = row_after(
+            &mut self.rows,
+            &mut self.clock,
+            thread,
+            before,
+            source,
+            reads,
+        )?;
+        put(&mut self.current, thread, after.row, 0)?;
+        if let Op::Read(variable) = op {
+            rename(&mut self.variables, variable, source, after)?;
+        }
+        Ok(())
+    }
+
+    /// Takes an event that is no write. No row is freed.
+    #[inline(always)]
+    fn take_event(&mut self, thread: u32, op: Op, time: u32, joined: u32) -> Result<(), NoMemory>
+        requires no_write { (x : ℕ) → op ≡ Write x → ⊥ }
+        ensures taken { (trace : List Event) (n : ℕ) (all : Bool) → IsNext trace n thread op time joined → IsBefore trace n all self.old
+            → OnOk result (IsBefore trace (n + 1) all self.new) }
+        ensures more { OnOk result (AreMore self.old.rows self.new.rows) }
+    {
+        match op {
+            Op::Release(lock) => self.take_release(thread, lock, time),
+            Op::Fork(child) => self.take_fork(thread, child, time),
+            _ => self.learn(thread, op, time, joined),
+        }
+    }
+
+    /// Frees the rows that nothing names.
+    fn compact(&mut self, alloc: Global) -> Result<(), NoMemory>
+        ensures { (trace : List Event) (n : ℕ) (all : Bool) → n + 1 < 2 ^ 32 → IsBefore trace n all self.old → OnOk result (IsBefore trace n all self.new) }
+    {
+        let unused = mem::replace(&mut self.unused, RowList::empty(alloc));
+        let rows = compacted(
+            alloc,
+            &self.rows,
+            unused,
+            &mut self.current,
+            &mut self.locks,
+            &mut self.variables,
+        )?;
+        let stamps = self.locks.len().saturating_add(self.variables.len());
+        self.limit = size_limit(rows.size(), stamps);
+        let old = mem::replace(&mut self.rows, rows);
+        self.unused = memory_of(alloc, old, self.rows.size());
+        Ok(())
+    }
+
+    /// Frees the rows that nothing names where all have grown to their limit. Says whether the others were moved for that,
+    /// and so have other numbers.
+    #[inline(always)]
+    fn make_room(&mut self, alloc: Global) -> Result<bool, NoMemory>
+        ensures before { (trace : List Event) (n : ℕ) (all : Bool) → n + 1 < 2 ^ 32 → IsBefore trace n all self.old → OnOk result (IsBefore trace n all self.new) }
+        ensures same { IfOk result (λ moved. moved ≡ false → self.new.rows ≡ self.old.rows) }
+    {
+        if self.rows.size() < self.limit {
+            return Ok(false);
+        }
+        self.compact(alloc)?;
+        Ok(true)
+    }
+
+    /// Takes an event that is no write. Where the rows had grown to their limit, those that nothing names are freed first.
+    /// Says whether the others were moved for that, and so have other numbers.
+    #[inline(always)]
+    pub fn take_other(
+        &mut self,
+        alloc: Global,
+        thread: u32,
+        op: Op,
+        time: u32,
+        joined: u32,
+    ) -> Result<bool, NoMemory>
+        requires no_write { (x : ℕ) → op ≡ Write x → ⊥ }
+        ensures taken { (trace : List Event) (n : ℕ) (all : Bool) → IsNext trace n thread op time joined → IsBefore trace n all self.old
+            → OnOk result (IsBefore trace (n + 1) all self.new) }
+        ensures more { IfOk result (λ moved. moved ≡ false → AreMore self.old.rows self.new.rows) }
+    {
+        let moved = self.make_room(alloc)?;
+        self.take_event(thread, op, time, joined)?;
+        Ok(moved)
+    }
+}
