@@ -15,25 +15,11 @@ pub fn entry(clock: &[u32], t: u32) -> u32
     }
 }
 
-/// Whether one of the first entries of a clock is above that of another. Where some entry is, one of these mostly is.
-fn is_above_soon(clock: &[u32], other: &[u32]) -> bool {
-    let few = clock.len().min(other.len()).min(8);
-    for t in 0..few {
-        if clock[t] > other[t] {
-            return true;
-        }
-    }
-    false
-}
-
 /// Whether no entry of a clock is above that of another, which has as many at least.
 pub fn is_below(clock: &[u32], other: &[u32]) -> bool
     ensures { result ≡ true → (t : ℕ) → slice_index_or clock.now t 0 ≤ slice_index_or other.now t 0 }
 {
     if clock.len() > other.len() {
-        return false;
-    }
-    if is_above_soon(clock, other) {
         return false;
     }
     let mut excess = 0;
