@@ -165,16 +165,22 @@ FETCH_16(fetch_nand, ~(old & value))
 
 #define IS_QUICK(operation, bits, p, order) \
     begin_quick_atomic(operation, (uint64_t)(p), bits / 8, size_and_order(bits / 8, order), CALLER)
+/* Whether it changes the value is known by what it takes: once it is done the object may be gone, where no turn keeps other threads away. */
+#define NEW_exchange(old, value) value
+#define NEW_fetch_add(old, value) old + value
+#define NEW_fetch_sub(old, value) old - value
+#define NEW_fetch_and(old, value) old & value
+#define NEW_fetch_or(old, value) old | value
+#define NEW_fetch_xor(old, value) old ^ value
+#define NEW_fetch_nand(old, value) ~(old & value)
 #define UPDATE(bits, type, name, perform) \
     PUBLIC type __tsan_atomic##bits##_##name(volatile type *p, type value, int order) { \
-        if (IS_QUICK(OP_ATOMIC_UPDATE, bits, p, order)) { \
-            type before = perform(p, value); \
-            end_quick_atomic(last_of(*p != before, p, CALLER)); \
-            return before; \
-        } \
-        thread *t = before_atomic(OP_ATOMIC_UPDATE, p, size_and_order(bits / 8, order), CALLER); \
+        int is_quick = IS_QUICK(OP_ATOMIC_UPDATE, bits, p, order); \
+        thread *t = is_quick ? 0 : before_atomic(OP_ATOMIC_UPDATE, p, size_and_order(bits / 8, order), CALLER); \
         type old = perform(p, value); \
-        after_atomic(t, last_of(*p != old, p, CALLER)); \
+        uint64_t last = last_of((type)(NEW_##name(old, value)) != old, p, CALLER); \
+        if (is_quick) end_quick_atomic(last); \
+        else after_atomic(t, last); \
         return old; \
     }
 

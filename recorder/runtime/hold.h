@@ -92,6 +92,7 @@ int begin_quick_atomic(enum operation operation, uint64_t address, uint64_t size
 static inline void end_quick_atomic(uint64_t last) {
     thread *t = self;
     t->last = last;
+    t->spins = 0;                      /* it is the first of a row: others are not quick */
     end_quick_hook(t);
     if (__builtin_expect(t->deferred, 0)) deliver_deferred(t);
 }
