@@ -5,9 +5,9 @@
     whole.py RUNS -- PROGRAM [WORD..]            a program that was built with the flag, with these words
 
 Each is run with gcc's library, which reports nothing, and by shb-record with seed 1, in turn, in a folder of its own; the built analyser is
-bin/shb, or what SHB names. CPU seconds are user and system time with those of all
-processes that were started, the least of RUNS runs (3); memory is the most that one of them had. The aim is ThreadSanitizer's time and
-0.4 microseconds for each event.
+bin/shb, or what SHB names. The first run compiles Python's modules; an installation has compiled ones. CPU seconds are user and system time
+with those of all processes that were started, the least of RUNS runs (3); memory is the most that one of them had. The aim is
+ThreadSanitizer's time and 0.4 microseconds for each event.
 """
 
 import os
@@ -50,9 +50,11 @@ def print_row(name, words, runs, folder):
     record, least, memory = folder / "app.rec", {}, 0
     ways = {"tsan": (words, {"TSAN_OPTIONS": "report_bugs=0"}),
             "all": ([sys.executable, TOP / "recorder/shb-record", "-o", folder / "results", *words], {"SHB_SEED": "1"})}
+    compiled = {**os.environ, "PYTHONPYCACHEPREFIX": str(folder / "compiled")}
+    compiled.pop("PYTHONDONTWRITEBYTECODE", None)
     for _ in range(runs):
         for way, (command, more) in ways.items():
-            taken, had = processor_seconds(command, A_PLACE, cwd=folder, env={**os.environ, **more})
+            taken, had = processor_seconds(command, A_PLACE, cwd=folder, env={**compiled, **more})
             least[way] = min(taken, least.get(way, 1e9))
             memory = max(memory, had) if way == "all" else memory
     recorded = {**os.environ, "SHB_SEED": "1", "SHB_RECORD": str(record), "LD_LIBRARY_PATH": str(TOP / "recorder/lib")}

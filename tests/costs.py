@@ -127,6 +127,7 @@ def costs():
     yield Cost("a counter of 64 threads", SCAN, hot("counter", 64, 128), 20_000)
     yield Cost("locks and statistics", SCAN, hot("mixed", 8, 5), 20_000)
     yield Cost("memory in the order of addresses", SCAN, shapes.memory_in_order, 20_000)
+    yield Cost("new threads at one location", SCAN, shapes.new_threads, 20_000)
     yield Cost("locks and statistics", RACES, hot("mixed", 8, 5), 20_000, reads=FIRST)
     yield Cost("locks and statistics of 200 threads", RACES, hot("mixed", 200, 5), 20_000)
     yield Cost("schedules of 20 late races", SCHEDULES, shapes.late_races, 10_000)
@@ -138,6 +139,8 @@ def costs():
     yield Cost("200 threads at 200 locations", RACES, shapes.crowd_at_locations, 10_000, reads=FIRST)
     yield Cost("numbers that are far apart", PLACES, shapes.far_numbers, 20_000)
     yield Cost("numbers that are far apart", PLACES, shapes.far_numbers, 50_000, unit=MEMORY)
+    yield Cost("5,000 threads forked and joined", SCAN, shapes.forked_and_joined, 15_000, unit=MEMORY)
+    yield Cost("a lock handed on by 4,000 threads", SCAN, shapes.handed_on, 8_000, unit=MEMORY)
     for path in sorted(RECORDED.glob("*.std.xz")):
         yield Cost(path.name, PLACES, recorded(path), 0, grows=False)
         yield Cost(path.name, RACES, recorded(path), 0, grows=False)

@@ -101,6 +101,11 @@ def crowd(n):
     yield from (f"T{k % 1000}|w(x)|l\n" for k in range(n))
 
 
+def new_threads(n):
+    """Ever new threads write and read a variable at one location without order."""
+    yield from (f"T{k}|w(x)|l\nT{k}|r(x)|l\n" for k in range(n // 2))
+
+
 def chain(n):
     """250 threads read and write a variable in turn, each what the one before wrote."""
     yield from (f"T{k % 250}|r(x)|a\nT{k % 250}|w(x)|b\n" for k in range(n // 2))
@@ -175,3 +180,13 @@ def memory_in_order(n):
         thread, number = k // 50 % 4, (k // 200 * 50 + k % 50) % 2000
         variable = f"src/codec/block_compressor.cc:{1000 + thread}#{number // 512}+{number % 512 * 8}"
         yield f"worker-{thread}.run|{'w' if k % 3 == 0 else 'r'}({variable})|codec/block_compressor.cc:{100 + k % 40}\n"
+
+
+def forked_and_joined(n):
+    """A thread forks others, and joins each before it forks the next one: the rows of all that were joined stay."""
+    yield from (f"main|fork(T{k})|f\nT{k}|w(x)|a\nmain|join(T{k})|j\n" for k in range(n // 3))
+
+
+def handed_on(n):
+    """A lock goes from thread to thread: each knows all threads before it."""
+    yield from (f"T{k}|acq(l)|a\nT{k}|rel(l)|r\n" for k in range(n // 2))

@@ -3,7 +3,6 @@ than fit into memory as pairs, more bytes than 32 bits count, pipes that break i
 each device that fails on the way."""
 
 import collections
-import os
 import resource
 import signal
 

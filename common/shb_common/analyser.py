@@ -28,14 +28,6 @@ class Answer(typing.NamedTuple):
         return words_in(self.said)
 
 
-class Failed(Exception):
-    """The program ended with a status that isn't 0: `answer` says how."""
-
-    def __init__(self, answer):
-        super().__init__(answer.words)
-        self.answer = answer
-
-
 class Place(typing.NamedTuple):
     """A place of a trace: its two locations, that of the first access first; by variable a race of it, as `variables.Found`; and
     whether it has more variables than these."""
@@ -98,13 +90,6 @@ def call(words, given, out, **how):
 def words_in(said):
     """What a command said, as words in one line."""
     return " ".join(without_note(said)[:MOST_WORDS].decode("utf-8", "backslashreplace").split())
-
-
-def must(answer):
-    """The answer of a run that has to succeed."""
-    if answer.status:
-        raise Failed(answer)
-    return answer
 
 
 def places_in(report):

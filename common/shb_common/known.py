@@ -182,14 +182,6 @@ def side_in(field):
     return field.endswith(CALL), pieces_of(field)
 
 
-def words_of_old(known):
-    """What is said of lines that name no variable."""
-    old = [line for line in known.lines if line.variable is None]
-    if old:
-        more = f" and {len(old) - 1:,} more" if len(old) > 1 else ""
-        yield f"line {old[0].number}{more}: no variable is named, so every variable there is known; a third field names one"
-
-
 def words_of_stale(lines, names):
     """What is said of lines that matched nothing. `names` are those of the source files (`programs.Names`)."""
     for line in lines[:MOST_STALE]:
@@ -206,6 +198,16 @@ def read(path):
         return Known(read_at_most(path, MOST_BYTES))
     except BadLine as fault:
         raise BadLine(f"{printable(os.fsencode(path))}, {fault}") from None
+
+
+def given(path, say):
+    """The places of the file that a user named, if there is one; `say` is told where lines of it name no variable."""
+    found = read(path) if path else Known()
+    old = [line for line in found.lines if line.variable is None]
+    if old:
+        more = f" and {len(old) - 1:,} more" if len(old) > 1 else ""
+        say(f"{path}, line {old[0].number}{more}: no variable is named, so every variable there is known; a third field names one")
+    return found
 
 
 class Known:

@@ -54,10 +54,11 @@ class Alert(typing.NamedTuple):
 
 
 class Access(typing.NamedTuple):
-    """An access of a race: its line in the trace, its stack, the innermost frame first, and the path of each source file by its name
+    """An access of a race: its thread, what it does, its stack, the innermost frame first, and the path of each source file by its name
     in locations."""
 
-    line: bytes
+    thread: bytes
+    operation: bytes
     frames: typing.Sequence
     files: dict
 
@@ -155,14 +156,13 @@ def code_flows(alert, sources):
 
 def thread_flow(access, sources):
     """The calls of a thread that lead to its access, the outermost first. What is no line of the program's own isn't shown."""
-    thread, operation, *_ = access.line.split(b"|")
-    name = printable(thread)
+    name = printable(access.thread)
     steps = []
     for frame in reversed(access.frames):
         place = place_of(frame.location, sources, access.files.get(parts_of(frame.location)[0], b""))
         if place.kind != NAME and not frame.in_system:
             steps.append({"location": location_of(place, message={"text": f"{name} in {plain(printable(bare(frame.function)) or 'a function')}"})})
-    return {"id": name, "message": {"text": plain(f"{name}: {printable(operation)}")}, "locations": steps}
+    return {"id": name, "message": {"text": plain(f"{name}: {printable(access.operation)}")}, "locations": steps}
 
 
 def message_of(alert, first, second):

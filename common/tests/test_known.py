@@ -2,7 +2,7 @@
 
 import side_by_side
 from shb_common import known
-from shb_common.known import BadLine, Known, lasting, line_of, lines_of, matches, pair_of, pieces_of, side_of, words_of_old, words_of_stale
+from shb_common.known import BadLine, Known, lasting, line_of, lines_of, matches, pair_of, pieces_of, side_of, words_of_stale
 from shb_common.programs import Names
 
 FILE = b"""\
@@ -45,10 +45,13 @@ class KnownPlaces(side_by_side.Case):
 
     def test_two_fields_are_of_every_variable(self):
         """So earlier versions wrote them."""
-        old = Known(b"a.c:1\tb.c:2\n# x\nb.c:3\tb.c:4\ty\nc\td\n")
-        self.assertTrue(old.has_all(sides(b"a.c:1", b"b.c:2"), [b"x", b"y"], True))
-        self.assertEqual(list(words_of_old(old)), ["line 1 and 1 more: no variable is named, so every variable there is known; a third field names one"])
-        self.assertEqual(list(words_of_old(Known(b"a\tb\t*\n"))), [])
+        path, said = self.folder / "known.places", []
+        path.write_bytes(b"a.c:1\tb.c:2\n# x\nb.c:3\tb.c:4\ty\nc\td\n")
+        self.assertTrue(known.given(path, said.append).has_all(sides(b"a.c:1", b"b.c:2"), [b"x", b"y"], True))
+        self.assertEqual(said, [f"{path}, line 1 and 1 more: no variable is named, so every variable there is known; a third field names one"])
+        path.write_bytes(b"a\tb\t*\n")
+        known.given(path, said.append)
+        self.assertEqual(len(said), 1)
 
     def test_lines_that_matched_nothing(self):
         stale = lambda: [line.number for line in self.known.stale()]

@@ -150,13 +150,6 @@ def pass_of(options, room):
     return passes.Pass(shb, checksum, traces, out, str(room), view or "", options.links, seconds=options.seconds, size=options.size)
 
 
-def known_in(path):
-    found = known.read(path) if path else known.Known()
-    for words in known.words_of_old(found):
-        engines.say(f"{path}, {words}")
-    return found
-
-
 def run_passes(options, work, names, outside=()):
     """Runs the traces of these names, and gives how each ended. A trace begins with the first pass that has room for its size,
     and goes on to the next where it ran out of memory or got no outcome. `outside` are links that aren't followed."""
@@ -198,7 +191,7 @@ def run(options):
     """Runs the farm, writes its tables, and gives the status."""
     if options.source and not os.path.isdir(options.source):
         raise Refused(f"{options.source}: no such folder of sources")
-    known_places, earlier = known_in(options.known), since.read(options.since) if options.since else None
+    known_places, earlier = known.given(options.known, engines.say), since.read(options.since) if options.since else None
     options.memory = options.memory or memory_of(options.engine)
     with passes.room_in(os.path.realpath(options.out)) as room:
         work = pass_of(options, room)

@@ -1,11 +1,10 @@
 """Limits of memory, time and size, and what their outcomes say."""
 
-import os
 import resource
 import subprocess
 
 import farm
-from farm import BAD, CLEAN, RACE
+from farm import BAD, RACE
 from shb_farm import limits, running
 from shb_farm.passes import Pass, key_of
 from shb_farm.running import End

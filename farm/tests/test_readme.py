@@ -1,7 +1,6 @@
 """The commands of farm/README.md, with what it shows of them."""
 
 import re
-import shutil
 import subprocess
 
 import farm

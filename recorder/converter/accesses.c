@@ -139,6 +139,8 @@ void share_pieces(u64 i) {
     runs[run_count - 1].count |= MARK;
 }
 
+piece *only_piece(u64 i) { return known[i] && !(known[i] & MARK) ? piece_of(known[i]) : 0; }
+
 /* ---- 4: events ---- */
 /* The same read, by the same thread at the same place under the same locks, with no write of the variable since, and
    nothing since by which the thread could order another: all that it conflicts with, and all that it orders, the first
@@ -163,14 +165,15 @@ enum { NOBODY = -1u };
 /* An event of the variable itself, or of that which stands for its atomic writes by one thread. The page's trace lacks those of variables
    in no race, but each thread's first one. */
 static void piece_event(u64 i, u64 own, u32 number, const char *operation, u32 writer, int is_kept) {
-    char tail[100];
+    char text[NAME_BYTES + THREAD_BYTES];
     const piece *p = piece_of(number);
     u32 t = thread_of(i);
     if (!is_kept && has_events(t)) pass_event(t, *operation == 'w');
     else if (writer == NOBODY) access_event(t, operation, number, caller_of(i), own);
     else {
-        snprintf(tail, sizeof tail, "!%s", thread_name(writer));
-        event(t, operation, variable_name(p->at, block_of(p->block)), tail, caller_of(i));
+        part name = variable_name(p->at, block_of(p->block));
+        int length = snprintf(text, sizeof text, "%.*s!%s", (int)name.length, name.at, thread_name(writer));
+        event(t, operation, (part){text, length}, caller_of(i));
     }
 }
 
@@ -205,7 +208,7 @@ static void use_piece(u64 i, use u, u32 number) {
     int is_kept = !for_page || is_racing(number);
     piece_events(i, u, number, is_kept);
     if (for_page && is_kept) count_use(u.thread, caller_of(i), number, word_of(i, u));
-    if (is_kept && written > before) note_name(piece_of(number)->at, piece_of(number)->block, before + 1, u.thread);
+    if (with_stacks && is_kept && written > before) note_name(piece_of(number)->at, piece_of(number)->block, before + 1, u.thread);
 }
 
 void begin_accesses(void) {

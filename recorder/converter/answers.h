@@ -5,14 +5,14 @@
 #include <stdint.h>
 
 enum request_kind {
-    ASK_SYMBOL,                        /* of an address: where it begins, its size and SYMBOL_ flags; its name */
+    ASK_SYMBOL,                        /* of an address: where it begins, its size and SYMBOL_ flags; its name, or "" of what is between two */
     ASK_VARIABLE,                      /* of a name, as bytes with an end: a row where a variable's symbol has it */
     ASK_FRAMES,                        /* of each address: a row for each frame, the innermost first: the address's number of these, and the
                                           line, or 0; the function, and the path */
     ASK_SOURCES,                       /* a row for each source file, at most MOST_SOURCES: its path */
     ASK_OWN_LINES,                     /* a row where the module's file itself has lines */
     ASK_UNREAD,                        /* a row where names may be missing: why */
-    ASK_MEMBER,                        /* address of a variable, offset, length: what is there, as ".head" */
+    ASK_MEMBER,                        /* address of a variable, then offsets, each with a length: of each a row: what is there, as ".head" */
     ASK_LOCAL,                         /* pc, bytes below the end of its return address, and above its stack pointer, length: the local, and
                                           the function that it is inlined from, or "" */
     ASK_BLOCK                          /* pc of the allocation's call, size, offset, length: a row where the type is certain: its name's length,

@@ -110,6 +110,7 @@ typedef struct {
     u32 block;                         /* its number, or 0 */
     u32 atomic_writers;                /* a list */
     u32 writes;                        /* events so far that wrote it */
+    u32 object;                        /* the number of the one that was met last at its address, or 0 (objects.c) */
 } piece;
 /* Who uses a piece. It stands apart, for most accesses ask no more, and of several neighbours. */
 typedef struct {
@@ -136,6 +137,7 @@ piece_use *use_of_piece(u32 number);
 void forget_writes(void);              /* of all pieces */
 
 /* stacks.c: call stacks, in a file beside the trace. */
+extern int with_stacks;
 void open_stacks(const char *path);
 void note_call(u64 i);                 /* each record of calls, in the first pass */
 void meet_call(u64 i);                 /* each record of the fourth pass, before its events */
@@ -162,17 +164,19 @@ const char *local_now(u64 at, const block *b);
 /* state.c: what a trace can go on with, and which locks are held in it. */
 enum event_kind { IS_ACCESS, IS_ACQUIRE, IS_RELEASE, IS_FORK, IS_JOIN, IS_MARK };
 typedef void (*held_lock)(part thread, part lock, part place, u32 stack);
+u32 trace_lock(part name);             /* its number, from 1 */
+part lock_name(u32 number);            /* it stands for good, with WIDE bytes behind it */
 extern u32 thread_limit;               /* of the trace */
 u32 trace_threads(void);                /* so many were met, in any trace */
 u32 trace_thread(const char *name, u64 length);              /* its number, from 1 */
-int trace_event(u64 length, enum event_kind kind, u32 thread, part operand, part place, u32 stack);      /* 0 where the trace can't go on with it */
+/* 0 where the trace can't go on with it; other: the lock that it takes or releases, or the thread that it forks or joins; place: it stands for good. */
+int trace_event(u64 length, enum event_kind kind, u32 thread, u32 other, part place, u32 stack);
 int trace_access(u64 length, u32 thread);                    /* the same of an access, in a thread that is in the trace already */
 void each_held(held_lock give);        /* each acquire that isn't released, the oldest first */
 void forget_trace(void);
 
 /* page.c: the trace of a page, and the uses of variables in races. */
 enum page_step { PAGE_PAUSES, SPAN_BEGINS, PAGE_GOES_ON, SPAN_ENDS, PAGE_ENDS };
-enum { LOCK_TAIL_BYTES = THREAD_BYTES + 40 };
 extern int for_page;                   /* is it what the pass writes? */
 int read_races(const char *path);      /* 0 where there are none */
 void open_uses(const char *path);
@@ -184,13 +188,14 @@ int is_in_span(void);
 void note_written(u64 number, u64 in_page);                  /* an event of the run, by both its numbers */
 void note_part(u64 in_page);           /* a span begins or ends behind so many events */
 void hold_for_uses(u32 t, u64 key), leave_for_uses(u32 t, u64 key);      /* a lock */
-part name_of_held(u64 key, u32 t, char *tail);               /* objects.c: of such a lock */
+part name_of_held(u64 key, u32 t);     /* objects.c: of such a lock */
 void count_use(u32 t, u64 caller, u32 piece, char word);
 void end_uses(u64 in_page);            /* so many events */
 
 /* accesses.c, objects.c: what the passes do with a record. */
 extern int whole_trace;                /* also what cannot conflict */
 extern u32 *known;                     /* of each record: 0 where the passes that follow pass over it (accesses.c) */
+piece *only_piece(u64 i);              /* that a record accesses, from the third pass on; null of several, or none */
 void find_users(u64 i);
 void find_cuts(u64 i);
 void share_pieces(u64 i);
@@ -229,7 +234,8 @@ int has_events(u32 t);
 void pass_event(u32 t, int writes);    /* an access that the page's trace lacks */
 part name_of_thread(u32 t);
 part variable_name(u64 address, const block *b);             /* it stands until the next call */
-void event(u32 t, const char *operation, part name, const char *tail, u64 caller);
+void event(u32 t, const char *operation, part name, u64 caller);
+void lock_event(u32 t, const char *operation, u32 lock, u64 caller);   /* the same; its number in state.c */
 void access_event(u32 t, const char *operation, u32 piece, u64 caller, u64 own);         /* the same of a piece; own: the caller's own_place */
-void hold_event(u32 t, const char *operation, part name, const char *tail, u64 caller, u32 stack);       /* orders no thread */
+void hold_event(u32 t, const char *operation, u32 lock, u64 caller, u32 stack);       /* the same, which orders no thread */
 void write_lines(void);                /* the last of the trace */

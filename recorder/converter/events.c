@@ -187,13 +187,12 @@ void write_lines(void) {
     lines_bytes = 0;
 }
 
-static char *add_line(char *to, part thread, const char *operation, part name, const char *tail, part place) {
+static char *add_line(char *to, part thread, const char *operation, part name, part place) {
     to = add(to, thread);
     *to++ = '|';
     to = add_text(to, operation);
     *to++ = '(';
     to = add(to, name);
-    to = add_text(to, tail);
     to = add_text(to, ")|");
     to = add(to, place);
     *to++ = '\n';
@@ -226,11 +225,11 @@ static void keep_line(const char *end, u32 stack) {
 
 /* ---- the trace of a page ---- */
 static void acquire_again(part thread, part lock, part place, u32 stack) {
-    keep_line(add_line(room_for_line(), thread, "acq", lock, "", place), stack);
+    keep_line(add_line(room_for_line(), thread, "acq", lock, place), stack);
 }
 
 static void release_before(part thread, part lock, part place, u32 stack) {
-    keep_line(add_line(room_for_line(), thread, "rel", lock, "", place), 0);
+    keep_line(add_line(room_for_line(), thread, "rel", lock, place), 0);
 }
 
 /* Gives whether the page's trace has the next event: all between two ends of a span, else forks and joins, and the first of a thread. */
@@ -258,39 +257,48 @@ void pass_event(u32 t, int writes) {
 }
 
 /* ---- an event ---- */
-void hold_event(u32 t, const char *operation, part name, const char *tail, u64 caller, u32 stack) {
+/* lock: its number, or 0. */
+static void write_event(u32 t, const char *operation, part name, u32 lock, u64 caller, u32 stack) {
     enum event_kind kind = kind_of(operation);
     int is_first = !threads[t].number;
     enum page_step step = for_page ? meet_page() : PAGE_GOES_ON;
     char *line = room_for_line();
     part place = place_of(caller), thread = name_of_thread(t);
-    char *end = add_line(line, thread, operation, name, tail, place);
-    const char *operand = line + thread.length + strlen(operation) + 2;
+    char *end = add_line(line, thread, operation, name, place);
     if (is_first) threads[t].number = trace_thread(thread.at, thread.length);
     if (written == event_limit && for_page) end_page();
     else if (written == event_limit) cut_reason = "at the limit of events";
     else if (bytes + (end - line) > byte_limit) cut_reason = "at 1 GiB of text";
     if (cut_reason) return;
-    need_event(trace_event(end - line - 1, kind, threads[t].number, (part){operand, name.length + strlen(tail)}, place, stack), line, end);
+    u32 other = kind == IS_FORK || kind == IS_JOIN ? trace_thread(name.at, name.length) : lock;
+    need_event(name.length && trace_event(end - line - 1, kind, threads[t].number, other, place, stack), line, end);
     events++;
     if (for_page && !is_for_page(step, kind, is_first)) return;
-    if ((kind == IS_ACQUIRE || kind == IS_RELEASE) && step != SPAN_BEGINS && step != PAGE_GOES_ON) end = add_line(line, thread, "begin", thread, "", place);
+    if ((kind == IS_ACQUIRE || kind == IS_RELEASE) && step != SPAN_BEGINS && step != PAGE_GOES_ON) end = add_line(line, thread, "begin", thread, place);
     keep_line(end, stack);
     if (for_page) note_written(events, written);
 }
 
-/* `name` and `tail` may lie in buffers that the writing of another event uses. */
-void event(u32 t, const char *operation, part name, const char *tail, u64 caller) {
+void hold_event(u32 t, const char *operation, u32 lock, u64 caller, u32 stack) {
+    write_event(t, operation, lock_name(lock), lock, caller, stack);
+}
+
+void lock_event(u32 t, const char *operation, u32 lock, u64 caller) {
     if (for_page && is_behind_page()) return;
-    u64 own = own_place(t, caller);
-    u32 stack = stack_at(t, caller);
+    if (holds_unwritten(t)) write_holds(t);
+    hold_event(t, operation, lock, own_place(t, caller), stack_at(t, caller));
+    threads[t].epoch++;
+}
+
+/* `name` may lie in a buffer that the writing of another event uses. */
+void event(u32 t, const char *operation, part name, u64 caller) {
+    char own_name[NAME_BYTES + THREAD_BYTES];
+    if (for_page && is_behind_page()) return;
     if (holds_unwritten(t)) {
-        char own_name[NAME_BYTES], own_tail[THREAD_BYTES + 20];
-        memcpy(own_name, name.at, name.length);
-        snprintf(own_tail, sizeof own_tail, "%s", tail);
+        name = (part){memcpy(own_name, name.at, name.length), name.length};
         write_holds(t);
-        hold_event(t, operation, (part){own_name, name.length}, own_tail, own, stack);
-    } else hold_event(t, operation, name, tail, own, stack);
+    }
+    write_event(t, operation, name, 0, own_place(t, caller), stack_at(t, caller));
     if (*operation != 'r' || operation[1]) threads[t].epoch++;
 }
 
@@ -318,7 +326,7 @@ void access_event(u32 t, const char *operation, u32 number, u64 caller, u64 own)
     int is_usual = !for_page && !holds_unwritten(t) && threads[t].number && name.length && written < event_limit;
     char *line = room_for_line(), *end = is_usual ? add_access(line, t, *operation, name, line_end_of(own)) : line;
     if (!is_usual || bytes + (end - line) > byte_limit) {
-        event(t, operation, name, "", caller);
+        event(t, operation, name, caller);
         return;
     }
     need_event(trace_access(end - line - 1, threads[t].number), line, end);

@@ -50,8 +50,8 @@ static u64 events_of_run;              /* known before the page's trace is writt
 
 /* Who joins a thread comes after who forked it only by an event in between. */
 static void write_join(u32 t, u32 child, u64 caller) {
-    if (!has_events(child) && forked_by[child] && forked_by[child] != t + 1) event(child, "begin", name_of_thread(child), "", caller);
-    event(t, "join", name_of_thread(child), "", caller);
+    if (!has_events(child) && forked_by[child] && forked_by[child] != t + 1) event(child, "begin", name_of_thread(child), caller);
+    event(t, "join", name_of_thread(child), caller);
 }
 
 static void write_events(u64 i) {
@@ -61,7 +61,7 @@ static void write_events(u64 i) {
     if (for_page && events == events_of_run) end_page();
     if (operation == OP_FORK && !for_page && trace_threads() >= thread_limit) cut_reason = too_many_threads;
     else if (operation == OP_FORK) {
-        event(thread_of(i), "fork", name_of_thread(other_thread_of(i)), "", caller_of(i));
+        event(thread_of(i), "fork", name_of_thread(other_thread_of(i)), caller_of(i));
         forked_by[other_thread_of(i)] = thread_of(i) + 1;
         stack_of_thread(other_thread_of(i), stack_at(thread_of(i), caller_of(i)));
     }

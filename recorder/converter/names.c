@@ -11,9 +11,11 @@ typedef struct {
     u64 low, high, base;
     char *path;
     struct reader *reader;             /* null until it is asked */
-    map by_address;                    /* the numbers of symbols; that of an address without one has no name */
-    symbol *symbols;
+    symbol **symbols;                  /* those that were asked for, sorted; what is between two has one without a name */
     u64 count, capacity;
+    map members;                       /* of an address and a length in a variable: which text it has */
+    char **texts;
+    u64 text_count, text_capacity;
     int asked, is_late, is_said;       /* of its lines; they are asked for when they are shown; what isn't read */
 } module;
 
@@ -64,23 +66,38 @@ void read_modules(char *header) {
 }
 
 /* ---- symbols ---- */
-static symbol found_symbol(module *m, u64 address) {
-    const u64 at = address - m->base;
+/* `between`: all between the symbols before and behind it that are known. No answer overlaps these; without one nothing more is known there. */
+static symbol found_symbol(module *m, u64 address, symbol between) {
+    const u64 at = address - m->base, before = address - between.at;
     answer a;
-    if (!ask_one(reader_of(m), ASK_SYMBOL, &at, 1, &a)) return (symbol){0};
-    u64 size = a.two >> SYMBOL_FLAGS;
-    if (at - a.one >= size) refuse_answer(m->reader);
-    if (at - a.one >= size || !*a.first) return (symbol){0};
-    return (symbol){a.one + m->base, size, cleaned(copy(a.first)), (a.two & SYMBOL_IS_TWICE) != 0, a.two & SYMBOL_IS_FUNCTION};
+    if (!ask_one(reader_of(m), ASK_SYMBOL, &at, 1, &a)) return between;
+    u64 size = a.two >> SYMBOL_FLAGS, within = at - a.one;
+    if (within >= size || within > before || size - within > between.size - before) {
+        refuse_answer(m->reader);
+        return between;
+    }
+    return (symbol){.at = a.one + m->base, .size = size, .name = *a.first ? cleaned(copy(a.first)) : 0,
+                    .is_twice = (a.two & SYMBOL_IS_TWICE) != 0, .is_function = a.two & SYMBOL_IS_FUNCTION};
 }
 
 static symbol *symbol_at(module *m, u64 address) {
-    u32 number = map_number(&m->by_address, address, 0);
-    if (number > m->count) {
-        GROW(m->symbols, m->count, m->capacity);
-        m->symbols[m->count++] = found_symbol(m, address);
+    u64 low = 0, end = m->count;
+    while (low < end) {                /* how many begin at it or before */
+        u64 middle = low + (end - low) / 2;
+        if (m->symbols[middle]->at <= address) low = middle + 1;
+        else end = middle;
     }
-    return m->symbols[number - 1].name ? &m->symbols[number - 1] : 0;
+    symbol *s = low ? m->symbols[low - 1] : 0;
+    if (!s || address - s->at >= s->size) {
+        symbol between = {.at = s ? s->at + s->size : 0};
+        between.size = (low < m->count ? m->symbols[low]->at : ~0ull) - between.at;
+        s = zeroed(1, sizeof *s);
+        *s = found_symbol(m, address, between);
+        GROW(m->symbols, m->count, m->capacity);
+        memmove(&m->symbols[low + 1], &m->symbols[low], (m->count++ - low) * sizeof *m->symbols);
+        m->symbols[low] = s;
+    }
+    return s->name ? s : 0;
 }
 
 /* A module's name. */
@@ -179,9 +196,47 @@ int own_function_name(u64 address, char *buffer, size_t size) {
     return *buffer != 0;
 }
 
+/* ---- members of variables ---- */
+enum { MOST_LENGTH = 4096 };           /* of a piece that is longer it isn't looked at where it ends */
+
+static u64 length_at(const symbol *s, u64 address) {
+    u64 end = s->at + s->size;
+    return next_cut(address, end - address < MOST_LENGTH ? end : address + MOST_LENGTH) - address;
+}
+
+static void keep_member(module *m, u64 address, u64 length, const char *text) {
+    if (map_number(&m->members, address, length) <= m->text_count) return;
+    GROW(m->texts, m->text_count, m->text_capacity);
+    m->texts[m->text_count++] = cleaned(copy(text));
+}
+
+/* Asks for what is at an address of a variable, and for what is behind it: an array may have many elements. */
+static void ask_members(module *m, const symbol *s, u64 address) {
+    enum { TOGETHER = 512, MOST_KEPT = 1 << 20 };
+    u64 numbers[1 + 2 * TOGETHER] = {s->at - m->base}, count = 1, most = m->text_count < MOST_KEPT ? TOGETHER : 1;
+    for (u64 at = address, length = 0; count < 2 * most && at < s->at + s->size && length < MOST_LENGTH; at += length) {
+        length = length_at(s, at);
+        numbers[count++] = at - s->at;
+        numbers[count++] = length;
+    }
+    answer a;
+    ask(m->reader, ASK_MEMBER, numbers, count);
+    for (u64 k = 1; next_answer(m->reader, &a); k += 2) {
+        if (k < count) keep_member(m, s->at + numbers[k], numbers[k + 1], a.first);
+        else refuse_answer(m->reader);
+    }
+}
+
+/* What is at an address of a variable, as ".head"; null where the reader doesn't answer. */
+static const char *member_at(module *m, const symbol *s, u64 address) {
+    u64 length = length_at(s, address);
+    if (!map_find(&m->members, address, length)) ask_members(m, s, address);
+    u32 number = map_find(&m->members, address, length);
+    return number ? m->texts[number - 1] : 0;
+}
+
 /* "x", "x.head", "x[3]", "x+8"; of a name that isn't the only one "x~ADDRESS"; outside the program "lib.so:x". */
 void symbol_name(u64 address, char *buffer, size_t size) {
-    enum { MOST_LENGTH = 4096 };       /* of a piece that is longer it isn't looked at where it ends */
     module *m = module_at(address);
     symbol *s = m ? symbol_at(m, address) : 0;
     if (!s) {
@@ -192,11 +247,9 @@ void symbol_name(u64 address, char *buffer, size_t size) {
     int cut_off = strlen(s->name) > 1000;
     int n = snprintf(buffer, size, "%.200s%s%.1000s", library, colon, s->name);
     if (s->is_twice || cut_off) n += snprintf(buffer + n, size - n, "~%lx", s->at - m->base);
-    u64 end = s->at + s->size, length = next_cut(address, end < address + MOST_LENGTH ? end : address + MOST_LENGTH) - address;
     say_unread(m);
-    answer member;
-    if (ask_one(m->reader, ASK_MEMBER, (u64[]){s->at - m->base, address - s->at, length}, 3, &member))
-        cleaned(strncat(buffer + n, member.first, size - n - 1));
+    const char *member = member_at(m, s, address);
+    if (member) strncat(buffer + n, member, size - n - 1);
     else if (address > s->at) snprintf(buffer + n, size - n, "+%lu", address - s->at);
 }
 

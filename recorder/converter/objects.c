@@ -1,4 +1,5 @@
 /* Objects: locks, and all whose order is told by locks. */
+#define _GNU_SOURCE
 #include <stdio.h>
 #include <string.h>
 #include "converter.h"
@@ -11,6 +12,7 @@ typedef struct {
     u64 at;
     const char *mark;                  /* before the versions in its names */
     u32 block, user;                   /* the block's number; the first thread that used it, plus one */
+    u32 lock;                          /* the number of its own lock in the trace, once it has one */
     u32 holder, depth;                 /* of a lock: the thread that took it, plus one, and how often */
     u32 version, head;                 /* how often it gave something; the number of the lock of its updates */
     gift *gifts;                       /* what its present value gives */
@@ -18,7 +20,7 @@ typedef struct {
     u32 posts, *waiters;               /* of a semaphore; of a reader-writer lock: the readers since the last writer */
     u64 waiter_count, waiter_capacity, first_waiters;        /* of a semaphore: all that ever wait */
     u32 count, users, arrivals;        /* of a barrier */
-    uint8_t many_users, recounted;     /* recounted: begun again with another count */
+    uint8_t is_of_atomic, many_users, recounted;             /* recounted: begun again with another count */
     uint8_t foreign;                   /* released by another thread than took it */
     u32 writer;                        /* of a reader-writer lock: who has taken a hold to write, plus one */
 } object;
@@ -33,14 +35,23 @@ static u32 *version_readers;           /* for object and version: the list of th
 static u64 version_count, version_capacity;
 
 /* A program's own lock may have an atomic and what is told of it at one address: these are two objects. */
-static object *object_of(u64 i) {
-    u64 at = address_of(i), of_atomic = (u64)is_atomic(operation_of(i)) << 63, of_other = ~of_atomic & 1ull << 63;
+static u32 find_object(u64 at, int is_of_atomic) {
+    u64 of_atomic = (u64)is_of_atomic << 63, of_other = ~of_atomic & 1ull << 63;
     u32 block = block_number(block_at(at)), number = map_number(&object_map, at | of_atomic, block);
     if (number > object_count) {
         const char *mark = map_find(&object_map, at | of_other, block) ? "@@" : "@";
         GROW(objects, object_count, object_capacity);
-        objects[object_count++] = (object){.at = at, .mark = mark, .block = block};
+        objects[object_count++] = (object){.at = at, .mark = mark, .block = block, .is_of_atomic = is_of_atomic};
     }
+    return number;
+}
+
+static object *object_of(u64 i) {
+    int is_of_atomic = is_atomic(operation_of(i));
+    piece *p = only_piece(i);
+    u32 number = p ? p->object : 0;
+    if (!number || objects[number - 1].is_of_atomic != is_of_atomic) number = find_object(address_of(i), is_of_atomic);
+    if (p) p->object = number;
     return &objects[number - 1];
 }
 
@@ -288,25 +299,25 @@ static u64 sum_of_lock(const object *o, which w) { return mix(o - objects + 1, w
 int holds_unwritten(u32 t) { return held[t].unwritten > 0; }
 u64 held_locks(u32 t) { return held[t].sum; }
 
-static part name_of_lock(const object *o, which w, u32 t, char *tail) {
-    int length = 0;
-    *tail = 0;
-    if (w.sign == 'r') snprintf(tail, LOCK_TAIL_BYTES, "@reader.%s", thread_name(t));
-    else if (w.sign) length = snprintf(tail, LOCK_TAIL_BYTES, "%s%u", o->mark, w.version);
-    if (w.sign == '<' || w.sign == '>') snprintf(tail + length, LOCK_TAIL_BYTES - length, "%c%s", w.sign, thread_name(w.thread));
-    note_name(o->at, o->block, written + 1, t);
-    return variable_name(o->at, block_of(o->block));
+/* The number of a lock in the trace. */
+static u32 lock_of(object *o, which w, u32 t) {
+    enum { TAIL_BYTES = THREAD_BYTES + 40 };
+    char text[NAME_BYTES + TAIL_BYTES];
+    if (!w.sign && o->lock) return o->lock;
+    part name = variable_name(o->at, block_of(o->block));
+    char *tail = mempcpy(text, name.at, name.length);
+    if (w.sign == 'r') tail += snprintf(tail, TAIL_BYTES, "@reader.%s", thread_name(t));
+    else if (w.sign) tail += snprintf(tail, TAIL_BYTES, "%s%u", o->mark, w.version);
+    if (w.sign == '<' || w.sign == '>') tail += snprintf(tail, text + sizeof text - tail, "%c%s", w.sign, thread_name(w.thread));
+    u32 number = trace_lock((part){text, tail - text});
+    if (!w.sign) o->lock = number;
+    return number;
 }
 
 /* The locks that the program has are those under which a page's variables are used. */
 static u64 key_of(const object *o, which w) { return (u64)(o - objects) << 1 | (w.sign == 'r'); }
 
-part name_of_held(u64 key, u32 t, char *tail) {
-    const object *o = &objects[key >> 1];
-    *tail = 0;
-    if (key & 1) snprintf(tail, LOCK_TAIL_BYTES, "@reader.%s", thread_name(t));
-    return variable_name(o->at, block_of(o->block));
-}
+part name_of_held(u64 key, u32 t) { return lock_name(lock_of(&objects[key >> 1], key & 1 ? of_reader : own, t)); }
 
 static void note_for_uses(const object *o, which w, u32 t, const char *operation) {
     if (!for_page || (w.sign && w.sign != 'r')) return;
@@ -316,9 +327,9 @@ static void note_for_uses(const object *o, which w, u32 t, const char *operation
 
 static void write_hold(u32 t, const hold *h, const char *operation, u64 caller, u32 stack) {
     if (for_page && is_behind_page()) return;
-    char tail[LOCK_TAIL_BYTES];
-    part name = name_of_lock(&objects[h->object], h->lock, t, tail);
-    hold_event(t, operation, name, tail, caller, stack);
+    object *o = &objects[h->object];
+    note_name(o->at, o->block, written + 1, t);
+    hold_event(t, operation, lock_of(o, h->lock, t), caller, stack);
 }
 
 void write_holds(u32 t) {
@@ -381,20 +392,19 @@ static void holds_after(u64 i, object *o, int is_private) {
 }
 
 /* ---- 4: events ---- */
-static void lock_event(object *o, u32 t, const char *operation, which w, u64 caller) {
+static void use_lock(object *o, u32 t, const char *operation, which w, u64 caller) {
     note_for_uses(o, w, t, operation);
     if (for_page && is_behind_page()) return;
-    char tail[LOCK_TAIL_BYTES];
-    part name = name_of_lock(o, w, t, tail);
-    event(t, operation, name, tail, caller);
+    if (with_stacks) note_name(o->at, o->block, written + 1, t);
+    lock_event(t, operation, lock_of(o, w, t), caller);
 }
 
-static void take_lock(object *o, u32 t, which w, u64 caller) { lock_event(o, t, "acq", w, caller); }
+static void take_lock(object *o, u32 t, which w, u64 caller) { use_lock(o, t, "acq", w, caller); }
 
 static void leave_lock(object *o, u32 t, which w, u64 caller) {
     int is_written = 1;
     end_hold(o, t, w, &is_written);
-    if (is_written) lock_event(o, t, "rel", w, caller);
+    if (is_written) use_lock(o, t, "rel", w, caller);
 }
 
 static void pass_lock(object *o, u32 t, which w, u64 caller) {

@@ -256,9 +256,8 @@ static void write_use(const use *u) {
             (int)place.length, place.at, u->stack);
     keep_stack(u->stack);
     for (u64 k = 0; k < sets[u->set].count; k++) {
-        char tail[LOCK_TAIL_BYTES];
-        part lock = name_of_held(set_keys[sets[u->set].first + k], u->thread, tail);
-        fprintf(uses_file, "\t%.*s%s", (int)lock.length, lock.at, tail);
+        part lock = name_of_held(set_keys[sets[u->set].first + k], u->thread);
+        fprintf(uses_file, "\t%.*s", (int)lock.length, lock.at);
     }
     fputc('\n', uses_file);
 }

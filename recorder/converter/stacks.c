@@ -64,7 +64,8 @@ typedef struct { u64 caller, function; u32 outer; uint8_t used, is_way; } node;
 /* A record OP_FRAME, with its number as the index; 0 has no function. */
 typedef struct { call call; u64 record, own_function; u32 outer, depth; uint8_t is_sought; } context;
 
-static int with_stacks, has_calls;
+int with_stacks;
+static int has_calls;
 static FILE *file;
 static const char *path;
 static calls_of_thread stacks[THREADS];

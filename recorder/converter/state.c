@@ -52,15 +52,14 @@ static u32 name_number(names *n, const char *text, u64 length) {
     u32 *slot = slot_of(n, text, length, hash);
     if (*slot) return *slot;
     GROW(n->list, n->count, n->capacity);
-    char *copy = zeroed(length + 1, 1);
+    char *copy = zeroed(length + WIDE, 1);
     memcpy(copy, text, length);
     n->list[n->count++] = (name){copy, length, hash};
     return *slot = n->count;
 }
 
 /* ---- the state of the trace ---- */
-typedef struct { char *text; u64 length, capacity; } text;
-typedef struct { u32 lock, thread, before, after, below, stack; text place; } hold;     /* one acquire that isn't released */
+typedef struct { u32 lock, thread, before, after, below, stack; part place; } hold;     /* one acquire that isn't released */
 typedef struct { u32 holder, top; } lock;                    /* the last of its holds */
 typedef struct { uint8_t started, forked, joined; } thread;
 
@@ -83,14 +82,16 @@ u32 trace_thread(const char *text, u64 length) {
     return last;
 }
 
-static u32 lock_number(const char *text, u64 length) {
+u32 trace_lock(part name) {
     u64 before = lock_names.count;
-    u32 number = name_number(&lock_names, text, length);
+    u32 number = name_number(&lock_names, name.at, name.length);
     if (lock_names.count == before) return number;
     GROW(locks, before + 1, lock_capacity);
     locks[number] = (lock){0};
     return number;
 }
+
+part lock_name(u32 number) { return (part){lock_names.list[number - 1].text, lock_names.list[number - 1].length}; }
 
 static void add_hold(u32 t, u32 l, part place, u32 stack) {
     u32 number = free_holds;
@@ -99,10 +100,7 @@ static void add_hold(u32 t, u32 l, part place, u32 stack) {
         GROW(holds, hold_count + 1, hold_capacity);
         holds[number = ++hold_count] = (hold){0};
     }
-    hold *h = &holds[number];
-    while (h->place.capacity <= place.length) h->place.text = grown(h->place.text, h->place.capacity, &h->place.capacity, 1);
-    memcpy(h->place.text, place.at, place.length);
-    *h = (hold){l, t, newest, 0, locks[l].top, stack, {h->place.text, place.length, h->place.capacity}};
+    holds[number] = (hold){l, t, newest, 0, locks[l].top, stack, place};
     if (newest) holds[newest].after = number;
     else oldest = number;
     newest = number;
@@ -149,11 +147,11 @@ u32 thread_limit = SHB_THREADS;
 
 u32 trace_threads(void) { return thread_names.count; }
 
-int trace_event(u64 length, enum event_kind kind, u32 t, part operand, part place, u32 stack) {
-    if (length > SHB_LINE || !operand.length) return 0;
+int trace_event(u64 length, enum event_kind kind, u32 t, u32 other, part place, u32 stack) {
+    if (length > SHB_LINE) return 0;
     event_of_trace o = {.kind = kind, .t = t, .place = place, .stack = stack};
-    if (kind == IS_ACQUIRE || kind == IS_RELEASE) o.lock = lock_number(operand.at, operand.length);
-    if (kind == IS_FORK || kind == IS_JOIN) o.other = trace_thread(operand.at, operand.length);
+    if (kind == IS_ACQUIRE || kind == IS_RELEASE) o.lock = other;
+    if (kind == IS_FORK || kind == IS_JOIN) o.other = other;
     if (!can_follow(o) || thread_names.count > thread_limit) return 0;
     take(o);
     return 1;
@@ -174,7 +172,7 @@ void forget_trace(void) {
 
 void each_held(held_lock give) {
     for (u32 h = oldest; h; h = holds[h].after) {
-        const name *t = &thread_names.list[holds[h].thread - 1], *l = &lock_names.list[holds[h].lock - 1];
-        give((part){t->text, t->length}, (part){l->text, l->length}, (part){holds[h].place.text, holds[h].place.length}, holds[h].stack);
+        const name *t = &thread_names.list[holds[h].thread - 1];
+        give((part){t->text, t->length}, lock_name(holds[h].lock), holds[h].place, holds[h].stack);
     }
 }

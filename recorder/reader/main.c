@@ -64,8 +64,8 @@ static void answer(u64 one, u64 two, const char *first, const char *second) {
 }
 
 static void answer_symbol(struct debug *d, u64 address) {
-    const symbol *s = symbol_at(d, address);
-    if (s) answer(s->at, s->size << SYMBOL_FLAGS | (s->is_function ? SYMBOL_IS_FUNCTION : 0) | (s->is_twice ? SYMBOL_IS_TWICE : 0), s->name, "");
+    const symbol *found = symbol_at(d, address), s = found ? *found : between_symbols(d, address);
+    answer(s.at, s.size << SYMBOL_FLAGS | (s.is_function ? SYMBOL_IS_FUNCTION : 0) | (s.is_twice ? SYMBOL_IS_TWICE : 0), found ? s.name : "", "");
 }
 
 static void answer_frames(struct debug *d, const u64 *addresses, u64 count) {
@@ -77,6 +77,14 @@ static void answer_frames(struct debug *d, const u64 *addresses, u64 count) {
             answer(k, f->path && f->line > 0 ? f->line : 0, f->function ? f->function : "", f->path ? f->path : "");
             free(frames[n].function);
         }
+    }
+}
+
+static void answer_members(struct debug *d, u64 address, const u64 *parts, u64 count) {
+    for (u64 k = 0; k + 1 < count; k += 2) {
+        char name[NAME_BYTES] = "";
+        add_member(d, address, parts[k], parts[k + 1], name, sizeof name);
+        answer(0, 0, name, "");
     }
 }
 
@@ -94,10 +102,7 @@ static void answer_request(struct debug *d, const request *r, const u64 *numbers
     case ASK_SOURCES: each_source(d, give_source); break;
     case ASK_OWN_LINES: if (has_own_lines(d)) answer(0, 0, "", ""); break;
     case ASK_UNREAD: if ((text = why_unread(d))) answer(0, 0, text, ""); break;
-    case ASK_MEMBER:
-        add_member(d, numbers[0], numbers[1], numbers[2], name, sizeof name);
-        answer(0, 0, name, "");
-        break;
+    case ASK_MEMBER: answer_members(d, numbers[0], numbers + 1, r->count - 1); break;
     case ASK_LOCAL:
         text = add_local(d, (place_of_local){numbers[0], numbers[1], numbers[2], numbers[3]}, name, sizeof name);
         if (text) answer(0, 0, name, text);

@@ -41,6 +41,11 @@ static void read_symbols(struct debug *d) {
     int count = d->file ? dwfl_module_getsymtab(d->file) : 0;
     for (int k = 1; k < count; k++) take_symbol(d, k);
     if (d->symbol_count) qsort(d->symbols, d->symbol_count, sizeof *d->symbols, by_address);
+    for (u64 k = 1; k < d->symbol_count; k++) {              /* at what is of two the second is found, so the first ends there */
+        symbol *before = &d->symbols[k - 1];
+        u64 most = d->symbols[k].at - before->at;
+        if (most && before->size > most) before->size = most;
+    }
 }
 
 static const char *name_of(symbol *s) { return s->name ? s->name : (s->name = demangled(s->linked)); }
@@ -68,6 +73,12 @@ const symbol *symbol_at(struct debug *d, u64 address) {
     name_of(s);
     if (!s->is_function) mark_doubles(d);
     return s;
+}
+
+symbol between_symbols(struct debug *d, u64 address) {
+    u64 k = count_up_to(d->symbols, d->symbol_count, sizeof *d->symbols, address);
+    u64 from = k ? d->symbols[k - 1].at + d->symbols[k - 1].size : 0, end = k < d->symbol_count ? d->symbols[k].at : MOST_ADDRESS;
+    return (symbol){.at = from, .size = end - from};
 }
 
 int is_variable(struct debug *d, const char *name) {

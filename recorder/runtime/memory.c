@@ -13,11 +13,13 @@ void *__libc_malloc(size_t), *__libc_calloc(size_t, size_t), *__libc_realloc(voi
 void *__libc_memalign(size_t, size_t);
 void __libc_free(void *);
 
-/* ---- a new block is new variables; a free is a write. A thread may have slept in the call before ---- */
+/* ---- a new block is new variables; a free is a write. A thread may have slept in the call before; one that code without hooks calls
+   may have a lock that nobody sees, so there the turn isn't given up ---- */
 void *allocated(void *p, size_t size, uint64_t caller) {
-    thread *t = p ? enter(YIELDS_BY_LIST) : 0;
+    if (self && self->new_caller) caller = self->new_caller;
+    thread *t = p ? enter(instrumented(caller) ? MAY_YIELD : YIELDS_BY_LIST) : 0;
     if (!t) return p;
-    put(t, OP_ALLOC, p, size ? size : 1, t->new_caller ? t->new_caller : caller);
+    put(t, OP_ALLOC, p, size ? size : 1, caller);
     leave(t);
     return p;
 }
@@ -25,7 +27,7 @@ void *allocated(void *p, size_t size, uint64_t caller) {
 /* What uninstrumented code frees, it may have ordered by means that nobody sees. */
 static void will_free(void *p, uint64_t caller) {
     if (!p || !others || !instrumented(caller)) return;
-    thread *t = enter(YIELDS_BY_LIST);
+    thread *t = enter(MAY_YIELD);
     if (!t) return;
     put(t, OP_FREE, p, 0, caller);
     leave(t);

@@ -23,6 +23,7 @@ int stall_seconds;
 static char *header;
 static struct record *records;
 static uint64_t written, most_records;
+static uint64_t forgotten, sum;        /* so many of them needn't be in memory; the sum of their entries, for the header */
 static uint32_t contexts;              /* of the record so far */
 uint64_t changes = 1;
 static _Atomic uint64_t room;          /* records that the file has disk space for */
@@ -77,10 +78,19 @@ static int add_step(uint64_t have) {
     return add_space(HEADER_BYTES + have * sizeof *records, STEP_BYTES);
 }
 
+/* What is written is in the file, and read no more: else it would count as the program's memory. */
+static void forget_written(void) {
+    const uint64_t page = getpagesize(), from = (uint64_t)&records[forgotten] & -page, end = (uint64_t)&records[written] & -page;
+    for (; forgotten < written; forgotten++) sum += entry_sum(forgotten, records[forgotten]);
+    if (!in_memory && end > from) madvise((void *)from, end - from, MADV_DONTNEED);
+}
+
 static void grow(void) {
     if (!move_to_file()) return;
     uint64_t have = atomic_load(&room);
-    int saved = errno, done = add_step(have);
+    int saved = errno;
+    forget_written();
+    int done = add_step(have);
     if (done) atomic_compare_exchange_strong(&room, &have, have + STEP_BYTES / sizeof *records);
     else if (errno != EINTR) {
         char reason[120];
@@ -275,9 +285,12 @@ static void put_now(thread *t, enum operation operation, const volatile void *ad
     if (segment_records) note_held(r);
 }
 
+/* A long range takes as long as a slice, so that ends with it; the stack of a thread that starts does not. */
 void put(thread *t, enum operation operation, const volatile void *address, uint64_t size, uint64_t caller) {
+    enum { LONG_RANGE = 1 << 20 };
     if (begin_work(t)) put_now(t, operation, address, size, caller);
     t->works = 0;
+    if (size >= LONG_RANGE && operation != OP_START && !is_replaying) t->quantum = 0;
 }
 
 /* The record of another thread, which makes no more. */
@@ -389,7 +402,7 @@ int open_recording(const char *path, uint64_t most, uint64_t cells) {
 }
 
 static void forget_record(void) {
-    written = contexts = 0;
+    written = contexts = forgotten = sum = 0;
     end_cells();
     begin_cells(most_cells);
     forget_contexts();
@@ -398,10 +411,9 @@ static void forget_record(void) {
 
 static void note_whole(void) {
     char text[ENDED_BYTES];
-    uint64_t sum = 0;
     note_end(own_end());
     if (has_strangers) return;
-    for (uint64_t i = 0; i < written; i++) sum += entry_sum(i, records[i]);
+    forget_written();
     snprintf(text, sizeof text, "%s %lx %lx", ENDED_WHOLE, written, sum);
     note_end(text);
 }

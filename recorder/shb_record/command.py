@@ -19,8 +19,6 @@ from shb_common.printable import printable
 from shb_common.standard import words_of
 from shb_common.stops import Stops
 from shb_common.words import counted
-from shb_record import turns
-from shb_record.live import Live
 from shb_record.looking import Look
 from shb_record.parts import LIBRARY, check_parts, say
 from shb_record.places import count
@@ -120,40 +118,22 @@ def completed(options):
     options.show, options.wait = options.wait, WAIT if options.wait is None else options.wait
     options.runs, options.until_found = options.runs or options.until_found or 1, bool(options.until_found)
     if options.replay:
+        from shb_record import turns  # as `live`, takes its time, and most calls do without
         options.turns = turns.read(options.replay)
-    options.known = known_places(options.known_path) if options.known_path else known.Known()
+    options.known = known.given(options.known_path, say)
     return options
 
 
-def known_places(path):
-    found = known.read(path)
-    for line in known.words_of_old(found):
-        say(f"{path}, {line}")
-    return found
-
-
 def record(options):
+    """Runs the program, looks at its runs, and says what was found. Gives the status."""
     results = Results(options.folder, shlex.join([options.program, *options.arguments]).replace("\n", "\\n"), options.replay)
     if options.replay:
         (results.work / REPLAYED).write_bytes(options.turns.content)
     stops = Stops("shb-record: {}: what was recorded is still shown; another one ends at once, and keeps the record\n".format, options.show)
     ctypes.CDLL(None).prctl(BECOME_PARENT_OF_ORPHANS, 1, 0, 0, 0)
-    look, own, status = (Live if options.live else Look)(options, results, stops), 0, FAILED
+    look = look_of(options)(options, results, stops)
     try:
-        for number in range(1, options.runs + 1):
-            run = Run(options, number, results.work, look.next_one if options.live else None)
-            own = own or run.status()
-            stops.note(run.stop, run.stopped)
-            look.run(number)
-            if stops.first:
-                say(f"stopped by {signal.Signals(stops.first).name}")
-                break
-            if options.until_found and look.places.unknown():
-                say(f"run {number:,} of at most {options.runs:,} is the first with {'an unknown place' if options.known_path else 'a place'} with races; "
-                    f"its seed is {options.seed + number - 1}")
-                break
-        if options.replay and not look.has_replayed:
-            look.fail(Refused(f"{options.replay} is of `{options.turns.command}`, and no recorded process was that: nothing was replayed"))
+        run_all(look)
     except CannotRun:
         raise
     except (Refused, OSError) as fault:
@@ -163,34 +143,60 @@ def record(options):
         results.keep_records()
     finally:
         stops.close()
-        status = status_of(look, own)
+        rows = look.places.rows()
+        status = status_of(look, rows)
         is_recorded = bool(look.runs) or results.has_more()
         if is_recorded:
-            for name, text in tables_of(look, status).items():
+            for name, text in tables_of(look, rows, status).items():
                 results.tables[name].write_bytes(text)
         results.close(is_recorded)
     if is_recorded:
-        conclude(look, own, status)
+        conclude(look, rows, status)
     else:
-        say(f"nothing was recorded; the program's own status: {own}")
+        say(f"nothing was recorded; the program's own status: {look.own}")
     return status
 
 
-def status_of(look, own):
+def run_all(look):
+    """Runs the program as often as it is to be run, and looks at each run."""
+    options = look.options
+    for number in range(1, options.runs + 1):
+        run = Run(options, number, look.results.work, look.next_one if options.live else None)
+        look.own = look.own or run.status()
+        look.stops.note(run.stop, run.stopped)
+        look.run(number)
+        if look.stops.first:
+            say(f"stopped by {signal.Signals(look.stops.first).name}")
+            break
+        if options.until_found and look.places.unknown():
+            say(f"run {number:,} of at most {options.runs:,} is the first with {'an unknown place' if options.known_path else 'a place'} with races; "
+                f"its seed is {options.seed + number - 1}")
+            break
+    if options.replay and not look.has_replayed:
+        raise Refused(f"{options.replay} is of `{options.turns.command}`, and no recorded process was that: nothing was replayed")
+
+
+def look_of(options):
+    if options.live:
+        from shb_record.live import Live
+        return Live
+    return Look
+
+
+def status_of(look, rows):
     if look.is_contradicted:
         return FAILED
-    if look.places.unknown():
+    if any(not row.is_known for row in rows):
         return RACES
     if look.options.fail_on_stale and look.stale():
         return STALE
     if look.has_failed:
         return FAILED
-    return CUT if look.is_cut or look.is_killed and not own else own
+    return CUT if look.is_cut or look.is_killed and not look.own else look.own
 
 
-def conclude(look, own, status):
+def conclude(look, rows, status):
     """Says what was found, and what that means."""
-    rows = look.places.rows()
     unknown = count(row for row in rows if not row.is_known)
     passed_over, behind = count(rows) - unknown, count(row for row in rows if row.state() == "behind")
     for words in known.words_of_stale(look.stale(), look.places.names):
@@ -202,7 +208,7 @@ def conclude(look, own, status):
         + (f", {counted(passed_over, 'known one')} passed over" if passed_over else "")
         + ("; not the whole of the run was seen" if look.is_cut or look.is_killed else "")
         + ("; not all could be looked at" if look.has_failed else "")
-        + f"; the program's own status: {own}; files in {look.results.folder}")
+        + f"; the program's own status: {look.own}; files in {look.results.folder}")
     for line in dict.fromkeys([*look.counts(), *look.notes, *look.meaning()]):
         say(line)
     if len(look.runs) > 1:

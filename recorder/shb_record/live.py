@@ -10,7 +10,7 @@ from shb_common.faults import Refused
 from shb_common.programs import pair_of
 from shb_common.words import counted
 from shb_record.converting import KILLED, process_of
-from shb_record.looking import Look, Looked
+from shb_record.looking import Look
 from shb_record.parts import say
 from shb_record.places import Places
 from shb_record.running import cause
@@ -54,7 +54,7 @@ class Live(Look):
         """Looks at the segment that was closed first, if one is there. Gives whether it was."""
         closed = [path for path in self.files() if is_closed(path)]
         if closed:
-            self.look_at(closed[0])
+            self.take(closed[0])
         return bool(closed)
 
     def files(self):
@@ -70,13 +70,14 @@ class Live(Look):
     def run(self, number):
         """Looks at what is left when the program has ended."""
         for path in self.files():
-            self.look_at(path)
+            self.take(path)
         if not self.segments:
             raise Refused(f"{self.options.program} left no record: {cause(self.options.program)}")
         if self.dropped:
             self.is_cut = True
 
-    def look_at(self, path):
+    def take(self, path):
+        """Looks at a segment, if it is still there."""
         taken = path.with_suffix(".taken")
         try:
             path.rename(taken)
@@ -88,11 +89,7 @@ class Live(Look):
         blocks = self.results.work / f"{base}.blocks"
         if blocks.exists():
             process = process._replace(blocks=blocks)
-        looked = self.tried(self.analyse, process, Looked(process, self.options))
-        if self.options.known_path:
-            looked = looked and self.tried(self.look_again, process, looked)
-        if looked:
-            self.tried(self.show, process, looked)
+        self.look_at([process])
         blocks.unlink(missing_ok=True)
         with contextlib.suppress(FileNotFoundError):
             taken.with_suffix(".left").rename(blocks)
@@ -124,11 +121,12 @@ class Live(Look):
         return not place.has_more and all(way_to(process, place, variable) in self.met and not variable.startswith(b"stack.")
                                           for variable in place.variables)
 
-    def add_new(self, process, looked, places, is_behind=False):
+    def add_new(self, looked, places, is_behind=False):
+        process = looked.process
         if places and not looked.conversion.has_page:
             found = [(place, {variable: self.met[way_to(process, place, variable)] for variable in place.variables}) for place in places]
             return [], [(next(key for key, _ in its.values()), place, {variable: name for variable, (_, name) in its.items()}) for place, its in found]
-        new, named = super().add_new(process, looked, places, is_behind)
+        new, named = super().add_new(looked, places, is_behind)
         if not is_behind:
             self.met.update((way_to(process, place, variable), (key, name)) for key, place, names in named for variable, name in names.items())
         return new, named
@@ -138,17 +136,17 @@ class Live(Look):
         if self.failed <= MOST_KEPT:
             super().keep_failed(process)
 
-    def keep_files(self, process, looked):
+    def keep_files(self, looked):
         if looked.new:
-            super().keep_files(process, looked)
+            super().keep_files(looked)
 
-    def show(self, process, looked):
-        unknown = self.places.unknown_of(looked.new)
+    def show(self, looked):
+        process, unknown = looked.process, self.places.unknown_of(looked.new)
         self.events += looked.events
         self.note_cuts(looked)
         if unknown:
             say(f"{process.name} ({process.command}): {looked.conversion.size}; {counted(len(unknown), 'new place')} with races")
-            self.show_places(process, looked, unknown)
+            self.show_places(looked, unknown)
         for note in looked.conversion.notes:
             if note not in self.said and (looked.events or note != KILLED):
                 self.said.add(note)

@@ -19,7 +19,6 @@ from shb_record.parts import ANALYSER, now, say
 from shb_record.places import Places
 from shb_record.running import PRELOADED, cause
 from shb_record.scanning import Contradiction, scanning
-from shb_record.second import Second, add_races, besides
 
 
 KINDS = {b"r": "read", b"w": "written"}
@@ -40,6 +39,7 @@ class Look:
     def __init__(self, options, results, stops):
         self.options, self.results, self.stops, self.started = options, results, stops, now()[:-3]
         self.places, self.pages, self.found = Places(options.known), [], {}
+        self.own = 0  # the program's own status, of the first run where it isn't 0
         self.runs = []  # of each run: the order of each process
         self.has_replayed, self.again = False, None  # did a process follow the list? the list of the first with an unknown place
         self.sources, self.notes = {}, {}  # by process and trace: the paths of source files; what is to know of pages
@@ -52,25 +52,30 @@ class Look:
         if not found:
             raise Refused(f"{self.options.program} left no record: {cause(self.options.program)}")
         self.runs.append([])
-        looked = [self.tried(self.analyse, process, Looked(process, self.options)) for process in found]
-        # Only when the source files of all programs are known it is known which names they share.
-        if self.options.known_path:
-            looked = [one and self.tried(self.look_again, one.process, one) for one in looked]
-        has_events = [one is None or bool(one.events) for one in [one and self.tried(self.show, one.process, one) for one in looked]]
+        looked = self.look_at(found)
         for process in found:
             if process.record.exists():
                 process.record.unlink()
-        if not any(has_events):
+        if not any(one is None or one.events for one in looked):
             if self.is_cut:
                 words = shlex.join(["shb-record", "env", f"LD_PRELOAD={PRELOADED}", self.options.program, *self.options.arguments])
                 late = any(one and LATE in cut for one in looked for cut in one.conversion.cuts)
                 raise Refused("nothing of the run was recorded" + f"; for a module with hooks that the program loads later run `{words}`" * late)
             say(f"run {number}: {counted(len(found), 'recorded process', 'recorded processes')}, none with a second thread")
 
-    def tried(self, do, process, looked):
+    def look_at(self, found):
+        """Analyses processes and shows them: only when the source files of all programs are known it is known which names they share.
+        Gives for each what was found in it, None where something failed."""
+        looked = [self.tried(self.analyse, Looked(process, self.options)) for process in found]
+        if self.options.known_path:
+            looked = [one and self.tried(self.look_again, one) for one in looked]
+        return [one and self.tried(self.show, one) for one in looked]
+
+    def tried(self, do, looked):
         """Does something for a process. Where it fails the record is kept, and there is no answer."""
+        process = looked.process
         try:
-            do(process, looked)
+            do(looked)
         except (Refused, OSError) as fault:
             self.fail(fault)
             if process.record.exists():
@@ -89,7 +94,6 @@ class Look:
 
     def stale(self):
         """The lines of the known places that matched nothing, which is asked when all places were."""
-        self.places.unknown()
         return self.places.given.stale() if self.runs and not self.has_failed else []
 
     def meaning(self):
@@ -107,20 +111,20 @@ class Look:
         self.has_failed = True
         self.is_contradicted = self.is_contradicted or isinstance(fault, Contradiction)
 
-    def analyse(self, process, looked):
+    def analyse(self, looked):
         """Converts and analyses a process."""
-        check_room(process, self.options.window)
-        conversion = looked.conversion
+        check_room(looked.process, self.options.window)
         with scanning(self.results.work) as scan:
-            looked.places = conversion.places(scan, self.choose)
+            looked.places = looked.conversion.places(scan, self.choose)
             looked.events = scan.events
         if looked.events:
-            self.modules.add(process.modules)
-        looked.new, looked.named = self.add_new(process, looked, looked.places)
-        self.keep_files(process, looked)
+            self.modules.add(looked.process.modules)
+        looked.new, looked.named = self.add_new(looked, looked.places)
+        self.keep_files(looked)
 
-    def add_new(self, process, looked, places, is_behind=False):
+    def add_new(self, looked, places, is_behind=False):
         """Takes some of the places of a process, as `Places.add_new` does."""
+        process = looked.process
         origin = Origin(None, process.program)
         if places:
             tables = tables_in(looked.conversion.stacks)
@@ -130,13 +134,13 @@ class Look:
             origin.add_modules(process.modules)
         return self.places.add_new(process, self.results.folder / f"{process.base}.std", origin, places, looked.conversion.numbers, is_behind)
 
-    def keep_files(self, process, looked):
+    def keep_files(self, looked):
         """Moves the files of a page out of the folder of work."""
         if not looked.places or looked.has_files:
             return
         looked.has_files, conversion = True, looked.conversion
         conversion.trace, conversion.scan, conversion.uses, conversion.stacks = (
-            self.results.keep(path, f"{process.base}{path.suffix}") for path in (conversion.trace, conversion.scan, conversion.uses, conversion.stacks))
+            self.results.keep(path, f"{looked.process.base}{path.suffix}") for path in (conversion.trace, conversion.scan, conversion.uses, conversion.stacks))
 
     def choose(self, process, places):
         """The places that are to be on a page. Where the command was told to end they are said: what comes then takes its time."""
@@ -145,11 +149,12 @@ class Look:
             say_places((place, place.variables) for place in places)
         return places
 
-    def look_again(self, process, looked):
+    def look_again(self, looked):
         """Looks behind the known races of a process."""
         accesses, races = self.places.known_in(looked.named)
         if not accesses:
             return
+        from shb_record.second import Second, add_races, besides  # takes its time, and most calls do without
         second = Second(accesses, races)
         looked.behind = besides(looked.places, second.places(looked.conversion, self.results.work))
         self.passed_over.update(dict.fromkeys((one.location, other.location) for one, other in second.seen))
@@ -157,15 +162,15 @@ class Look:
             looked.places = [*looked.places, *looked.behind]
             looked.conversion.write_page(looked.places)
             add_races(looked.conversion.scan, looked.behind)
-            new, _ = self.add_new(process, looked, looked.behind, True)
+            new, _ = self.add_new(looked, looked.behind, True)
             looked.new = [*looked.new, *new]
-            self.keep_files(process, looked)
+            self.keep_files(looked)
 
-    def show(self, process, looked):
+    def show(self, looked):
         """Shows a process, and says how much it has."""
-        conversion, unknown = looked.conversion, self.places.unknown_of(looked.new)
+        process, conversion, unknown = looked.process, looked.conversion, self.places.unknown_of(looked.new)
         if unknown:
-            self.show_places(process, looked, unknown)
+            self.show_places(looked, unknown)
         self.note_cuts(looked)
         self.keep_turns(process, bool(unknown))
         if looked.events and self.options.runs > 1:
@@ -195,9 +200,9 @@ class Look:
             self.has_replayed = True
             say(f"{process.name} ({process.command}): {process.replay}")
 
-    def show_places(self, process, looked, unknown):
+    def show_places(self, looked, unknown):
         """The view's page and text of new places that aren't known, and what it found; where it fails, the new places alone."""
-        conversion, numbers = looked.conversion, looked.conversion.numbers
+        process, conversion, numbers = looked.process, looked.conversion, looked.conversion.numbers
         is_on_page = [any(one.place.variables[name].events in numbers for name in one.variables & one.place.variables.keys()) for one in unknown]
         show_apart([one for one, is_there in zip(unknown, is_on_page) if not is_there])
         if not any(is_on_page):

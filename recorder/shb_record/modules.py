@@ -52,10 +52,12 @@ class Modules:
         kinds = {path: self.kinds.get(path) for path in dict.fromkeys(paths)}
         hooked = [path for path, kind in kinds.items() if kind and kind.has_hooks]
         needed = set().union(*(kinds[path].needs for path in hooked))
+        bare = [path for path, kind in kinds.items() if kind and not kind.has_hooks and os.path.basename(path) in needed]
+        if not bare:
+            return self.stand_for(kinds)
         recorded, of_module = read_in(bytes(LIBRARY / "libtsan.so"), exports_of) or set(), {}
-        for path, kind in kinds.items():
-            if kind and not kind.has_hooks and os.path.basename(path) in needed:
-                of_module.update(dict.fromkeys((read_in(path, exports_of) or set()) - recorded, os.path.basename(path)))
+        for path in bare:
+            of_module.update(dict.fromkeys((read_in(path, exports_of) or set()) - recorded, os.path.basename(path)))
         calls = set().union(*(read_in(path, calls_of) or () for path in hooked)) if of_module else ()
         return {*self.stand_for(kinds), *((function, of_module[called]) for function, called in calls if called in of_module)}
 

@@ -15,9 +15,9 @@ from shb_common.words import counted
 from shb_record.places import count, table
 
 
-def tables_of(look, status):
-    """The tables of all that was looked at, by their names."""
-    rows, entries, groups = look.places.rows(), {}, []
+def tables_of(look, rows, status):
+    """The tables of all that was looked at, by their names. `rows` are those of its places."""
+    entries, groups = {}, []
     for (process, trace), found in look.found.items():
         places = [{**place, "group": len(groups) + place["group"]} for place in found["places"]]
         entries.update(result.entries_of((process, trace), places))
@@ -68,7 +68,7 @@ def without_numbers(found):
 def access_of(one, sources):
     """An access of an entry, with one of its stacks."""
     frames = [Frame(*(frame[name].encode() for name in ("function", "location")), frame.get("in_system", False)) for frame in one["stacks"][0]["frames"]]
-    return sarif.Access(f"{one['thread']}|{one['operation']}|".encode(), frames, sources)
+    return sarif.Access(one["thread"].encode(), one["operation"].encode(), frames, sources)
 
 
 def index(look, rows):

@@ -12,7 +12,6 @@ from analysis import Analysis
 from shb_common.report import Report
 from test_record import HEADER, entry
 
-MOST_ORDER = 4095  # of accesses that are late behind one entry
 BLOCK = re.compile(rb"0x[0-9a-f]+#(\d+)(?:\+(\d+))?")
 
 

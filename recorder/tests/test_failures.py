@@ -90,6 +90,18 @@ class Failures(recorder.Case):
         self.assertRegex(answer.stderr, rb"shb-std: (99\d|1000) records")
         self.assertEqual(recorder.places(answer.stdout), set())
 
+    def test_a_long_record_does_not_stay_in_memory(self):
+        program, record = self.folder / "app", self.folder / "app.rec"
+        recorder.must(recorder.call("gcc", "-w", "-g", "-O1", "-DSTEPS=3000000", "-fsanitize=thread", "-pthread", f"-B{recorder.BUILT}/lib/",
+                                    recorder.PROGRAMS / "long_run.c", "-o", program))
+        with subprocess.Popen([program], env=recorder.settings(record, SHB_CELLS="0")) as ran:
+            _, status, used = os.wait4(ran.pid, 0)
+            ran.returncode = status
+        self.assertEqual(status, 0)
+        self.assertGreater(record.stat().st_size, 160 << 20)
+        self.assertLess(used.ru_maxrss << 10, record.stat().st_size // 2)
+        recorder.must(recorder.convert(record))
+
     def test_loops_that_wait_do_not_reach_it(self):
         path = self.folder / "app.rec"
         ran = recorder.must(recorder.call(self.program("spin.c"), env=recorder.settings(path, SHB_RECORDS="300")))

@@ -1,6 +1,5 @@
 """Debug information in each form of it: names are read, or a line says of which module they aren't, and why."""
 
-import os
 import re
 import shutil
 import sys

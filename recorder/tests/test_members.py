@@ -43,6 +43,33 @@ class Members(recorder.Case):
         self.check("members.cc")
 
 
+class Elements(recorder.Case):
+    """Those of an array are asked for many at once."""
+
+    ASKED = """#!{python}
+import os, struct, subprocess, sys
+real = subprocess.Popen([{real!r}, sys.argv[1]], stdin=subprocess.PIPE)  # it answers by itself
+log = os.open({log!r}, os.O_WRONLY | os.O_CREAT | os.O_APPEND)
+while len(head := sys.stdin.buffer.read(16)) == 16:
+    os.write(log, os.fsencode(os.path.basename(sys.argv[1])) + b"\\n")
+    real.stdin.write(head + sys.stdin.buffer.read(8 * struct.unpack("<QQ", head)[1]))
+    real.stdin.flush()
+"""
+
+    def test_they_are_not_asked_for_one_by_one(self):
+        program, record, log, reader = self.folder / "app", self.folder / "app.rec", self.folder / "log", self.folder / "module-reader"
+        recorder.build(recorder.PROGRAMS / "elements.c", "-O1", program)
+        recorder.must(recorder.call(program, env=recorder.settings(record)))
+        shutil.copy(recorder.BUILT / "shb-std", self.folder)
+        reader.write_text(self.ASKED.format(python=sys.executable, real=str(recorder.BUILT / "module-reader"), log=str(log)))
+        reader.chmod(0o755)
+        trace = recorder.must(recorder.call(self.folder / "shb-std", record)).stdout.decode()
+        wanted = {f"table[{k}].{of}" for k in range(100000) for of in ("at.y", "parts[1]")} | {"both.count", "both.tail[3]"}
+        wanted |= {f"both.rows[{row}][{k}]" for row in range(4) for k in range(5000)} | {f"both.pairs[{k}]" for k in range(3)}
+        self.assertEqual(set(re.findall(r"(?m)\|w\((.*)\)\|", trace)), wanted)
+        self.assertLess(log.read_text().count("app\n"), 1000)
+
+
 class Blocks(recorder.Case):
     """What lies in a block is named by the block's type: by what the C++ library allocates, or by the line. What isn't certain has no name."""
 

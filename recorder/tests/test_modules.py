@@ -227,7 +227,7 @@ os.kill(os.getpid(), signal.SIGSEGV)
         whole = recorder.places(recorder.must(recorder.convert(self.path)).stdout)
         self.assertEqual(len(whole), 1)
         stand_in, crashed, met = self.folder / "stand_in.py", f"shb-std: {self.program}{MAY_BE_ADDRESSES}debug information can't be read: its reader crashed", set()
-        for left in 0, 1, 23, 24, 30, 60, 150, 400, 700, 1000:
+        for left in 0, 1, 23, 24, 30, 60, 150, 400, 700, 800:
             stand_in.write_text(self.STAND_IN.format(real=str(recorder.BUILT / "module-reader"), left=left))
             answer = self.convert(f'[ "$1" = "{self.program}" ] || exit 1\nexec python3 "{stand_in}" "$1"')
             found = recorder.places(answer.stdout)

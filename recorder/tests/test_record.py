@@ -275,31 +275,6 @@ for number, line in ((11, "T1|w(0x10000130)|0x20a"), (21, "main|r(0x10000130)|0x
     OPEN[number] = OPEN[number][0], [line]
 
 
-X = "w(0x10000060)"
-REPEATED = [  # with -r, of a variable that races: what is ordered once, and of what repeats the first and the last
-    (entry(0, "WRITE", CELL, 0x101, 4), [f"main|{X}|0x101"]),
-    (entry(0, "WRITE", CELL, 0x101, 4), []),
-    (entry(0, "WRITE", CELL, 0x101, 4), []),
-    (entry(0, "FORK", 1, 0x102), ["main|fork(T1)|0x102"]),
-    (entry(1, "WRITE", CELL, 0x201, 4), [f"T1|{X}|0x201"]),
-    (entry(1, "WRITE", CELL, 0x201, 4), []),
-    (entry(1, "WRITE", CELL, 0x201, 4), []),
-    (entry(1, "WRITE", CELL, 0x202, 4), [f"T1|{X}|0x202"]),
-    (entry(1, "WRITE", CELL, 0x201, 4), [f"T1|{X}|0x201"]),
-    (entry(0, "WRITE", CELL, 0x103, 4), [f"main|{X}|0x103"]),
-    (entry(0, "WRITE", CELL, 0x103, 4), [f"main|{X}|0x103"]),
-    (entry(1, "WRITE", CELL, 0x201, 4), [f"T1|{X}|0x201"]),
-    (entry(0, "WRITE", CELL, 0x103, 4), [f"main|{X}|0x103"]),
-    (entry(0, "LOCK", LOCK, 0x104), []),
-    (entry(0, "WRITE", CELL, 0x103, 4), ["main|acq(0x10000010)|0x104", f"main|{X}|0x103"]),
-    (entry(0, "UNLOCK", LOCK, 0x105), ["main|rel(0x10000010)|0x105"]),
-    (entry(0, "JOIN", 1, 0x106), ["main|join(T1)|0x106"]),
-    (entry(0, "WRITE", CELL, 0x107, 4), [f"main|{X}|0x107"]),  # main gave nothing since 0x103, so it counts as open too
-    (entry(0, "WRITE", CELL, 0x107, 4), []),
-    (entry(0, "WRITE", CELL, 0x107, 4), [f"main|{X}|0x107"]),
-]
-
-
 class Open(recorder.Case):
     def setUp(self):
         super().setUp()

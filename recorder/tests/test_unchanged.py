@@ -20,7 +20,7 @@ class Unchanged(recorder.Case):
         (self.folder / "app.rec").unlink(missing_ok=True)
         return recorder.must(recorder.call(*words, env=self.settings(**more), cwd=self.folder))
 
-    def racing_lines(self, name, answer=None):
+    def racing_lines(self, answer=None):
         """The lines with races of the record, which are marked in the program."""
         trace = (answer or recorder.must(recorder.convert(self.folder / "app.rec"))).stdout
         return {line for pair in recorder.places(trace) for line in pair}
@@ -40,7 +40,7 @@ class OwnFiles(Unchanged):
                 ran = self.run_recorded(program, way, "data")
                 self.assertEqual((ran.stdout, ran.stderr), (b"3: 1048576 of 1048576\n", b""))
                 self.assertEqual((self.folder / "data").read_bytes(), b"x" * (1 << 20))
-                self.assertEqual(self.racing_lines("own_files.c"), self.marked("own_files.c"))
+                self.assertEqual(self.racing_lines(), self.marked("own_files.c"))
 
     def test_a_record_that_has_another_path(self):
         """It can't be opened again: its descriptor was spared."""
@@ -49,7 +49,7 @@ class OwnFiles(Unchanged):
             with self.subTest(way):
                 self.assertEqual(self.run_recorded(program, way, "moved.rec", "app.rec").stderr, b"")
                 answer = recorder.must(recorder.convert(self.folder / "moved.rec"))
-                self.assertEqual(self.racing_lines("own_files.c", answer), self.marked("own_files.c"))
+                self.assertEqual(self.racing_lines(answer), self.marked("own_files.c"))
 
     def test_a_record_that_is_gone_ends_the_recording(self):
         ran = self.run_recorded(self.program("own_files.c"), "syscall", "moved.rec", "app.rec", SHB_CELLS="0")
@@ -58,7 +58,7 @@ class OwnFiles(Unchanged):
         self.assertEqual(ran.stderr, b"shb recorder: no disk space for the record (No such file or directory); "
                                      b"the recording ends here, the program goes on\n")
         answer = recorder.part(recorder.convert(self.folder / "moved.rec"))
-        self.assertEqual(self.racing_lines("own_files.c", answer), self.marked("own_files.c"))
+        self.assertEqual(self.racing_lines(answer), self.marked("own_files.c"))
 
 
 class OwnLimits(Unchanged):
@@ -73,7 +73,7 @@ class OwnLimits(Unchanged):
         self.assertEqual(ran.stderr, said)
         answer = recorder.convert(self.folder / "app.rec")
         self.assertIn(b"is not the whole run: " + reason if reason else b"events", answer.stderr)
-        return ran.stdout, self.racing_lines("own_limits.c", answer)
+        return ran.stdout, self.racing_lines(answer)
 
     def test_the_size_of_files(self):
         reason = b"the limit of a file's size is reached (ulimit -f)"
@@ -101,7 +101,7 @@ class Names(Unchanged):
     def test_functions_that_the_c_library_has_in_two_versions(self):
         ran = self.run_recorded(self.program("versions.c"))
         self.assertEqual((ran.stdout, ran.stderr), (b"bye\n", b""))
-        self.assertEqual(self.racing_lines("versions.c"), self.marked("versions.c"))
+        self.assertEqual(self.racing_lines(), self.marked("versions.c"))
 
     def test_the_cxx_library_linked_into_a_program_that_was_linked_with_libtsan(self):
         program = self.folder / "news"
@@ -121,7 +121,7 @@ class Library(Unchanged):
                 ran = self.run_recorded(program)
                 self.assertIn(b"errno 77\nended\n", alone.stdout)
                 self.assertEqual((ran.stdout, ran.stderr), (alone.stdout, b""))
-                self.assertEqual(self.racing_lines("library_unchanged.c"), self.marked("library_unchanged.c"))
+                self.assertEqual(self.racing_lines(), self.marked("library_unchanged.c"))
 
 
 class NoRights(Unchanged):
@@ -140,7 +140,7 @@ class NoRights(Unchanged):
                 ran = self.run_without(what)
                 self.assertEqual(ran.stderr, b"")
                 answer = recorder.must(recorder.convert(self.folder / "app.rec"))
-                self.assertEqual(self.racing_lines("no_proc.c", answer), self.marked("no_proc.c"))
+                self.assertEqual(self.racing_lines(answer), self.marked("no_proc.c"))
                 filled, expected = 0, []
                 for thread in re.findall(r"^(\w+)\S*\|[wr]\(block\[67108863\]\)", answer.stdout.decode(), re.M):
                     filled += thread != "main"
@@ -153,4 +153,4 @@ class NoRights(Unchanged):
         self.assertEqual(ran.stderr, b"shb recorder: " + reason + b"; the recording ends here, the program goes on\n")
         answer = recorder.part(recorder.convert(self.folder / "app.rec"))
         self.assertIn(b"is not the whole run: " + reason, answer.stderr)
-        self.assertLessEqual(self.racing_lines("no_proc.c", answer), self.marked("no_proc.c"))
+        self.assertLessEqual(self.racing_lines(answer), self.marked("no_proc.c"))

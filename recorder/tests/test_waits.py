@@ -12,3 +12,13 @@ class Waits(recorder.Case):
         self.assertGreater(ways.stdout.count(b"\n"), 20)
         ran = recorder.call("timeout", "100", self.folder / "waits", env=recorder.settings(self.folder / "app.rec"))
         self.assertEqual((ran.stdout, ran.stderr, ran.returncode), (ways.stdout, b"", 0))
+
+    def test_no_thread_keeps_the_turn_by_its_memory(self):
+        """In such a recorder calls that get memory end a slice, and so does each long range, however long slices are."""
+        patient = recorder.build_recorder(self.folder, "CFLAGS=-O2 -DPATIENT")
+        recorder.build(recorder.PROGRAMS / "starves.c", "-O1", self.folder / "starves", patient)
+        for way, slice in enumerate((100, 100, 100_000_000)):
+            with self.subTest(way):
+                env = recorder.settings(self.folder / f"{way}.rec", 1, slice, SHB_RECORDS="5000000")
+                ran = recorder.call("timeout", "100", self.folder / "starves", way, env=env)
+                self.assertEqual((ran.returncode, ran.stderr), (0, b""))

@@ -24,6 +24,7 @@ class Section(typing.NamedTuple):
     seen: typing.Sequence[typing.Tuple[bytes, bytes]] = ()  # lines of races where the second reads what the first wrote
     unseen: typing.Sequence[bytes] = ()  # modules without hooks that may order its accesses
     is_behind: bool = False  # found behind known races
+    is_asked_for: bool = True  # those that aren't are in the page alone
 
 
 class Facts:

@@ -7,8 +7,9 @@ import unicodedata
 
 MOST_MARKS = 3  # combining marks that stay with one character
 MOST_BYTES = 4 * (MOST_MARKS + 1)  # of what takes a column
-# Ranges of letters and marks that print as nothing: Unicode's Default_Ignorable_Code_Point, and the empty Braille pattern.
-UNSEEN = re.compile("[\u034f\u115f\u1160\u17b4\u17b5\u180b-\u180f\u2800\u3164\ufe00-\ufe0f\uffa0\U000e0100-\U000e01ef]")
+# Letters and marks that print as nothing: Unicode's Default_Ignorable_Code_Point, and the empty Braille pattern.
+UNSEEN = frozenset(map(chr, (0x34f, 0x115f, 0x1160, 0x17b4, 0x17b5, *range(0x180b, 0x1810), 0x2800, 0x3164, *range(0xfe00, 0xfe10), 0xffa0,
+                             *range(0xe0100, 0xe01f0))))
 ISOLATE, END = "\u2068", "\u2069"  # around a name with letters that are read from right to left
 
 
@@ -87,7 +88,7 @@ def characters(name):
 
 def is_seen(character):
     """Whether the character is shown as it is. Marks print where there is a character before them."""
-    if character == "\\" or UNSEEN.match(character):
+    if character == "\\" or character in UNSEEN:
         return False
     return unicodedata.category(character).startswith("M") or (
         character.isprintable() and unicodedata.is_normalized("NFC", character))

@@ -18,7 +18,6 @@ from shb_view.names import code_line, readable, short
 from shb_view.picture import picture
 from shb_view.source import excerpt
 from shb_view.stacks import frame_parts, origins
-from shb_view.text import chosen_sections
 from shb_view.words import (VERBS, MOST_SITES, NO_LOCK, Code, about, accesses_text, listed, lock_parts, lock_words, notes_of, partner_parts, place,
                             share, summary, thread_parts)
 
@@ -37,13 +36,13 @@ def page_parts(view):
             element("title", f"{view.title}: {summary(view)[0]}"), element("style", Markup(style))]
     yield "<!doctype html>\n<html lang=\"en\">\n"
     yield element("head", joined(head, "\n")) + "\n<body>\n" + header(view) + "\n<main id=\"groups\">\n"
-    chosen = {number for number, _ in chosen_sections(view)}
-    tags = {True: "new", False: "known"} if len(chosen) < len(view.sections) else {}
-    rows = {number: group_row(view, number, section, tags.get(number in chosen)) for number, section in enumerate(view.sections, 1)}
-    yield joined((rows[number] for number in rows if number in chosen), "\n")
-    known = [rows[number] for number in rows if number not in chosen]
-    if known:
-        yield element("details", element("summary", counted(len(known), "group"), f" {KNOWN}"), *known, id="known")
+    tags = {} if all(section.is_asked_for for section in view.sections) else {True: "new", False: "known"}
+    rows = {True: [], False: []}
+    for number, section in enumerate(view.sections, 1):
+        rows[section.is_asked_for].append(group_row(view, number, section, tags.get(section.is_asked_for)))
+    yield joined(rows[True], "\n")
+    if rows[False]:
+        yield element("details", element("summary", counted(len(rows[False]), "group"), f" {KNOWN}"), *rows[False], id="known")
     yield "\n</main>\n"
     if view.groups > len(view.sections):
         yield element("p", f"and {counted(view.groups - len(view.sections), 'more group')}")

@@ -34,7 +34,7 @@ def text_lines(view, colours, is_whole, has_notes=True):
     races, size = summary(view)
     yield f"{colours.bold(f'{view.title}: {races}')} ({size})"
     yield from map(colours.red, view.notes)
-    chosen = chosen_sections(view)
+    chosen = [(number, section) for number, section in enumerate(view.sections, 1) if section.is_asked_for]
     if len(chosen) < len(view.sections):
         yield f"Of {counted(len(view.sections), 'group')} {len(chosen):,} are shown, those with a place that is asked for."
     for number, section in chosen:
@@ -49,12 +49,6 @@ def text_lines(view, colours, is_whole, has_notes=True):
         yield f"and {counted(view.groups - len(view.sections), 'more group')}"
     notes = [*notes_of(view), *view.about] if has_notes else []
     yield from ["", *notes] if notes and view.sections else notes
-
-
-def chosen_sections(view):
-    """The groups that have a place which is asked for, with their numbers."""
-    chosen = set(range(len(view.sections))) if view.only is None else view.groups_at(view.only)
-    return [(number + 1, section) for number, section in enumerate(view.sections) if number in chosen]
 
 
 def section_lines(view, number, section, colours):

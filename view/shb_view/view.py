@@ -75,7 +75,7 @@ class Subject(typing.NamedTuple):
 
 class View(typing.NamedTuple):
     """All that is shown. `pairs` and `groups` are how many there are, `sections` those that are shown. `notes` are what the caller said of the
-    trace, `about` what it said of the recorder; `only` are the places whose groups the text has, or None for all."""
+    trace, `about` what it said of the recorder."""
 
     title: str
     made: Subject
@@ -87,7 +87,6 @@ class View(typing.NamedTuple):
     about: typing.List[str]
     stacks: Stacks
     kinds: Kinds
-    only: typing.Optional[known.Known]
     turns: str
     command: str
 
@@ -108,11 +107,13 @@ class View(typing.NamedTuple):
                 found[name] = found.get(name, 0) + races
         return [{"name": name, **({} if self.of_scan or self.made.is_sample else {"races": races})} for name, races in sorted(found.items())]
 
-    def groups_at(self, places):
-        """The numbers, from 0, of the groups that are shown and have a place of a file of known places."""
-        origin, names = naming(self.stacks, set().union(*(section.group.locations() for section in self.sections)))
-        return {number for number, section in enumerate(self.sections)
-                if any(is_at(places, origin, names, pair, section.group) for pair in section.group.places())}
+
+def are_at(path, sections, stacks):
+    """Of each group whether it has a place of a file of known places."""
+    with damage_of(path):
+        places = known.read(path)
+    origin, names = naming(stacks, set().union(*(section.group.locations() for section in sections)))
+    return [any(is_at(places, origin, names, pair, section.group) for pair in section.group.places()) for section in sections]
 
 
 def is_at(places, origin, names, pair, group):
@@ -134,15 +135,16 @@ def make_view(options, progress):
         groups = gathered.groups()
         kinds = Kinds(gathered, stacks)
         count, sections = make_sections(options, kinds, made, Trace(file, progress, made.parts), groups)
+        for name, path in (("is_asked_for", options.only), ("is_behind", options.behind)):
+            if path:
+                sections = [section._replace(**{name: is_there}) for section, is_there in zip(sections, are_at(path, sections, stacks))]
         title = readable(os.fsencode(options.title or os.path.basename(options.trace)))
         pairs = sum(group.count() for group in groups)
         source = Source(options.source, os.fstat(file.fileno()).st_mtime, stacks.sources if options.recorded_source else {})
         notes, about = ([readable(os.fsencode(line)) for line in lines] for lines in (options.note, options.about))
         turns = readable(os.fsencode(options.turns)) if options.turns else ""
-        found = View(title, made, pairs, count, sections, source, [*notes, *warnings(options.trace)], about, stacks, kinds, places_of(options.only),
-                     turns, readable(os.fsencode(options.command)))
-        behind = found.groups_at(places_of(options.behind)) if options.behind else ()
-        return found._replace(sections=[section._replace(is_behind=number in behind) for number, section in enumerate(sections)])
+        return View(title, made, pairs, count, sections, source, [*notes, *warnings(options.trace)], about, stacks, kinds, turns,
+                    readable(os.fsencode(options.command)))
 
 
 def analysed(options, file, gathered, progress, stack):
@@ -184,12 +186,6 @@ def damage_of(path):
         raise Damaged(f"--only: {fault}") from None
     except (BadStacks, BadUses) as fault:
         raise Damaged(f"{readable(os.fsencode(path))} {fault}") from None
-
-
-def places_of(path):
-    """The places of a file of known places, or None without one."""
-    with damage_of(path):
-        return known.read(path) if path else None
 
 
 def open_regular(path):

@@ -1,5 +1,5 @@
 -- What is known of the accesses of a stream stays so when an event comes.
-use Rattle.std.proofs.Common.{◌≡◌, ℕ, zero, suc, ◌+◌, ◌<◌, ◌≤◌, inl, inr, Bool, List, [], ◌∷◌, ◌++◌, Some, length, arith, refl, sym, ap, ◌∙◌}
+use Rattle.std.proofs.Common.{◌≡◌, ℕ, zero, suc, ◌<◌, ◌≤◌, inl, inr, Bool, List, [], ◌∷◌, ◌++◌, Some, length, arith, refl, sym, ap, ◌∙◌}
 use Rattle.std.specs.Prelude.{option_and_then, slice_get}
 use Rattle.std.proofs.lemmas.List.Elements.{All-weaker}
 use Rattle.shb_lines.specs.declared.event.Event.{Event}
@@ -18,14 +18,13 @@ use Rattle.shb_nearest.specs.declared.places.Place.{Place}
 use Rattle.shb_nearest.specs.declared.screen.Latest.{Latest}
 use Rattle.shb_nearest.specs.declared.screen.Epoch.{Epoch}
 use Rattle.shb_nearest.specs.declared.tables.Tables.{Tables}
-use Rattle.shb_nearest.specs.Classes.{IsOfClass}
+use Rattle.shb_nearest.specs.Classes.{IsNewestOf, IsOfClass}
 use Rattle.shb_nearest.specs.Found.{IsFoundAccess, location_in}
 use Rattle.shb_nearest.specs.Groups.{AreGroups, IsGroup, IsKept, access_of}
-use Rattle.shb_nearest.specs.Late.{AreLate, HasNoAccess}
+use Rattle.shb_nearest.specs.Late.{AreLate, IsLateIn}
 use Rattle.shb_nearest.specs.Places.{IsAtPlace, IsNearestAt}
 use Rattle.shb_nearest.specs.Screen.{IsMarked, IsScreened}
 use Rattle.shb_nearest.specs.Searched.{AreTables}
-use Rattle.shb_nearest.proofs.LateLemmas.{late_within}
 
 spot_longer : (spots more : List Spot) (k : ℕ) → k < length spots → slice_get (spots ++ more) k ≡ slice_get spots k
 spot_longer [] more k lt = absurd (omega arith)
@@ -69,34 +68,35 @@ module _ (past : List Event) (e : Event) (spots : List Spot) (s : Spot) (as_many
       rising = h.rising;
     }
 
-  groups_longer : (x n : ℕ) (groups : List Group) → n ≤ length past → AreGroups past spots x n groups → AreGroups (past ++ e ∷ []) (spots ++ s ∷ []) x n groups
+  newest_back : (c : Class) (k : ℕ) → IsNewestOf (past ++ e ∷ []) (spots ++ s ∷ []) (length past) c k → IsNewestOf past spots (length past) c k
+  newest_back c k is = record { own = class_back c k is.past is.own; past = is.past; last = λ i lt own. is.last i lt (class_longer c i lt own) }
+
+  groups_longer : (x n : ℕ) (groups : List Group) → n ≤ length past → AreGroups past spots x n (length past) groups → AreGroups (past ++ e ∷ []) (spots ++ s ∷ []) x n (length past) groups
   groups_longer x n groups within h = record {
     each = All-weaker (IsGroup past spots x n) (IsGroup (past ++ e ∷ []) (spots ++ s ∷ []) x n) (group_longer x n within) groups h.each;
-    covers = λ c k of_x is. h.covers c k of_x (let before = is.past in record {
-      own = class_back c k (omega (arith, before, within)) is.own;
-      past = is.past;
-      last = λ i lt own. is.last i lt (class_longer c i (omega (arith, lt, within)) own);
-    });
+    covers = λ c k of_x is. h.covers c k of_x (newest_back c k is);
   }
 
   same_variable_at : (k : ℕ) → k < length past → variable_at (past ++ e ∷ []) k ≡ variable_at past k
   same_variable_at k lt = ap (option_and_then variable_of) (same_op_at k lt)
 
-  no_access_longer : (x m n : ℕ) → n ≤ length past → HasNoAccess past x m n → HasNoAccess (past ++ e ∷ []) x m n
-  no_access_longer x m n within h = record { within = h.within; none = λ i from lt is. h.none i from lt (sym (same_variable_at i (omega (arith, lt, within))) ∙ is) }
+  late_in_longer : (x m : ℕ) (a : Late) → IsLateIn past spots x m (length past) a → IsLateIn (past ++ e ∷ []) (spots ++ s ∷ []) x m (length past) a
+  late_in_longer x m a h = record {
+    own = record {
+      own = access_longer x a.access h.past h.own.own;
+      time_is = h.own.time_is ∙ sym (time_longer past (e ∷ []) a.access.thread a.access.event h.past);
+    };
+    from = h.from;
+    past = h.past;
+  }
 
   late_longer : (x m : ℕ) (late : List Late) → AreLate past spots x (length past) m late → AreLate (past ++ e ∷ []) (spots ++ s ∷ []) x (length past) m late
-  unfolding AreLate
-  late_longer x m [] h = no_access_longer x m (length past) (omega arith) h
-  late_longer x m (a ∷ rest) h =
-      let before = late_within past spots x (length past) (a.access.event + 1) rest h.2 in (
-        record {
-          own = access_longer x a.access (omega (arith, before)) h.0.own;
-          time_is = h.0.time_is ∙ sym (time_longer past (e ∷ []) a.access.thread a.access.event (omega (arith, before)));
-        },
-        no_access_longer x m a.access.event (omega (arith, before)) h.1,
-        late_longer x (a.access.event + 1) rest h.2,
-      )
+  late_longer x m late h = record {
+    within = h.within;
+    each = All-weaker (IsLateIn past spots x m (length past)) (IsLateIn (past ++ e ∷ []) (spots ++ s ∷ []) x m (length past)) (late_in_longer x m) late h.each;
+    rising = h.rising;
+    covers = λ c k of_x is. h.covers c k of_x (newest_back c k is);
+  }
 
   race_back : (i j : ℕ) → j < length past → Race (past ++ e ∷ []) i j → Race past i j
   race_back i j lt race = (race_longer past (e ∷ []) whole i j lt).0 race
@@ -147,9 +147,10 @@ module _ (past : List Event) (e : Event) (spots : List Spot) (s : Spot) (as_many
       each = λ x variable at. (let h = are.variables.each x variable at in record {
         accesses = record {
           since = h.accesses.since;
-          groups = groups_longer x h.accesses.since variable.accesses.groups.each.items (late_within past spots x (length past) h.accesses.since variable.accesses.late.items h.accesses.late) h.accesses.groups;
+          groups = groups_longer x h.accesses.since variable.accesses.groups.each.items h.accesses.late.within h.accesses.groups;
           late = late_longer x h.accesses.since variable.accesses.late.items h.accesses.late;
         };
+        sites = h.sites;
         run = record { alone = λ i from lt is. same_thread_at i lt ∙ h.run.alone i from lt (sym (same_variable_at i lt) ∙ is) };
         screened = screened_longer x variable.latest h.screened;
       });

@@ -5,7 +5,7 @@ use Rattle.std.specs.Prelude.{All, AllPairs, Contains, nat_eq, slice_get}
 use Rattle.std.specs.List.{remove}
 use Rattle.std.proofs.Math.ListN.{set}
 use Rattle.std.proofs.Math.Seq.{take-suc}
-use Rattle.std.proofs.lemmas.Bool.{cases_Bool, cases_eq, eq-eqb, eqb-true}
+use Rattle.std.proofs.lemmas.Bool.{cases_Bool, cases_eq, cases_lt, eq-eqb, eqb-true}
 use Rattle.std.proofs.lemmas.List.Elements.{All-contains, All-filter, All-nil, All-push, All-set, All-weaker, Contains-append_left, Contains-get_or, Contains-push, Contains-push_cases}
 use Rattle.std.proofs.lemmas.List.Kept.{AllPairs-filter}
 use Rattle.std.proofs.lemmas.List.Quantifiers.{all_pairs_push, all_pairs_remove}
@@ -21,9 +21,11 @@ use Rattle.shb_nearest.specs.declared.classes.Class.{Class}
 use Rattle.shb_nearest.specs.declared.groups.Group.{Group}
 use Rattle.shb_nearest.specs.declared.groups.KeptAccess.{KeptAccess}
 use Rattle.shb_nearest.specs.declared.groups.Run.{Run}
+use Rattle.shb_nearest.specs.declared.late.Late.{Late}
 use Rattle.shb_nearest.specs.Classes.{HasPut, IsNewestOf, IsOfClass, is_newest_in, newest_in, same_class}
 use Rattle.shb_nearest.specs.Found.{IsFoundAccess}
-use Rattle.shb_nearest.specs.Groups.{AreGroups, HasGroupAt, HasKept, HasLast, HasReplaced, IsEarlier, IsGroup, IsKept, IsOfGroup, IsRun, KeepsAccess, access_of, class_of, is_newest_kept}
+use Rattle.shb_nearest.specs.Groups.{AreAmong, AreGroups, HasGroupAt, HasKept, HasLast, HasReplaced, HasSite, IsAmong, IsEarlier, IsGroup, IsKept, IsOfGroup, IsRun, KeepsAccess, access_of, class_of, is_newest_kept}
+use Rattle.shb_nearest.specs.Late.{HasNewest, IsBefore}
 use Rattle.shb_nearest.proofs.ClassLemmas.{class_own, newest_before, one_class_at}
 use Rattle.shb_nearest.proofs.Members.{all_remove, index_of, member_at, member_filter, member_remove, member_set, stays_or_is}
 
@@ -71,11 +73,17 @@ pub newest_passes : (newest : List (Class × ℕ)) (class : Class) (k event : �
 newest_passes newest class k event is same = ap (λ (o : Option ℕ). elim o [ Some m ↦ nat_eq m event | None ↦ false ]) is ∙ eq-eqb k event (sym same)
 
 module _ (trace : List Event) (spots : List Spot) (x n : ℕ) where
-  kept_later : (t : ℕ) (w : Bool) (a : KeptAccess) → IsKept trace spots x n t w a → IsKept trace spots x (n + 1) t w a
-  kept_later t w a h = record { own = h.own; time_is = h.time_is; past = (let lt = h.past in omega (arith, lt)) }
+  kept_until : (m : ℕ) → n ≤ m → (t : ℕ) (w : Bool) (a : KeptAccess) → IsKept trace spots x n t w a → IsKept trace spots x m t w a
+  kept_until m le t w a h = record { own = h.own; time_is = h.time_is; past = (let lt = h.past in omega (arith, lt, le)) }
 
-  pub group_later : (g : Group) → IsGroup trace spots x n g → IsGroup trace spots x (n + 1) g
-  group_later g h = record { each = All-weaker (IsKept trace spots x n g.thread g.writes) (IsKept trace spots x (n + 1) g.thread g.writes) (kept_later g.thread g.writes) g.kept.items h.each; rising = h.rising }
+  pub group_until : (m : ℕ) → n ≤ m → (g : Group) → IsGroup trace spots x n g → IsGroup trace spots x m g
+  group_until m le g h = record { each = All-weaker (IsKept trace spots x n g.thread g.writes) (IsKept trace spots x m g.thread g.writes) (kept_until m le g.thread g.writes) g.kept.items h.each; rising = h.rising }
+
+  kept_later : (t : ℕ) (w : Bool) (a : KeptAccess) → IsKept trace spots x n t w a → IsKept trace spots x (n + 1) t w a
+  kept_later = kept_until (n + 1) (omega arith)
+
+  group_later : (g : Group) → IsGroup trace spots x n g → IsGroup trace spots x (n + 1) g
+  group_later = group_until (n + 1) (omega arith)
 
   pub group_empty : (m : ℕ) (g : Group) → g.kept.items ≡ [] → IsGroup trace spots x m g
   group_empty m g none = record {
@@ -83,11 +91,21 @@ module _ (trace : List Event) (spots : List Spot) (x n : ℕ) where
     rising = subst (λ (l : List KeptAccess). AllPairs IsEarlier l) (sym none) (λ i j d lt within. absurd (omega (arith, lt, within)));
   }
 
-  -- no access of the variable came
-  pub groups_later : (groups : List Group) → ((c : Class) → c.variable ≡ x → IsOfClass trace spots c n → ⊥) → AreGroups trace spots x n groups → AreGroups trace spots x (n + 1) groups
-  groups_later groups never are = record {
-    each = All-weaker (IsGroup trace spots x n) (IsGroup trace spots x (n + 1)) group_later groups are.each;
-    covers = λ c k of_x is. are.covers c k of_x (newest_before trace spots n c k is (λ same. never c of_x (subst (λ (m : ℕ). IsOfClass trace spots c m) same is.own)));
+  -- before m come none that are the newest of their class before `last`
+  pub groups_until : (groups : List Group) (m last : ℕ) → n ≤ m → ((c : Class) (k : ℕ) → c.variable ≡ x → IsNewestOf trace spots last c k → n ≤ k → k < m → ⊥) → AreGroups trace spots x n last groups → AreGroups trace spots x m last groups
+  groups_until groups m last le none are = record {
+    each = All-weaker (IsGroup trace spots x n) (IsGroup trace spots x m) (group_until m le) groups are.each;
+    covers = λ c k of_x is lt. elim (cases_lt k n) [
+      | inl low ↦ are.covers c k of_x is low
+      | inr high ↦ absurd (none c k of_x is high lt)
+    ];
+  }
+
+  -- an event more
+  pub groups_next : (groups : List Group) (m : ℕ) → n ≤ m → AreGroups trace spots x n m groups → AreGroups trace spots x n (m + 1) groups
+  groups_next groups m le are = record {
+    each = are.each;
+    covers = λ c k of_x is lt. are.covers c k of_x (newest_before trace spots m c k is (λ same. omega (arith, same, lt, le))) lt;
   }
 
   module _ (access : FoundAccess) (here : access.event ≡ n) (own : IsFoundAccess trace spots x access) (kept : KeptAccess) (at_event : kept.event ≡ access.event) (at_spot : kept.spot ≡ access.spot) (time_is : kept.time ≡ local_time trace access.thread access.event) where
@@ -178,8 +196,8 @@ module _ (trace : List Event) (spots : List Spot) (x n : ℕ) where
       pub in_class : (b : KeptAccess) → Contains pushed b → IsOfClass trace spots (class_in new b) b.event × (b.event < n + 1)
       in_class b there = let k = All-contains (IsKept trace spots x (n + 1) new.thread new.writes) pushed b pushed_each there in (class_own trace spots x (access_of new.thread new.writes b) k.own, k.past)
 
-    pub noted : (groups mid : List Group) (at : ℕ) (old new : Group) → AreGroups trace spots x n groups → HasGroupAt groups mid access.thread access.writes at → slice_get mid at ≡ Some old → HasKept x kept old new → AreGroups trace spots x (n + 1) (set mid at new)
-    noted groups mid at old new are found at_old h = record { each = All-set (IsGroup trace spots x (n + 1)) mid at new (group_kept old new is_of h was) mid_each; covers = covers }
+    pub noted : (last : ℕ) → n < last → (groups mid : List Group) (at : ℕ) (old new : Group) → AreGroups trace spots x n last groups → HasGroupAt groups mid access.thread access.writes at → slice_get mid at ≡ Some old → HasKept x kept old new → AreGroups trace spots x (n + 1) last (set mid at new)
+    noted last within groups mid at old new are found at_old h = record { each = All-set (IsGroup trace spots x (n + 1)) mid at new (group_kept old new is_of h was) mid_each; covers = covers }
       where
         is_of : IsOfGroup old access.thread access.writes
         is_of = subst (λ (g : Group). IsOfGroup g access.thread access.writes) (let s : Some found.group ≡ Some old = sym found.there ∙ at_old in let e : found.group ≡ old = cc in e) found.own
@@ -197,10 +215,11 @@ module _ (trace : List Event) (spots : List Spot) (x n : ℕ) where
         in_new = member_set mid at new (slice_get_within mid at old at_old)
 
         -- what is in the group at the location of a newest access isn't after it
-        last_in : (c : Class) (k : ℕ) → IsNewestOf trace spots (n + 1) c k → c.variable ≡ x → new.thread ≡ c.thread → new.writes ≡ c.writes → (b : KeptAccess) → Contains (old.kept.items ++ kept ∷ []) b → b.spot.location ≡ c.location → b.event ≤ k
+        last_in : (c : Class) (k : ℕ) → IsNewestOf trace spots last c k → c.variable ≡ x → new.thread ≡ c.thread → new.writes ≡ c.writes → (b : KeptAccess) → Contains (old.kept.items ++ kept ∷ []) b → b.spot.location ≡ c.location → b.event ≤ k
         last_in c k is of_x thread writes b there at =
             let own_b = in_class old new is_of h was b there in
-            is.last b.event own_b.1 (subst (λ (d : Class). IsOfClass trace spots d b.event) (λ i. class_made (sym of_x i) (at i) (thread i) (writes i)) own_b.0)
+            let lt = own_b.1 in
+            is.last b.event (omega (arith, lt, within)) (subst (λ (d : Class). IsOfClass trace spots d b.event) (λ i. class_made (sym of_x i) (at i) (thread i) (writes i)) own_b.0)
 
         new_thread : new.thread ≡ access.thread
         new_thread = h.own.thread_is ∙ is_of.thread_is
@@ -209,7 +228,7 @@ module _ (trace : List Event) (spots : List Spot) (x n : ℕ) where
         new_writes = h.own.writes_is ∙ is_of.writes_is
 
         -- the access itself
-        own_class : (c : Class) (k : ℕ) → IsNewestOf trace spots (n + 1) c k → k ≡ n → c.variable ≡ x → KeepsAccess (set mid at new) c k
+        own_class : (c : Class) (k : ℕ) → IsNewestOf trace spots last c k → k ≡ n → c.variable ≡ x → KeepsAccess (set mid at new) c k
         own_class c k is at_n of_x =
             let e : access.event ≡ k = omega (arith, at_n, here) in
             let same : class_of x access ≡ c = one_class_at trace spots (class_of x access) c access.event (class_own trace spots x access own) (subst (λ (m : ℕ). IsOfClass trace spots c m) (sym e) is.own) in
@@ -229,7 +248,7 @@ module _ (trace : List Event) (spots : List Spot) (x n : ℕ) where
             }
 
         -- another class
-        other_class : (c : Class) (k : ℕ) → IsNewestOf trace spots (n + 1) c k → c.variable ≡ x → KeepsAccess groups c k → KeepsAccess (set mid at new) c k
+        other_class : (c : Class) (k : ℕ) → IsNewestOf trace spots last c k → c.variable ≡ x → KeepsAccess groups c k → KeepsAccess (set mid at new) c k
         other_class c k is of_x keeps = elim (stays_or_is mid at old new at_old keeps.group (found.stay keeps.group keeps.there)) [
           | inr stays ↦ record { group = keeps.group; there = stays; thread_is = keeps.thread_is; writes_is = keeps.writes_is; kept = keeps.kept; among = keeps.among; event_is = keeps.event_is; location_is = keeps.location_is }
           | inl same ↦ (
@@ -249,10 +268,10 @@ module _ (trace : List Event) (spots : List Spot) (x n : ℕ) where
               })
         ]
 
-        covers : (c : Class) (k : ℕ) → c.variable ≡ x → IsNewestOf trace spots (n + 1) c k → KeepsAccess (set mid at new) c k
-        covers c k of_x is = elim (cases_eq k n) [
+        covers : (c : Class) (k : ℕ) → c.variable ≡ x → IsNewestOf trace spots last c k → k < n + 1 → KeepsAccess (set mid at new) c k
+        covers c k of_x is lt = elim (cases_eq k n) [
           | inl same ↦ own_class c k is same of_x
-          | inr other ↦ other_class c k is of_x (are.covers c k of_x (newest_before trace spots n c k is other))
+          | inr other ↦ other_class c k is of_x (are.covers c k of_x is (omega (arith, lt, other)))
         ]
 
 -- a table of the last access at each location, an access more
@@ -341,9 +360,69 @@ retained_passing R test f says (x ∷ xs) ys h =
     let rest = retained_passing R test f says xs h.4 (subst (λ g. RetainsInTurn R g xs h.4) said.1 h.5) in
     h.6 ∙ (λ i. cond (said.0 i) (said.2 i ∷ rest i) (rest i))
 
+-- a table of the newest access of each class, an access more
+pub newest_more : (x : ℕ) (old new : List (Class × ℕ)) (late : List Late) (m : ℕ) (y : Late) (class : Class) → class ≡ class_of x y.access → AllPairs IsBefore late → slice_get late m ≡ Some y → HasPut old new class y.access.event → HasNewest old x (take m late) → HasNewest new x (take (m + 1) late)
+newest_more x old new late m y class of_y rising at put h a there last = elim (Contains-push_cases (take m late) y a (subst (λ (l : List Late). Contains l a) more there)) [
+  | inr same ↦ subst (λ (b : Late). newest_in new (class_of x b.access) ≡ Some b.access.event) same (put_y (class_of x y.access) ∙ ap (λ (b : Bool). cond b (Some y.access.event) (newest_in old (class_of x y.access))) (class_self (class_of x y.access)))
+  | inl before ↦ put_y (class_of x a.access) ∙ (ap (λ (b : Bool). cond b (Some y.access.event) (newest_in old (class_of x a.access))) (other before) ∙ h a before (λ b in_front of_a. last b (subst (λ (l : List Late). Contains l b) (sym more) (Contains-append_left (take m late) (y ∷ []) b in_front)) of_a))
+]
+  where
+    put_y : HasPut old new (class_of x y.access) y.access.event
+    put_y = subst (λ (c : Class). HasPut old new c y.access.event) of_y put
+
+    more : take (m + 1) late ≡ take m late ++ y ∷ []
+    more = (let e : m + 1 ≡ suc m = omega arith in ap (λ (k : ℕ). take k late) e) ∙ (take-suc late m y (slice_get_within late m y at) ∙ ap (λ (b : Late). take m late ++ b ∷ []) (get_or_from_slice_get late m y y at))
+
+    earlier : Contains (take m late) a → a.access.event < y.access.event
+    earlier before =
+        let long = length-take m late in
+        let low = before.1 in
+        let lt : before.0 < m = omega (arith, long, low) in
+        let in_list = get_or-take m late before.0 a lt in
+        let rise = rising before.0 m a lt (slice_get_within late m y at) in
+        let at_a = ap (λ (b : Late). b.access.event) (sym in_list ∙ before.2) in
+        let at_y = ap (λ (b : Late). b.access.event) (get_or_from_slice_get late m y a at) in
+        omega (arith, rise, at_a, at_y)
+
+    other : Contains (take m late) a → same_class (class_of x y.access) (class_of x a.access) ≡ false
+    other before = elim (cases_Bool (same_class (class_of x y.access) (class_of x a.access))) [
+      | inr differs ↦ differs
+      | inl same ↦ absurd (
+          let le = last y (subst (λ (l : List Late). Contains l y) (sym more) (Contains-push (take m late) y)) (one_class (class_of x y.access) (class_of x a.access) same) in
+          let lt = earlier before in
+          omega (arith, le, lt))
+    ]
+
 -- an access in place of the last one
 pub last_replaced : (old : List KeptAccess) (at : ℕ) (access : KeptAccess) → at + 1 ≡ length old → set old at access ≡ remove old at ++ access ∷ []
 last_replaced [] at access is = absurd (omega (arith, is))
 last_replaced (a ∷ []) zero access is = refl
 last_replaced (a ∷ (b ∷ old)) zero access is = absurd (omega (arith, is))
 last_replaced (a ∷ old) (suc at) access is = ap (λ (l : List KeptAccess). a ∷ l) (last_replaced old at access (omega (arith, is)))
+
+-- the sites of the groups, an access more
+pub sites_taken : (x : ℕ) (access : KeptAccess) (sites more : List ℕ) (groups mid : List Group) (t : ℕ) (w : Bool) (at : ℕ) (was now : Group) → HasSite sites more access.spot.location → HasGroupAt groups mid t w at → slice_get mid at ≡ Some was → HasKept x access was now
+    → (length sites ≤ 16 → All (AreAmong sites) groups) → length more ≤ 16 → All (AreAmong more) (set mid at now)
+sites_taken x access sites more groups mid t w at was now site found at_was h are few = All-set (AreAmong more) mid at now of_now in_mid
+  where
+    before : All (AreAmong more) groups
+    before = All-weaker (AreAmong sites) (AreAmong more) (λ g among. All-weaker (IsAmong sites) (IsAmong more) (λ a i. site.stay a.spot.location i) g.kept.items among) groups (are (let longer = site.longer in omega (arith, longer, few)))
+
+    in_mid : All (AreAmong more) mid
+    in_mid = λ k d lt. elim (found.from (get_or mid k d) (Contains-get_or mid k d lt)) [
+      | inl stays ↦ All-contains (AreAmong more) groups (get_or mid k d) before stays
+      | inr none ↦ subst (λ (l : List KeptAccess). All (IsAmong more) l) (sym none) (All-nil (IsAmong more))
+    ]
+
+    of_was : AreAmong more was
+    of_was = All-contains (AreAmong more) mid was in_mid (member_at mid at was at_was)
+
+    pushed : All (IsAmong more) (was.kept.items ++ access ∷ [])
+    pushed = All-push (IsAmong more) was.kept.items access of_was (site.there few)
+
+    of_now : AreAmong more now
+    of_now = elim h.items [
+      | inl all ↦ subst (λ (l : List KeptAccess). All (IsAmong more) l) (sym all) pushed
+      | inr (inl one) ↦ subst (λ (l : List KeptAccess). All (IsAmong more) l) (sym one.items) (All-push (IsAmong more) (remove was.kept.items one.at) access (all_remove (IsAmong more) was.kept.items one.at (slice_get_within was.kept.items one.at one.gone one.there) of_was) (site.there few))
+      | inr (inr some) ↦ subst (λ (l : List KeptAccess). All (IsAmong more) l) (sym some.items) (All-filter (is_newest_kept some.newest x was.thread was.writes) (IsAmong more) (was.kept.items ++ access ∷ []) pushed)
+    ]

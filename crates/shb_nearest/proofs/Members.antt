@@ -1,8 +1,10 @@
 -- Members of lists.
-use Rattle.std.proofs.Common.{◌≡◌, ℕ, ◌+◌, ◌-◌, ◌<◌, ◌≤◌, ◌⊎◌, inl, inr, Bool, true, false, cond, List, [], ◌∷◌, Some, length, map, filter, drop, get_or, arith, refl, sym, ap, subst, ◌∙◌, get_or-set_same, get_or-set_other}
+use Rattle.std.proofs.Common.{◌≡◌, ℕ, suc, take, ◌++◌, ◌+◌, ◌-◌, ◌<◌, ◌≤◌, ◌⊎◌, inl, inr, Bool, true, false, cond, List, [], ◌∷◌, Some, length, map, filter, drop, get_or, arith, refl, sym, ap, subst, ◌∙◌, get_or-set_same, get_or-set_other}
 use Rattle.std.specs.Prelude.{All, Contains, slice_get}
 use Rattle.std.specs.List.{remove}
 use Rattle.std.proofs.Math.ListN.{set, length-set}
+use Rattle.std.proofs.Math.Seq.{take-suc}
+use Rattle.std.proofs.lemmas.List.Elements.{All-push}
 use Rattle.std.proofs.lemmas.Bool.{cases_eq, cases_lt}
 use Rattle.std.proofs.lemmas.List.{get_or-drop, length-drop}
 use Rattle.std.proofs.lemmas.List.Edits.{get_or-remove_above, get_or-remove_below, length-remove}
@@ -40,6 +42,13 @@ module _ {X : Type 0} where
       by true is (inr rest) more = contains_tail y x (filter p xs) (more rest)
       by false is (inl same) more = absurd (let t = ap p same ∙ passes in (let f : ⊥ = cc in f))
       by false is (inr rest) more = more rest
+
+  -- one element more
+  pub all_more : (P : X → Type 0) (m : ℕ) (xs : List X) (x : X) → slice_get xs m ≡ Some x → All P (take m xs) → P x → All P (take (m + 1) xs)
+  all_more P m xs x at all one = subst (λ (l : List X). All P l) (sym more) (All-push P (take m xs) x all one)
+    where
+      more : take (m + 1) xs ≡ take m xs ++ x ∷ []
+      more = (let e : m + 1 ≡ suc m = omega arith in ap (λ (k : ℕ). take k xs) e) ∙ (take-suc xs m x (slice_get_within xs m x at) ∙ ap (λ (b : X). take m xs ++ b ∷ []) (get_or_from_slice_get xs m x x at))
 
   -- at an index that is written
   pub member_set : (xs : List X) (i : ℕ) (y : X) → i < length xs → Contains (set xs i y) y

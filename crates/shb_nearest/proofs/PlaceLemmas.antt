@@ -1,25 +1,28 @@
 -- The places of the races so far, after an access more.
-use Rattle.std.proofs.Common.{◌≡◌, ℕ, ◌+◌, ◌<◌, ◌≤◌, ◌⊎◌, inl, inr, Bool, List, None, Some, arith, refl, sym, ap, subst, ◌∙◌}
-use Rattle.std.specs.Prelude.{option_and_then}
+use Rattle.std.proofs.Common.{◌≡◌, ℕ, ◌+◌, ◌<◌, ◌≤◌, ◌⊎◌, inl, inr, Bool, List, [], None, Some, arith, refl, sym, ap, subst, ◌∙◌}
+use Rattle.std.specs.Prelude.{All, option_and_then}
 use Rattle.std.proofs.lemmas.Bool.{cases_lt}
+use Rattle.std.proofs.lemmas.List.Elements.{All-contains}
 use Rattle.shb_lines.specs.declared.event.Event.{Event}
 use Rattle.shb_lines.specs.events.Discipline.{IsDisciplined}
 use Rattle.shb_lines.specs.events.Events.{op_at, thread_at, variable_of}
 use Rattle.shb_lines.specs.events.Order.{BelowPred, ShbBelow, here, step}
 use Rattle.shb_lines.specs.events.Race.{Race, variable_at}
 use Rattle.shb_lines.proofs.events.Schedulable.{below_pred_closed, thread_below_pred}
+use Rattle.shb_lines.proofs.events.Increasing.{contains_none}
 use Rattle.shb_stamps.proofs.Sources.{strictly_below_below}
 use Rattle.shb_nearest.specs.declared.access.FoundAccess.{FoundAccess}
 use Rattle.shb_nearest.specs.declared.access.FoundRace.{FoundRace}
 use Rattle.shb_nearest.specs.declared.access.Spot.{Spot}
+use Rattle.shb_nearest.specs.declared.groups.Group.{Group}
 use Rattle.shb_nearest.specs.declared.places.Place.{Place}
 use Rattle.shb_nearest.specs.Found.{IsFoundAccess, location_in}
-use Rattle.shb_nearest.specs.Groups.{IsSince}
-use Rattle.shb_nearest.specs.Places.{ArePlaces, IsAtPlace, IsNearestAt, PlaceEntry, offered_all, place_of, race_at, race_with, variable_part}
+use Rattle.shb_nearest.specs.Groups.{AreAmong, AreGroups, IsSince}
+use Rattle.shb_nearest.specs.Places.{AreKnown, ArePlaces, IsAtPlace, IsKnown, IsNearestAt, PlaceEntry, offered_all, place_of, race_at, race_with, variable_part}
 use Rattle.shb_nearest.specs.Rivals.{AreRivals}
 use Rattle.shb_nearest.proofs.ClassLemmas.{location_of_access}
 use Rattle.shb_nearest.proofs.PlaceTable.{AreOffered, IsCome, offered_are, place_with}
-use Rattle.shb_nearest.proofs.RivalLemmas.{variable_is}
+use Rattle.shb_nearest.proofs.RivalLemmas.{site_of, variable_is}
 
 below_pred_path : (trace : List Event) (a b e : ℕ) → ShbBelow trace a b → BelowPred trace b e → BelowPred trace a e
 below_pred_path trace a b e here below = below
@@ -41,8 +44,32 @@ raced_before trace disciplined i before j t race of_before of_j op low high =
       unordered = λ below. race.unordered (below_pred_path trace i before j (strictly_below_below trace disciplined i before (inl below)) (thread_below_pred trace t before j high of_before of_j));
     }
 
-module _ (by_variable : Bool) (trace : List Event) (disciplined : IsDisciplined trace) (spots : List Spot) (x n : ℕ) (access : FoundAccess) (at_n : access.event ≡ n) (own : IsFoundAccess trace spots x access) (since : ℕ) (is_since : IsSince trace spots x access since)
-    (rivals : List FoundAccess) (rivals_are : AreRivals trace spots x access since rivals) (old : List PlaceEntry) (are : ArePlaces by_variable trace spots n old) where
+module _ (by_variable : Bool) (trace : List Event) (disciplined : IsDisciplined trace) (spots : List Spot) (x n : ℕ) (access : FoundAccess) (at_n : access.event ≡ n) (own : IsFoundAccess trace spots x access)
+    (old : List PlaceEntry) (are : ArePlaces by_variable trace spots n old) (since : ℕ) (is_since : IsSince trace spots x access since) where
+  abbrev early_place : ℕ → Place
+  early_place l = place_with l access.spot.location (variable_part by_variable x)
+
+  at_place_from : (k i l : ℕ) → location_in spots i ≡ Some l → location_in spots k ≡ Some access.spot.location → variable_at trace k ≡ Some x → IsAtPlace by_variable trace spots (early_place l) i k
+  at_place_from k i l at_i at_k var = record {
+    first_is = at_i;
+    second_is = at_k;
+    variable_is = λ y is. (let same : y ≡ x = (let s : Some y ≡ Some x = sym is ∙ var in cc) in ap (variable_part by_variable) same);
+  }
+
+  -- a race with an access before `since` has a place that is known
+  pub since_known : (i l : ℕ) → Race trace i access.event → location_in spots i ≡ Some l → i < since → IsKnown old (early_place l)
+  since_known i l race at low = elim is_since [
+    | inl none ↦ absurd (omega (arith, none, low))
+    | inr class ↦ (
+        let lt = class.1 in
+        let before = raced_before trace disciplined i since access.event access.thread race class.0.thread_is own.thread_is (class.0.op_is ∙ sym own.op_is) low lt in
+        are.known (early_place l) i since (omega (arith, lt, at_n)) before
+        (at_place_from since i l at class.0.location_is (ap (option_and_then variable_of) (class.0.op_is ∙ sym own.op_is) ∙ variable_is trace spots x access own)))
+  ]
+
+module _ (by_variable : Bool) (trace : List Event) (disciplined : IsDisciplined trace) (spots : List Spot) (x n : ℕ) (access : FoundAccess) (at_n : access.event ≡ n) (own : IsFoundAccess trace spots x access) (since : ℕ)
+    (old : List PlaceEntry) (are : ArePlaces by_variable trace spots n old) (early_known : (i l : ℕ) → Race trace i access.event → location_in spots i ≡ Some l → i < since → IsKnown old (place_with l access.spot.location (variable_part by_variable x)))
+    (rivals : List FoundAccess) (rivals_are : AreRivals trace spots x access since rivals) where
   come : AreOffered by_variable old x access rivals (offered_all by_variable x access old rivals)
   come = offered_are by_variable old x access (λ p r at. (let past = (are.each p r at).past in omega (arith, past, at_n))) rivals
 
@@ -56,30 +83,12 @@ module _ (by_variable : Bool) (trace : List Event) (disciplined : IsDisciplined 
   abbrev place_from : ℕ → Place
   place_from l = place_with l access.spot.location (variable_part by_variable x)
 
-  at_place_from : (k i l : ℕ) → location_in spots i ≡ Some l → location_in spots k ≡ Some access.spot.location → variable_at trace k ≡ Some x → IsAtPlace by_variable trace spots (place_from l) i k
-  at_place_from k i l at_i at_k var = record {
-    first_is = at_i;
-    second_is = at_k;
-    variable_is = λ y is. (let same : y ≡ x = (let s : Some y ≡ Some x = sym is ∙ var in cc) in ap (variable_part by_variable) same);
-  }
-
   -- a pair with the access is at the place of the location of its first event
   from_location : (p : Place) (i : ℕ) → IsAtPlace by_variable trace spots p i access.event → place_from p.first ≡ p
   from_location p i at =
       let m : access.spot.location ≡ p.second = (let s : Some access.spot.location ≡ Some p.second = sym own_place ∙ at.second_is in cc) in
       let v = at.variable_is x (variable_is trace spots x access own) in
       λ j. place_with p.first (m j) (v j)
-
-  -- a race with an access before `since` has a place that is known
-  early_known : (i l : ℕ) → Race trace i access.event → location_in spots i ≡ Some l → i < since → (race : FoundRace) × (race_at old (place_from l) ≡ Some race)
-  early_known i l race at low = elim is_since [
-    | inl none ↦ absurd (omega (arith, none, low))
-    | inr class ↦ (
-        let lt = class.1 in
-        let before = raced_before trace disciplined i since access.event access.thread race class.0.thread_is own.thread_is (class.0.op_is ∙ sym own.op_is) low lt in
-        are.known (place_from l) i since (omega (arith, lt, at_n)) before
-        (at_place_from since i l at class.0.location_is (ap (option_and_then variable_of) (class.0.op_is ∙ sym own.op_is) ∙ variable_is trace spots x access own)))
-  ]
 
   old_nearest : (p : Place) (r : FoundRace) → IsNearestAt by_variable trace spots n p r → IsNearestAt by_variable trace spots (n + 1) p r
   old_nearest p r h = record {
@@ -157,3 +166,19 @@ module _ (by_variable : Bool) (trace : List Event) (disciplined : IsDisciplined 
             subst (λ (q : Place). (r : FoundRace) × (race_at (offered_all by_variable x access old rivals) q ≡ Some r)) (from_location p i here)
             (here_known i p.first (subst (λ (k : ℕ). Race trace i k) (sym same) race) here.first_is))
       ]
+
+-- the places, where each race with the access is at a known one: those of locations that have all that the groups keep
+pub placed_known : (by_variable : Bool) (trace : List Event) → IsDisciplined trace → (spots : List Spot) (x n : ℕ) (access : FoundAccess) → access.event ≡ n → IsFoundAccess trace spots x access → (old : List PlaceEntry) → ArePlaces by_variable trace spots n old
+    → (groups : List Group) (sites : List ℕ) → AreGroups trace spots x (n + 1) (n + 1) groups → All (AreAmong sites) groups → AreKnown by_variable x access.spot.location old sites → ArePlaces by_variable trace spots (n + 1) old
+placed_known by_variable trace disciplined spots x n access at_n own old are groups sites groups_are among known = placed by_variable trace disciplined spots x n access at_n own n old are (λ i l race at lt. here_known i l race at) [] (record {
+  races = λ a there. absurd (contains_none a there);
+  each = λ i l race at from. absurd (let lt = race.earlier in omega (arith, lt, from, at_n));
+})
+  where
+    here_known : (i l : ℕ) → Race trace i access.event → location_in spots i ≡ Some l → IsKnown old (place_with l access.spot.location (variable_part by_variable x))
+    here_known i l race at =
+        let conflict = race.conflict in
+        let before = race.earlier in
+        let one : conflict.variable ≡ x = (let s : Some conflict.variable ≡ Some x = sym conflict.second_accesses ∙ variable_is trace spots x access own in cc) in
+        All-contains (λ (m : ℕ). IsKnown old (place_with m access.spot.location (variable_part by_variable x))) sites l known
+        (site_of trace spots x access own groups sites (n + 1) groups_are among i l (omega (arith, before, at_n)) (conflict.first_accesses ∙ ap (λ (y : ℕ). Some y) one) at)

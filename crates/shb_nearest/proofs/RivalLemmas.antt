@@ -1,6 +1,6 @@
 -- The accesses that race with the next one, from what the groups keep.
 use Rattle.std.proofs.Common.{◌≡◌, ◌≢◌, ℕ, suc, ◌+◌, ◌-◌, ◌<◌, ◌≤◌, ◌⊎◌, inl, inr, Bool, true, false, List, [], ◌∷◌, ◌++◌, Some, map, drop, take, get_or, arith, refl, sym, ap, subst, ◌∙◌}
-use Rattle.std.specs.Prelude.{Contains, option_and_then, slice_get}
+use Rattle.std.specs.Prelude.{All, Contains, option_and_then, slice_get}
 use Rattle.std.proofs.Math.Seq.{take-suc}
 use Rattle.std.proofs.lemmas.Bool.{cases_eq, cases_lt}
 use Rattle.std.proofs.lemmas.List.Elements.{All-contains, All-weaker, Contains-push_cases}
@@ -23,7 +23,7 @@ use Rattle.shb_nearest.specs.declared.groups.Group.{Group}
 use Rattle.shb_nearest.specs.declared.groups.KeptAccess.{KeptAccess}
 use Rattle.shb_nearest.specs.declared.groups.Run.{Run}
 use Rattle.shb_nearest.specs.Found.{IsFoundAccess, access_op, location_in}
-use Rattle.shb_nearest.specs.Groups.{AreGroups, IsGroup, IsKept, IsRun, access_of}
+use Rattle.shb_nearest.specs.Groups.{AreAmong, AreGroups, IsAmong, IsGroup, IsKept, IsRun, access_of}
 use Rattle.shb_nearest.specs.Rivals.{AreMet, AreRivals, CanRace, HasMet, HasMetGroup, IsCovered, IsOver}
 use Rattle.shb_nearest.proofs.ClassLemmas.{kind_at, newest_after, newest_exists, op_variable}
 use Rattle.shb_nearest.proofs.Members.{index_of, member_drop, member_map, member_of_drop, member_of_map}
@@ -205,8 +205,19 @@ module _ (trace : List Event) (spots : List Spot) (x : ℕ) where
         more : take (n + 1) groups ≡ take n groups ++ group ∷ []
         more = (let e : n + 1 ≡ suc n = omega arith in ap (λ (m : ℕ). take m groups) e) ∙ (take-suc groups n group (slice_get_within groups n group at) ∙ ap (λ (b : Group). take n groups ++ b ∷ []) (get_or_from_slice_get groups n group group at))
 
+    -- the location of an earlier access of the variable is one of what the groups keep
+    pub site_of : (groups : List Group) (sites : List ℕ) (n : ℕ) → AreGroups trace spots x n n groups → All (AreAmong sites) groups → (i l : ℕ) → i < n → variable_at trace i ≡ Some x → location_in spots i ≡ Some l → Contains sites l
+    site_of groups sites n are among i l lt accesses at =
+        let e = event_at_access trace i x accesses in
+        let of_i = thread_is trace i e.0 e.1 in
+        let kind = kind_at trace i x accesses in
+        let class : Class = record { variable = x; location = l; thread = e.0.thread; writes = kind.0 } in
+        let new = newest_exists trace spots n class i lt (record { thread_is = of_i; op_is = kind.1; location_is = at }) in
+        let keeps = are.covers class new.0 refl new.1 new.1.past in
+        subst (λ (m : ℕ). Contains sites m) keeps.location_is (All-contains (IsAmong sites) keeps.group.kept.items keeps.kept (All-contains (AreAmong sites) groups keeps.group among keeps.there) keeps.among)
+
     -- all groups: each access that races has a rival at its location that isn't before it
-    pub rivals_are : (since : ℕ) (groups : List Group) (rivals : List FoundAccess) → AreGroups trace spots x (access.event + 1) groups → AreMet trace spots x access since groups rivals → AreRivals trace spots x access since rivals
+    pub rivals_are : (since : ℕ) (groups : List Group) (rivals : List FoundAccess) → AreGroups trace spots x (access.event + 1) (access.event + 1) groups → AreMet trace spots x access since groups rivals → AreRivals trace spots x access since rivals
     rivals_are since groups rivals are met = record { races = met.races; each = each }
       where
         each : (i l : ℕ) → Race trace i access.event → location_in spots i ≡ Some l → since ≤ i → (a : FoundAccess) × Contains rivals a × (a.spot.location ≡ l) × (i ≤ a.event)
@@ -220,7 +231,8 @@ module _ (trace : List Event) (spots : List Spot) (x : ℕ) where
             let new = newest_exists trace spots access.event class i race.earlier (record { thread_is = of_i; op_is = kind.1; location_is = at }) in
             let k = new.0 in
             let is = new.1.own in
-            let keeps = are.covers class k refl (newest_after trace spots access.event class k (λ h. c.other_thread (of_i ∙ sym h.thread_is)) new.1) in
+            let before = new.1.past in
+            let keeps = are.covers class k refl (newest_after trace spots access.event class k (λ h. c.other_thread (of_i ∙ sym h.thread_is)) new.1) (omega (arith, before)) in
             let le = new.1.last i race.earlier (record { thread_is = of_i; op_is = kind.1; location_is = at }) in
             let newer : Race trace k access.event = elim (cases_eq k i) [
               | inl same ↦ subst (λ (m : ℕ). Race trace m access.event) (sym same) race

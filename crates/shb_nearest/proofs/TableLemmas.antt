@@ -25,12 +25,12 @@ use Rattle.shb_nearest.specs.declared.tables.Tables.{Tables}
 use Rattle.shb_nearest.specs.declared.tables.Variable.{Variable}
 use Rattle.shb_nearest.specs.Classes.{AreClasses, HasPut, IsOfClass, newest_in, same_class}
 use Rattle.shb_nearest.specs.Found.{IsFoundAccess, access_op}
-use Rattle.shb_nearest.specs.Groups.{AreGroups, HasGroupAt, IsAt, IsGroup, IsKept, IsOfGroup, IsRun, IsSince, access_of, class_of}
+use Rattle.shb_nearest.specs.Groups.{AreAmong, AreGroups, HasGroupAt, IsAt, IsGroup, IsKept, IsOfGroup, IsRun, IsSince, access_of, class_of}
 use Rattle.shb_nearest.specs.Places.{ArePlaces, PlaceEntry}
 use Rattle.shb_nearest.specs.Screen.{HasNone}
 use Rattle.shb_nearest.specs.Searched.{AreTables, AreVariables, IsVariable}
 use Rattle.shb_nearest.specs.Wide.{AreMoreVariables}
-use Rattle.shb_nearest.proofs.GroupLemmas.{class_self, group_empty, group_same, one_class}
+use Rattle.shb_nearest.proofs.GroupLemmas.{class_self, group_empty, group_same, groups_next, one_class}
 use Rattle.shb_nearest.proofs.ClassLemmas.{class_own, class_variable, class_with, op_variable}
 use Rattle.shb_nearest.proofs.LateLemmas.{late_none, late_skip}
 use Rattle.shb_nearest.proofs.Members.{member_at}
@@ -77,8 +77,8 @@ module _ (trace : List Event) (spots : List Spot) where
     classes_later entries are = record { own = λ c k at. (let h = are.own c k at in (h.0, (let lt = h.1 in omega (arith, lt)))) }
 
     -- an access that a group of the class keeps
-    pub since_kept : (x : ℕ) (access : FoundAccess) (since : ℕ) (groups mid : List Group) (at : ℕ) (group : Group) → access.event ≡ n → AreGroups trace spots x n groups → HasGroupAt groups mid access.thread access.writes at → slice_get mid at ≡ Some group → IsAt group.kept.items access.spot.location since → IsSince trace spots x access since
-    since_kept x access since groups mid at group at_n are made there is = elim is [
+    pub since_kept : (x : ℕ) (access : FoundAccess) (since : ℕ) (groups mid : List Group) (last at : ℕ) (group : Group) → access.event ≡ n → AreGroups trace spots x n last groups → HasGroupAt groups mid access.thread access.writes at → slice_get mid at ≡ Some group → IsAt group.kept.items access.spot.location since → IsSince trace spots x access since
+    since_kept x access since groups mid last at group at_n are made there is = elim is [
       | inl none ↦ inl none
       | inr found ↦ (
           let same = group_same made.group group (sym made.there ∙ there) in
@@ -118,10 +118,11 @@ module _ (trace : List Event) (spots : List Spot) where
         since = n;
         groups = record {
           each = subst (λ (l : List Group). All (IsGroup trace spots x n) l) (sym no_group) (All-nil (IsGroup trace spots x n));
-          covers = λ c k of_x is. absurd (never k is.past (class_variable trace spots c k is.own ∙ ap (λ (y : ℕ). Some y) of_x));
+          covers = λ c k of_x is lt. absurd (never k lt (class_variable trace spots c k is.own ∙ ap (λ (y : ℕ). Some y) of_x));
         };
         late = late_none trace spots x n variable.accesses.late.items no_late;
       };
+      sites = λ few. subst (λ (l : List Group). All (AreAmong variable.accesses.groups.sites.items) l) (sym no_group) (All-nil (AreAmong variable.accesses.groups.sites.items));
       run = record { alone = λ i from lt is. absurd (never i lt is) };
       screened = screened_never trace x n variable.latest never;
     }
@@ -129,7 +130,8 @@ module _ (trace : List Event) (spots : List Spot) where
     -- a variable without an access more
     variable_later : (x : ℕ) (variable : Variable) → (variable_at trace n ≡ Some x → ⊥) → IsVariable trace spots x n variable → IsVariable trace spots x (n + 1) variable
     variable_later x variable never is = record {
-      accesses = record { since = is.accesses.since; groups = is.accesses.groups; late = late_skip trace spots x n is.accesses.since variable.accesses.late.items never is.accesses.late };
+      accesses = record { since = is.accesses.since; groups = groups_next trace spots x is.accesses.since variable.accesses.groups.each.items n is.accesses.late.within is.accesses.groups; late = late_skip trace spots x n is.accesses.since variable.accesses.late.items never is.accesses.late };
+      sites = is.sites;
       run = run_later x variable.run never is.run;
       screened = screened_later trace x n variable.latest never is.screened;
     }

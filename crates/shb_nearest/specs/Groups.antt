@@ -1,6 +1,6 @@
 -- The accesses that are kept of a variable, by thread and kind.
 use Rattle.std.specs.List.{remove}
-use Rattle.std.specs.Prelude.{◌≡◌, ◌⊎◌, ◌<◌, ◌≤◌, ◌++◌, ◌∷◌, ℕ, Bool, List, [], Some, All, AllPairs, Contains, filter, slice_get}
+use Rattle.std.specs.Prelude.{◌≡◌, ◌⊎◌, ◌<◌, ◌≤◌, ◌++◌, ◌∷◌, ℕ, Bool, List, [], Some, All, AllPairs, Contains, filter, length, slice_get}
 use Rattle.shb_lines.specs.declared.event.Event.{Event}
 use Rattle.shb_lines.specs.events.Discipline.{local_time}
 use Rattle.shb_lines.specs.events.Events.{thread_at}
@@ -11,6 +11,7 @@ use Rattle.shb_nearest.specs.declared.access.FoundAccess.{FoundAccess}
 use Rattle.shb_nearest.specs.declared.access.Spot.{Spot}
 use Rattle.shb_nearest.specs.declared.classes.Class.{Class}
 use Rattle.shb_nearest.specs.declared.groups.Group.{Group}
+use Rattle.shb_nearest.specs.declared.groups.Groups.{Groups}
 use Rattle.shb_nearest.specs.declared.groups.KeptAccess.{KeptAccess}
 use Rattle.shb_nearest.specs.declared.groups.Run.{Run}
 
@@ -48,10 +49,10 @@ pub record KeepsAccess (groups : List Group) (class : Class) (k : ℕ) : Type 0 
   pub event_is : kept.event ≡ k
   pub location_is : kept.spot.location ≡ class.location
 
--- the groups of a variable, which keep the newest access of each of its classes
-pub record AreGroups (trace : List Event) (spots : List Spot) (x n : ℕ) (groups : List Group) : Type 0 where
+-- the groups of a variable, which keep those of its accesses before n that are the newest of their class before m
+pub record AreGroups (trace : List Event) (spots : List Spot) (x n m : ℕ) (groups : List Group) : Type 0 where
   pub each : All (IsGroup trace spots x n) groups
-  pub covers : (c : Class) (k : ℕ) → c.variable ≡ x → IsNewestOf trace spots n c k → KeepsAccess groups c k
+  pub covers : (c : Class) (k : ℕ) → c.variable ≡ x → IsNewestOf trace spots m c k → k < n → KeepsAccess groups c k
 
 -- the group has the accesses by a thread of a kind
 pub record IsOfGroup (group : Group) (thread : ℕ) (writes : Bool) : Type 0 where
@@ -92,6 +93,24 @@ pub record HasReplaced (access : KeptAccess) (old new : List KeptAccess) : Type 
 pub record HasKept (x : ℕ) (access : KeptAccess) (old new : Group) : Type 0 where
   pub own : IsOfGroup new old.thread old.writes
   pub items : (new.kept.items ≡ old.kept.items ++ access ∷ []) ⊎ (HasReplaced access old.kept.items new.kept.items ⊎ HasForgotten x old.thread old.writes (old.kept.items ++ access ∷ []) new.kept.items)
+
+-- a location came to others, unless they are more than a few
+pub record HasSite (old new : List ℕ) (location : ℕ) : Type 0 where
+  pub longer : length old ≤ length new
+  pub stay : (l : ℕ) → Contains old l → Contains new l
+  pub there : length new ≤ 16 → Contains new location
+
+-- the location of a kept access is among some
+abbrev pub IsAmong : List ℕ → KeptAccess → Type 0
+IsAmong sites kept = Contains sites kept.spot.location
+
+-- those of what a group keeps are
+abbrev pub AreAmong : List ℕ → Group → Type 0
+AreAmong sites group = All (IsAmong sites) group.kept.items
+
+-- the sites have the locations of what the groups keep, if they are few
+abbrev pub HasSites : Groups → Type 0
+HasSites groups = length groups.sites.items ≤ 16 → All (AreAmong groups.sites.items) groups.each.items
 
 -- an access of the kept ones at a location, or 0
 abbrev pub IsAt : List KeptAccess → ℕ → ℕ → Type 0

@@ -1,5 +1,5 @@
 -- The places that are found, with the nearest race of each.
-use Rattle.std.specs.Prelude.{◌≡◌, ◌⊎◌, ◌==◌, ◌&&◌, ◌<◌, ◌≤◌, nat_eq, nat_lt, ℕ, Bool, true, cond, List, Option, None, Some, fold, if◌then◌else◌}
+use Rattle.std.specs.Prelude.{All, ◌≡◌, ◌⊎◌, ◌==◌, ◌&&◌, ◌<◌, ◌≤◌, nat_eq, nat_lt, ℕ, Bool, true, cond, List, Option, None, Some, fold, if◌then◌else◌}
 use Rattle.std.specs.Map.{lookup}
 use Rattle.indexmap.specs.IndexMap.{insert_entry}
 use Rattle.shb_lines.specs.declared.event.Event.{Event}
@@ -31,6 +31,14 @@ place_of by_variable race = record { first = race.first.spot.location; second = 
 -- whether a race is nearer than the one that is known of its place: none is, or one with the same later access and a lesser earlier one
 abbrev pub is_nearer : Option FoundRace → FoundRace → Bool
 is_nearer known race = elim known [ None ↦ true | Some old ↦ (old.second.event == race.second.event) && nat_lt old.first.event race.first.event ]
+
+-- at a place there is a race that is known
+abbrev pub IsKnown : List PlaceEntry → Place → Type 0
+IsKnown entries place = (race : FoundRace) × (race_at entries place ≡ Some race)
+
+-- the places are known of accesses of a variable at some locations, each with a later one at a location
+abbrev pub AreKnown : Bool → ℕ → ℕ → List PlaceEntry → List ℕ → Type 0
+AreKnown by_variable x second entries sites = All (λ l. IsKnown entries (record { first = l; second = second; variable = variable_part by_variable x })) sites
 
 -- the places after a race is offered to its place
 abbrev pub offered : Bool → List PlaceEntry → FoundRace → List PlaceEntry

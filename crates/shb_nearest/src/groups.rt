@@ -1,10 +1,10 @@
 //! The accesses that are kept of a variable, by thread and kind.
 
-ghost use Rattle.std.specs.Prelude.{AllPairs, ◌≡◌, ◌<◌, ◌≤◌, ◌+◌, ◌++◌, ◌∷◌, [], ℕ, true, List, IfOk, IfSome, OnOk, Some, filter, length, slice_get};
+ghost use Rattle.std.specs.Prelude.{AllPairs, Contains, ◌≡◌, ◌<◌, ◌≤◌, ◌+◌, ◌++◌, ◌∷◌, [], ℕ, true, List, IfOk, IfSome, OnOk, Some, filter, length, slice_get};
 ghost use Rattle.shb_lines.specs.declared.event.Event.{Event};
 ghost use Rattle.shb_nearest.specs.Classes.{AreClasses};
 ghost use Rattle.shb_nearest.specs.Found.{IsFoundAccess};
-ghost use Rattle.shb_nearest.specs.Groups.{AreGroups, HasGroupAt, HasKept, HasLast, IsAt, IsEarlier, IsOfGroup, IsRun, IsSince, is_newest_kept};
+ghost use Rattle.shb_nearest.specs.Groups.{AreGroups, HasGroupAt, HasKept, HasLast, HasSite, HasSites, IsAt, IsEarlier, IsOfGroup, IsRun, IsSince, is_newest_kept};
 ghost use Rattle.shb_nearest.specs.Late.{IsLate};
 ghost use Rattle.shb_nearest.specs.declared.access.Spot.{Spot as SpotData};
 ghost use Rattle.shb_nearest.specs.declared.groups.KeptAccess.{KeptAccess as KeptData};
@@ -49,10 +49,18 @@ pub struct Run {
 #[derive(Drop)]
 pub struct Groups {
     pub each: Vec<Group>,
+    /// The locations of what they keep, if these are few; else more than a few locations.
+    pub sites: Vec<u32>,
 }
 
 /// A group that keeps so many accesses, or fewer, keeps one for each location: the next one there replaces it.
 const FEW: usize = 64;
+
+/// The locations of what groups keep are noted while they are so few.
+const SITES: usize = 16;
+
+/// So many groups for each location are looked at no sooner than it is asked whether all their places are known.
+const MANY: usize = 16;
 
 /// Of some accesses by a thread, of a kind, the last one at each location.
 fn newest_of(
@@ -122,6 +130,33 @@ fn forget(
         };
         classes.is_newest(class, access.event)
     });
+}
+
+/// Whether a location is among some.
+fn is_among(sites: &[u32], location: u32) -> bool
+    ensures { result ≡ true → Contains sites.now location }
+{
+    for site in sites {
+        if *site == location {
+            return true;
+        }
+    }
+    false
+}
+
+/// Adds a location to others, unless they are more than a few.
+fn note_site(sites: &mut Vec<u32>, location: u32) -> Result<(), NoMemory>
+    ensures { OnOk result (HasSite sites.old.items sites.new.items location) }
+{
+    if sites.len() > SITES {
+        return Ok(());
+    }
+    let known = is_among(sites.as_slice(), location);
+    if known {
+        return Ok(());
+    }
+    sites.push(location)?;
+    Ok(())
 }
 
 impl Run {
@@ -241,6 +276,17 @@ impl Group {
 }
 
 impl Groups {
+    /// Whether these are many groups of accesses at a few locations.
+    pub fn are_crowded(&self) -> bool
+        ensures { result ≡ true → length self.now.sites.items ≤ 16 }
+    {
+        let sites = self.sites.len();
+        if sites > SITES {
+            return false;
+        }
+        self.each.len() / MANY >= sites
+    }
+
     /// The index of the group of a thread and a kind, which is made where its index isn't noted.
     ///
     /// # Errors
@@ -253,7 +299,8 @@ impl Groups {
         thread: u32,
         writes: bool,
     ) -> Result<usize, NoMemory>
-        ensures { IfOk result (HasGroupAt self.old.each.items self.new.each.items thread writes) }
+        ensures group { IfOk result (HasGroupAt self.old.each.items self.new.each.items thread writes) }
+        ensures sites { OnOk result (self.new.sites.items ≡ self.old.sites.items) }
     {
         let noted = indices.index(thread, writes) as usize;
         let found = is_at(self.each.as_slice(), noted, thread, writes);
@@ -280,14 +327,16 @@ impl Groups {
         variable: u32,
         late: Late,
     ) -> Result<u32, NoMemory>
-        ensures since { (trace : List Event) (spots : List SpotData) → AreGroups trace spots variable late.access.event self.old.each.items
+        ensures since { (trace : List Event) (spots : List SpotData) (n : ℕ) → AreGroups trace spots variable late.access.event n self.old.each.items
             → AreClasses trace spots late.access.event classes.old.newest.entries → IfOk result (IsSince trace spots variable late.access) }
         ensures classes { (trace : List Event) (spots : List SpotData) (n : ℕ) → IsLate trace spots variable late → late.access.event < n
             → AreClasses trace spots n classes.old.newest.entries → OnOk result (AreClasses trace spots n classes.new.newest.entries) }
-        ensures groups { (trace : List Event) (spots : List SpotData) → AreGroups trace spots variable late.access.event self.old.each.items
-            → IsLate trace spots variable late → OnOk result (AreGroups trace spots variable (late.access.event + 1) self.new.each.items) }
+        ensures groups { (trace : List Event) (spots : List SpotData) (n : ℕ) → AreGroups trace spots variable late.access.event n self.old.each.items
+            → IsLate trace spots variable late → late.access.event < n → OnOk result (AreGroups trace spots variable (late.access.event + 1) n self.new.each.items) }
+        ensures sites { HasSites self.old → OnOk result (HasSites self.new) }
     {
         let Late { access, time } = late;
+        note_site(&mut self.sites, access.spot.location)?;
         let at = self.group_at(alloc, indices, access.thread, access.writes)?;
         let kept = KeptAccess {
             event: access.event,

@@ -10,6 +10,8 @@ use std::alloc::Global;
 pub struct Indices {
     reads: Vec<u32>,
     writes: Vec<u32>,
+    /// The variable of these groups, if there is one.
+    variable: Option<u32>,
 }
 
 impl Indices {
@@ -18,6 +20,15 @@ impl Indices {
         Indices {
             reads: Vec::new(alloc),
             writes: Vec::new(alloc),
+            variable: None,
+        }
+    }
+
+    /// Whether the groups are those of a variable. Then a group whose index isn't noted isn't there.
+    pub fn are_of(&self, variable: u32) -> bool {
+        match self.variable {
+            Some(own) => own == variable,
+            None => false,
         }
     }
 
@@ -42,12 +53,13 @@ impl Indices {
         put(&mut self.reads, thread, index, 0)
     }
 
-    /// Notes the indices of some groups.
+    /// Notes the indices of the groups of a variable.
     ///
     /// # Errors
     ///
     /// `NoMemory` where a growth was refused.
-    pub fn note_all(&mut self, groups: &[Group]) -> Result<(), NoMemory> {
+    pub fn note_all(&mut self, variable: u32, groups: &[Group]) -> Result<(), NoMemory> {
+        self.variable = Some(variable);
         for at in 0..groups.len() {
             self.note(groups[at].thread, groups[at].writes, at)?;
         }

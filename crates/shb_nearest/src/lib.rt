@@ -8,23 +8,29 @@
 //! class among them.
 //!
 //! An access races with none before it where the last write of its variable is below its predecessor and, for a write,
-//! the newest read since is too (`screen`). Such an access waits (`late`): it is put behind the others that wait, and
-//! touches no group. At least as many wait as the groups keep, and two; then all are taken into their groups, which are
-//! found by thread and kind (`indices`). So an access that waits costs a few steps, however many groups there are.
+//! the newest read since is too (`screen`). Such an access waits (`late`): it is put behind the others that wait. When many
+//! wait, those go that aren't the newest of their class. So a variable that never races has no group, and its accesses lie
+//! in one list.
 //!
-//! Any other access is taken into its group at once, after those that wait. Then it looks at the groups of its variable by
-//! other threads, and at the accesses that a group keeps from the newest one back. It stops at the first that is below its
-//! predecessor, since those behind it are too, and at the first that is before an earlier access of its own class, since
-//! what is behind that and races with this access raced with that one, and its place is known. It looks at nothing where
-//! its own thread alone accessed the variable since that access of its class (`Run`). All that it went over race with it.
-//! The last of them at each location (`Rivals`) is offered to the table of places. The earlier access of its class is the
-//! last one, where the own group keeps a few, and it replaces that one; else `classes` has one.
+//! The first access for which this isn't known takes those that wait into their groups, which are found by thread and kind
+//! (`indices`), and nothing is known of later ones: each is taken into its group at once, and none waits any more.
 //!
-//! So such an access costs a step for each group of its variable, and one for each kept access that races with it and came
-//! after the earlier access of its own class that is found. That is the last one, but where its group now keeps few
-//! accesses and now more: then it can be an older one, or none. A group forgets those that aren't the last at their
-//! location when it keeps more than twice as many as were left the last time, and more than a few. Memory grows with
-//! names, groups, classes and places, and with no events.
+//! Then such an access looks at the groups of its variable by other threads, and at the accesses that a group keeps
+//! from the newest one back. It stops at the first that is below its predecessor, since those behind it are too, and at
+//! the first that is before an earlier access of its own class, since what is behind that and races with this access
+//! raced with that one, and its place is known. It looks at nothing where its own thread alone accessed the variable
+//! since that access of its class (`Run`). All that it went over race with it. The last of them at each location
+//! (`Rivals`) is offered to the table of places. The earlier access of its class is the last one, where the own group
+//! keeps a few, and it replaces that one; else `classes` has one.
+//!
+//! Where there are many groups and few locations, it is asked first whether the places are known at which the access can
+//! race, one for each location (`know_all`). Then it looks at no group, since a known place has its nearest race.
+//!
+//! So such an access costs a step for each group of its variable, unless all its places are known, and one for each
+//! kept access that races with it and came after the earlier access of its own class that is found. That is the last
+//! one, but where its group now keeps few accesses and now more: then it can be an older one, or none. A group forgets
+//! those that aren't the last at their location when it keeps more than twice as many as were left the last time, and
+//! more than a few. Memory grows with names, groups, classes and places, and with no events.
 #![tactic(auto)]
 
 mod access;

@@ -139,7 +139,7 @@ fn rivals_among(
 ) -> Result<(), NoMemory>
     requires none { rivals.old.found.items ≡ [] }
     ensures { (past : List Event) (e : Event) (spots : List SpotData) (x : ℕ) → IsNextAccess past e spots x clocks.now access
-        → AreGroups (past ++ e ∷ []) spots x (access.event + 1) groups.now
+        → AreGroups (past ++ e ∷ []) spots x (access.event + 1) (access.event + 1) groups.now
         → OnOk result (AreRivals (past ++ e ∷ []) spots x access since rivals.new.found.items) }
 {
     for group in groups {
@@ -164,7 +164,7 @@ impl Rivals {
         since: u32,
     ) -> Result<(), NoMemory>
         ensures { (past : List Event) (e : Event) (spots : List SpotData) (x : ℕ) → IsNextAccess past e spots x clocks.now access
-            → AreGroups (past ++ e ∷ []) spots x (access.event + 1) groups.now → IsRun (past ++ e ∷ []) x access.event run
+            → AreGroups (past ++ e ∷ []) spots x (access.event + 1) (access.event + 1) groups.now → IsRun (past ++ e ∷ []) x access.event run
             → OnOk result (AreRivals (past ++ e ∷ []) spots x access since self.new.found.items) }
     {
         self.found.clear();

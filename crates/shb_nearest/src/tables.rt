@@ -1,7 +1,8 @@
 //! What is known of the accesses of a stream: classes, groups and places.
 
-ghost use Rattle.std.specs.Prelude.{◌+◌, ◌++◌, ◌∷◌, [], Bool, List, IfOk, OnOk};
+ghost use Rattle.std.specs.Prelude.{◌≡◌, ◌≤◌, ◌+◌, ◌++◌, ◌∷◌, [], Bool, true, List, IfOk, OnOk, length};
 ghost use Rattle.shb_lines.specs.declared.event.Event.{Event};
+ghost use Rattle.shb_nearest.specs.Places.{AreKnown};
 ghost use Rattle.shb_nearest.specs.Rivals.{IsNextAccess};
 ghost use Rattle.shb_nearest.specs.Searched.{AreTables, HasRoom};
 ghost use Rattle.shb_nearest.specs.Wide.{HasSpace};
@@ -17,7 +18,6 @@ use crate::rivals::Rivals;
 use crate::screen::{Latest, screen, unscreened};
 use shb_io::NoMemory;
 use shb_stamps::StreamClocks;
-use smallvec::SmallVec;
 use std::alloc::Global;
 use std::random::RandomSource;
 
@@ -46,12 +46,7 @@ fn make_space(variables: &mut Vec<Variable>, alloc: Global, variable: u32) -> Re
 {
     while variables.len() <= variable as usize {
         variables.push(Variable {
-            accesses: Accesses {
-                groups: Groups {
-                    each: Vec::new(alloc),
-                },
-                late: SmallVec::new(alloc),
-            },
+            accesses: Accesses::new(alloc),
             run: Run {
                 thread: 0,
                 start: 0,
@@ -60,6 +55,29 @@ fn make_space(variables: &mut Vec<Variable>, alloc: Global, variable: u32) -> Re
         })?;
     }
     Ok(())
+}
+
+/// Whether it is seen at once that each race of an access with what the groups of its variable keep has a known place.
+fn are_known(
+    places: &Places,
+    groups: &Groups,
+    by_variable: bool,
+    variable: u32,
+    access: FoundAccess,
+) -> bool
+    ensures few { result ≡ true → length groups.now.sites.items ≤ 16 }
+    ensures known { result ≡ true → AreKnown by_variable variable access.spot.location places.now.races.entries groups.now.sites.items }
+{
+    let crowded = groups.are_crowded();
+    if !crowded {
+        return false;
+    }
+    places.know_all(
+        by_variable,
+        variable,
+        access.spot.location,
+        groups.sites.as_slice(),
+    )
 }
 
 impl Tables {
@@ -108,18 +126,23 @@ impl Tables {
         let screened = screen(clocks, known.latest, access, time);
         known.run = run.after(access);
         known.latest = screened.latest;
-        let (classes, indices) = (&mut self.classes, &mut self.indices);
         if screened.free {
             known
                 .accesses
-                .put_off(alloc, classes, indices, variable, late)?;
+                .put_off(alloc, &self.classes, variable, run, late)?;
             return Ok(());
         }
+        let (classes, indices) = (&mut self.classes, &mut self.indices);
         let since = known
             .accesses
             .take(alloc, classes, indices, variable, late)?;
-        let groups = known.accesses.groups.each.as_slice();
-        self.rivals.find(clocks, run, groups, access, since)?;
+        let groups = &known.accesses.groups;
+        let settled = are_known(&self.places, groups, by_variable, variable, access);
+        if settled {
+            return Ok(());
+        }
+        let each = groups.each.as_slice();
+        self.rivals.find(clocks, run, each, access, since)?;
         let rivals = self.rivals.found.as_slice();
         self.places
             .offer_all(by_variable, variable, access, rivals)?;

@@ -7,7 +7,8 @@ pub mod CopiesLemmas
 pub mod Counting
 pub mod Stamping
 pub mod Streams
-pub mod SpanLemmas
+pub mod ChunkLemmas
+pub mod RowLemmas
 pub mod Raised
 pub mod ClockSteps
 pub mod Streaming

@@ -1,12 +1,11 @@
+pub mod Chunks
 pub mod Clocks
 pub mod Fronts
 pub mod KeptRows
 pub mod Listed
 pub mod Moved
 pub mod Open
-pub mod RowBytes
 pub mod Rows
-pub mod Spans
 pub mod Stamps
 pub mod StreamClocks
 pub mod SweepData

@@ -1,6 +1,6 @@
 //! Clocks: one number for each thread.
 
-ghost use Rattle.std.specs.Prelude.{◌≡◌, ℕ, ◌≤◌, IfOk, true, replicate, slice_index_or};
+ghost use Rattle.std.specs.Prelude.{◌≡◌, ℕ, ◌≤◌, IfOk, OnOk, true, replicate, slice_index_or, length};
 
 use shb_io::NoMemory;
 use std::alloc::Global;
@@ -27,6 +27,18 @@ pub fn is_below(clock: &[u32], other: &[u32]) -> bool
         excess = excess.max(clock[t].saturating_sub(other[t]));
     }
     excess == 0
+}
+
+/// Gives a clock so many entries. Those behind the old ones are 0.
+#[inline(always)]
+pub fn set_length(clock: &mut Vec<u32>, size: usize) -> Result<(), NoMemory>
+    ensures long { OnOk result (length clock.new.items ≡ size) }
+    ensures same { length clock.old.items ≤ size → OnOk result ((t : ℕ) → slice_index_or clock.new.items t 0 ≡ slice_index_or clock.old.items t 0) }
+{
+    if clock.len() != size {
+        clock.resize(size, 0)?;
+    }
+    Ok(())
 }
 
 /// As many zeros as this.

@@ -18,8 +18,9 @@ ghost use Rattle.shb_stamps.specs.Clocks.{HasRowAfter, IsBefore, IsNext, KeepsWr
 ghost use Rattle.shb_stamps.specs.Rows.{AreMore};
 ghost use Rattle.shb_stamps.specs.Stamps.{IsSource, KnowsStamp, empty_stamp};
 
-use crate::clock::{entry, is_below, zeros};
+use crate::clock::{set_length, zeros};
 use crate::compact::compacted;
+use crate::row::Row;
 use crate::row_list::RowList;
 use crate::stamp::{Stamp, is_joined, no_stamps};
 use shb_io::NoMemory;
@@ -67,59 +68,36 @@ fn size_limit(used: usize, stamps: usize) -> usize {
 /// The memory of rows that were moved, of which so many bytes are in use, for the next ones that are. It is freed
 /// where more than two thirds are in use: then more will be, and it wouldn't be enough.
 fn memory_of(alloc: Global, old: RowList, used: usize) -> RowList {
-    if used > old.size() - old.size() / 3 {
+    let size = old.size();
+    if used > size - size / 3 {
         return RowList::empty(alloc);
     }
     old
 }
 
-/// Gives a clock so many entries. Those behind the old ones are 0.
-#[inline(always)]
-fn set_length(clock: &mut Vec<u32>, size: usize) -> Result<(), NoMemory>
-    ensures long { OnOk result (length clock.new.items ≡ size) }
-    ensures same { length clock.old.items ≤ size → OnOk result ((t : ℕ) → slice_index_or clock.new.items t 0 ≡ slice_index_or clock.old.items t 0) }
-{
-    if clock.len() != size {
-        clock.resize(size, 0)?;
-    }
-    Ok(())
-}
-
 /// Makes a clock that of a row, with a time put at a thread.
 #[inline(always)]
-fn set_clock(clock: &mut Vec<u32>, row: &[u32], thread: u32, time: u32) -> Result<(), NoMemory>
+fn set_clock(clock: &mut Vec<u32>, row: &Row<'_>, thread: u32, time: u32) -> Result<(), NoMemory>
     ensures { OnOk result (IsPut 0 thread time row.now clock.new.items) }
 {
-    set_length(clock, row.len())?;
-    clock.copy_from_slice(row);
+    row.copy_to(clock)?;
     put(clock, thread, time, 0)?;
     Ok(())
 }
 
-/// Raises the first entries of a clock to those of another.
-#[tactic(auto, using(crate::proofs::Raised::raised_set, crate::proofs::Raised::raised_whole))]
-fn raise(clock: &mut [u32], other: &[u32])
-    requires { length other.now ≤ length clock.old }
-    ensures { (t : ℕ) → slice_index_or clock.new t 0 ≡ max (slice_index_or clock.old t 0) (slice_index_or other.now t 0) }
-{
-    for t in 0..other.len() {
-        clock[t] = clock[t].max(other[t]);
-    }
-}
-
-/// Whether no entry of a clock is above that of another, where it is asked.
-fn is_asked_below(asks: bool, clock: &[u32], other: &[u32]) -> bool
-    ensures { result ≡ true → (t : ℕ) → slice_index_or clock.now t 0 ≤ slice_index_or other.now t 0 }
+/// Whether no entry of a row is above that of a clock, where it is asked.
+fn is_asked_below(asks: bool, row: &Row<'_>, clock: &[u32]) -> bool
+    ensures { result ≡ true → (t : ℕ) → slice_index_or row.now t 0 ≤ slice_index_or clock.now t 0 }
 {
     if asks {
-        return is_below(clock, other);
+        return row.is_below(&Row::of(clock));
     }
     false
 }
 
-/// Raises each entry of a clock to that of another. Where it is asked, says whether the clock is the same.
+/// Raises each entry of a clock to that of a row. Where it is asked, says whether the clock is the same.
 #[inline(always)]
-fn join(clock: &mut Vec<u32>, other: &[u32], asks: bool) -> Result<bool, NoMemory>
+fn join(clock: &mut Vec<u32>, other: &Row<'_>, asks: bool) -> Result<bool, NoMemory>
     ensures raised { OnOk result ((t : ℕ) → slice_index_or clock.new.items t 0 ≡ max (slice_index_or clock.old.items t 0) (slice_index_or other.now t 0)) }
     ensures same { IfOk result (λ same. same ≡ true → clock.new.items ≡ clock.old.items) }
 {
@@ -129,7 +107,7 @@ fn join(clock: &mut Vec<u32>, other: &[u32], asks: bool) -> Result<bool, NoMemor
     }
     let size = clock.len().max(other.len());
     set_length(clock, size)?;
-    raise(clock.as_mut_slice(), other);
+    other.raise(clock.as_mut_slice());
     Ok(false)
 }
 
@@ -152,7 +130,7 @@ fn row_after(
     ensures { IfOk result (HasRowAfter rows.old rows.new thread before source) }
 {
     let known = rows.row(before);
-    let told = source.is_known(thread, known);
+    let told = source.is_known(thread, &known);
     if told {
         return Ok(AfterSource {
             row: before,
@@ -160,16 +138,16 @@ fn row_after(
         });
     }
     let given = rows.row(source.row);
-    let shared = is_joined(known, given, source);
+    let shared = is_joined(&known, &given, source);
     if shared {
         return Ok(AfterSource {
             row: source.row,
             renames: false,
         });
     }
-    set_clock(clock, given, source.thread, source.time)?;
-    let renames = join(clock, known, reads)?;
-    let row = rows.push(clock.as_slice())?;
+    set_clock(clock, &given, source.thread, source.time)?;
+    let renames = join(clock, &known, reads)?;
+    let row = rows.push_like(&Row::of(clock.as_slice()), source.row)?;
     Ok(AfterSource { row, renames })
 }
 
@@ -264,7 +242,7 @@ impl Clocks {
     {
         let number = self.row_number(thread);
         let row = self.rows.row(number);
-        entry(row, other)
+        row.entry(other)
     }
 
     /// Whether a thread knows the last write of a variable. Nothing changes when it reads it then.
@@ -316,8 +294,8 @@ impl Clocks {
         ensures more { OnOk result (AreMore self.old.rows self.new.rows) }
     {
         let own = self.row_number(thread);
-        set_clock(&mut self.clock, self.rows.row(own), thread, time)?;
-        let forked = self.rows.push(self.clock.as_slice())?;
+        set_clock(&mut self.clock, &self.rows.row(own), thread, time)?;
+        let forked = self.rows.push_like(&Row::of(self.clock.as_slice()), own)?;
         put(&mut self.current, child, forked, 0)?;
         Ok(())
     }

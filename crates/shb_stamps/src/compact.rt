@@ -26,6 +26,6 @@ pub fn compacted(
     let mut moving = Moving::new(alloc, old.count())?;
     moving.row(0)?;
     moving.tables(current, locks, variables)?;
-    let rows = old.kept(unused, moving.kept.as_slice())?;
+    let rows = old.kept(alloc, unused, moving.kept.as_slice())?;
     Ok(rows)
 }

@@ -55,7 +55,8 @@ fn keep(
     if known > 0 {
         return Ok(known - 1);
     }
-    let number = rows.push(clocks.rows.row(before))?;
+    let last = rows.count().saturating_sub(1);
+    let number = rows.push_like(&clocks.rows.row(before), last)?;
     note_copy(copies, before, number)?;
     Ok(number)
 }

@@ -10,7 +10,9 @@
 //! A vector clock of a property of events has for each thread the number of its events, from the
 //! first on, that have the property (`IsFront`). Clocks are rows of one memory, and a row says
 //! nothing of its own thread: the event's local time stands in when it is read. So an event at which its
-//! thread learns nothing new shares the row before.
+//! thread learns nothing new shares the row before. A row of more than 1,024 entries begins with chunks of 128, and
+//! rows share the chunks in which they are equal (`row_list`): what threads that are joined one after the other
+//! knew takes little more than what the last one did.
 //!
 //! `clocks` makes the rows in one forward pass, for a stored trace (`trace_clocks`) and for a stream
 //! ([`StreamClocks`], which counts each thread's events besides). A stamp is a row, a thread and a local time, which
@@ -38,6 +40,7 @@ mod moving;
 mod open;
 mod order;
 mod ordered;
+mod row;
 mod row_list;
 mod stamp;
 mod stream_clocks;

@@ -3,7 +3,7 @@
 ghost use Rattle.std.specs.Prelude.{◌≡◌, ℕ, ◌≤◌, ◌↔◌, IfOk, IsTrue, true, replicate, slice_index_or};
 ghost use Rattle.shb_stamps.specs.Stamps.{KnowsStamp, empty_stamp};
 
-use crate::clock::{entry, is_below};
+use crate::row::Row;
 use shb_io::NoMemory;
 use std::alloc::Global;
 
@@ -29,23 +29,23 @@ impl Stamp {
     }
 
     /// Whether a thread that knows a row, but for its own entry, knows the event of this stamp.
-    pub fn is_known(self, thread: u32, row: &[u32]) -> bool
+    pub fn is_known(self, thread: u32, row: &Row<'_>) -> bool
         ensures { IsTrue result ↔ KnowsStamp row.now thread self }
     {
-        self.thread == thread || self.time <= entry(row, self.thread)
+        self.thread == thread || self.time <= row.entry(self.thread)
     }
 }
 
 /// Whether a row is the clock of the stamp that names it, and a known row is below it. Then that clock
 /// is the known row raised to it.
-pub fn is_joined(known: &[u32], row: &[u32], stamp: Stamp) -> bool
+pub fn is_joined(known: &Row<'_>, row: &Row<'_>, stamp: Stamp) -> bool
     ensures { result ≡ true → (slice_index_or row.now stamp.thread 0 ≡ stamp.time)
         × ((t : ℕ) → slice_index_or known.now t 0 ≤ slice_index_or row.now t 0) }
 {
-    if entry(row, stamp.thread) != stamp.time {
+    if row.entry(stamp.thread) != stamp.time {
         return false;
     }
-    is_below(known, row)
+    known.is_below(row)
 }
 
 /// Stamps of no event.

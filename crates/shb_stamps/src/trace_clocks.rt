@@ -11,7 +11,6 @@ ghost use Rattle.shb_stamps.specs.Moved.{AreCopies};
 ghost use Rattle.shb_stamps.specs.Rows.{AreMore};
 ghost use Rattle.shb_stamps.specs.Stamps.{IsRowFor};
 
-use crate::clock::entry;
 use crate::clocks::Clocks;
 use crate::copies::forget_moved;
 use crate::row_list::RowList;
@@ -168,5 +167,5 @@ pub fn count_below(linked: &Linked<'_>, rows: &RowList, row: u32, e: u32, t: u32
     if t == linked.events.thread(e) {
         return linked.links.local(e) - 1;
     }
-    entry(rows.row_at(row), t)
+    rows.row_at(row).entry(t)
 }

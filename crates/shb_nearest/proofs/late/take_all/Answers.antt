@@ -8,19 +8,28 @@ abbrev none : Late
 none = record { access = record { event = 0; thread = 0; writes = false; spot = record { location = 0; barred = false } }; time = 0 }
 
 pub loop-late-preserved : goal.loop-late-preserved
-loop-late-preserved c trace spots n m groups late =
-    let waiting = c.args.waiting.now in
-    let index = c.loop-late.late-index in
-    let more : index < length waiting = (let test = c.loop-late-test.true in omega (arith, test)) in
-    let was = c.loop-late.invariant trace spots n m groups late in
-    let a = get_or waiting index none in
-    let is = get_or_default waiting index none a more in
-    let first = late_first trace spots c.args.variable n index waiting a c.loop-late.groups.each.items c.take.new.self.each.items more is was.0 in (
-      late_taken trace spots c.args.variable n index waiting a c.loop-late.groups.each.items c.take.new.self.each.items more is was.0 (λ are. c.in_ok-take.ensures.groups trace spots are first.0),
-      λ are. c.in_ok-take.ensures.classes trace spots n first.0 first.1 (was.1 are),
-    )
+loop-late-preserved c = (
+  λ trace spots n m groups late. (
+      let waiting = c.args.waiting.now in
+      let index = c.loop-late.late-index in
+      let more : index < length waiting = (let test = c.loop-late-test.true in omega (arith, test)) in
+      let was = c.loop-late.invariant.0 trace spots n m groups late in
+      let a = get_or waiting index none in
+      let is = get_or_default waiting index none a more in
+      let first = late_first trace spots c.args.variable n index waiting a c.loop-late.groups.each.items c.take.new.self.each.items more is was.0 in (
+        late_taken trace spots c.args.variable n index waiting a c.loop-late.groups.each.items c.take.new.self.each.items more is was.0 (λ are. c.in_ok-take.ensures.groups trace spots n are first.0 first.1),
+        λ are. c.in_ok-take.ensures.classes trace spots n first.0 first.1 (was.1 are),
+      )),
+  λ sites. c.in_ok-take.ensures.sites (c.loop-late.invariant.1 sites),
+)
 
 pub returns-clause-groups : goal.returns-clause-groups
 returns-clause-groups c trace spots n m groups late =
     let done = c.loop-late-test.false in
-    last_taken trace spots c.args.variable n c.loop-late.late-index c.args.waiting.now c.loop-late.groups.each.items (omega (arith, done)) (c.loop-late.invariant trace spots n m groups late).0
+    last_taken trace spots c.args.variable n c.loop-late.late-index c.args.waiting.now c.loop-late.groups.each.items (omega (arith, done)) (c.loop-late.invariant.0 trace spots n m groups late).0
+
+pub returns-clause-classes : goal.returns-clause-classes
+returns-clause-classes c trace spots n m groups late are = (c.loop-late.invariant.0 trace spots n m groups late).1 are
+
+pub returns-clause-sites : goal.returns-clause-sites
+returns-clause-sites c sites = c.loop-late.invariant.1 sites

@@ -13,7 +13,7 @@ returns-then-shared c =
     shares
     (λ known. (let passing = c.is_known-told.ensures.1 (subst (λ (row : List ℕ). KnowsStamp row c.args.thread c.args.source) (sym c.row-known.ensures) known) in let fails_it = c.if-told.false in (let f : ⊥ = cc in f)))
     (subst (λ (row : List ℕ). get_or row c.args.source.thread 0 ≡ c.args.source.time) c.row-given.ensures found.0)
-    (λ t. subst (λ (row : List ℕ). get_or row t 0 ≤ get_or (get_or c.args.rows.now c.args.source.row []) t 0) c.row-known.ensures (subst (λ (row : List ℕ). get_or c.row-known.result.now t 0 ≤ get_or row t 0) c.row-given.ensures (found.1 t)))
+    (λ t. subst (λ (row : List ℕ). get_or row t 0 ≤ get_or (get_or c.args.rows.now c.args.source.row []) t 0) c.row-known.ensures (subst (λ (row : List ℕ). get_or c.row-known.result t 0 ≤ get_or row t 0) c.row-given.ensures (found.1 t)))
     refl refl refl
 
 pub returns : goal.returns
@@ -21,5 +21,5 @@ returns c = learns
     (λ known. (let passing = c.is_known-told.ensures.1 (subst (λ (row : List ℕ). KnowsStamp row c.args.thread c.args.source) (sym c.row-known.ensures) known) in let fails_it = c.if-told.false in (let f : ⊥ = cc in f)))
     c.set_clock.new.clock.items c.join.new.clock.items (subst (λ (row : List ℕ). IsPut 0 c.args.source.thread c.args.source.time row c.set_clock.new.clock.items) c.row-given.ensures c.in_ok-set_clock.ensures)
     (λ t. c.in_ok-renames.ensures.raised t ∙ ap (λ (xs : List ℕ). max (get_or c.set_clock.new.clock.items t 0) (get_or xs t 0)) c.row-known.ensures)
-    (c.in_ok-row.ensures.rows ∙ ap (λ (row : List ℕ). c.args.rows.now ++ row ∷ []) c.as_slice.ensures.value) c.in_ok-row.ensures.number
+    (c.in_ok-row.ensures.rows ∙ ap (λ (row : List ℕ). c.args.rows.now ++ row ∷ []) (c.of.ensures ∙ c.as_slice.ensures.value)) c.in_ok-row.ensures.number
     c.in_ok-renames.ensures.same

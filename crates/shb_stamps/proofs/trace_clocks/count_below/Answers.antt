@@ -16,4 +16,4 @@ returns c =
     let trace : List Event = c.args.linked.now.events.now in
     let u : ℕ = c.thread.result in
     let before = c.requires.row u c.thread.ensures in
-    count_other trace trace c.args.rows.now c.args.e u c.args.t c.args.row c.entry.result c.row_at.result.now refl before c.row_at.ensures c.if-t-thread.false c.entry.ensures
+    count_other trace trace c.args.rows.now c.args.e u c.args.t c.args.row c.entry.result c.row_at.result refl before c.row_at.ensures c.if-t-thread.false c.entry.ensures

@@ -1,17 +1,14 @@
-use Rattle.std.proofs.Common.{◌++◌, ◌∷◌, [], ap, arith, ◌∙◌, List, ℕ}
-use Rattle.shb_stamps.proofs.SpanLemmas.{pushed_bytes, pushed_inside, pushed_rows, rows_kept}
+use Rattle.std.proofs.Common.{◌++◌, ◌∷◌, [], ap, ◌∙◌, List, ℕ}
+use Rattle.shb_stamps.proofs.ChunkLemmas.{inside_push, rows_push}
 use Rattle.shb_stamps.proofs.row_list.RowList.push.Goals as goal
-
-pub invariant_of-self-in_err-push : goal.invariant_of-self-in_err-push
-invariant_of-self-in_err-push c = rows_kept c.self.inside.entries.items _ c.args.row.now c.self.inside.spans.items _ _ c.in_ok-extend_from_slice.ensures.items c.in_err-push.ensures.items c.self.invariant
 
 pub invariant_of-self-2 : goal.invariant_of-self-2
 invariant_of-self-2 c = (
-  pushed_inside c.self.inside.entries.items _ c.args.row.now c.self.inside.spans.items _ c.len-start.result c.in_ok-extend_from_slice.ensures.items (omega (arith, c.len-start.ensures)) c.in_ok-push.ensures.items c.self.invariant.0,
-  pushed_bytes c.self.inside.entries.items _ c.args.row.now c.self.inside.spans.items _ c.len-start.result c.in_ok-extend_from_slice.ensures.items (omega (arith, c.len-start.ensures)) c.in_ok-push.ensures.items c.self.invariant.0 _ c.row_size-size.result _
-      c.self.invariant.1 c.row_size-size.ensures c.saturating_add-self-inside.ensures,
+  c.add_cells.ensures.chunks,
+  inside_push c.self.inside.chunks.items _ c.self.inside.cells.items _ c.add_cells.ensures.longer.0 c.add_cells.ensures.longer.1 c.self.inside.spans.items _ c.in_ok-span.span c.self.invariant.1 c.in_ok-push.ensures.items c.in_ok-span.ensures.inside,
 )
 
 pub returns-clause-rows : goal.returns-clause-rows
-returns-clause-rows c = pushed_rows c.self.inside.entries.items _ c.args.row.now c.self.inside.spans.items _ c.len-start.result c.in_ok-extend_from_slice.ensures.items (omega (arith, c.len-start.ensures)) c.in_ok-push.ensures.items c.self.invariant.0
+returns-clause-rows c =
+    rows_push c.self.inside.chunks.items _ c.self.inside.cells.items _ c.add_cells.ensures.longer.0 c.add_cells.ensures.longer.1 c.self.inside.spans.items _ c.in_ok-span.span c.args.row.now c.self.invariant.1 c.in_ok-push.ensures.items c.in_ok-span.ensures.row
     ∙ ap (λ (rows : List (List ℕ)). rows ++ c.args.row.now ∷ []) c.self.view_is

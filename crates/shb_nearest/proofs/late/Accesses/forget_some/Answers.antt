@@ -1,0 +1,14 @@
+use Rattle.std.proofs.Common.{List, subst}
+use Rattle.std.specs.Prelude.{AllPairs}
+use Rattle.shb_nearest.specs.Late.{HasNewest, IsBefore}
+use Rattle.shb_nearest.specs.declared.late.Late.{Late}
+use Rattle.shb_nearest.proofs.LateLemmas.{late_forgotten}
+use Rattle.shb_nearest.proofs.late.Accesses.forget_some.Goals as goal
+
+pub returns-clause-accesses : goal.returns-clause-accesses
+returns-clause-accesses c trace spots n are = record {
+  since = are.since;
+  groups = are.groups;
+  late = late_forgotten trace spots c.args.variable n are.since c.args.self.now.late.items c.forget.new.waiting.items c.in_ok-newest.newest.newest.entries
+      (subst (λ (l : List Late). AllPairs IsBefore l → HasNewest c.in_ok-newest.newest.newest.entries c.args.variable l) c.as_slice.ensures c.in_ok-newest.ensures) c.forget.ensures are.late;
+}

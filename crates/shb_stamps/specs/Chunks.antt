@@ -1,0 +1,49 @@
+-- Rows in one memory, which share chunks of 128 entries.
+use Rattle.std.specs.Prelude.{◌≡◌, ℕ, ◌+◌, ◌<◌, ◌≤◌, ◌++◌, ◌^◌, List, [], drop, length, map, slice_index_or, take}
+use Rattle.std.specs.List.{flat_map}
+use Rattle.shb_stamps.specs.declared.row_list.Span.{Span}
+
+-- the entries of a row: those of the chunks with these numbers, and the rest
+abbrev pub row_by : List (List ℕ) → List ℕ → List ℕ → List ℕ
+row_by chunks numbers rest = flat_map (λ n. slice_index_or chunks n []) numbers ++ rest
+
+-- each chunk has 128 entries
+abbrev pub AreChunks : List (List ℕ) → Type 0
+AreChunks chunks = (n : ℕ) → n < length chunks → length (slice_index_or chunks n []) ≡ 128
+
+-- numbers of chunks
+abbrev pub AreNumbers : List (List ℕ) → List ℕ → Type 0
+AreNumbers chunks numbers = (k : ℕ) → k < length numbers → slice_index_or numbers k 0 < length chunks
+
+-- a row may begin with the chunks of these numbers
+pub record IsRow (chunks : List (List ℕ)) (numbers : List ℕ) : Type 0 where
+  pub chunks_are : AreChunks chunks
+  pub numbers_are : AreNumbers chunks numbers
+  pub few : length numbers < 2 ^ 32
+
+-- the numbers of a row's chunks
+abbrev pub numbers_in : List ℕ → Span → List ℕ
+numbers_in cells span = take span.chunks (drop span.start cells)
+
+-- the entries of a row
+abbrev pub row_in : List (List ℕ) → List ℕ → Span → List ℕ
+row_in chunks cells span = row_by chunks (numbers_in cells span) (take span.rest (drop (span.start + span.chunks) cells))
+
+-- all rows, in order
+abbrev pub rows_in : List (List ℕ) → List ℕ → List Span → List (List ℕ)
+rows_in chunks cells spans = map (row_in chunks cells) spans
+
+-- the cells of a row are among these, and name chunks
+pub record IsInside (chunks : List (List ℕ)) (cells : List ℕ) (span : Span) : Type 0 where
+  pub within : span.start + span.chunks + span.rest ≤ length cells
+  pub numbers_are : AreNumbers chunks (numbers_in cells span)
+  pub few : span.chunks < 2 ^ 32
+
+-- so are those of each row
+abbrev pub AreInside : List (List ℕ) → List ℕ → List Span → Type 0
+AreInside chunks cells spans = (k : ℕ) → IsInside chunks cells (slice_index_or spans k record { start = 0; chunks = 0; rest = 0 })
+
+-- a list, and more after it
+pub record IsLonger {A : Type 0} (old new : List A) : Type 0 where
+  pub more : List A
+  pub is : new ≡ old ++ more
