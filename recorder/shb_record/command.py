@@ -203,9 +203,11 @@ def conclude(look, rows, status):
         say(f"{look.options.known_path}, {words}")
     for first, second in itertools.islice(look.passed_over, MOST_PASSED):
         say(f"{printable(second)} read what {printable(first)} wrote, in a known race: a second look passed over both")
-    say(counted(unknown, "unknown place" if look.options.known_path else "place") + " with races"
-        + (f" ({'' if behind == unknown else f'{behind:,} of them '}behind known races: real if these are harmless)" if behind else "")
-        + (f", {counted(passed_over, 'known one')} passed over" if passed_over else "")
+    shown = (counted(unknown, "unknown place" if look.options.known_path else "place") + " with races"
+             + (f" ({'' if behind == unknown else f'{behind:,} of them '}behind known races: real if these are harmless)" if behind else "")
+             + (f", {counted(passed_over, 'known one')} passed over" if passed_over else ""))
+    unshown = f"{counted(look.unshown, 'place')} with races that can't be shown"
+    say("; ".join([shown] * bool(rows or not look.unshown) + [unshown] * bool(look.unshown))
         + ("; not the whole of the run was seen" if look.is_cut or look.is_killed else "")
         + ("; not all could be looked at" if look.has_failed else "")
         + f"; the program's own status: {look.own}; files in {look.results.folder}")

@@ -97,19 +97,20 @@ class Conversion:
                       *(["--left", self.left] if options.live else []), *self.page_words]
         self.size, self.notes, self.cuts = "", [], []  # known at the end: how much there is, what is said of it, what makes it a part
         self.numbers, self.has_page = {}, False
+        self.found = []  # the places of the run, once the scan has them
 
     def places(self, scan, choose):
-        """The places of the run. Of those that `choose` gives of them the page's trace is there then."""
+        """Finds the places of the run. Of those that `choose` gives of them the page's trace is there then."""
         with tempfile.TemporaryFile() as said, subprocess.Popen(self.words, stdin=subprocess.PIPE, stdout=scan.descriptor, stderr=said, **apart()) as ran:
             scan.begun()
             try:
-                places, chosen, fault = [], [], None
+                chosen, fault = [], None
                 try:
-                    places = scan.places()
-                    chosen = choose(self.process, places)
+                    self.found = scan.places()
+                    chosen = choose(self.process, self.found)
                 except Refused as its:
                     fault = its
-                if places:
+                if self.found:
                     scan.copy(self.scan)
                 with contextlib.suppress(BrokenPipeError):  # its status says how it ended
                     ran.stdin.write(b"".join(lines_of(chosen)))
@@ -122,7 +123,6 @@ class Conversion:
                 ran.kill()
         if chosen:
             self.note_page(chosen)
-        return places
 
     def note_page(self, places):
         """The page's trace is there: its events that are those of races of the run have the same lines."""

@@ -40,6 +40,7 @@ class Look:
         self.options, self.results, self.stops, self.started = options, results, stops, now()[:-3]
         self.places, self.pages, self.found = Places(options.known), [], {}
         self.own = 0  # the program's own status, of the first run where it isn't 0
+        self.unshown = 0  # places of processes that can't be shown
         self.runs = []  # of each run: the order of each process
         self.has_replayed, self.again = False, None  # did a process follow the list? the list of the first with an unknown place
         self.sources, self.notes = {}, {}  # by process and trace: the paths of source files; what is to know of pages
@@ -78,12 +79,24 @@ class Look:
             do(looked)
         except (Refused, OSError) as fault:
             self.fail(fault)
+            self.say_unshown(looked)
             if process.record.exists():
                 self.keep_failed(process)
             return None
         if self.options.keep and do == self.show:
             self.results.keep(process.record, f"{process.base}.rec")
         return looked
+
+    def say_unshown(self, looked):
+        """Says what the scan found in a process that can't be shown."""
+        if looked.named:
+            found = [(new.place, new.variables) for new in self.places.unknown_of(looked.new)]
+        else:
+            found = [(place, place.variables) for place in looked.conversion.found]
+            self.unshown += len(found)
+        if found and not self.stops.first:  # else they were said before
+            say(f"{looked.process.name}: {counted(len(found), 'place')} with races that can't be shown:")
+            say_places(found)
 
     def keep_failed(self, process):
         say(f"the record is kept: {self.results.keep(process.record, process.base + '.rec')}")
@@ -115,8 +128,8 @@ class Look:
         """Converts and analyses a process."""
         check_room(looked.process, self.options.window)
         with scanning(self.results.work) as scan:
-            looked.places = looked.conversion.places(scan, self.choose)
-            looked.events = scan.events
+            looked.conversion.places(scan, self.choose)
+            looked.places, looked.events = looked.conversion.found, scan.events
         if looked.events:
             self.modules.add(looked.process.modules)
         looked.new, looked.named = self.add_new(looked, looked.places)

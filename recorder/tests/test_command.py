@@ -702,8 +702,8 @@ int main(int count, char **words) {
             status, _, said = self.record(self.program(), "0", "race", SHB=str(fake))
             self.assertEqual((status, "`shb scan` wrote no whole report: line " in said), (125, True), said)
 
-    def test_a_converter_that_is_killed(self):
-        """It has written a row, and nobody reads the answer."""
+    def with_converter(self, script):
+        """The command with this script of a shell in place of the converter."""
         home = self.folder / "recorder"
         home.mkdir()
         shutil.copy(recorder.BUILT / "shb-record", home)
@@ -711,11 +711,32 @@ int main(int count, char **words) {
         (home / "lib").symlink_to(recorder.BUILT / "lib")
         for name in ("view", "common"):
             (self.folder / name).symlink_to(recorder.SOURCES.parent / name)
-        (home / "shb-std").write_text("#!/bin/sh\nexec 0<&-\nprintf 'main|w(x)|a.c:1\\n'\nkill -KILL $$\n")
+        (home / "shb-std").write_text(f"#!/bin/sh\n{script}\n")
         (home / "shb-std").chmod(0o755)
-        status, _, said = self.record(self.program(), "0", "race", command=home / "shb-record")
+        return home / "shb-record"
+
+    def test_a_converter_that_is_killed(self):
+        """It has written a row, and nobody reads the answer."""
+        command = self.with_converter("exec 0<&-\nprintf 'main|w(x)|a.c:1\\n'\nkill -KILL $$")
+        status, _, said = self.record(self.program(), "0", "race", command=command)
         self.assertEqual(status, 125, said)
         self.assertRegex(said, r"(?m)^shb-record: run 1, process \d+: shb-std ended with signal 9$")
+
+    def test_a_page_that_contradicts_the_scan(self):
+        """What the scan found is said, since no page shows it."""
+        real = recorder.BUILT / "shb-std"
+        for end in "sed -i s/status.c:9/status.c:8/ $5", ": > $5":
+            with self.subTest(end):
+                command = self.with_converter(f'exec 4<&0\n{real} "$@" <&4 &\nexec >&- <&- 4<&-\nwait $!\nstatus=$?\n{end}\nexit $status')
+                status, _, said = self.record(self.program(), "0", "race", command=command)
+                self.assertEqual(status, 125, said)
+                self.assertRegex(said, r"(?m)^shb-record: run 1, process \d+: 1 place with races that can't be shown:\n"
+                                 r"shb-record:   shared: status.c:9 \w+ by \S+, and status.c:9 \w+ by \S+$")
+                self.assertRegex(said, r"(?m)^shb-record: 1 place with races that can't be shown; not all could be looked at; the program's own")
+                self.assertNotIn("0 places", said)
+                shutil.rmtree(self.folder / "recorder")
+                for name in ("view", "common"):
+                    (self.folder / name).unlink()
 
     def test_what_earlier_runs_recorded_is_shown(self):
         """The third run leaves no record, for it can't begin one."""
