@@ -38,7 +38,7 @@ def sections(text, report, is_good=True):
         given = view.Given("report", written, Verdict(is_good, ""), None)
         counts, gathered = Counts(*shb.counts_of(shb.read_trace(text)[0])), Gathered()
         view.read_report(given, counts, gathered, QUIET)
-        options, kinds = argparse.Namespace(html=True, all=False, unseen=None), view.Kinds(gathered, view.Stacks())
+        options, kinds = argparse.Namespace(html=True, all=False, unseen={}), view.Kinds(gathered, view.Stacks())
         made = view.Subject(given, counts, 0, 0, "", counts.events, None)
         return view.make_sections(options, kinds, made, Trace(file, QUIET), gathered.groups())[1]
 

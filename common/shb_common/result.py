@@ -53,7 +53,12 @@ def stale_of(lines):
 
 
 def document(command, summary, places, **more):
-    """The whole as bytes of ASCII. `summary` has numbers by their names."""
+    """The whole. `summary` has numbers by their names."""
     installed = version.installed()
     head = {"form": FORM, "version": VERSION, "command": command, **({"installed": installed} if installed else {})}
-    return (json.dumps({**head, "summary": summary, **more, "places": places}, indent=1) + "\n").encode()
+    return {**head, "summary": summary, **more, "places": places}
+
+
+def in_bytes(found):
+    """A document of this form or another as bytes of ASCII."""
+    return (json.dumps(found) + "\n").encode()

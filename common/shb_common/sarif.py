@@ -1,7 +1,6 @@
 """Places as a log in SARIF 2.1.0, the static analysis results interchange format of OASIS: one result a place."""
 
 import collections
-import json
 import os
 import posixpath
 import re
@@ -12,6 +11,7 @@ from shb_common import known, version
 from shb_common.locations import line_of, parts_of
 from shb_common.places import Row
 from shb_common.printable import printable
+from shb_common.result import in_bytes
 from shb_common.sources import read_lines
 from shb_common.stacks import bare
 
@@ -213,4 +213,4 @@ def log(alerts, sources, notifications, is_whole, status):
                          [{"level": level, "message": {"text": text}} for level, text in notifications]}],
         "results": [result_of(alert, sources, seen) for alert in alerts],
     }
-    return (json.dumps({"$schema": SCHEMA, "version": "2.1.0", "runs": [run]}, indent=1) + "\n").encode()
+    return in_bytes({"$schema": SCHEMA, "version": "2.1.0", "runs": [run]})

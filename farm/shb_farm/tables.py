@@ -137,7 +137,7 @@ def write(out, room, found, sources, stacks):
     facts = "".join(f"{name}\t{count}\n" for name, count in found.facts.items()).encode()
     for name, content in (("places.tsv", places_table(found)), ("traces.tsv", traces_table(found.endings)), ("facts.tsv", facts),
                           ("unknown.places", unknown_places(found.rows)), ("places.txt", said.encode("utf-8", "surrogateescape")),
-                          ("places.json", document(found, entries)),
+                          ("places.json", result.in_bytes(document(found, entries))),
                           ("places.sarif", log(found, sources, entries, stacks.accesses_of(found.rows, out)))):
         put(out / name, content, room)
     return said

@@ -1,12 +1,9 @@
 """Converts, analyses and shows the processes of all runs."""
 
-import json
-import os
 import shlex
 import sys
 
 from shb_common import known
-from shb_common.children import apart
 from shb_common.faults import Refused
 from shb_common.printable import printable
 from shb_common.programs import Origin
@@ -15,7 +12,7 @@ from shb_common.standard import words_of
 from shb_common.words import counted
 from shb_record.converting import CRASHED, KILLED, Conversion, check_room, order_of, processes
 from shb_record.modules import Modules
-from shb_record.parts import ANALYSER, now, say
+from shb_record.parts import now, say
 from shb_record.places import Places
 from shb_record.running import PRELOADED, cause
 from shb_record.scanning import Contradiction, scanning
@@ -222,26 +219,26 @@ class Look:
             return
         first = [note for note in conversion.notes if note.startswith(CRASHED)] + conversion.cuts
         notes = [f"{note[0].upper()}{note[1:]}." for note in [*first, *[process.replay] * bool(process.replay)]]
-        again = [f"--turns={self.results.folder / f'{process.base}.turns'}",
-                 f"--command={shlex.join([self.options.program, *self.options.arguments])}"] if process.record.with_suffix(".turns").exists() else []
-        only, behind, unseen, found = (self.results.work / name for name in ("new.places", "behind.places", "unseen.calls", "found.json"))
+        turns = self.results.folder / f"{process.base}.turns" if process.record.with_suffix(".turns").exists() else None
+        only, behind = (self.results.work / name for name in ("new.places", "behind.places"))
         page = self.results.path(f"{process.base}.html")
         lines = b"".join(line for one in unknown for line in lines_of_new(one))
         only.write_bytes(lines)
-        unseen.write_bytes(b"".join(b"%b\t%b\n" % pair for pair in sorted(self.modules.calls(process.modules)) if not set(b"\t\n") & set(b"".join(pair))))
         behind.write_bytes(b"".join(line for one in unknown if one.place in looked.behind for line in lines_of_new(one)))
-        words = [f"--title={process.command} ({process.name}, {self.started})", *(f"--note={note}" for note in notes),
-                 "--recorded-source", "--stacks", conversion.stacks, "--scan", conversion.scan, "--uses", conversion.uses,
-                 *(f"--about={line}" for line in self.meaning()), *(f"--source={folder}" for folder in self.options.source),
-                 *again, "--text", "--no-notes", "--only", only, "--behind", behind, "--unseen", unseen, "--json", found, "--html", page, conversion.trace]
-        from shb_view.command import explain  # takes its time, and a run without a place does without
-        if explain(list(map(os.fspath, words)), ANALYSER, sys.stderr, **apart()):
+        from shb_view.command import asked, explain  # takes its time, and a run without a place does without
+        from shb_view.result import document
+        status, view = explain(asked(
+            conversion.trace, title=f"{process.command} ({process.name}, {self.started})", note=notes, about=list(self.meaning()), has_notes=False,
+            recorded_source=True, source=self.options.source, stacks=conversion.stacks, scan=conversion.scan, uses=conversion.uses, only=only,
+            behind=behind, unseen=self.modules.calls(process.modules), turns=turns, text=True, html=page,
+            command=shlex.join([self.options.program, *self.options.arguments])), sys.stderr)
+        if status:
             print(lines.decode(errors="backslashreplace"), end="", file=sys.stderr)
             return
         self.pages.append(page)
-        self.found[process.name, conversion.trace] = document = json.loads(found.read_text(encoding="ascii"))
+        self.found[process.name, conversion.trace] = found = document(view)
         self.sources[process.name, conversion.trace] = looked.sources
-        self.notes.update(dict.fromkeys(note for note in document["notes"] if note not in notes))
+        self.notes.update(dict.fromkeys(note for note in found["notes"] if note not in notes))
 
 
 def show_apart(unknown):

@@ -47,19 +47,24 @@ class Modules:
             yield f"Without debug information (-g) locations are addresses: {named(nameless, called)}."
 
     def calls(self, paths):
-        """Pairs of a function of these modules and the name of a module without hooks that it calls, but for calls that are recorded; and what
-        stands in call stacks for each module without hooks, with that."""
+        """By the name of a function of these modules the modules without hooks that it calls, but for calls that are recorded; and by what
+        stands in call stacks for a module without hooks, that."""
         kinds = {path: self.kinds.get(path) for path in dict.fromkeys(paths)}
         hooked = [path for path, kind in kinds.items() if kind and kind.has_hooks]
         needed = set().union(*(kinds[path].needs for path in hooked))
         bare = [path for path, kind in kinds.items() if kind and not kind.has_hooks and os.path.basename(path) in needed]
+        found = {}
+        for name, module in self.stand_for(kinds):
+            found.setdefault(name, set()).add(module)
         if not bare:
-            return self.stand_for(kinds)
+            return found
         recorded, of_module = read_in(bytes(LIBRARY / "libtsan.so"), exports_of) or set(), {}
         for path in bare:
             of_module.update(dict.fromkeys((read_in(path, exports_of) or set()) - recorded, os.path.basename(path)))
-        calls = set().union(*(read_in(path, calls_of) or () for path in hooked)) if of_module else ()
-        return {*self.stand_for(kinds), *((function, of_module[called]) for function, called in calls if called in of_module)}
+        for function, called in set().union(*(read_in(path, calls_of) or () for path in hooked)) if of_module else ():
+            if called in of_module:
+                found.setdefault(function, set()).add(of_module[called])
+        return found
 
     def stand_for(self, paths):
         """What stands in locations for modules without hooks, with their names: each itself, and its source files that no module with hooks
@@ -109,14 +114,24 @@ def files_in(path):
 def is_behind(program, variables):
     """Whether the loader, which has this environment, would put the recorder's library behind the C library: then no thread would be
     seen. So it is where a library of a program without hooks has them."""
-    if not read_in(program, lambda _, sections: b".interp" in sections):
+    needs = read_in(program, lambda content, sections: list(needs_of(content, sections)) if b".interp" in sections else None)
+    if needs is None or is_first(needs):
         return False
     try:
         listed = subprocess.run([LOADER, "--list", program], env=variables, stdout=subprocess.PIPE, stderr=subprocess.DEVNULL).stdout
     except OSError:
         return False
     names = [os.path.basename(line.split()[0]) for line in listed.splitlines() if line.strip()]
-    return any(name.startswith(b"libtsan.so") for name in itertools.dropwhile(lambda name: name != b"libc.so.6", names))
+    return not is_first(names) and any(map(is_library, names))
+
+
+def is_first(names):
+    """Whether the recorder's library, or gcc's own that it stands for, comes before the C library."""
+    return any(map(is_library, itertools.takewhile(lambda name: name != b"libc.so.6", names)))
+
+
+def is_library(name):
+    return name.startswith(b"libtsan.so")
 
 
 def sections_of(content):

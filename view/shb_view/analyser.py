@@ -25,14 +25,14 @@ class Verdict(typing.NamedTuple):
 
 
 class Analyser:
-    def __init__(self, program, trace, how):
-        """`trace` is an open file; `how` says how the program is started."""
-        self.program, self.trace, self.how = str(program), trace, how
+    def __init__(self, program, trace):
+        """`trace` is an open file."""
+        self.program, self.trace = program, trace
 
     def started(self, words, given, out, **how):
         """A run of the program on an open file, from its beginning."""
         try:
-            return Run([self.program, *words], rewound(given), out, **self.how, **how)
+            return Run([self.program, *words], rewound(given), out, **how)
         except OSError as fault:
             name = short(os.fsencode(self.program), MOST_SAID)
             raise Refused(f"`{name}` can't be run ({fault.strerror}); SHB=PROGRAM names another `shb`") from None

@@ -2,11 +2,13 @@
 
 import os
 import sys
+import types
 
 from shb_common.commands import Parser
 from shb_common.faults import Refused
 from shb_common.files import put, temporary_file
 from shb_common.progress import Progress
+from shb_common.result import in_bytes
 from shb_common.report import BadReport
 from shb_common.standard import faults_of, open_standard_files, words_of, write_texts
 from shb_view import result, text
@@ -25,26 +27,35 @@ or --only is damaged. SHB=PROGRAM names another `shb`.
 
 A place is a pair of locations that race, that of the first access and that of the second."""
 
+# What is asked for where nothing else is. `unseen` has by the name of a function, a file or a module which modules without hooks it calls or is.
+DEFAULTS = {"html": None, "text": False, "only": None, "title": None, "source": [], "all": False, "note": [], "about": [], "has_notes": True,
+            "behind": None, "unseen": {}, "turns": None, "command": "", "json": None, "stacks": None, "recorded_source": False, "scan": None,
+            "uses": None, "check": False, "report": None}
+
+
+def asked(trace, **more):
+    """What is to be made of a trace, for `explain`."""
+    return types.SimpleNamespace(**{**DEFAULTS, "trace": trace, **more})
+
 
 def arguments(words, program):
     parser = Parser("shb-view", ABOUT, STATUS)
+    parser.set_defaults(**DEFAULTS)
     parser.add_argument("--html", metavar="PAGE", help="write a page to this file, not text to standard output")
     parser.add_argument("--text", action="store_true", help="beside the page, write the text too")
     parser.add_argument("--only", metavar="FILE", help="in the text, show only the groups with a place of this file, which has the form of "
                         "a file of known places (docs/FORMATS.md)")
     parser.add_argument("--title", metavar="TEXT", help="the title, if it isn't to be the trace's name")
-    parser.add_argument("--source", metavar="DIR", action="append", default=[],
+    parser.add_argument("--source", metavar="DIR", action="append",
                         help="show lines of the source files below this folder; may be given again")
     parser.add_argument("--all", action="store_true", help="in the text, add a race of each group and what comes before it")
-    parser.add_argument("--note", metavar="TEXT", action="append", default=[],
+    parser.add_argument("--note", metavar="TEXT", action="append",
                         help="a note on the trace, shown below the title; may be given again")
-    parser.add_argument("--about", metavar="TEXT", action="append", default=[],
+    parser.add_argument("--about", metavar="TEXT", action="append",
                         help="a fact on the trace, such as that a library wasn't recorded; may be given again")
-    parser.add_argument("--no-notes", action="store_true", help="leave the notes out of the text; --json has them as `notes`")
     parser.add_argument("--behind", metavar="FILE", help="a file like that of --only: places that were found behind known races")
-    parser.add_argument("--unseen", metavar="FILE", help="what calls code without -fsanitize=thread, or is such code: on a line a function, a file or a module, a tab, and the module")
     parser.add_argument("--turns", metavar="FILE", help="the list of turns that `shb-record --replay` runs the trace's interleaving again with")
-    parser.add_argument("--command", metavar="WORDS", default="", help="the program of --turns and its arguments, as a shell takes them")
+    parser.add_argument("--command", metavar="WORDS", help="the program of --turns and its arguments, as a shell takes them")
     parser.add_argument("--json", metavar="FILE", help="write the places to this file, for programs (docs/FORMATS.md has the form)")
     parser.add_argument("--stacks", metavar="FILE", help="show call stacks and names of locals, as `shb-std --stacks` wrote them")
     parser.add_argument("--recorded-source", action="store_true", help="show lines of the source files that the file of --stacks names")
@@ -63,11 +74,11 @@ def arguments(words, program):
 
 
 def show(options, progress, out):
-    """Writes what was asked for, the text to `out` if there is one, and gives the status."""
+    """Writes what was asked for, the text to `out` if there is one, and gives the status and the view."""
     wants_text = options.text or not (options.html or options.json)
     if wants_text and not out:
         raise Refused("standard output is closed")
-    makers = {options.html: lambda view: "".join(page_parts(view)).encode(), options.json: result.document}
+    makers = {options.html: lambda view: "".join(page_parts(view)).encode(), options.json: lambda view: in_bytes(result.document(view))}
     files = [path for path in makers if path]
     for path in files:
         try_target(path, [options.trace, options.report or options.trace])
@@ -78,8 +89,8 @@ def show(options, progress, out):
     progress.clear()
     if wants_text:
         is_coloured = out.isatty() and not os.environ.get("NO_COLOR") and os.environ.get("TERM") != "dumb"
-        write_texts((f"{line}\n" for line in text.text_lines(view, text.Colours(is_coloured), options.all, not options.no_notes)), out)
-    return 1 if view.verdict.is_good is False else 0
+        write_texts((f"{line}\n" for line in text.text_lines(view, text.Colours(is_coloured), options.all, options.has_notes)), out)
+    return 1 if view.verdict.is_good is False else 0, view
 
 
 def try_target(path, inputs):
@@ -93,14 +104,13 @@ def try_target(path, inputs):
         pass
 
 
-def explain(words, program, out, **how):
-    """Does what the words ask for, and gives the status. The text goes to `out`; `how` says how `shb` is started."""
-    options, progress = arguments(words, program), Progress("shb-view", sys.stderr)
-    options.how = how
+def explain(options, out):
+    """Does what is asked for, and gives the status, and the view if it was made. The text goes to `out`."""
+    progress = Progress("shb-view", sys.stderr)
     try:
         return show(options, progress, out)
     except BrokenPipeError:
-        return 2
+        return 2, None
     except BadReport as fault:
         status, said = 1, str(fault)
     except Damaged as fault:
@@ -115,13 +125,13 @@ def explain(words, program, out, **how):
     finally:
         progress.clear()
     print(f"shb-view: {said}", file=sys.stderr)
-    return status
+    return status, None
 
 
 def main(words, program=None):
     is_open = open_standard_files()
     try:
-        return explain(words, program, sys.stdout if is_open else None)
+        return explain(arguments(words, program), sys.stdout if is_open else None)[0]
     except KeyboardInterrupt:
         print("shb-view: stopped", file=sys.stderr)
         return 2

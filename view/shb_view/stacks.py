@@ -1,6 +1,5 @@
 """What is shown of call stacks."""
 
-import collections
 import itertools
 
 from shb_common.known import OFFSET
@@ -16,16 +15,6 @@ WITHOUT_LINE = {MAKES_FIBER: " (which made the fiber)", HANDLER: ""}
 
 class Damaged(Exception):
     """The words say what is wrong with a file beside the trace: with its call stacks or its places."""
-
-
-def unseen_calls(path):
-    """By a function's name: the modules without hooks that it calls, and by that of such a module: itself; from a file."""
-    found = collections.defaultdict(set)
-    with open(path, "rb") as file:
-        for line in file:
-            name, _, module = line.rstrip(b"\n").partition(b"\t")
-            found[name].add(module)
-    return found
 
 
 def perhaps_ordered(sites, callers, stacks, calls):

@@ -27,7 +27,7 @@ from shb_view.group_facts import Facts, Section, merged_groups
 from shb_view.groups import Gathered
 from shb_view.names import by_numbers, readable
 from shb_view.source import Source
-from shb_view.stacks import Damaged, perhaps_ordered, unseen_calls
+from shb_view.stacks import Damaged, perhaps_ordered
 from shb_view.trace import CHANGED, Trace, warnings
 from shb_view.windows import make_windows
 
@@ -149,7 +149,7 @@ def make_view(options, progress):
 
 def analysed(options, file, gathered, progress, stack):
     """The races of an open trace, as `shb` or a report has them."""
-    analyser = Analyser(options.shb, file, options.how)
+    analyser = Analyser(options.shb, file)
     head = analyser.head(None if options.report else gathered.share)
     is_sample = not options.report and head.count > MOST_LISTED
     if is_sample:
@@ -264,8 +264,7 @@ def make_sections(options, kinds, made, trace, groups):
         counting.read(trace, made.events)
         found = merged_groups(groups, counting.counts, Facts(kinds, "trace" if made.uses is None else "run"))
         first = sorted(found, key=lambda it: (RANKS[it.fact.form], -(it.group.races() or sum(it.counts.values()))))[:MOST_GROUPS]
-        calls = unseen_calls(options.unseen) if options.unseen else {}
-        sections = [make_section(it, counting, calls) for it in first]
+        sections = [make_section(it, counting, options.unseen) for it in first]
         if options.html or options.all:
             windows = make_windows(trace, [section.group.closest() for section in sections], counting, made.given.order)
             sections = [section._replace(window=window) for section, window in zip(sections, windows)]
