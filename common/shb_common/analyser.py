@@ -1,9 +1,9 @@
 """Runs `shb` on traces, and reads what it says of their places."""
 
+import collections
 import os
 import subprocess
 import tempfile
-import typing
 
 from shb_common import variables
 from shb_common.refused import without_note
@@ -15,27 +15,17 @@ LIST, HEAD, FULL, SCAN = ["places", "--list"], ["races", "--list"], ["places"], 
 REFUSED = 2         # the status of `shb` for a refused trace
 
 
-class Answer(typing.NamedTuple):
+class Answer(collections.namedtuple("Answer", "status said seconds kib", defaults=(0.0, 0))):
     """How a run of the program ended: its status, what it said, the seconds of processor time and the KiB of memory that it took."""
-
-    status: int
-    said: bytes
-    seconds: float = 0.0
-    kib: int = 0
 
     @property
     def words(self):
         return words_in(self.said)
 
 
-class Place(typing.NamedTuple):
+class Place(collections.namedtuple("Place", "first second variables has_more")):
     """A place of a trace: its two locations, that of the first access first; by variable a race of it, as `variables.Found`; and
     whether it has more variables than these."""
-
-    first: bytes
-    second: bytes
-    variables: dict
-    has_more: bool
 
 
 class Run:

@@ -7,10 +7,10 @@ itself ends with `()` has a backslash before these, so it is never taken for a f
 fields, as earlier versions wrote it, is of every variable.
 """
 
+import collections
 import itertools
 import os
 import re
-import typing
 
 from shb_common.faults import Refused
 from shb_common.files import read_at_most
@@ -36,12 +36,9 @@ class BadLine(Refused):
     """A line of the file of known places that is none."""
 
 
-class Side(typing.NamedTuple):
+class Side(collections.namedtuple("Side", "names functions", defaults=((),))):
     """What a location may be called in the file: its names, and those of each function that it lies in. The first of several names
     is the one that is written."""
-
-    names: typing.Tuple[bytes, ...]
-    functions: typing.Tuple[typing.Tuple[bytes, ...], ...] = ()
 
     def keys(self):
         return [*((False, name) for name in self.names), *((True, name) for names in self.functions for name in names)]
@@ -55,13 +52,9 @@ class Side(typing.NamedTuple):
         return function_field(self.functions[0][0]) if len(self.functions) == 1 else None
 
 
-class Line(typing.NamedTuple):
-    """A line of the file. `variable` has the pieces of the third field, None where there is none."""
-
-    number: int
-    text: bytes
-    sides: tuple        # of each: whether it is a function, and its pieces
-    variable: typing.Optional[tuple]
+class Line(collections.namedtuple("Line", "number text sides variable")):
+    """A line of the file. `sides` has of each side whether it is a function, and its pieces; `variable` the pieces of the third field, None
+    where there is none."""
 
 
 def written(name):

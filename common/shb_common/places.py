@@ -1,27 +1,20 @@
 """The places of several traces and programs: two locations that race, whichever comes first, with what is known of them."""
 
-import typing
+
+import collections
 
 from shb_common import known
 from shb_common.programs import Names, pair_of, sorting
 
 
-class Row(typing.NamedTuple):
-    """Two locations that race. All results are written of rows."""
-
-    key: tuple          # the two, each of its own program
-    names: typing.Tuple[bytes, bytes]   # what they are called over all programs
-    texts: typing.Tuple[bytes, bytes]   # as the example has them
-    sides: tuple        # what they may be called in a file of known places
-    places: int         # in how many orders they race
-    variables: tuple    # the names of those that race there, each with whether it is known
-    has_more: bool      # whether there are more
-    is_known: bool
-    traces: int         # how many have it
-    example: typing.Any     # the trace that is named
-    race: typing.Any        # what is known of the race that was seen first
-    is_behind: bool = False     # whether all unknown variables were found behind known races alone
-    report: str = ""    # of the farm: the example's report with schedules, below the folder of the outcomes, or why there is none
+class Row(collections.namedtuple("Row", "key names texts sides places variables has_more is_known traces example race is_behind report",
+                                 defaults=(False, ""))):
+    """Two locations that race, of which all results are written. `key` has the two, each of its own program; `names` what they are called over
+    all programs, `texts` how the example has them, `sides` what they may be called in a file of known places. They race in so many orders
+    (`places`); `variables` are the names of those that race there, each with whether it is known, and `has_more` says whether there are more.
+    So many `traces` have it; `example` is the one that is named, and `race` what is known of the race that was seen first. `is_behind` says
+    that all unknown variables were found behind known races alone; `report` is the farm's: the example's report with schedules, below the
+    folder of the outcomes, or why there is none."""
 
     def state(self):
         return "known" if self.is_known else "behind" if self.is_behind else "unknown"

@@ -3,8 +3,8 @@ programs may both have a `w.c`. Here a location belongs to a file by its whole p
 traces each file has one name.
 """
 
+import collections
 import posixpath
-import typing
 
 from shb_common.known import CALL, Side, written
 from shb_common.locations import parts_of
@@ -13,14 +13,9 @@ from shb_common.stacks import Tables
 MOST_PARTS = 12     # folders of a path that a name may have
 
 
-class Location(typing.NamedTuple):
+class Location(collections.namedtuple("Location", "path rest functions sum", defaults=(frozenset(), b""))):
     """A location of a program: the path of its file, what follows it (the line, or an offset), the functions that it lies in, and
     a sum of the line's text, nothing where it isn't known."""
-
-    path: bytes
-    rest: bytes
-    functions: typing.FrozenSet[bytes] = frozenset()
-    sum: bytes = b""
 
 
 def sorting(location):

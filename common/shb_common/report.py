@@ -3,8 +3,8 @@
 A report is accepted only whole: its numbers count up, its places are those of its races, and it ends with `end`.
 """
 
+import collections
 import re
-import typing
 
 from shb_common.limits import LINE_ROOM, MOST_LINE
 from shb_common.printable import printable
@@ -28,33 +28,16 @@ class BadReport(Exception):
     """The words say what is wrong with a report."""
 
 
-class Counts(typing.NamedTuple):
+class Counts(collections.namedtuple("Counts", "events threads locks variables")):
     """What a trace has."""
 
-    events: int
-    threads: int
-    locks: int
-    variables: int
 
-
-class Access(typing.NamedTuple):
+class Access(collections.namedtuple("Access", "thread word name location")):
     """The fields of an access's line. `name` is that of the variable."""
 
-    thread: bytes
-    word: bytes
-    name: bytes
-    location: bytes
 
-
-class Race(typing.NamedTuple):
+class Race(collections.namedtuple("Race", "number first second first_line second_line schedule")):
     """A race of a report. `schedule` is where its schedule begins in the file, or None."""
-
-    number: int
-    first: int
-    second: int
-    first_line: bytes
-    second_line: bytes
-    schedule: typing.Optional[int]
 
 
 class Lines:

@@ -4,12 +4,10 @@ import collections
 import os
 import posixpath
 import re
-import typing
 import urllib.parse
 
 from shb_common import known, version
 from shb_common.locations import line_of, parts_of
-from shb_common.places import Row
 from shb_common.printable import printable
 from shb_common.result import in_bytes
 from shb_common.sources import read_lines
@@ -36,31 +34,19 @@ FOUND, RELATIVE, ABSOLUTE, NAME = range(4)      # what is known of a location, f
 MOST_NAMED = 3          # variables in a message
 
 
-class Alert(typing.NamedTuple):
+class Alert(collections.namedtuple("Alert", "row facts seen example accesses properties")):
     """A place for review. `facts` is what is known of its locks, `seen` where it was seen, both as sentences; `example` is the path of
     a trace that has it, from the folder of the traces; `accesses` are those of a race there with their call stacks; `properties` are
     further facts."""
-
-    row: Row
-    facts: str
-    seen: str
-    example: bytes
-    accesses: tuple
-    properties: dict
 
     def variables(self):
         """Those that race there."""
         return [name for name, _ in self.row.variables]
 
 
-class Access(typing.NamedTuple):
+class Access(collections.namedtuple("Access", "thread operation frames files")):
     """An access of a race: its thread, what it does, its stack, the innermost frame first, and the path of each source file by its name
     in locations."""
-
-    thread: bytes
-    operation: bytes
-    frames: typing.Sequence
-    files: dict
 
 
 class Here:
@@ -79,14 +65,8 @@ class Here:
         return lines[number - 1].strip() if number <= len(lines) else None
 
 
-class Place(typing.NamedTuple):
+class Place(collections.namedtuple("Place", "text kind path line code")):
     """A location: its text, what is known of it, its file and line, and the text of this line or None."""
-
-    text: bytes
-    kind: int
-    path: bytes
-    line: int
-    code: typing.Optional[bytes]
 
 
 def place_of(name, sources, compiled=b""):

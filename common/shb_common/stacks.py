@@ -2,12 +2,12 @@
 
 import array
 import bisect
+import collections
 import functools
 import itertools
 import os
 import re
 import sys
-import typing
 
 from shb_common.files import open_regular
 from shb_common.locations import line_of, parts_of
@@ -33,24 +33,13 @@ class BadStacks(Exception):
     """The words say what is wrong with a file of stacks."""
 
 
-class Frame(typing.NamedTuple):
+class Frame(collections.namedtuple("Frame", "function location in_system")):
     """A function and the place in it. Where the location is empty, the function called code without hooks, which called on."""
 
-    function: bytes
-    location: bytes
-    in_system: bool
 
-
-class AtomicUse(typing.NamedTuple):
+class AtomicUse(collections.namedtuple("AtomicUse", "event name thread location kind order")):
     """A use of an atomic before an event: `kind` is load, store, update or, without a name, fence; `order` relaxed, acquire, release or
     both."""
-
-    event: int
-    name: bytes
-    thread: bytes
-    location: bytes
-    kind: bytes
-    order: bytes
 
     def gives(self):
         """Whether what stands before it is ordered before what takes the value."""

@@ -2,7 +2,7 @@
 events of that trace those of the races are. The head of recorder/converter/page.c has its form."""
 
 import bisect
-import typing
+import collections
 
 from shb_common.files import open_regular
 from shb_common.printable import printable
@@ -15,18 +15,9 @@ class BadUses(Exception):
     """The words say what is wrong with a file of uses."""
 
 
-class Use(typing.NamedTuple):
+class Use(collections.namedtuple("Use", "count word variable local thread location stack locks")):
     """`word` is r, w, a (written atomically) or f (freed); `local` the local that a variable on a stack was then, or nothing;
     `stack` the number of its call stack, or 0; `locks` are those held, the oldest first."""
-
-    count: int
-    word: bytes
-    variable: bytes
-    local: bytes
-    thread: bytes
-    location: bytes
-    stack: int
-    locks: typing.Tuple[bytes, ...]
 
 
 class Uses:

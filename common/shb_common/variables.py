@@ -1,18 +1,15 @@
 """The variables of the races at each place."""
 
+import collections
 import re
-import typing
 
 # A member of a block's type, with the block behind it where a trace has several of the type.
 IN_BLOCK = re.compile(rb"(.+?) of .+(?::[0-9]+|\+0x[0-9a-f]+)#[0-9]+", re.S)
 MOST_VARIABLES = 1_000  # of a place, that are kept
 
 
-class Found(typing.NamedTuple):
+class Found(collections.namedtuple("Found", "events accesses")):
     """A race of a place with this variable: its events, and their accesses."""
-
-    events: typing.Tuple[int, int]
-    accesses: tuple
 
 
 def without_end(line):

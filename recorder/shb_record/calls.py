@@ -2,9 +2,9 @@
 functions that call such code may be none."""
 
 import bisect
+import collections
 import re
 import struct
-import typing
 
 MOST_CODE = 32 << 20  # bytes that are looked through
 GLOB_DAT, JUMP_SLOT, FUNCTION, FILE = 6, 7, 2, 4
@@ -16,12 +16,8 @@ BEFORE_STUB = 0, 4, 5  # bytes: endbr64, also with a prefix of the jump
 MANGLED = re.compile(rb"_ZL?(?:N[KVr]*)?((?:[0-9]+[A-Za-z_]\w*)+)")
 
 
-class Symbol(typing.NamedTuple):
-    value: int
-    size: int
-    name: bytes
-    kind: int
-    is_here: bool
+class Symbol(collections.namedtuple("Symbol", "value size name kind is_here")):
+    pass
 
 
 def part(content, section):

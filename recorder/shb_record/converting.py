@@ -1,13 +1,12 @@
 """From a record to traces."""
 
+import collections
 import contextlib
-import pathlib
 import re
 import shutil
 import signal
 import subprocess
 import tempfile
-import typing
 
 from shb_common.children import apart
 from shb_common.faults import Refused
@@ -25,17 +24,10 @@ MODULE = re.compile(rb"^[0-9a-f]+ [0-9a-f]+ [0-9a-f]+ (.+)$", re.M)
 LINE_BYTES = 64  # about those of an event in a trace
 
 
-class Process(typing.NamedTuple):
+class Process(collections.namedtuple("Process", "name base command record modules replay blocks", defaults=(None, None))):
     """A recorded process of a run. `base` is what the names of its results begin with; `modules` are the paths of its code, that of
-    the program first."""
-
-    name: str
-    base: str
-    command: str
-    record: pathlib.Path
-    modules: typing.List[bytes]
-    replay: typing.Optional[str] = None  # how far it followed the list of turns that was to be replayed
-    blocks: typing.Optional[pathlib.Path] = None  # of a segment of a record: the file of the blocks that are there when it begins
+    the program first; `replay` says how far it followed the list of turns that was to be replayed. Of a segment of a record `blocks` is the
+    file of the blocks that are there when it begins."""
 
     @property
     def program(self):

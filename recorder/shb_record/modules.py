@@ -1,5 +1,6 @@
 """The modules of the recorded programs: which have no hooks, and which no debug information."""
 
+import collections
 import functools
 import itertools
 import mmap
@@ -7,11 +8,9 @@ import os
 import re
 import struct
 import subprocess
-import typing
 
 from shb_common.files import open_regular
 from shb_common.printable import printable
-from shb_record.calls import calls_of, exports_of, files_of
 from shb_record.parts import LIBRARY
 
 # The C library's own, whose functions the recorder stands for, the loader, and the C++ library, whose templates have the hooks.
@@ -58,6 +57,7 @@ class Modules:
             found.setdefault(name, set()).add(module)
         if not bare:
             return found
+        from shb_record.calls import calls_of, exports_of  # takes its time, and most programs' modules all have hooks
         recorded, of_module = read_in(bytes(LIBRARY / "libtsan.so"), exports_of) or set(), {}
         for path in bare:
             of_module.update(dict.fromkeys((read_in(path, exports_of) or set()) - recorded, os.path.basename(path)))
@@ -75,12 +75,8 @@ class Modules:
         return {(file, name) for path in files for name in [os.path.basename(path)] for file in {name, *files[path] - others}}
 
 
-class Kind(typing.NamedTuple):
+class Kind(collections.namedtuple("Kind", "has_hooks has_names needs")):
     """Whether a module has hooks, whether it has debug information or says where that is, and the names of the modules that it calls."""
-
-    has_hooks: bool
-    has_names: bool
-    needs: frozenset
 
 
 def named(paths, called):
@@ -108,6 +104,7 @@ def kind_of(content, sections):
 @functools.lru_cache(maxsize=None)
 def files_in(path):
     """The names of the source files of a module that isn't stripped."""
+    from shb_record.calls import files_of  # the same
     return read_in(path, files_of) or set()
 
 

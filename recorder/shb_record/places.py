@@ -1,20 +1,15 @@
 """The places of all runs, and which of them are known."""
 
+import collections
 import os
-import typing
 
 from shb_common import known, places
-from shb_common.analyser import Place
 from shb_common.variables import name_of
 
 
-class New(typing.NamedTuple):
+class New(collections.namedtuple("New", "key place variables")):
     """What of a place of a process nothing before had: the key of its two locations, the place, and of its new variables the names in
     the trace and on the page."""
-
-    key: tuple
-    place: Place
-    variables: typing.Set[bytes]
 
 
 class Places(places.Places):

@@ -1,10 +1,10 @@
 """The list of a run's turns, as the recorder leaves it beside the record (runtime/replay.c says what it has)."""
 
 import array
+import collections
 import os
 import re
 import stat
-import typing
 
 from shb_common.faults import Refused
 
@@ -12,9 +12,8 @@ HEADER_BYTES, ENTRY_BYTES, MOST_BYTES = 4096, 8, 128 << 20
 HEADER = re.compile(rb"shb-turns 2\ncommand (?P<command>[^\n]*)\n(?:whole (?P<count>[0-9a-f]+) (?P<sum>[0-9a-f]+)\n)?\0*")
 
 
-class List(typing.NamedTuple):
-    content: bytes
-    command: str
+class List(collections.namedtuple("List", "content command")):
+    pass
 
 
 def read(path):

@@ -1,9 +1,9 @@
 """Asks `shb` for what is shown."""
 
+import collections
 import os
 import subprocess
 import tempfile
-import typing
 
 from shb_common.analyser import HEAD, REFUSED, SCAN, Run, rewound
 from shb_common.faults import Refused
@@ -17,11 +17,8 @@ MOST_LISTED = 100_000  # races of a list that is read to its end
 BAD = 5  # the status of `shb check` for a bad report
 
 
-class Verdict(typing.NamedTuple):
+class Verdict(collections.namedtuple("Verdict", "is_good words")):
     """What is known of a report. `is_good` is None where it wasn't judged."""
-
-    is_good: typing.Optional[bool]
-    words: str
 
 
 class Analyser:

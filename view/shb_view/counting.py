@@ -2,7 +2,6 @@
 the accesses that may be shown, the events right before them."""
 
 import collections
-import typing
 
 from shb_common.faults import Refused
 from shb_common.report import BadReport
@@ -15,20 +14,12 @@ BEFORE = 6  # events of a thread right before its access
 MOST_KINDS = 200_000  # accesses that are told apart: by group, line, thread, word and locks held
 
 
-class Noted(typing.NamedTuple):
+class Noted(collections.namedtuple("Noted", "before locks")):
     """What is known of an access: the events of its thread right before it, and the newest locks held, each with its acquire."""
 
-    before: typing.Sequence[int]
-    locks: typing.Tuple[typing.Tuple[bytes, int], ...]
 
-
-class Access(typing.NamedTuple):
+class Access(collections.namedtuple("Access", "number variable kind free")):
     """An event that was counted. `free` is the number of the free that it is of, or None."""
-
-    number: int
-    variable: bytes
-    kind: tuple
-    free: typing.Optional[int]
 
 
 class Kinds:

@@ -3,7 +3,6 @@ each variable of the listed races, and names no fault. The first that holds is t
 
 import collections
 import re
-import typing
 
 from shb_common.result import text
 from shb_common.words import counted
@@ -75,18 +74,10 @@ class Site:
                 self.locks[lock] += count
 
 
-class Fact(typing.NamedTuple):
+class Fact(collections.namedtuple("Fact", "form said tag sentences remedy lock uses", defaults=([], None, ()))):
     """`form` is one of the definitions, and `said` has what it is said of, by names that programs read. `tag` is a short form of the
     sentences, and `remedy` what would order the accesses, or nothing. `lock` is the one that it is about, or None. `uses` are lines of the
     code that it names besides the group's."""
-
-    form: str
-    said: dict
-    tag: list
-    sentences: list
-    remedy: list = []
-    lock: typing.Optional[bytes] = None
-    uses: tuple = ()
 
 
 class Locks:

@@ -1,30 +1,23 @@
 """The facts of groups. One whose variables differ has a part for those that are alike."""
 
-import typing
+
+import collections
 
 from shb_common.result import text
-from shb_view.facts import RANKS, Fact, Site, fact_of, sites_of
+from shb_view.facts import RANKS, fact_of, sites_of
 from shb_view.groups import Group, Pair, object_of
 from shb_view.handed import MOST_RACES, handed, published
-from shb_view.windows import Window
 from shb_view.words import Code, listed
 
 MOST_NAMED = 3  # variables in a sentence
 
 
-class Section(typing.NamedTuple):
-    """A group with its counts, its lines and its fact, and what else is shown of it."""
-
-    group: Group
-    counts: dict
-    sites: typing.List[Site]
-    fact: Fact
-    window: typing.Optional[Window] = None
-    callers: dict = {}  # by racing line: the stacks of its racing accesses, as `callers_of` gives them, each with how many have it
-    seen: typing.Sequence[typing.Tuple[bytes, bytes]] = ()  # lines of races where the second reads what the first wrote
-    unseen: typing.Sequence[bytes] = ()  # modules without hooks that may order its accesses
-    is_behind: bool = False  # found behind known races
-    is_asked_for: bool = True  # those that aren't are in the page alone
+class Section(collections.namedtuple("Section", "group counts sites fact window callers seen unseen is_behind is_asked_for",
+                                     defaults=(None, {}, (), (), False, True))):
+    """A group with its counts, its lines and its fact, and what else is shown of it: a race with what comes before it (`window`); by racing line
+    the stacks of its racing accesses, as `callers_of` gives them, each with how many have it; the pairs of lines of races where the second
+    reads what the first wrote (`seen`); the modules without hooks that may order its accesses (`unseen`). `is_behind` says that it was found
+    behind known races; groups that aren't asked for are in the page alone."""
 
 
 class Facts:

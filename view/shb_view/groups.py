@@ -1,7 +1,7 @@
 """Groups of places: pairs of lines that share a racing variable, directly or by other pairs, are one group."""
 
+import collections
 import re
-import typing
 
 from shb_common.variables import atomic_of
 from shb_view.words import Code
@@ -26,14 +26,10 @@ class Pair:
         return sum(self.orders.values())
 
 
-class Group(typing.NamedTuple):
+class Group(collections.namedtuple("Group", "pairs variables names")):
     """`pairs` and `variables` are in the order in which the report names them, the variables those of the races that were read. An
     atomic is one variable, and a local has its own name; `names` are those in the trace, which has one for each thread that writes an
     atomic."""
-
-    pairs: typing.Tuple[Pair, ...]
-    variables: typing.Tuple[bytes, ...]
-    names: typing.Tuple[bytes, ...]
 
     def races(self):
         return sum(pair.races for pair in self.pairs)
@@ -59,15 +55,8 @@ def distance(race):
     return race.second - race.first, race.first
 
 
-class Between(typing.NamedTuple):
+class Between(collections.namedtuple("Between", "first second giver taker variable words")):
     """A race that was read: its events, the threads of the first and the second, its variable, and whether each reads or writes."""
-
-    first: int
-    second: int
-    giver: bytes
-    taker: bytes
-    variable: bytes
-    words: typing.Tuple[bytes, bytes]
 
 
 class Gathered:

@@ -1,23 +1,15 @@
 """What threads hand on by atomics, between the two accesses of a race."""
 
 import collections
-import typing
-
-from shb_common.stacks import AtomicUse
 
 MOST_RACES = 64  # of a place that are looked at
 MOST_NAMED = 3  # of a group
 NEVER = float("inf")
 
 
-class Handed(typing.NamedTuple):
+class Handed(collections.namedtuple("Handed", "store load fence name")):
     """A store, a load that read it or what updates made of it, the event before which the load's thread makes the next fence with
     acquire, and the atomic as the program has it."""
-
-    store: AtomicUse
-    load: AtomicUse
-    fence: float
-    name: bytes
 
     def seen_from(self, event):
         """The same at an event of the load's thread: a load before a fence with acquire is one with acquire."""

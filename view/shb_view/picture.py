@@ -2,7 +2,8 @@
 stand is decided here; the script writes them, and cuts texts in a narrow window. All lines are left of the column of texts, so none crosses
 a text."""
 
-import typing
+
+import collections
 
 from shb_view.names import short
 from shb_view.words import NO_LOCK, VERBS, flat_in, lock_parts
@@ -30,21 +31,12 @@ def picture(window, kinds):
             "bars": [[*drawn.rectangle(it), bar.name, drawn.name(it)] for it, bar in enumerate(drawn.bars)]}
 
 
-class Edge(typing.NamedTuple):
+class Edge(collections.namedtuple("Edge", "first second is_seen")):
     """An arrow from an event to another one, by their places in the list of events. `is_seen`: the one reads what the other wrote."""
 
-    first: int
-    second: int
-    is_seen: bool
 
-
-class Bar(typing.NamedTuple):
+class Bar(collections.namedtuple("Bar", "lane name top bottom")):
     """A lock that a lane's thread holds, from a row to a row."""
-
-    lane: int
-    name: str
-    top: float
-    bottom: float
 
 
 class Layout:

@@ -1,10 +1,10 @@
 """Lines of the program's source, found by the locations of a trace. A location is never opened as a path: it is looked up in an
 index of the folders that were named, and where it was asked for in what the recorder wrote of the program's sources."""
 
+import collections
 import functools
 import os
 import re
-import typing
 
 from shb_common import sources
 from shb_common.faults import Refused
@@ -17,15 +17,9 @@ REACH = 12  # lines before one that is shown, back to the acquire of a lock
 HEAD = re.compile(rb"[A-Za-z_$]")  # what the first line of a function begins with
 
 
-class Place(typing.NamedTuple):
+class Place(collections.namedtuple("Place", "path number lines fault is_newer")):
     """What is known of a location's source: the path in its folder, the number of its line and the file's lines. `fault` says why
     the line isn't there, or why it may be another one."""
-
-    path: bytes
-    number: int
-    lines: typing.List[bytes]
-    fault: str
-    is_newer: bool
 
     def line(self):
         """The line, or None where it isn't there."""
@@ -105,14 +99,9 @@ def function_head(place):
     return 0
 
 
-class Excerpt(typing.NamedTuple):
+class Excerpt(collections.namedtuple("Excerpt", "place head numbers held")):
     """Lines around a place. `head` is the first line of its function, nothing if that is the place; `held` are the numbers of the
     lines from the acquire of a lock to the place, if both are in one function."""
-
-    place: Place
-    head: bytes
-    numbers: range
-    held: range
 
 
 def excerpt(place, acquire):

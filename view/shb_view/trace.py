@@ -1,9 +1,9 @@
 """The lines of a trace that `shb` has read without a fault, and the fields of one."""
 
 import bisect
+import collections
 import os
 import re
-import typing
 
 from shb_common.faults import Refused
 from shb_common.refused import CARRIAGE_RETURNS, MARK
@@ -15,13 +15,8 @@ OPENS = ord("(")  # the second byte of `r(X)` and `w(X)` alone
 CHANGED = "the trace isn't the one that `shb` read: it was changed in between"
 
 
-class Event(typing.NamedTuple):
+class Event(collections.namedtuple("Event", "thread word name location")):
     """The fields of a line. `name` is what stands in the parentheses, nothing for a mark."""
-
-    thread: bytes
-    word: bytes
-    name: bytes
-    location: bytes
 
 
 def fields_of(line):
@@ -55,11 +50,8 @@ def warnings(path):
         yield f"In the trace {CARRIAGE_RETURNS}."
 
 
-class Found(typing.NamedTuple):
+class Found(collections.namedtuple("Found", "row line")):
     """A line that was looked up, without its end; `row` is its number in the text, counted from 1."""
-
-    row: int
-    line: bytes
 
 
 class Trace:

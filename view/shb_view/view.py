@@ -6,13 +6,12 @@ import os
 import stat
 import sys
 import tempfile
-import typing
 
 from shb_common import known
 from shb_common.analyser import FULL, LIST
 from shb_common.faults import Refused
 from shb_common.limits import MOST_TEXT
-from shb_common.report import BadReport, Counts, Report, in_order
+from shb_common.report import BadReport, Report, in_order
 from shb_common.programs import naming
 from shb_common.result import text
 from shb_common.standard import faults_of
@@ -23,7 +22,7 @@ from shb_common.words import counted
 from shb_view.analyser import MOST_LISTED, Analyser, Verdict
 from shb_view.counting import Counting, Kinds
 from shb_view.facts import RANKS
-from shb_view.group_facts import Facts, Section, merged_groups
+from shb_view.group_facts import Facts, merged_groups
 from shb_view.groups import Gathered
 from shb_view.names import by_numbers, readable
 from shb_view.source import Source
@@ -41,13 +40,8 @@ TOO_LONG = Verdict(None, "No schedules were made, since they would take over 100
 NO_SCHEDULES = Verdict(None, "The report has no schedules, so `shb check` can't judge it.")
 
 
-class Given(typing.NamedTuple):
+class Given(collections.namedtuple("Given", "name file verdict places")):
     """A report to be shown. `places` has how many races each place has, where the report lists one race of each place."""
-
-    name: str
-    file: typing.BinaryIO
-    verdict: Verdict
-    places: typing.Optional[dict]
 
     def order(self, race, events):
         """Some events in the order of a race's schedule, with the schedule's length, if `shb` made the report or `check` found it
@@ -56,39 +50,16 @@ class Given(typing.NamedTuple):
         return in_order(self.file, race, events) if is_known and race.schedule is not None else (events, None)
 
 
-class Subject(typing.NamedTuple):
+class Subject(collections.namedtuple("Subject", "given counts races listed is_sample events uses in_run parts", defaults=({}, ()))):
     """The races of a trace with so many events: how many it has, and how many of these a given report has. Of a sample (`is_sample`) one race
     of each variable at each place is known. Of a scan the races are one of each variable at each place of a run, which aren't counted; it has
     the `uses` in the run, and `counts` are the run's. `in_run` has by an event of the trace that of the run, of those that race; at `parts`
     parts of the trace begin."""
 
-    given: Given
-    counts: Counts
-    races: int
-    listed: int
-    is_sample: bool
-    events: int
-    uses: typing.Optional[list]
-    in_run: dict = {}
-    parts: typing.Sequence[int] = ()
 
-
-class View(typing.NamedTuple):
+class View(collections.namedtuple("View", "title made pairs groups sections source notes about stacks kinds turns command")):
     """All that is shown. `pairs` and `groups` are how many there are, `sections` those that are shown. `notes` are what the caller said of the
     trace, `about` what it said of the recorder."""
-
-    title: str
-    made: Subject
-    pairs: int
-    groups: int
-    sections: typing.List[Section]
-    source: Source
-    notes: typing.List[str]
-    about: typing.List[str]
-    stacks: Stacks
-    kinds: Kinds
-    turns: str
-    command: str
 
     @property
     def of_scan(self):

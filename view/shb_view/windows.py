@@ -1,54 +1,28 @@
 """The second pass over a trace: what is shown before two racing accesses, and what orders it."""
 
 import collections
-import typing
 
-from shb_common.report import Race
 from shb_view.held import Held, called
-from shb_view.trace import OPENS, Event, event_of, line_of
+from shb_view.trace import OPENS, event_of, line_of
 
 SOURCES = {b"acq": b"rel", b"r": b"w"}  # what an operation waits for or sees
 
 
-class Shown(typing.NamedTuple):
+class Shown(collections.namedtuple("Shown", "number row line event named previous source locks held freed")):
     """An event that is shown. `named` is the event with the program's name for its variable or lock, and `line` its line with that.
     `previous` is the event before it in its thread, or 0. `source` is the event of another thread that
     it waits for or sees: for an acquire the last release of the lock, for a read the last write, for a join the thread's last
     event; or 0. `locks` and `held` are as `Held.newest` has them; `freed` is the lock that it makes free, or None."""
 
-    number: int
-    row: int
-    line: bytes
-    event: Event
-    named: Event
-    previous: int
-    source: int
-    locks: typing.Tuple[typing.Tuple[bytes, int], ...]
-    held: int
-    freed: typing.Optional[bytes]
 
-
-class Moment(typing.NamedTuple):
+class Moment(collections.namedtuple("Moment", "previous locks held freed")):
     """What the pass notes at an event."""
 
-    previous: int
-    locks: typing.Tuple[typing.Tuple[bytes, int], ...]
-    held: int
-    freed: typing.Optional[bytes]
 
-
-class Window(typing.NamedTuple):
+class Window(collections.namedtuple("Window", "race accesses before edges forks events length")):
     """A race with what comes before it. `before` are the events before the accesses in the order of its schedule or of the trace;
     `edges` are pairs of events of different threads, the earlier first; `forks` has the fork of each access's thread, or 0;
     `length` is that of the schedule, or None."""
-
-    race: Race
-    accesses: typing.Tuple[int, int]
-    before: typing.List[int]
-    edges: typing.List[typing.Tuple[int, int]]
-    forks: typing.Dict[int, int]
-    events: typing.Dict[int, Shown]
-    length: typing.Optional[int]
 
 
 class Moments:
