@@ -36,7 +36,7 @@ def facts_of(trace, stacks, written=None):
         given = view.Given("report", report, Verdict(None, ""), None)
         counts, gathered = Counts(*shb.counts_of(shb.read_trace(trace)[0])), Gathered()
         view.read_report(given, counts, gathered, QUIET)
-        its = Stacks(beside.name, 0, counts.events)
+        its = Stacks(beside.name, counts.events)
         gathered.name_locals(its)
         kinds, options = view.Kinds(gathered, its), argparse.Namespace(html=False, all=False, unseen={})
         shown = types.SimpleNamespace(kinds=kinds, gathered=gathered)

@@ -41,10 +41,10 @@ class Race(collections.namedtuple("Race", "number first second first_line second
 
 
 class Lines:
-    """The lines of a report, or of another text that a command of `shb` writes, one after the other, from where the file stands."""
+    """The lines of a report, one after the other, from where the file stands."""
 
-    def __init__(self, file, name="report"):
-        self.file, self.name = file, name
+    def __init__(self, file):
+        self.file = file
         self.number = 0             # of the lines taken
         self.start = self.bytes = 0     # where the next line begins, and where it ends, counted from the report's first byte
         self.line = b""
@@ -61,7 +61,7 @@ class Lines:
         self.number += 1
         found = pattern.fullmatch(self.line)
         if found is None:
-            raise BadReport(f"line {self.number} of the {self.name} is {said(self.line)}; it should be `{form}`")
+            raise BadReport(f"line {self.number} of the report is {said(self.line)}; it should be `{form}`")
         self.advance()
         return found.groups()
 
@@ -73,16 +73,16 @@ class Lines:
         """The numbers of the next line but for its first, which is this one."""
         found = self.numbers(pattern, form)
         if found[0] != number:
-            raise BadReport(f"line {self.number} of the {self.name} has the number {found[0]}; it should be `{form}`")
+            raise BadReport(f"line {self.number} of the report has the number {found[0]}; it should be `{form}`")
         return found[1:]
 
     def accesses(self, what, first, second, events):
         """The lines of two accesses that conflict, each with its fields. They are of these events of so many; `what` has them."""
         (first_line, one), (second_line, other) = self.access(FIRST, "first ACCESS"), self.access(SECOND, "second ACCESS")
         if not 0 < first < second <= events:
-            raise BadReport(f"{what} of the {self.name}: {first} and {second} aren't two events of the trace, the earlier first")
+            raise BadReport(f"{what} of the report: {first} and {second} aren't two events of the trace, the earlier first")
         if one.name != other.name or one.thread == other.thread or b"w" not in (one.word, other.word):
-            raise BadReport(f"{what} of the {self.name}: the events {first} and {second} don't conflict")
+            raise BadReport(f"{what} of the report: the events {first} and {second} don't conflict")
         return (first_line, one), (second_line, other)
 
     def access(self, pattern, form):
@@ -102,7 +102,7 @@ class Lines:
         """Takes the last line, after which nothing stands."""
         self.next(END, "end")
         if self.line:
-            raise BadReport(f"line {self.number + 1} of the {self.name} comes after `end`")
+            raise BadReport(f"line {self.number + 1} of the report comes after `end`")
 
     def pass_schedule(self):
         """Where the schedule of the next line begins. The line may be long, and isn't kept; `shb check` judges it."""

@@ -62,8 +62,6 @@ class AtomicUse(collections.namedtuple("AtomicUse", "event name thread location 
 class Tables:
     """Of a file of stacks what names places; without a path nothing."""
 
-    shift = 0
-
     def __init__(self, path=None):
         self.functions = {}  # by location those that it lies in, without parameters and arguments of templates
         self.files = set()  # those of locations: files of source, and modules with code that has no lines
@@ -101,29 +99,28 @@ class Tables:
     def local_of(self, variable, event):
         """The local that a variable on a stack is at an event, or the member that one in a block is; or nothing."""
         names = self.locals.get(variable, ())
-        number = bisect.bisect(names, (event + self.shift + 1,))
+        number = bisect.bisect(names, (event + 1,))
         return names[number - 1][1] if number else b""
 
     def lasting(self, variable, event):
         """What a variable is at all events, whatever trace of the run they are of: a member that one in a block is; or nothing."""
-        return self.local_of(variable, -self.shift)
+        return self.local_of(variable, 0)
 
 
 class Stacks(Tables):
-    """The stacks of a trace, by their numbers, and what is told beside them. `shift` is how many events of the file come before the
-    trace's first. Without a path nothing is known of the trace."""
+    """The stacks of a trace with so many events, by their numbers, and what is told beside them. Without a path nothing is known of it."""
 
-    def __init__(self, path=None, shift=0, events=0):
+    def __init__(self, path=None, events=0):
         super().__init__()
-        self.numbers, self.shift = (), shift
+        self.numbers = ()
         self.frames, self.calls, self.threads, self.blocks = [None], {}, {}, {}
         self.uses = []  # of atomics, as they happened
         self.free_starts, self.free_ends = array.array("Q"), array.array("Q")
         if path:
             with open_regular(path) as file:
                 count = events_in(file)
-                self.numbers = numbers_of(file, shift, events) if 0 <= shift <= count - events else ()
-                if len(self.numbers) != events:
+                self.numbers = numbers_of(file, events)
+                if count < events or len(self.numbers) != events:
                     raise BadStacks(OTHER)
                 self.read(file, count)
 
@@ -148,7 +145,7 @@ class Stacks(Tables):
         self.free_ends.append(last)
 
     def take_use(self, event, name, thread, location, how):
-        self.uses.append(AtomicUse(event - self.shift, name, thread, location, *how))
+        self.uses.append(AtomicUse(event, name, thread, location, *how))
 
     def stack(self, number):
         """The frames of a stack, the innermost first."""
@@ -171,8 +168,8 @@ class Stacks(Tables):
 
     def free_of(self, event):
         """The number of the free that an event is of, or None."""
-        number = bisect.bisect(self.free_starts, event + self.shift) - 1
-        return number if number >= 0 and event + self.shift <= self.free_ends[number] else None
+        number = bisect.bisect(self.free_starts, event) - 1
+        return number if number >= 0 and event <= self.free_ends[number] else None
 
     def of_thread(self, name):
         """Where a thread was created."""
@@ -250,10 +247,9 @@ FORMS = {b"frame": (b"\t", bytes, bytes), b"system-frame": (b"\t", bytes, bytes)
          b"source": (b"\t", bytes, bytes), b"line": (b"\t", bytes, sum_of), b"local": (b"\t", whole, bytes, bytes)}
 
 
-def numbers_of(file, first, count):
+def numbers_of(file, count):
     """Numbers of 4 bytes, the least byte first."""
     found = array.array("I")
-    file.seek(BEGIN_BYTES + NUMBER_BYTES * first)
     read = file.read(NUMBER_BYTES * count)
     found.frombytes(read[:len(read) // NUMBER_BYTES * NUMBER_BYTES])
     if sys.byteorder == "big":

@@ -79,7 +79,7 @@ def read_stacks(text):
         file.write(text)
         file.flush()
         try:
-            found = Stacks(file.name, 0, 3)
+            found = Stacks(file.name, 3)
             for event in range(-1, 6):
                 found.of_event(event), found.free_of(event), found.local_of(b"stack.main-0x20", event)
             found.of_thread(b"T1"), found.of_variable(b"a.c:1#7+8"), found.of_variable(b"#" + b"9" * 30), found.functions
@@ -209,7 +209,7 @@ class Readers(side_by_side.Case):
         for number, line in enumerate(LINES.splitlines(True), 2):
             path = self.folder / "a.stacks"
             path.write_bytes(STACKS.replace(line, line[:-1] + b"\tx y z\n" if line.startswith((b"stack", b"block", b"free", b"use")) else line.replace(b"\t", b" ")))
-            for read in (lambda: Stacks(path, 0, 3), lambda: Tables(path)):
+            for read in (lambda: Stacks(path, 3), lambda: Tables(path)):
                 with self.assertRaises(BadStacks) as refused:
                     read()
                 self.assertIn(f"is damaged in line {number}: `", str(refused.exception))
@@ -219,7 +219,7 @@ class Readers(side_by_side.Case):
         path = self.folder / "a.stacks"
         path.write_bytes(b"shb-stacks 1 %020d\n" % 1 + struct.pack("<I", 1) + b"frame f\ta.c:1\n" + b"stack 1 1 " + b"1 " * 9_000 + b"\n"
                          + b"thread T\t1\n" * 100)
-        found = Stacks(path, 0, 1)
+        found = Stacks(path, 1)
         self.assertEqual((len(found.of_event(1)), len(found.of_thread(b"T"))), (2_000, 2_000))
 
     def test_what_is_no_regular_file(self):

@@ -69,7 +69,7 @@ def accesses_in(report, pairs, path):
     """By each of these places that a report has: the accesses of its first race there."""
     with open(report, "rb") as file:
         read = Report(file)
-        calls = stacks.Stacks(path, 0, read.counts.events)
+        calls = stacks.Stacks(path, read.counts.events)
         found = {}
         for race, accesses in read.races():
             place = known.pair_of(*(access.location for access in accesses))

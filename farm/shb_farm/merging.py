@@ -1,24 +1,18 @@
 """What a farm has found: a row for each two locations, and how each trace ended."""
 
+import collections
 import os
 import pathlib
 import stat
-import typing
 
 from shb_common.places import Places, in_order
 from shb_common.variables import local_name
 from shb_farm import outcomes, passes, traces
 
 
-class Ending(typing.NamedTuple):
+class Ending(collections.namedtuple("Ending", "kind words places size cost", defaults=(None,))):
     """How a trace ended: the kind of its outcome or `missing`, its words, its places, its size in bytes, or None where it can't be
     run, and what it cost. The size of a packed trace is that of its text, where this is known."""
-
-    kind: str
-    words: str
-    places: typing.List[outcomes.Place]
-    size: typing.Optional[int]
-    cost: typing.Optional[outcomes.Cost] = None
 
 
 def ending_of(work, name, outside=()):

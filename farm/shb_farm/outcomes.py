@@ -17,10 +17,10 @@ KIND and WORDS are `report` and what the trace has; `refused` and the program's 
 the limit that didn't suffice (MiB, seconds of processor time, MiB); or `failed` and why. What failed is tried again.
 """
 
+import collections
 import hashlib
 import os
 import pathlib
-import typing
 
 from shb_common.analyser import Place
 from shb_common.known import written
@@ -29,21 +29,12 @@ FIRST = b"shb-farm 2\n"
 HEAD = b"name", b"program", b"trace", b"stamp", b"cost"
 
 
-class Cost(typing.NamedTuple):
-    seconds: float
-    kib: int
-    text: int       # bytes of the trace's text
+class Cost(collections.namedtuple("Cost", "seconds kib text")):
+    """What a run took, and how many bytes the trace's text has (`text`)."""
 
 
-class Outcome(typing.NamedTuple):
-    name: str
-    program: str
-    trace: str
-    stamp: str
-    cost: Cost
-    kind: str
-    words: str
-    places: typing.List[Place]      # by variable the events of one race
+class Outcome(collections.namedtuple("Outcome", "name program trace stamp cost kind words places")):
+    """`places` have by variable the events of one race."""
 
 
 def stamp_of(state):

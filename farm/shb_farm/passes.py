@@ -1,5 +1,6 @@
 """A pass: some traces to be run within the same limits. Its file is all that a job is told."""
 
+import collections
 import contextlib
 import fcntl
 import hashlib
@@ -10,7 +11,6 @@ import re
 import shutil
 import tempfile
 import time
-import typing
 
 LIST, FULL = "list", "full"     # the places of a trace; its report with schedules
 FOLDER_OF = {LIST: "outcomes", FULL: "reports"}
@@ -20,20 +20,12 @@ MOST_OF_NAME = 60               # characters of a trace's name that are in the n
 OTHER = re.compile(r"[^A-Za-z0-9._-]+")
 
 
-class Pass(typing.NamedTuple):
-    shb: str                    # the program
-    program: str                # its checksum
-    traces: str                 # the folder of the traces
-    out: str                    # the folder of the outcomes
-    room: str                   # the folder for files of this run that aren't whole yet
-    view: str = ""              # the command that says what is known of places, or nothing
-    links: bool = False         # whether links may lead out of the folder of the traces
-    form: str = LIST
-    memory: int = 0             # MiB of address space
-    seconds: int = 0            # of processor time
-    size: int = 0               # MiB of a report, and of the text of a packed trace
-    last: bool = True           # whether no pass with more memory comes after it
-    names: typing.List[str] = []    # the traces to run, below their folder
+class Pass(collections.namedtuple("Pass", "shb program traces out room view links form memory seconds size last names",
+                                  defaults=("", False, LIST, 0, 0, 0, True, []))):
+    """What a pass needs: the program and its checksum; the folders of the traces, of the outcomes, and for files of this run that aren't whole
+    yet (`room`); the command that says what is known of places, or nothing (`view`); whether links may lead out of the folder of the traces;
+    the MiB of address space (`memory`), the seconds of processor time, and the MiB of a report and of the text of a packed trace (`size`);
+    whether no pass with more memory comes after it (`last`); and the traces to run, below their folder (`names`)."""
 
 
 def write(work):

@@ -1,9 +1,9 @@
 """One run of the program within limits, and how it ended."""
 
+import collections
 import os
 import resource
 import signal
-import typing
 
 from shb_common import analyser
 from shb_common.children import end_with
@@ -12,11 +12,8 @@ from shb_farm.limits import MIB
 WORDS = {"list": analyser.SCAN, "full": [*analyser.FULL, "--workers", "1"]}
 
 
-class End(typing.NamedTuple):
+class End(collections.namedtuple("End", "kind words")):
     """How a run ended: the kind and the words of an outcome."""
-
-    kind: str
-    words: str
 
 
 class NotHere(Exception):

@@ -4,9 +4,9 @@ Places are compared as files of known places name them: by functions where these
 names last from run to run. So a place whose lines moved is the same.
 """
 
+import collections
 import json
 import os
-import typing
 
 from shb_common import known, result
 from shb_common.faults import Refused
@@ -18,15 +18,9 @@ MOST_BYTES = 1 << 30
 NAME = "places.json"
 
 
-class Since(typing.NamedTuple):
+class Since(collections.namedtuple("Since", "name new same gone keys")):
     """What is new since `name`: how many places are new and the same, those that are gone, as their two locations and variables, and
     the keys of the earlier ones."""
-
-    name: str
-    new: int
-    same: int
-    gone: list
-    keys: set
 
     def state_of(self, row):
         return "same" if keys_of_row(row) <= self.keys else "new"

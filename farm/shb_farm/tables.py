@@ -1,7 +1,7 @@
 """The tables of a farm: as tab-separated values, as text, for programs and for code review tools."""
 
+import collections
 import os
-import typing
 
 from shb_common import known, result, sarif
 from shb_common.files import put
@@ -13,16 +13,9 @@ WIDEST = 60         # columns of the text's tables; a longer field moves what st
 MOST_NAMED = 3      # variables in a table
 
 
-class Found(typing.NamedTuple):
+class Found(collections.namedtuple("Found", "rows endings facts stale since status")):
     """What a farm has found: a row for each two locations, how each trace ended, the facts as numbers, the lines of the known places
     that matched nothing, what is new since an earlier farm or None, and the status."""
-
-    rows: list
-    endings: dict
-    facts: dict
-    stale: list
-    since: typing.Any
-    status: int
 
 
 def field(text):

@@ -1,20 +1,13 @@
 """Events of a trace, and the list of repairs."""
 
 import collections
-import typing
 
 OWN = "#"   # a repaired name is the old one, this sign and a word
 
 
-class Event(typing.NamedTuple):
+class Event(collections.namedtuple("Event", "line thread word name location")):
     """One event: its line in the file that was read, and its fields. `name` is what stands in the parentheses, None where
     there are none."""
-
-    line: int
-    thread: bytes
-    word: bytes
-    name: typing.Optional[bytes]
-    location: typing.Optional[bytes]
 
     def text(self):
         operation = self.word if self.name is None else b"%s(%s)" % (self.word, self.name)

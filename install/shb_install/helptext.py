@@ -4,26 +4,20 @@ The commands are written with clap, with argparse and in C; the texts of all thr
 `Usage: ..`, and parts with a heading that ends with a colon.
 """
 
+import collections
 import re
-import typing
 
 OPTION = re.compile(r" {2,8}(-\S(?:\S| (?! ))*)(?: {2,}(\S.*))?$")
 COMMAND = re.compile(r" {2}([a-z][a-z-]*) {2,}(\S.*)$")
 
 
-class Option(typing.NamedTuple):
-    names: typing.List[str]     # -h, --help
-    value: str                  # what its value is called, or nothing
-    text: str
+class Option(collections.namedtuple("Option", "names value text")):
+    """`names` as `-h` and `--help`, and what its value is called, or nothing."""
 
 
-class Help(typing.NamedTuple):
-    command: str                                                # shb races
-    about: str                                                  # in one sentence
-    usage: str
-    parts: typing.List[typing.Tuple[str, typing.List[str]]]     # a heading (first none) and its lines
-    options: typing.List[Option]
-    commands: typing.Dict[str, str]                             # subcommands, each with its sentence
+class Help(collections.namedtuple("Help", "command about usage parts options commands")):
+    """The `command` as `shb races`, what it is about in one sentence, its usage; `parts` are a heading (first none) and its lines, `commands`
+    are subcommands, each with its sentence."""
 
 
 def parse(command, text):

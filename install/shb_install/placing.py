@@ -6,13 +6,13 @@ the new one, and each new file stands as NAME.shb-new beside its place until all
 the list names all that is ours: installing again goes on, and uninstalling leaves nothing.
 """
 
+import collections
 import compileall
 import contextlib
 import os
 import pathlib
 import shutil
 import stat
-import typing
 
 from shb_common.faults import Refused
 from shb_common.standard import faults_of
@@ -23,11 +23,8 @@ NEW = ".shb-new"            # the end of the name of a file that isn't in place 
 MOST_NAMES = 5              # that a refusal shows
 
 
-class Listed(typing.NamedTuple):
+class Listed(collections.namedtuple("Listed", "files folders")):
     """The files and folders of an installation, as paths below the prefix; folders above it begin with `..`."""
-
-    files: typing.FrozenSet[str]
-    folders: typing.FrozenSet[str]
 
 
 NOTHING = Listed(frozenset(), frozenset())

@@ -27,7 +27,7 @@ class Names(recorder.Case):
         recorder.must(recorder.call(program, env=recorder.settings(record, SHB_CELLS="0")))
         answer = recorder.must(recorder.convert(record, "-a", "--stacks", path))
         lines = answer.stdout.splitlines()
-        stacks = Stacks(path, 0, len(lines))
+        stacks = Stacks(path, len(lines))
         for event, line in enumerate(lines, 1):
             access = re.fullmatch(rb"[^|]*\|w\((.*?)\)\|(forms\.cc:\d+)", line)
             if access:

@@ -114,7 +114,7 @@ class Live(recorder.Case):
         for record in records.values():
             trace = recorder.must(recorder.convert(record, *before, "--left", left, "--stacks", stacks)).stdout.splitlines()
             numbers = [number for number, line in enumerate(trace, 1) if BLOCK in line.decode().split("|")[1]]
-            its = Stacks(stacks, 0, len(trace))
+            its = Stacks(stacks, len(trace))
             found += [{its.of_event(number)[0].function for number in numbers}] if numbers else []
             before = ["--blocks", left]
         self.assertGreater(len(found), 3)

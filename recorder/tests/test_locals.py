@@ -27,7 +27,7 @@ void work(struct pair *p) { p->sum[2]++; }
 def of_events(path, trace):
     """Of each access of a variable on a stack the place and the name of its local."""
     lines = trace.decode(errors="surrogateescape").splitlines()
-    stacks = Stacks(path, 0, len(lines))
+    stacks = Stacks(path, len(lines))
     for event, line in enumerate(lines, 1):
         found = re.fullmatch(r"[^|]*\|[rw]\((stack\.[^!]*?)(?:!.*)?\)\|(.*)", line)
         if found:
@@ -61,7 +61,7 @@ class Programs(recorder.Case):
             record, path = self.recorded(compiler, "-O1", "local_locks.c"), self.folder / "app.stacks"
             for options in ((), ("-a",)):
                 lines = recorder.must(recorder.convert(record, *options, "--stacks", path)).stdout.splitlines()
-                stacks, named = Stacks(path, 0, len(lines)), set()
+                stacks, named = Stacks(path, len(lines)), set()
                 for line in lines:
                     name = line.split(b"(", 1)[1].split(b")|")[0].partition(b"@")[0].partition(b"!")[0]
                     named.update([stacks.lasting_locals.get(name)] if name.startswith(b"stack.main") else [])

@@ -81,7 +81,7 @@ class Blocks(recorder.Case):
         recorder.must(recorder.call(compiler, "-w", "-g", option, "-fsanitize=thread", "-pthread", source, *linked, "-o", program))
         recorder.must(recorder.call(program, env=recorder.settings(record)))
         trace = recorder.must(recorder.convert(record, "-a", "--stacks", path)).stdout
-        names, found = Stacks(path, 0, len(trace.splitlines())).lasting_locals, {}
+        names, found = Stacks(path, len(trace.splitlines())).lasting_locals, {}
         for variable, place in re.findall(rb"(?m)^T\d.*?\|(?:r|w|acq)\((%b:\d+#[+\d]*)\)\|(.*)$" % source.name.encode(), trace):
             found.setdefault(place.decode(), set()).add(re.sub(r"#\d+$", "", names.get(variable, b"-").decode()))
         return found
@@ -142,7 +142,7 @@ class Damaged(recorder.Case):
             answer = recorder.call(self.converter, "--stacks", path, record, env={**os.environ, "ASAN_OPTIONS": "detect_leaks=0"})
             with self.subTest(number):
                 self.assertEqual(answer.returncode, 0, answer.stderr[-2000:])
-            names.update(Stacks(path, 0, len(answer.stdout.splitlines())).lasting_locals.values())
+            names.update(Stacks(path, len(answer.stdout.splitlines())).lasting_locals.values())
         self.assertIn(b"bank::Account.balance", names)
 
     def test_damaged_debug_information(self):

@@ -70,14 +70,10 @@ class MadeByHand(recorder.Case):
         path, trace = self.stacks()
         wanted = [stack for _, events in CANNED for stack in events]
         self.assertEqual(len(trace.splitlines()), len(wanted))
-        found = Stacks(path, 0, len(wanted))
+        found = Stacks(path, len(wanted))
         self.assertEqual(places(found, len(wanted)), wanted)
         self.assertEqual([frame.location for frame in found.of_thread(b"T1")], [b"0x5020"])
         self.assertEqual([frame.location for frame in found.of_variable(b"0x5110#1")], [b"0x5110", b"0x5010"])
-
-    def test_a_window_has_a_shift(self):
-        path, _ = self.stacks()
-        self.assertEqual(Stacks(path, 2, 3).of_event(1), Stacks(path, 0, 5).of_event(3))
 
     def test_a_record_cut_short_is_a_prefix(self):
         wanted = [stack for _, events in CANNED for stack in events]
@@ -85,7 +81,7 @@ class MadeByHand(recorder.Case):
             self.record().write_bytes(HEADER + b"".join(record for record, _ in CANNED[:entries]))
             path = self.folder / "app.stacks"
             events = len(recorder.must(recorder.convert(self.record(), "--stacks", path, "-a")).stdout.splitlines())
-            found = Stacks(path, 0, events)
+            found = Stacks(path, events)
             self.assertEqual(places(found, events), wanted[:events])
 
     def test_an_access_that_is_late_has_its_own_context(self):
@@ -96,7 +92,7 @@ class MadeByHand(recorder.Case):
         path = self.folder / "app.stacks"
         self.record().write_bytes(HEADER + b"".join(entries))
         events = len(recorder.must(recorder.convert(self.record(), "--stacks", path)).stdout.splitlines())
-        self.assertEqual(places(Stacks(path, 0, events), events), ["0x5000", "0x5120", "0x5030", "0x5110 0x5010", "0x5210 0x5020", "0x5220 0x5020"])
+        self.assertEqual(places(Stacks(path, events), events), ["0x5000", "0x5120", "0x5030", "0x5110 0x5010", "0x5210 0x5020", "0x5220 0x5020"])
 
     def test_the_trace_is_the_same(self):
         _, trace = self.stacks()
@@ -161,7 +157,7 @@ class Programs(recorder.Case):
             for number, record in enumerate(sorted(self.folder.glob("app.*.rec"))):
                 path = self.folder / f"{number}.stacks"
                 lines = recorder.must(recorder.convert(record, "--stacks", path)).stdout.splitlines()
-                stacks = Stacks(path, 0, len(lines))
+                stacks = Stacks(path, len(lines))
                 for event, line in enumerate(lines, 1):
                     fields = line.split(b"|")
                     names = [name(frame) for frame in stacks.of_event(event) if not frame.in_system]
@@ -211,7 +207,7 @@ class Programs(recorder.Case):
             said.append(b"no call stacks are known: the program was recorded with SHB_STACKS=0" in answer.stderr)
         self.assertEqual(said, [False, True])
         lines = answer.stdout.decode().splitlines()
-        self.assertEqual(places(Stacks(path, 0, len(lines)), len(lines)), [line.split("|")[2] for line in lines])
+        self.assertEqual(places(Stacks(path, len(lines)), len(lines)), [line.split("|")[2] for line in lines])
 
     def recorded(self, source, option):
         """The record of a program."""
@@ -226,7 +222,7 @@ class Programs(recorder.Case):
         for option in ("-O1", "-O2"):
             lines = recorder.must(recorder.convert(self.recorded(source, option), "--stacks", path)).stdout.decode().splitlines()
             looked = next(event for event, line in enumerate(lines, 1) if line.endswith(f"|inlined.cc:{numbers['LOOK']}"))
-            frames = Stacks(path, 0, len(lines)).of_event(looked)[:2]
+            frames = Stacks(path, len(lines)).of_event(looked)[:2]
             self.assertEqual([name(frame) for frame in frames], ["look", "lambda"])
             self.assertEqual([frame.location.decode() for frame in frames], [f"inlined.cc:{numbers[it]}" for it in ("LOOK", "LAMBDA")])
 

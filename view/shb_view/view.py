@@ -101,7 +101,7 @@ def make_view(options, progress):
         gathered = Gathered()
         made = scanned(options, gathered, stack) if options.scan else analysed(options, file, gathered, progress, stack)
         with damage_of(options.stacks):
-            stacks = Stacks(options.stacks, 0, made.events)
+            stacks = Stacks(options.stacks, made.events)
         gathered.name_locals(stacks)
         groups = gathered.groups()
         kinds = Kinds(gathered, stacks)
