@@ -87,7 +87,7 @@ class Refused(program.Case):
     def test_words_by_hand(self):
         report = shb.report(self.TRACE, True)
         self.assertIn(b"schedule 2: 1 2\n", report)
-        other = "the report is of another trace: "
+        other = "the report belongs to another trace: "
         race = "race 1 of the report: "
         for old, new, said in (
             (b"events 6", b"events 5", other + "this one has 6 events, not 5"),

@@ -100,7 +100,7 @@ class Stacks(program.Case):
         trace = b"A|w(x)|a.c:1\nB|w(x)|a.c:2\nA|w(y)|a.c:3\nB|w(y)|a.c:4\n"
         behind = self.file(b"a.c:3\ta.c:4\ty\n", "behind")
         out = run_here(["--behind", behind, self.file(trace)])[1]
-        said = "   Found behind known races, which were passed over: real if these are harmless.\n"
+        said = "   Found behind known races, which were skipped: real if these are harmless.\n"
         self.assertEqual((out.count(said), out.index("2. y: ") < out.index(said)), (1, True), out)
 
     def test_where_a_fiber_was_made(self):

@@ -141,7 +141,7 @@ def lines_of(places):
     for fields, (names, comments) in found.items():
         yield from (b"# " + b"\t".join(pair) + b"\n" for pair in sorted(comments))
         if fields in more:
-            yield b"# it has more variables than are listed; a line with * as its third field is of all:\n"
+            yield b"# it has more variables than are listed; a line with * as its third field matches all:\n"
             yield b"# " + line_of_fields(*fields, b"*")
         yield from (line_of_fields(*fields, name) for name in lasting_names(names))
 

@@ -79,7 +79,7 @@ ANALYSERS = "../bin/shb", "../../bin/shb"       # in a checkout, and installed
 
 def arguments(words):
     parser = Parser("shb-farm", ABOUT, NOTES)
-    parser.add_argument("--known", metavar="FILE", help="places to pass over")
+    parser.add_argument("--known", metavar="FILE", help="places to skip")
     parser.add_argument("--fail-on-stale", action="store_true", help="end with status 1 if a line of --known matched nothing")
     parser.add_argument("--since", metavar="OLD", help="report which places are new, gone and the same since an earlier result: the folder "
                         "OUT of a farm, or a places.json")

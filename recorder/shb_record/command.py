@@ -73,7 +73,7 @@ def parser_of_words():
                         help="run it with the order of turns of an earlier run, as long as that fits. A run with a place that isn't known leaves the "
                         "list in the folder of its results. If the list is left, it prints after how many turns; from there on the run is like any other")
     parser.add_argument("--known", metavar="FILE", dest="known_path",
-                        help="places to pass over, as unknown.places has them: on a line two locations, FILE:LINE, or functions, "
+                        help="places to skip, as unknown.places has them: on a line two locations, FILE:LINE, or functions, "
                         "FILE:FUNCTION(), in either order, and the variable, with tabs between; * stands for any text; a line that begins with "
                         "# is a comment. A line with two fields applies to every variable. Lines that match nothing are reported")
     parser.add_argument("--fail-on-stale", action="store_true", help="if no race is unknown, such lines end with status 67. A race that is in few runs "
@@ -173,7 +173,7 @@ def run_all(look):
                 f"its seed is {options.seed + number - 1}")
             break
     if options.replay and not look.has_replayed:
-        raise Refused(f"{options.replay} is of `{options.turns.command}`, and no recorded process was that: nothing was replayed")
+        raise Refused(f"{options.replay} belongs to `{options.turns.command}`, and no recorded process was that: nothing was replayed")
 
 
 def look_of(options):
@@ -202,10 +202,10 @@ def conclude(look, rows, status):
     for words in known.words_of_stale(look.stale(), look.places.names):
         say(f"{look.options.known_path}, {words}")
     for first, second in itertools.islice(look.passed_over, MOST_PASSED):
-        say(f"{printable(second)} read what {printable(first)} wrote, in a known race: a second look passed over both")
+        say(f"{printable(second)} read what {printable(first)} wrote, in a known race: a second look skipped both")
     shown = (counted(unknown, "unknown place" if look.options.known_path else "place") + " with races"
              + (f" ({'' if behind == unknown else f'{behind:,} of them '}behind known races: real if these are harmless)" if behind else "")
-             + (f", {counted(passed_over, 'known one')} passed over" if passed_over else ""))
+             + (f", {counted(passed_over, 'known one')} skipped" if passed_over else ""))
     unshown = f"{counted(look.unshown, 'place')} with races that can't be shown"
     say("; ".join([shown] * bool(rows or not look.unshown) + [unshown] * bool(look.unshown))
         + ("; not the whole of the run was seen" if look.is_cut or look.is_killed else "")

@@ -57,10 +57,10 @@ class Behind(recorder.Case):
                 continue
             self.assertEqual({place["state"] for place in found["places"]}, {"known", "behind"})
             self.assertEqual(found["summary"]["behind"], found["summary"]["unknown"])
-            self.assertIn("   Found behind known races, which were passed over: real if these are harmless.\n", said)
-            self.assertIn("(behind known races: real if these are harmless), 1 known one passed over;", said)
+            self.assertIn("   Found behind known races, which were skipped: real if these are harmless.\n", said)
+            self.assertIn("(behind known races: real if these are harmless), 1 known one skipped;", said)
             self.assertIn("\ttries\n", (self.folder / "out" / "unknown.places").read_text())
-            self.assertIn(": pay.c:5 read what pay.c:7 wrote, in a known race: a second look passed over both\n", said)
+            self.assertIn(": pay.c:5 read what pay.c:7 wrote, in a known race: a second look skipped both\n", said)
         self.assertIn("behind", states)
 
     def test_nothing_behind_a_known_one(self):

@@ -165,7 +165,7 @@ int main(int count, char **words) {
         recorder.must(recorder.call("gcc", "-w", "-g", "-O1", "-fsanitize=thread", "-pthread", *sources, "-o", program))
         self.assertEqual(self.record("-o", "first", program, "a alone")[0], 66)
         status, _, said = self.record("-o", "both", "--known", "first/unknown.places", program)
-        self.assertEqual((status, "1 unknown place with races, 1 known one passed over" in said, "b/util.c:3" in said), (66, True, True), said)
+        self.assertEqual((status, "1 unknown place with races, 1 known one skipped" in said, "b/util.c:3" in said), (66, True, True), said)
 
     def test_a_long_run(self):
         """The first and the last step of the program race."""
@@ -328,7 +328,7 @@ int main(int count, char **words) {
             status, _, said = self.record("--known", self.known(text), program)
             self.assertEqual(status, wanted, text)
             self.assertIn("1 unknown place with races;" if wanted else
-                          "0 unknown places with races, 1 known one passed over;", said)
+                          "0 unknown places with races, 1 known one skipped;", said)
 
     STATS = ("#include <pthread.h>\nint hits, balance;\npthread_mutex_t m = PTHREAD_MUTEX_INITIALIZER;\n"
              "void *serve(void *p) {\n    hits++;\n    LOCK balance++; UNLOCK\n    return p;\n}\nint main(void) {\n    pthread_t t, u;\n"
@@ -351,7 +351,7 @@ int main(int count, char **words) {
         known = self.known(unknown)
         for line in False, True:
             status, _, said = self.record("-o", "locked", "--known", known, self.build_stats("one", True, line))
-            self.assertEqual((status, "0 unknown places with races, 1 known one passed over" in said), (0, True), said)
+            self.assertEqual((status, "0 unknown places with races, 1 known one skipped" in said), (0, True), said)
             status, _, said = self.record("-o", "open", "--known", known, self.build_stats("one", False, line))
             self.assertEqual((status, "1 unknown place with races" in said), (66, True), said)
             self.assertIn(". balance: ", said) if not line else self.assertIn("balance", said)
@@ -393,7 +393,7 @@ int main(int count, char **words) {
         self.assertIn("w.c is the end of 2 source files' paths: one/w.c, two/w.c", said)
         known.write_text(text_of(known).replace("w.c:known_stats", "one/w.c:known_stats"))
         status, _, said = self.record("-o", "out", "--known", known, *both)
-        self.assertEqual((status, "1 unknown place with races, 1 known one passed over" in said, "counter: " in said), (66, True, False), said)
+        self.assertEqual((status, "1 unknown place with races, 1 known one skipped" in said, "counter: " in said), (66, True, False), said)
         self.assertEqual(self.record("-o", "out", "--known", known, "./prog-one")[0], 0)     # a longer end of the path
 
     def test_results_for_programs(self):

@@ -74,7 +74,7 @@ class Live(recorder.Case):
                             env={**os.environ, "SHB": str(recorder.SHB), "SHB_SEGMENT": "5000"})
         said = ran.stderr.decode()
         self.assertNotEqual(ran.returncode, 66, said)
-        self.assertIn("0 unknown places with races, 2 known ones passed over", said)
+        self.assertIn("0 unknown places with races, 2 known ones skipped", said)
 
     def test_a_segment_with_known_places_alone_has_no_page(self):
         """The program makes one record three times, as three segments. With known places there is a second look at each."""

@@ -140,4 +140,4 @@ class Replays(recorder.Case):
         self.run_it("first", 5, self.program("prodcons.c"))
         status, said = self.record("--replay", self.folder / "first.turns", self.program())
         self.assertEqual(status in (125, 66), True)
-        self.assertRegex(said, r"first.turns is of `\S+/prodcons`, and no recorded process was that: nothing was replayed\n")
+        self.assertRegex(said, r"first.turns belongs to `\S+/prodcons`, and no recorded process was that: nothing was replayed\n")

@@ -94,7 +94,7 @@ class Counting:
         if trace.count() != events:
             raise Refused(CHANGED)
         if self.found != len(self.lines):
-            raise BadReport("the report is of another trace: it names events that aren't accesses to its variables")
+            raise BadReport("the report belongs to another trace: it names events that aren't accesses to its variables")
 
     def take_all(self, trace):
         groups, recent = {word + name + b")": group for name, group in self.groups.items() for word in (b"r(", b"w(")}, self.recent
@@ -122,7 +122,7 @@ class Counting:
         if number in self.lines:
             self.found += 1
             if self.lines[number] != line:
-                raise BadReport(f"the report is of another trace: it has another line for event {number}")
+                raise BadReport(f"the report belongs to another trace: it has another line for event {number}")
         if word == b"w":
             self.writes[variable] = number, thread, location
         elif variable in self.writes:

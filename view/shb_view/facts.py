@@ -139,7 +139,7 @@ def fact_of(sites, locks, whole, published=()):
     found = publication(published) or freed(racing, whole) or not_atomic(racing, whole) or of_locks or no_lock(racing, whole)
     if found.form != "published" or not of_locks or of_locks.form != "without":
         return found
-    also = {"form": of_locks.form, **of_locks.said}  # either of the two would mend it
+    also = {"form": of_locks.form, **of_locks.said}  # either of the two would fix it
     return found._replace(said={**found.said, "also": also}, sentences=[*found.sentences, *of_locks.sentences])
 
 
@@ -153,9 +153,9 @@ def publication(published):
     tag = [place(wrong.location), " reads " if wrong is load else " writes ", Code(published[0][0].name), f" without {order}", *both]
     said = [{"atomic": text(pair.store.name), "store": pair.store.said(), "load": pair.load.said(), "missing": pair.lacking(), "races": races}
             for pair, races in published]
-    mends = [[*verb, Code(published[0][0].name), f" with {order} at ", place(use.location)] for verb, order, use, has in (
+    fixes = [[*verb, Code(published[0][0].name), f" with {order} at ", place(use.location)] for verb, order, use, has in (
         (["write "], "release", store, store.gives()), (["read "], "acquire", load, load.takes())) if not has]
-    return Fact("published", {"by": said}, tag, [handed_words(pair) for pair, _ in published], [*listed(mends, len(mends)), "."], None,
+    return Fact("published", {"by": said}, tag, [handed_words(pair) for pair, _ in published], [*listed(fixes, len(fixes)), "."], None,
                 tuple(use for pair, _ in published for use in (pair.store, pair.load)))
 
 

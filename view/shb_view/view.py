@@ -203,7 +203,7 @@ def check_counts(report, counts):
     wrong = [f"{counted(has, name[:-1])}, not {count:,}" for has, name, count in zip(counts, counts._fields, report.counts)
              if has != count]
     if wrong:
-        raise BadReport(f"the report is of another trace: this one has {'; '.join(wrong)}")
+        raise BadReport(f"the report belongs to another trace: this one has {'; '.join(wrong)}")
 
 
 def read_report(given, counts, gathered, progress):

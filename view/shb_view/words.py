@@ -150,7 +150,7 @@ def about(section):
 
 def told_of(section):
     """What is said of a group's fact, each as parts: its sentences, and what would order the accesses."""
-    behind = [["Found behind known races, which were passed over: real if these are harmless."]] * section.is_behind
+    behind = [["Found behind known races, which were skipped: real if these are harmless."]] * section.is_behind
     unseen = [["Perhaps ordered: code of both sides calls, or is called by, ", *listed([[Code(module)] for module in section.unseen], MOST_SOME),
                ", whose locks and queues aren't seen."]] * bool(section.unseen)
     return [*behind, *unseen, *section.fact.sentences, *[["Remedy: ", *section.fact.remedy]] * bool(section.fact.remedy)]
