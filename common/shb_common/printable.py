@@ -6,10 +6,3 @@ def printable(text, most=None):
     found = text.decode("utf-8", "backslashreplace")
     found = "".join(sign if sign.isprintable() else sign.encode("unicode_escape").decode() for sign in found)
     return found if most is None or len(found) <= most else found[:most - 2] + ".."
-
-
-def in_html(text):
-    """A text in HTML, where no sign of it is markup."""
-    for sign, written in (("&", "&amp;"), ("<", "&lt;"), (">", "&gt;"), ('"', "&quot;"), ("'", "&#x27;")):
-        text = text.replace(sign, written)
-    return text

@@ -1,5 +1,6 @@
 """The tables of the results: places as tab-separated values, for programs, for code review, and as a file of known places."""
 
+import html
 import os
 import pathlib
 import re
@@ -8,7 +9,6 @@ import urllib.parse
 
 from shb_common import result, sarif
 from shb_common.places import unknown_places
-from shb_common.printable import in_html
 from shb_common.programs import pair_of
 from shb_common.stacks import Frame
 from shb_common.words import counted
@@ -74,10 +74,10 @@ def access_of(one, sources):
 def index(look, rows):
     """A page with a name that stays: each process with its page and its groups."""
     text = ["<!doctype html>", '<html lang="en"><meta charset="utf-8"><title>Data races</title>',
-            f"<h1>{in_html(shlex.join([look.options.program, *look.options.arguments]))}</h1>",
+            f"<h1>{html.escape(shlex.join([look.options.program, *look.options.arguments]))}</h1>",
             f"<p>{counted(count(row for row in rows if not row.is_known), 'unknown place')} with races</p>"]
     for (process, trace), found in look.found.items():
-        text.append(f'<h2><a href="{urllib.parse.quote(trace.with_suffix(".html").name)}">{in_html(process)}</a></h2><ul>')
+        text.append(f'<h2><a href="{urllib.parse.quote(trace.with_suffix(".html").name)}">{html.escape(process)}</a></h2><ul>')
         heads = dict.fromkeys(f"{place['variables'][0]['name']}: {place['headline']}" for place in found["places"] if place["variables"])
-        text += [f"<li>{in_html(head)}</li>" for head in heads] + ["</ul>"]
+        text += [f"<li>{html.escape(head)}</li>" for head in heads] + ["</ul>"]
     return "\n".join([*text, "</html>", ""]).encode(errors="backslashreplace")

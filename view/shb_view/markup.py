@@ -1,6 +1,7 @@
 """HTML, escaped by type: text becomes markup in one way alone."""
 
-from shb_common.printable import in_html
+import html
+
 from shb_view.names import short
 from shb_view.words import Code
 
@@ -12,7 +13,7 @@ class Markup(str):
 
 
 def escaped(part):
-    return part if isinstance(part, Markup) else Markup(in_html(str(part)))
+    return part if isinstance(part, Markup) else Markup(html.escape(str(part)))
 
 
 def joined(parts, between=""):
