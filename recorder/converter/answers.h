@@ -5,7 +5,7 @@
 #include <stdint.h>
 
 enum request_kind {
-    ASK_SYMBOL,                        /* of an address: where it begins, its size and SYMBOL_ flags; its name, or "" of what is between two */
+    ASK_SYMBOLS,                       /* of a page: of each symbol in it, in order, where it begins, its size and SYMBOL_ flags; its name */
     ASK_VARIABLE,                      /* of a name, as bytes with an end: a row where a variable's symbol has it */
     ASK_FRAMES,                        /* of each address: a row for each frame, the innermost first: the address's number of these, and the
                                           line, or 0; the function, and the path */
@@ -18,7 +18,7 @@ enum request_kind {
     ASK_BLOCK                          /* pc of the allocation's call, size, offset, length: a row where the type is certain: its name's length,
                                           or 0; "Account.balance" */
 };
-enum { MOST_NUMBERS = 4096, MOST_TEXT = 16384, MOST_INLINED = 64, MOST_SOURCES = 1 << 20, END_ROW = 0x7fffffff };
-enum { SYMBOL_IS_FUNCTION = 1, SYMBOL_IS_TWICE = 2, SYMBOL_FLAGS = 2 };      /* flags, and how many bits of the second number they have */
+enum { MOST_NUMBERS = 4096, MOST_TEXT = 16384, MOST_INLINED = 64, MOST_SOURCES = 1 << 20, SYMBOL_PAGE = 4096, END_ROW = 0x7fffffff };
+enum { SYMBOL_IS_TWICE = 1, SYMBOL_FLAGS = 1 };            /* a flag, and how many bits of the second number they have */
 typedef struct { uint64_t kind, count; } request;
 typedef struct { uint64_t one, two; uint32_t first, second; } row;

@@ -6,13 +6,15 @@
 #include "readers.h"
 
 enum { MAX_MODULES = 512 };
-typedef struct { u64 at, size; char *name; int is_twice, is_function; } symbol;
+typedef struct { u64 at, size; char *name; int is_twice; } symbol;
+typedef struct { symbol *list; u64 count, capacity; } page_symbols;
 typedef struct {
     u64 low, high, base;
     char *path;
     struct reader *reader;             /* null until it is asked */
-    symbol **symbols;                  /* those that were asked for, sorted; what is between two has one without a name */
-    u64 count, capacity;
+    page_symbols *pages;               /* of its file, those of which symbols were asked for */
+    u64 page_count, page_capacity;
+    map page_map;
     map members;                       /* of an address and a length in a variable: which text it has */
     char **texts;
     u64 text_count, text_capacity;
@@ -66,38 +68,41 @@ void read_modules(char *header) {
 }
 
 /* ---- symbols ---- */
-/* `between`: all between the symbols before and behind it that are known. No answer overlaps these; without one nothing more is known there. */
-static symbol found_symbol(module *m, u64 address, symbol between) {
-    const u64 at = address - m->base, before = address - between.at;
+/* Those of a page, which are asked for together: in order, none over another. */
+static void ask_symbols(module *m, u64 page, page_symbols *to) {
+    const u64 last = page + (SYMBOL_PAGE - 1);
+    u64 behind = 0;
     answer a;
-    if (!ask_one(reader_of(m), ASK_SYMBOL, &at, 1, &a)) return between;
-    u64 size = a.two >> SYMBOL_FLAGS, within = at - a.one;
-    if (within >= size || within > before || size - within > between.size - before) {
-        refuse_answer(m->reader);
-        return between;
+    ask(reader_of(m), ASK_SYMBOLS, &page, 1);
+    while (next_answer(m->reader, &a)) {
+        u64 size = a.two >> SYMBOL_FLAGS;
+        if (a.one < behind || a.one > last || (a.one < page ? size <= page - a.one : !size)) {
+            refuse_answer(m->reader);
+            return;
+        }
+        behind = last - a.one < size ? last + 1 : a.one + size;
+        GROW(to->list, to->count, to->capacity);
+        to->list[to->count++] = (symbol){a.one + m->base, size, cleaned(copy(a.first)), a.two & SYMBOL_IS_TWICE};
     }
-    return (symbol){.at = a.one + m->base, .size = size, .name = *a.first ? cleaned(copy(a.first)) : 0,
-                    .is_twice = (a.two & SYMBOL_IS_TWICE) != 0, .is_function = a.two & SYMBOL_IS_FUNCTION};
 }
 
 static symbol *symbol_at(module *m, u64 address) {
-    u64 low = 0, end = m->count;
+    const u64 page = (address - m->base) & -(u64)SYMBOL_PAGE;
+    u32 number = map_number(&m->page_map, page, 0);
+    if (number > m->page_count) {
+        GROW(m->pages, m->page_count, m->page_capacity);
+        m->pages[m->page_count] = (page_symbols){0};
+        ask_symbols(m, page, &m->pages[m->page_count++]);
+    }
+    const page_symbols *p = &m->pages[number - 1];
+    u64 low = 0, end = p->count;
     while (low < end) {                /* how many begin at it or before */
         u64 middle = low + (end - low) / 2;
-        if (m->symbols[middle]->at <= address) low = middle + 1;
+        if (p->list[middle].at - m->base <= address - m->base) low = middle + 1;
         else end = middle;
     }
-    symbol *s = low ? m->symbols[low - 1] : 0;
-    if (!s || address - s->at >= s->size) {
-        symbol between = {.at = s ? s->at + s->size : 0};
-        between.size = (low < m->count ? m->symbols[low]->at : ~0ull) - between.at;
-        s = zeroed(1, sizeof *s);
-        *s = found_symbol(m, address, between);
-        GROW(m->symbols, m->count, m->capacity);
-        memmove(&m->symbols[low + 1], &m->symbols[low], (m->count++ - low) * sizeof *m->symbols);
-        m->symbols[low] = s;
-    }
-    return s->name ? s : 0;
+    symbol *s = low ? &p->list[low - 1] : 0;
+    return s && address - s->at < s->size && *s->name ? s : 0;
 }
 
 /* A module's name. */

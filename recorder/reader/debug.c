@@ -334,8 +334,8 @@ static int frames_by_lines(struct debug *d, u64 pc, debug_frame *frames, int mos
 /* The outermost function has the name that it is linked by. */
 int frames_at(struct debug *d, u64 pc, debug_frame *frames, int most) {
     int count = frames_by_lines(d, pc, frames, most);
-    const symbol *s = symbol_at(d, pc);
-    if (!s || (count && !s->is_function)) return count;
+    const symbol *s = symbol_from(d, pc);
+    if (!s || s->at > pc || (count && !s->is_function)) return count;
     if (!count) frames[count++] = (debug_frame){0};
     free(frames[count - 1].function);
     frames[count - 1].function = s->is_function ? demangled(s->linked) : 0;

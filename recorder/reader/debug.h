@@ -6,7 +6,6 @@
 #include "../converter/answers.h"
 
 enum { MOST_STEPS = 64, MOST_DIMENSIONS = 8 };
-#define MOST_ADDRESS (~0ull >> SYMBOL_FLAGS)
 
 typedef struct { u64 at, size; const char *linked; char *name; int is_twice, is_function; } symbol;      /* name: null until it is asked for */
 
@@ -41,8 +40,7 @@ struct debug {
 
 /* symbols.c */
 char *demangled(const char *name);     /* a copy, also of a name that isn't mangled */
-const symbol *symbol_at(struct debug *d, u64 address);       /* with its name; null where there is none */
-symbol between_symbols(struct debug *d, u64 address);        /* what is there then, without a name */
+const symbol *symbol_from(struct debug *d, u64 address);     /* that is there, or the first one behind it, with its name; null where there is none */
 int is_variable(struct debug *d, const char *name);          /* has one this name? */
 
 /* debug.c */

@@ -63,9 +63,13 @@ static void answer(u64 one, u64 two, const char *first, const char *second) {
     fwrite(second, 1, r.second, stdout);
 }
 
-static void answer_symbol(struct debug *d, u64 address) {
-    const symbol *found = symbol_at(d, address), s = found ? *found : between_symbols(d, address);
-    answer(s.at, s.size << SYMBOL_FLAGS | (s.is_function ? SYMBOL_IS_FUNCTION : 0) | (s.is_twice ? SYMBOL_IS_TWICE : 0), found ? s.name : "", "");
+static void answer_symbols(struct debug *d, u64 page) {
+    const u64 last = page + (SYMBOL_PAGE - 1);
+    const symbol *s;
+    for (u64 at = page; (s = symbol_from(d, at)) && s->at <= last; at = s->at + s->size) {
+        answer(s->at, s->size << SYMBOL_FLAGS | (s->is_twice ? SYMBOL_IS_TWICE : 0), s->name, "");
+        if (s->size > last - s->at) return;
+    }
 }
 
 static void answer_frames(struct debug *d, const u64 *addresses, u64 count) {
@@ -96,7 +100,7 @@ static void answer_request(struct debug *d, const request *r, const u64 *numbers
     size_t length;
     place_in_block block;
     switch ((enum request_kind)r->kind) {
-    case ASK_SYMBOL: answer_symbol(d, numbers[0]); break;
+    case ASK_SYMBOLS: answer_symbols(d, numbers[0]); break;
     case ASK_VARIABLE: if (is_variable(d, (const char *)numbers)) answer(0, 0, "", ""); break;
     case ASK_FRAMES: answer_frames(d, numbers, r->count); break;
     case ASK_SOURCES: each_source(d, give_source); break;

@@ -65,20 +65,16 @@ static void mark_doubles(struct debug *d) {
     free(sorted);
 }
 
-const symbol *symbol_at(struct debug *d, u64 address) {
+const symbol *symbol_from(struct debug *d, u64 address) {
     read_symbols(d);
     u64 k = count_up_to(d->symbols, d->symbol_count, sizeof *d->symbols, address);
-    symbol *s = k ? &d->symbols[k - 1] : 0;
-    if (!s || address - s->at >= s->size) return 0;
+    if (k && address - d->symbols[k - 1].at < d->symbols[k - 1].size) k--;
+    else while (k + 1 < d->symbol_count && d->symbols[k + 1].at == d->symbols[k].at) k++;
+    if (k == d->symbol_count) return 0;
+    symbol *s = &d->symbols[k];
     name_of(s);
     if (!s->is_function) mark_doubles(d);
     return s;
-}
-
-symbol between_symbols(struct debug *d, u64 address) {
-    u64 k = count_up_to(d->symbols, d->symbol_count, sizeof *d->symbols, address);
-    u64 from = k ? d->symbols[k - 1].at + d->symbols[k - 1].size : 0, end = k < d->symbol_count ? d->symbols[k].at : MOST_ADDRESS;
-    return (symbol){.at = from, .size = end - from};
 }
 
 int is_variable(struct debug *d, const char *name) {

@@ -73,7 +73,7 @@ static int read_module(void) {
     struct debug *d = open_debug(input);
     why_unread(d);
     is_variable(d, "one");
-    for (u64 k = 0; k < d->symbol_count && k < 16 * MOST; k++) symbol_at(d, d->symbols[k].at);
+    for (u64 k = 0; k < d->symbol_count && k < 16 * MOST; k++) symbol_from(d, d->symbols[k].at);
     each_source(d, take_text);
     add_member(d, 1, 0, 4, name, sizeof name);               /* of none: all are read */
     for (u64 k = 0; k < d->by_address.capacity && k < 16 * MOST; k++)

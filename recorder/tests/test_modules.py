@@ -10,7 +10,7 @@ import sys
 import zlib
 
 import recorder
-from test_record import ENTRIES, HEADER
+from test_record import ENTRIES, HEADER, entry
 
 SOURCE = """#include <pthread.h>
 struct pair { int a, b; } st;
@@ -251,7 +251,7 @@ def read(count):
 def give(data):
     while data:
         data = data[os.write(1, data):]
-SYMBOL, VARIABLE, FRAMES, SOURCES = range(4)
+SYMBOLS, VARIABLE, FRAMES, SOURCES = range(4)
 END = struct.pack("<QQII", 0, 0, 0x7fffffff, 0)
 while True:
     kind, count = struct.unpack("<QQ", read(16))
@@ -267,12 +267,25 @@ while True:
                 "while kind == FRAMES: give(row(0, 1, b'f', b'/a/b.c') * 10000)",
                 "while kind == FRAMES: give((row(0, 1, b'f', b'/a/b.c') + row(1, 1, b'f', b'/a/b.c')) * 10000)",
                 "if kind == FRAMES: give(row(count, 1, b'f', b'/a/b.c'))",
-                "if kind == SYMBOL: give(row(numbers[0] - 8, 8 << 2, b'name'))",
-                "if kind == SYMBOL: give(row(numbers[0], 8 << 2, b'name') * 2)")):
+                "if kind == SYMBOLS: give(row(numbers[0] - 8, 8 << 1, b'name'))",
+                "if kind == SYMBOLS: give(row(numbers[0], 8 << 1, b'name') * 2)")):
             (self.folder / "answers.py").write_text(self.ANSWERS.format(script=script))
             answer = self.convert(f'exec python3 "{self.folder}/answers.py"')
             self.assertEqual(len(recorder.places(answer.stdout)), 1, number)
             self.assertIn(f"shb-std: {self.program}: names and places may be addresses, for its reader gave a wrong answer", self.said(answer), number)
+
+    def test_the_symbols_of_a_page_are_asked_for_together(self):
+        """However many of them the record has, and in whatever order; one that goes on in the next page is there too."""
+        log, modules, base = self.folder / "log", f"10000 ffffff 8000 {self.program}\n".encode(), 0x8000
+        (self.folder / "answers.py").write_text(self.ANSWERS.format(script=(
+            f"if kind == SYMBOLS: open({str(log)!r}, 'a').write(f'{{numbers[0]:x}}\\n');"
+            "give(b''.join(row(at, 8 << 1, b'v%x' % at) for at in range(numbers[0] - 4, numbers[0] + 0x1000, 8)))")))
+        addresses = range(0x22ff8, 0x20ff8, -8)
+        writes = b"".join(entry(thread, "WRITE", at, 0x101, 4) for thread in (0, 1) for at in addresses)
+        self.path.write_bytes((HEADER.rstrip(b"whole\0") + modules).ljust(65536 - 256, b"\0") + HEADER[-256:] + entry(0, "FORK", 1, 0x100) + writes)
+        trace = self.convert(f'exec python3 "{self.folder}/answers.py"').stdout
+        self.assertEqual(re.findall(rb"(?m)^main\|w\((.*)\)\|", trace), [b"v%x+4" % (at - base - 4) for at in addresses])
+        self.assertEqual(sorted(log.read_text().split()), ["19000", "1a000"])
 
     def test_a_source_file_comes_once(self):
         """Also a header of several files."""
