@@ -83,6 +83,7 @@ class Conversion:
         strip = ["--strip", options.strip] if options.strip else []
         self.left = process.record.with_suffix(".left")  # a segment's blocks at its end
         blocks = ["--blocks", process.blocks] if process.blocks else []
+        self.window = options.window
         self.scan_words = [CONVERTER, "--scan", *strip, *blocks, process.record]
         self.page_words = [*strip, *blocks, "-n", str(options.window), process.record]
         self.words = [CONVERTER, "--scan", "--only", "/dev/stdin", "--page", self.trace, "--uses", self.uses, "--stacks", self.stacks,
@@ -123,14 +124,17 @@ class Conversion:
         except BadUses as fault:
             raise Contradiction(f"{self.process.name}: the file of uses {fault}") from None
         races = [race for place in places for race in place.variables.values()]
+        asked = {event for race in races for event in race.events}
+        has_all = uses.count < self.window and max(asked) - min(asked) <= self.window  # else some may have given way
+        lost = len(asked - uses.events.keys()) if has_all else 0
         wanted = {uses.events[event]: access for race in races for event, access in zip(race.events, race.accesses) if event in uses.events}
         with open(self.trace, "rb") as trace:
             for number, line in enumerate(trace, 1):
                 access = wanted.pop(number, None)
                 if access and line != b"%b|%b(%b)|%b\n" % access:
                     raise Contradiction(f"{self.process.name}: event {number:,} of the page's trace isn't that of `shb scan`")
-        if wanted:
-            raise Contradiction(f"{self.process.name}: the page's trace lacks {counted(len(wanted), 'event')} of `shb scan`")
+        if wanted or lost:
+            raise Contradiction(f"{self.process.name}: the page's trace lacks {counted(len(wanted) + lost, 'event')} of `shb scan`")
         self.numbers, self.has_page = {race.events: pair for race in races for pair in [uses.pair(*race.events)] if pair}, True
 
     def write_page(self, places):

@@ -10,6 +10,7 @@ import subprocess
 import time
 
 import recorder
+from test_open import planted
 
 PLACE = ("status.c:9", "status.c:9")
 UNKNOWN = "# status.c:9\tstatus.c:9\nstatus.c:work()\tstatus.c:work()\tshared\n"
@@ -702,18 +703,25 @@ int main(int count, char **words) {
             status, _, said = self.record(self.program(), "0", "race", SHB=str(fake))
             self.assertEqual((status, "`shb scan` wrote no whole report: line " in said), (125, True), said)
 
-    def with_converter(self, script):
-        """The command with this script of a shell in place of the converter."""
+    def command_alone(self):
+        """A command without its converter, which is to be put beside it."""
         home = self.folder / "recorder"
         home.mkdir()
-        shutil.copy(recorder.BUILT / "shb-record", home)
+        for name in "shb-record", "module-reader":
+            shutil.copy(recorder.BUILT / name, home)
         shutil.copytree(recorder.BUILT / "shb_record", home / "shb_record")
         (home / "lib").symlink_to(recorder.BUILT / "lib")
         for name in ("view", "common"):
             (self.folder / name).symlink_to(recorder.SOURCES.parent / name)
-        (home / "shb-std").write_text(f"#!/bin/sh\n{script}\n")
-        (home / "shb-std").chmod(0o755)
         return home / "shb-record"
+
+    def with_converter(self, script):
+        """A command with this script of a shell in place of its converter."""
+        command = self.command_alone()
+        converter = command.with_name("shb-std")
+        converter.write_text(f"#!/bin/sh\n{script}\n")
+        converter.chmod(0o755)
+        return command
 
     def test_a_converter_that_is_killed(self):
         """It has written a row, and nobody reads the answer."""
@@ -737,6 +745,13 @@ int main(int count, char **words) {
                 shutil.rmtree(self.folder / "recorder")
                 for name in ("view", "common"):
                     (self.folder / name).unlink()
+
+    def test_a_converter_that_loses_an_event(self):
+        """The file of uses lacks the second access of the race."""
+        command = self.command_alone()
+        shutil.copy(planted(self.folder / "planted", "page.c", "wanted[wanted_at] == number)", "wanted[wanted_at] == number && !wanted_at)"), command.parent)
+        status, _, said = self.record(self.program(), "0", "race", command=command)
+        self.assertEqual((status, "the page's trace lacks 1 event of `shb scan`" in said), (125, True), said)
 
     def test_what_earlier_runs_recorded_is_shown(self):
         """The third run leaves no record, for it can't begin one."""
