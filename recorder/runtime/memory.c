@@ -14,15 +14,21 @@ void *__libc_memalign(size_t, size_t);
 void __libc_free(void *);
 
 /* ---- a new block is new variables; a free is a write. A thread may have slept in the call before; one that code without hooks calls
-   may have a lock that nobody sees, so there the turn isn't given up ---- */
-void *allocated(void *p, size_t size, uint64_t caller) {
-    if (self && self->new_caller) caller = self->new_caller;
-    thread *t = p ? enter(instrumented(caller) ? MAY_YIELD : YIELDS_BY_LIST) : 0;
+   may have a lock that nobody sees, so there the turn isn't given up. by: whose call it is ---- */
+static void *note_block(void *p, size_t size, uint64_t caller, uint64_t by) {
+    thread *t = p ? enter(instrumented(by) ? MAY_YIELD : YIELDS_BY_LIST) : 0;
     if (!t) return p;
     put(t, OP_ALLOC, p, size ? size : 1, caller);
     leave(t);
     return p;
 }
+
+static uint64_t origin(uint64_t caller) { return self && self->new_caller ? self->new_caller : caller; }
+
+void *allocated(void *p, size_t size, uint64_t caller) { return note_block(p, size, origin(caller), origin(caller)); }
+
+/* An allocator of the program's own, below a `new`, may have a lock when it asks for memory. */
+static void *mapped(void *p, size_t size, uint64_t caller) { return note_block(p, size, origin(caller), caller); }
 
 /* What uninstrumented code frees, it may have ordered by means that nobody sees. */
 static void will_free(void *p, uint64_t caller) {
@@ -59,7 +65,7 @@ PUBLIC int posix_memalign(void **result, size_t a, size_t n) {
 
 PUBLIC void *mmap(void *at, size_t n, int protection, int flags, int f, off_t offset) {
     void *p = (void *)syscall(SYS_mmap, at, n, protection, flags, f, offset);
-    return p == MAP_FAILED || protection == PROT_NONE ? p : allocated(p, n, CALLER);
+    return p == MAP_FAILED || protection == PROT_NONE ? p : mapped(p, n, CALLER);
 }
 PUBLIC void *mmap64(void *, size_t, int, int, int, off_t) __attribute__((alias("mmap")));
 
@@ -69,7 +75,7 @@ PUBLIC void *mremap(void *old, size_t old_size, size_t size, int flags, ...) {
     char *p = (char *)syscall(SYS_mremap, old, old_size, size, flags, flags & MREMAP_FIXED ? va_arg(more, void *) : 0);
     va_end(more);
     size_t kept = p == old ? old_size : 0;
-    if (p != MAP_FAILED && size > kept) allocated(p + kept, size - kept, CALLER);
+    if (p != MAP_FAILED && size > kept) mapped(p + kept, size - kept, CALLER);
     return p;
 }
 
