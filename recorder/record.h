@@ -73,8 +73,7 @@ enum operation {
                                           below the stack pointer of the function further out (of the outermost one: below the
                                           end of the thread's stack) its return address ends; above these: how many bytes below
                                           that its own stack pointer is. Where there is none it isn't known */
-    OP_CONTEXT,                        /* the thread is in the context of this number (the address); with the size 1, for the record
-                                          behind it alone, as the converter has it before an access that is late */
+    OP_CONTEXT,                        /* the thread is in the context of this number (the address) */
     OP_NAME,                           /* a piece of the name that the program gives the thread: the size is 0 in its first one,
                                           and NAME_PIECE in another right behind it, where there is more */
     OP_CRASH,                          /* the last record of a thread that a signal ends with the program: the size is its number, and

@@ -31,7 +31,7 @@ static void use_block(block *b, u32 t, int with_others) {
 
 static int means_more(u64 i) {
     enum operation operation = operation_of(i);
-    return operation > OP_WRITE && operation != OP_FREE && operation != OP_USE && operation != OP_DESTROY;
+    return late_context(i) || (operation > OP_WRITE && operation != OP_FREE && operation != OP_USE && operation != OP_DESTROY);
 }
 
 void find_users(u64 i) {

@@ -18,6 +18,7 @@ typedef struct { const char *at; u64 length; } part;         /* of a text, witho
 #endif
 
 /* records.c: the record. */
+extern u64 entry_count;                /* of the file */
 extern u64 record_count;               /* the passes may make it less */
 extern const char *recording_cut;      /* why the record is not that of the whole run; or null */
 void open_record(const char *path);    /* dies where it is damaged, or a copy that was cut or changed */
@@ -30,6 +31,7 @@ void next_records(void);
 void forget_before(u64 i);             /* the entries of the file */
 enum operation operation_of(u64 i);
 u64 address_of(u64 i), caller_of(u64 i), size_of(u64 i);
+u64 late_context(u64 i);               /* of an access that is late: in which context it was made, plus one; else 0 */
 void name_piece(u64 i, char *piece);   /* of a record OP_NAME: NAME_PIECE bytes and an end */
 u64 depth_inside(u64 i);               /* DEPTH_BEFORE where it is told by records before */
 void begin_thread_pass(void);
@@ -52,7 +54,8 @@ static inline int is_of_two(struct record r) { return is_late(r) || r.what >> 54
 int is_good_late(u64 position, struct record access, u64 i); /* of an entry OP_LATE, and the one behind it */
 void count_late(u64 position, u64 most_entries);             /* of each entry OP_LATE, before these are found */
 u64 find_late(const struct record *of_record, u64 record_entries);       /* gives how many entries there are with these in place */
-u64 merge(struct record *to, u64 room, u64 *at);             /* of the entries from `at` on, which is set to those behind: so many, or one more; 0: they are damaged */
+/* Of the entries from `at` on, which is set to those behind: so many, or one more; 0: they are damaged. With their late_context. */
+u64 merge(struct record *to, u64 *contexts, u64 room, u64 *at);
 
 /* sources.c: the source files of modules, and how they are named. */
 extern int whole_paths;

@@ -38,7 +38,7 @@ static void meet_name(u64 i) {
 static void find_sharing(u64 i) {
     if (operation_of(i) == OP_NAME) meet_name(i);
     if (operation_of(i) == OP_START) name_thread(thread_of(i), caller_of(i));
-    if (operation_of(i) == OP_FRAME || operation_of(i) == OP_CONTEXT) name_by_own(thread_of(i), i);
+    if (operation_of(i) == OP_FRAME || operation_of(i) == OP_CONTEXT || late_context(i)) name_by_own(thread_of(i), i);
     share_pieces(i);
     if (operation_of(i) == OP_FENCE) share_fence(i);
     if (is_for_object(operation_of(i))) share_object(i);
@@ -94,6 +94,10 @@ static inline __attribute__((always_inline)) void pass(void (*step)(u64), int is
     for (u64 i = 0; i < record_count && !cut_reason; i++) {
         if (i == records_end) next_records();
         if (!is_first && !known[i]) continue;
+        if (step == find_cuts) {       /* it needs no more */
+            find_cuts(i);
+            continue;
+        }
         enum operation operation = operation_of(i);
         if (operation == OP_SIZE) continue;
         if (operation == OP_FORK && !meet_fork(i)) {
@@ -245,7 +249,7 @@ int main(int count, char **words) {
         events_of_run = events;
     }
     if (left_path) write_blocks(left_path);
-    fprintf(stderr, "shb-std: %lu records, %u threads, %lu events\n", record_count - carried_count, threads_of_record, events_of_run);
+    fprintf(stderr, "shb-std: %lu records, %u threads, %lu events\n", entry_count, threads_of_record, events_of_run);
     say_crash();
     if (!cut) cut = shortened;
     if (recording_cut) fprintf(stderr, "shb-std: the recording is not the whole run: %s\n", recording_cut);

@@ -15,16 +15,20 @@ u64 record_count;
 
 /* ---- the records at hand ---- */
 static const struct record *entries, *carried;               /* of the file; of the segment before */
-static u64 entry_count, entry_at;      /* those before are passed */
-static struct record *merged;          /* where some are late: those at hand */
+u64 entry_count;
+static u64 entry_at;                   /* those before are passed */
+static struct record *merged;          /* where some are late: those at hand, with the contexts of these, plus one; of others 0 */
+static u64 *late_contexts;
 enum { AT_ONCE = 1 << 16 };            /* or one more */
 static uintptr_t at_hand;              /* where record 0 would stand, if all before them were */
+static const u64 *contexts_at_hand;    /* the same; or null */
 u64 records_end, carried_count;
 
 static inline const struct record *record_at(u64 i) { return (const struct record *)(at_hand + i * sizeof(struct record)); }
 
 static void have_at_hand(const struct record *from, u64 count) {
     at_hand = (uintptr_t)from - records_end * sizeof *from;
+    contexts_at_hand = from == merged ? late_contexts - records_end : 0;
     records_end += count;
 }
 
@@ -46,7 +50,7 @@ void next_records(void) {
     forget_before(entry_at);
     if (records_end < carried_count) have_at_hand(carried, carried_count);
     else if (merged) {
-        if (!(count = merge(merged, AT_ONCE, &entry_at))) die("record of %s is damaged: an access that is late has no place", record_path);
+        if (!(count = merge(merged, late_contexts, AT_ONCE, &entry_at))) die("record of %s is damaged: an access that is late has no place", record_path);
         have_at_hand(merged, count);
     } else {
         have_at_hand(&entries[entry_at], count);
@@ -57,6 +61,7 @@ void next_records(void) {
 enum operation operation_of(u64 i) { return operation_in(*record_at(i)); }
 u64 address_of(u64 i) { return record_at(i)->where & LOW_48_BITS; }
 u64 caller_of(u64 i) { return record_at(i)->what & LOW_48_BITS; }
+u64 late_context(u64 i) { return contexts_at_hand ? contexts_at_hand[i] : 0; }
 
 /* ---- threads: a number that was joined is used again by the next one that is forked with it ---- */
 static u32 thread_count;               /* of those met in this pass */
@@ -121,7 +126,7 @@ static int is_good(const struct record *r) {
     if (is_access(r) && size_in(r) > 16 && !(r->what >> 54 & IS_RANGE)) return 0;
     if (size_follows(r) && (operation_in(r[1]) != OP_SIZE || size_follows(r + 1) || size_in(r) >= MAX_SIZE)) return 0;
     if (operation == OP_FRAME) return size_in(r) < MOST_FRAMES;
-    if (operation == OP_CONTEXT) return size_in(r) <= 1;
+    if (operation == OP_CONTEXT) return !size_in(r);
     if (operation == OP_NAME) return size_in(r) == 0 || size_in(r) == NAME_PIECE;
     return (operation != OP_FORK && operation != OP_JOIN) || (r->where & LOW_48_BITS) < THREAD_NUMBERS;
 }
@@ -155,7 +160,9 @@ static void check_entries(u64 most) {
     if (has_sum && entry_count < whole_count) die("%s was cut: %lu of its %lu records are there", record_path, entry_count, whole_count);
     if (has_sum && (entry_count > whole_count || sum != whole_sum)) die("%s was changed after it was recorded", record_path);
     record_count = has_late ? find_late(entries, entry_count) : entry_count;
-    if (has_late) merged = zeroed(AT_ONCE + 1, sizeof *merged);
+    if (!has_late) return;
+    merged = zeroed(AT_ONCE + 1, sizeof *merged);
+    late_contexts = zeroed(AT_ONCE + 1, sizeof *late_contexts);
 }
 
 static char *map_file(const char *path, u64 *size) {

@@ -70,8 +70,6 @@ static FILE *file;
 static const char *path;
 static calls_of_thread stacks[THREADS];
 static u64 told_way, has_way;          /* of which record; the passes pass over some */
-static u64 has_context;                /* the same of a context that is told for one alone */
-static u32 told_context;
 static context *contexts;
 static u64 context_count, context_capacity;
 static node *nodes;                    /* from 1 */
@@ -183,7 +181,8 @@ static u32 context_of_frame(u64 i) {
 /* That a record tells. */
 static u32 context_of(u64 i) {
     if (operation_of(i) == OP_FRAME) return context_of_frame(i);
-    return address_of(i) < context_count ? address_of(i) : 0;
+    u64 number = late_context(i) ? late_context(i) - 1 : address_of(i);
+    return number < context_count ? number : 0;
 }
 
 /* The outermost of its functions that is the program's own. */
@@ -231,7 +230,7 @@ static void enter(calls_of_thread *s, u32 number) {
 }
 
 void note_call(u64 i) {
-    if (operation_of(i) == OP_CONTEXT && !size_of(i)) stacks[thread_of(i)].told = context_of(i);
+    if (operation_of(i) == OP_CONTEXT) stacks[thread_of(i)].told = context_of(i);
     if (operation_of(i) == OP_CONTEXT || operation_of(i) == OP_PLACE) return;
     note_caller(caller_of(i));
     if (operation_of(i) != OP_FRAME) return;
@@ -244,7 +243,7 @@ void meet_call(u64 i) {
     calls_of_thread *s = &stacks[thread_of(i)];
     enum operation operation = operation_of(i);
     if (operation == OP_NAME) return;
-    s->way = has_way == i ? told_way : 0;
+    s->way = has_way == i && !late_context(i) ? told_way : 0;
     if (operation == OP_WAY) {
         told_way = caller_of(i);
         has_way = i + 1;
@@ -253,16 +252,13 @@ void meet_call(u64 i) {
     if (operation == OP_FRAME) meet_frame(s, i);
     if (operation != OP_WAY) has_place = operation == OP_PLACE;
     if (operation == OP_START) s->end = address_of(i) + size_of(i);
-    int is_once = operation == OP_CONTEXT && size_of(i);
-    if (is_once) {
-        told_context = context_of(i);
-        has_context = i + 1;
-    } else if (operation == OP_CONTEXT) s->told = context_of(i);
-    if (context_count) enter(s, has_context == i ? told_context : s->told);
+    if (operation == OP_CONTEXT) s->told = context_of(i);
+    if (context_count) enter(s, s->told);
+    if (context_count && late_context(i)) enter(s, context_of(i));
     s->caller = operation < OP_FRAME || operation > OP_CONTEXT ? caller_of(i) : 0;
     u64 inside = depth_inside(i);
     s->depth = inside != DEPTH_BEFORE && inside < s->length ? inside : s->length;
-    if (operation < OP_FRAME || (operation == OP_CONTEXT && !is_once)) leave_functions(s);
+    if (operation < OP_FRAME || operation == OP_CONTEXT) leave_functions(s);
 }
 
 /* A way is one only if it lies in the function that was entered last. */
@@ -323,7 +319,7 @@ void forget_calls(void) {
         calls_of_thread *s = &stacks[t];
         s->count = s->known = s->owned = s->told = s->in = s->length = s->depth = s->last = 0;
     }
-    has_way = has_place = has_context = 0;
+    has_way = has_place = 0;
 }
 
 /* ---- locals ---- */

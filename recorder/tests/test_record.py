@@ -305,7 +305,7 @@ def random_bytes(draw, count):
 
 
 FRAMES = b"".join([entry(0, "FRAME", 0x500, 0x100, 0), entry(0, "FRAME", 0x501, 0x101, 1), entry(1, "WAY", 0, 0x502),
-                   entry(1, "FRAME", 0x503, 0x102, 0), entry(0, "CONTEXT", 1, 0), entry(0, "CONTEXT", 2000, 0, 1),
+                   entry(1, "FRAME", 0x503, 0x102, 0), entry(0, "CONTEXT", 1, 0), entry(0, "CONTEXT", 2000, 0),
                    names(1, b"fifteen bytes.."), names(0, b"main"), entry(1, "NAME", 0x61, 0x62, 12), entry(5, "NAME", 0x61, 0x62, 12),
                    entry(6, "FRAME", 0x503, 0x102, 0), entry(6, "NAME", 0x61, 0x62, 12)])
 
