@@ -75,8 +75,8 @@ void read_modules(char *header);
 void note_caller(u64 caller);
 void find_places(void);                /* of all callers that were noted */
 part place_of(u64 caller);
-enum { WIDE = 32 };                    /* bytes behind some texts that may be read: they are copied in pieces of so many */
-part line_end_of(u64 caller);          /* ")|" and its place, with WIDE bytes behind it */
+enum { WIDE = 32 };                    /* bytes from the begin of some texts that may be read: they are copied in pieces of so many */
+part line_end_of(u64 caller);          /* ")|" and its place, with WIDE bytes that may be read */
 int is_own_place(u64 caller);          /* not in a header or a library of the system */
 int is_of_system(u64 caller);          /* is it in a module of the system's, other than the recorder? */
 int is_of_recorder(u64 caller);
@@ -166,14 +166,14 @@ const char *local_now(u64 at, const block *b);
 
 /* state.c: what a trace can go on with, and which locks are held in it. */
 enum event_kind { IS_ACCESS, IS_ACQUIRE, IS_RELEASE, IS_FORK, IS_JOIN, IS_MARK };
-typedef void (*held_lock)(part thread, part lock, part place, u32 stack);
+typedef void (*held_lock)(part thread, part lock, part line_end, u32 stack);
 u32 trace_lock(part name);             /* its number, from 1 */
-part lock_name(u32 number);            /* it stands for good, with WIDE bytes behind it */
+part lock_name(u32 number);            /* the same; it stands for good */
 extern u32 thread_limit;               /* of the trace */
 u32 trace_threads(void);                /* so many were met, in any trace */
 u32 trace_thread(const char *name, u64 length);              /* its number, from 1 */
-/* 0 where the trace can't go on with it; other: the lock that it takes or releases, or the thread that it forks or joins; place: it stands for good. */
-int trace_event(u64 length, enum event_kind kind, u32 thread, u32 other, part place, u32 stack);
+/* 0 where the trace can't go on with it; other: the lock that it takes or releases, or the thread that it forks or joins; line_end: it stands for good. */
+int trace_event(u64 length, enum event_kind kind, u32 thread, u32 other, part line_end, u32 stack);
 int trace_access(u64 length, u32 thread);                    /* the same of an access, in a thread that is in the trace already */
 void each_held(held_lock give);        /* each acquire that isn't released, the oldest first */
 void forget_trace(void);

@@ -150,7 +150,7 @@ static part symbol_of(u64 address) {
     if (count == MOST_KEPT) return found;
     map_number(&met, address, 0);
     GROW(kept, count, capacity);
-    return kept[count++] = (part){memcpy(zeroed(found.length + 1, 1), name, found.length), found.length};
+    return kept[count++] = (part){memcpy(zeroed(found.length + WIDE, 1), name, found.length), found.length};
 }
 
 part variable_name(u64 address, const block *b) {
@@ -187,14 +187,20 @@ void write_lines(void) {
     lines_bytes = 0;
 }
 
-static char *add_line(char *to, part thread, const char *operation, part name, part place) {
-    to = add(to, thread);
+/* Texts with WIDE bytes that may be read are copied in pieces. */
+static inline char *add_wide(char *to, part text) {
+    memcpy(to, text.at, WIDE);
+    if (text.length > WIDE) memcpy(to + WIDE, text.at + WIDE, text.length - WIDE);
+    return to + text.length;
+}
+
+static inline char *add_line(char *to, part thread, const char *operation, part name, part line_end) {
+    to = add_wide(to, thread);
     *to++ = '|';
     to = add_text(to, operation);
     *to++ = '(';
-    to = add(to, name);
-    to = add_text(to, ")|");
-    to = add(to, place);
+    to = add_wide(to, name);
+    to = add_wide(to, line_end);
     *to++ = '\n';
     return to;
 }
@@ -224,12 +230,12 @@ static void keep_line(const char *end, u32 stack) {
 }
 
 /* ---- the trace of a page ---- */
-static void acquire_again(part thread, part lock, part place, u32 stack) {
-    keep_line(add_line(room_for_line(), thread, "acq", lock, place), stack);
+static void acquire_again(part thread, part lock, part line_end, u32 stack) {
+    keep_line(add_line(room_for_line(), thread, "acq", lock, line_end), stack);
 }
 
-static void release_before(part thread, part lock, part place, u32 stack) {
-    keep_line(add_line(room_for_line(), thread, "rel", lock, place), 0);
+static void release_before(part thread, part lock, part line_end, u32 stack) {
+    keep_line(add_line(room_for_line(), thread, "rel", lock, line_end), 0);
 }
 
 /* Gives whether the page's trace has the next event: all between two ends of a span, else forks and joins, and the first of a thread. */
@@ -263,18 +269,18 @@ static void write_event(u32 t, const char *operation, part name, u32 lock, u64 c
     int is_first = !threads[t].number;
     enum page_step step = for_page ? meet_page() : PAGE_GOES_ON;
     char *line = room_for_line();
-    part place = place_of(caller), thread = name_of_thread(t);
-    char *end = add_line(line, thread, operation, name, place);
+    part line_end = line_end_of(caller), thread = name_of_thread(t);
+    char *end = add_line(line, thread, operation, name, line_end);
     if (is_first) threads[t].number = trace_thread(thread.at, thread.length);
-    if (written == event_limit && for_page) end_page();
-    else if (written == event_limit) cut_reason = "at the limit of events";
+    if (written >= event_limit && for_page) end_page();
+    else if (written >= event_limit) cut_reason = "at the limit of events";
     else if (bytes + (end - line) > byte_limit) cut_reason = "at 1 GiB of text";
     if (cut_reason) return;
     u32 other = kind == IS_FORK || kind == IS_JOIN ? trace_thread(name.at, name.length) : lock;
-    need_event(name.length && trace_event(end - line - 1, kind, threads[t].number, other, place, stack), line, end);
+    need_event(name.length && trace_event(end - line - 1, kind, threads[t].number, other, line_end, stack), line, end);
     events++;
     if (for_page && !is_for_page(step, kind, is_first)) return;
-    if ((kind == IS_ACQUIRE || kind == IS_RELEASE) && step != SPAN_BEGINS && step != PAGE_GOES_ON) end = add_line(line, thread, "begin", thread, place);
+    if ((kind == IS_ACQUIRE || kind == IS_RELEASE) && step != SPAN_BEGINS && step != PAGE_GOES_ON) end = add_line(line, thread, "begin", thread, line_end);
     keep_line(end, stack);
     if (for_page) note_written(events, written);
 }
@@ -302,29 +308,11 @@ void event(u32 t, const char *operation, part name, u64 caller) {
     if (*operation != 'r' || operation[1]) threads[t].epoch++;
 }
 
-/* Texts with WIDE bytes behind them are copied in pieces. */
-static inline char *add_wide(char *to, part text) {
-    memcpy(to, text.at, WIDE);
-    if (text.length > WIDE) memcpy(to + WIDE, text.at + WIDE, text.length - WIDE);
-    return to + text.length;
-}
-
-static char *add_access(char *to, u32 t, char word, part name, part line_end) {
-    to = add_wide(to, name_of_thread(t));
-    *to++ = '|';
-    *to++ = word;
-    *to++ = '(';
-    to = add_wide(to, name);
-    to = add_wide(to, line_end);
-    *to++ = '\n';
-    return to;
-}
-
 /* Most events are accesses of the run's trace by a thread that is in it: they take less than others. */
 void access_event(u32 t, const char *operation, u32 number, u64 caller, u64 own) {
     part name = piece_name(number);
     int is_usual = !for_page && !holds_unwritten(t) && threads[t].number && name.length && written < event_limit;
-    char *line = room_for_line(), *end = is_usual ? add_access(line, t, *operation, name, line_end_of(own)) : line;
+    char *line = room_for_line(), *end = is_usual ? add_line(line, name_of_thread(t), operation, name, line_end_of(own)) : line;
     if (!is_usual || bytes + (end - line) > byte_limit) {
         event(t, operation, name, caller);
         return;

@@ -32,28 +32,25 @@ static page *pages;
 static u64 page_count, page_capacity;
 static map page_map;
 
-static u64 last_page = ~0ull;          /* the number of the page that was asked for last, and of its entry */
-static u32 last_found;
+enum { RECENT = 4096 };
+static struct { u64 number; u32 found; } recent[RECENT];     /* pages that were asked for, by the ends of their numbers */
 
 static page *find_page(u64 number, int make) {
-    enum { RECENT = 4096 };
-    static struct { u64 number; u32 found; } recent[RECENT];
-    u32 *known = &recent[number & (RECENT - 1)].found;
-    u32 found = *known && recent[number & (RECENT - 1)].number == number ? *known
-        : make ? map_number(&page_map, number, 0) : map_find(&page_map, number, 0);
+    u32 found = make ? map_number(&page_map, number, 0) : map_find(&page_map, number, 0);
     if (!found) return 0;
     if (found > page_count) {
         if (page_count >= MAX_PAGES) die("the program used more than 64 GB of memory, or the record is damaged");
         GROW(pages, page_count, page_capacity);
         pages[page_count++] = (page){0};
     }
-    recent[number & (RECENT - 1)].number = last_page = number;
-    *known = last_found = found;
+    recent[number & (RECENT - 1)].number = number;
+    recent[number & (RECENT - 1)].found = found;
     return &pages[found - 1];
 }
 
 static inline page *page_of(u64 address, int make) {
-    return address / PAGE == last_page ? &pages[last_found - 1] : find_page(address / PAGE, make);
+    u64 number = address / PAGE, at = number & (RECENT - 1);
+    return recent[at].number == number && recent[at].found ? &pages[recent[at].found - 1] : find_page(number, make);
 }
 
 /* The slot of the first cut at this byte of the page or behind it. */

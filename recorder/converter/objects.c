@@ -110,12 +110,11 @@ static void take_gifts(object *o, u32 t, int by_lock, handing hand, u64 caller) 
     *seen_by(o, t) = o->version;
 }
 
-static struct { u64 record, object; } last_of[THREADS];      /* a thread's last record; the object that it gave something by that; plus one */
+static struct { u64 record, object; } last_of[THREADS];      /* the object that a thread gave something by its last record, which is that; plus one */
 
 void note_record(u64 i) {
     u32 t = thread_of(i);
     if (last_of[t].record != i + 1) last_of[t].object = 0;
-    last_of[t].record = i + 1;
 }
 
 static void note_gift(u64 i, const object *o) {

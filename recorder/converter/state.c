@@ -59,7 +59,7 @@ static u32 name_number(names *n, const char *text, u64 length) {
 }
 
 /* ---- the state of the trace ---- */
-typedef struct { u32 lock, thread, before, after, below, stack; part place; } hold;     /* one acquire that isn't released */
+typedef struct { u32 lock, thread, before, after, below, stack; part line_end; } hold;     /* one acquire that isn't released */
 typedef struct { u32 holder, top; } lock;                    /* the last of its holds */
 typedef struct { uint8_t started, forked, joined; } thread;
 
@@ -93,14 +93,14 @@ u32 trace_lock(part name) {
 
 part lock_name(u32 number) { return (part){lock_names.list[number - 1].text, lock_names.list[number - 1].length}; }
 
-static void add_hold(u32 t, u32 l, part place, u32 stack) {
+static void add_hold(u32 t, u32 l, part line_end, u32 stack) {
     u32 number = free_holds;
     if (number) free_holds = holds[number].after;
     else {
         GROW(holds, hold_count + 1, hold_capacity);
         holds[number = ++hold_count] = (hold){0};
     }
-    holds[number] = (hold){l, t, newest, 0, locks[l].top, stack, place};
+    holds[number] = (hold){l, t, newest, 0, locks[l].top, stack, line_end};
     if (newest) holds[newest].after = number;
     else oldest = number;
     newest = number;
@@ -121,7 +121,7 @@ static void end_hold(u32 l) {
 }
 
 /* An event: its thread, its operation, and the lock that it takes or releases or the thread that it forks or joins. */
-typedef struct { enum event_kind kind; u32 t, lock, other, stack; part place; } event_of_trace;
+typedef struct { enum event_kind kind; u32 t, lock, other, stack; part line_end; } event_of_trace;
 
 static int may_be_forked(const thread *child) { return !child->started && !child->forked && !child->joined; }
 
@@ -137,7 +137,7 @@ static int can_follow(event_of_trace o) {
 
 static void take(event_of_trace o) {
     threads[o.t].started = 1;
-    if (o.kind == IS_ACQUIRE) add_hold(o.t, o.lock, o.place, o.stack);
+    if (o.kind == IS_ACQUIRE) add_hold(o.t, o.lock, o.line_end, o.stack);
     if (o.kind == IS_RELEASE) end_hold(o.lock);
     if (o.kind == IS_FORK) threads[o.other].forked = 1;
     if (o.kind == IS_JOIN) threads[o.other].joined = 1;
@@ -147,9 +147,9 @@ u32 thread_limit = SHB_THREADS;
 
 u32 trace_threads(void) { return thread_names.count; }
 
-int trace_event(u64 length, enum event_kind kind, u32 t, u32 other, part place, u32 stack) {
+int trace_event(u64 length, enum event_kind kind, u32 t, u32 other, part line_end, u32 stack) {
     if (length > SHB_LINE) return 0;
-    event_of_trace o = {.kind = kind, .t = t, .place = place, .stack = stack};
+    event_of_trace o = {.kind = kind, .t = t, .line_end = line_end, .stack = stack};
     if (kind == IS_ACQUIRE || kind == IS_RELEASE) o.lock = other;
     if (kind == IS_FORK || kind == IS_JOIN) o.other = other;
     if (!can_follow(o) || thread_names.count > thread_limit) return 0;
@@ -173,6 +173,6 @@ void forget_trace(void) {
 void each_held(held_lock give) {
     for (u32 h = oldest; h; h = holds[h].after) {
         const name *t = &thread_names.list[holds[h].thread - 1];
-        give((part){t->text, t->length}, lock_name(holds[h].lock), holds[h].place, holds[h].stack);
+        give((part){t->text, t->length}, lock_name(holds[h].lock), holds[h].line_end, holds[h].stack);
     }
 }
