@@ -451,7 +451,7 @@ void note_name(u64 at, u32 block_number, u64 event, u32 t) {
 }
 
 /* ---- what is of use to a reader ---- */
-static void use(u32 number) {
+void keep_stack(u32 number) {
     for (; number && !nodes[number].used; number = nodes[number].outer) nodes[number].used = 1;
 }
 
@@ -465,10 +465,9 @@ void stack_of_event(u32 number) {
     if (!with_stacks) return;
     if (buffered == NODES_AT_ONCE) write_nodes();
     buffer[buffered++] = number;
-    use(number);
+    keep_stack(number);
 }
 
-void keep_stack(u32 number) { use(number); }
 void stack_of_thread(u32 t, u32 number) { thread_nodes[t] = number; }
 
 static int notes_uses(void) {
@@ -623,7 +622,7 @@ void note_crash(u64 i) {
     pause_stacks(0);
     crash.node = stack_at(thread_of(i), caller_of(i));
     pause_stacks(is_paused);
-    use(crash.node);
+    keep_stack(crash.node);
 }
 
 static const char *signal_word(void) {
@@ -661,9 +660,9 @@ void pause_stacks(int is_paused) { with_stacks = file && !is_paused; }
 void end_stacks(void) {
     if (!with_stacks) return;
     write_nodes();
-    for (u32 t = 0; t < thread_bound(); t = next_thread(t)) use(thread_nodes[t]);
+    for (u32 t = 0; t < thread_bound(); t = next_thread(t)) keep_stack(thread_nodes[t]);
     for (u64 b = 1; b < block_count; b++)
-        if (block_of(b)->named) use(block_nodes[b]);
+        if (block_of(b)->named) keep_stack(block_nodes[b]);
     for (u64 k = 1; k <= node_count; k++)
         if (nodes[k].used) write_stack(k);
     for (u32 t = 0; t < thread_bound(); t = next_thread(t))

@@ -120,27 +120,14 @@ static void end_hold(u32 l) {
     free_holds = number;
 }
 
-/* An event: its thread, its operation, and the lock that it takes or releases or the thread that it forks or joins. */
-typedef struct { enum event_kind kind; u32 t, lock, other, stack; part line_end; } event_of_trace;
-
 static int may_be_forked(const thread *child) { return !child->started && !child->forked && !child->joined; }
 
-/* Can the trace go on with it? */
-static int can_follow(event_of_trace o) {
-    u32 holder = o.lock ? locks[o.lock].holder : 0;
-    if (threads[o.t].joined) return 0;
-    if (o.kind == IS_ACQUIRE) return !holder || holder == o.t;
-    if (o.kind == IS_RELEASE) return holder == o.t;
-    if (o.kind == IS_FORK) return o.other != o.t && may_be_forked(&threads[o.other]);
-    return o.kind != IS_JOIN || o.other != o.t;
-}
-
-static void take(event_of_trace o) {
-    threads[o.t].started = 1;
-    if (o.kind == IS_ACQUIRE) add_hold(o.t, o.lock, o.line_end, o.stack);
-    if (o.kind == IS_RELEASE) end_hold(o.lock);
-    if (o.kind == IS_FORK) threads[o.other].forked = 1;
-    if (o.kind == IS_JOIN) threads[o.other].joined = 1;
+static int can_follow(enum event_kind kind, u32 t, u32 other) {
+    if (threads[t].joined) return 0;
+    if (kind == IS_ACQUIRE) return !locks[other].holder || locks[other].holder == t;
+    if (kind == IS_RELEASE) return locks[other].holder == t;
+    if (kind == IS_FORK) return other != t && may_be_forked(&threads[other]);
+    return kind != IS_JOIN || other != t;
 }
 
 u32 thread_limit = SHB_THREADS;
@@ -148,12 +135,12 @@ u32 thread_limit = SHB_THREADS;
 u32 trace_threads(void) { return thread_names.count; }
 
 int trace_event(u64 length, enum event_kind kind, u32 t, u32 other, part line_end, u32 stack) {
-    if (length > SHB_LINE) return 0;
-    event_of_trace o = {.kind = kind, .t = t, .line_end = line_end, .stack = stack};
-    if (kind == IS_ACQUIRE || kind == IS_RELEASE) o.lock = other;
-    if (kind == IS_FORK || kind == IS_JOIN) o.other = other;
-    if (!can_follow(o) || thread_names.count > thread_limit) return 0;
-    take(o);
+    if (length > SHB_LINE || thread_names.count > thread_limit || !can_follow(kind, t, other)) return 0;
+    threads[t].started = 1;
+    if (kind == IS_ACQUIRE) add_hold(t, other, line_end, stack);
+    if (kind == IS_RELEASE) end_hold(other);
+    if (kind == IS_FORK) threads[other].forked = 1;
+    if (kind == IS_JOIN) threads[other].joined = 1;
     return 1;
 }
 
