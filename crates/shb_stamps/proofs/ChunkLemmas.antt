@@ -1,14 +1,14 @@
 -- Rows in one memory, to which more are added.
-use Rattle.std.proofs.Common.{◌≤◌, ◌≡◌, ℕ, suc, ◌+◌, ◌*◌, ◌<◌, inl, inr, ◌^◌, List, [], ◌∷◌, ◌++◌, length, get_or, take, drop, refl, ap, subst, sym, ◌∙◌, arith, length-append, length-drop, append-nil, append_assoc}
+use Rattle.std.proofs.Common.{◌≤◌, ◌≡◌, ℕ, zero, suc, ◌+◌, ◌*◌, ◌<◌, inl, inr, ◌^◌, List, [], ◌∷◌, ◌++◌, length, get_or, take, drop, refl, ap, subst, sym, ◌∙◌, arith, length-append, length-drop, length-take, append-nil, append_assoc}
 use Rattle.std.proofs.lemmas.Bool.{cases_lt}
-use Rattle.std.proofs.lemmas.List.{drop-append-le, drop_at, get_or_append_left, get_or_past, get_or_push, length_push, map-append, take-append-le, take-append-drop, take_all, take_at}
+use Rattle.std.proofs.lemmas.List.{drop-append-le, drop_at, get_or-drop, get_or-take, get_or_append_left, get_or_past, get_or_push, length_push, map-append, take-append-le, take-append-drop, take_all, take_at}
 use Rattle.std.proofs.lemmas.List.Concat.{flat_map-append}
 use Rattle.shb_stamps.specs.Chunks.{AreChunks, AreInside, AreNumbers, IsInside, IsLonger, numbers_in, row_by, row_in, rows_in}
 use Rattle.shb_stamps.specs.declared.row_list.Span.{Span}
 use Rattle.shb_stamps.proofs.RowLemmas.{chunked, take_piece}
 
 abbrev no_span : Span
-no_span = record { start = 0; chunks = 0; rest = 0 }
+no_span = record { start = 0; whole = 0; chunks = 0; rest = 0 }
 
 -- lists, and more after them
 pub longer_same : {A : Type 0} (xs : List A) → IsLonger xs xs
@@ -88,10 +88,10 @@ part_more old_chunks old_cells row chunks cells k new more piece n part are few 
 }
 
 -- the entries after the chunks come last
-module _ (old_chunks : List (List ℕ)) (old_cells row : List ℕ) (chunks : List (List ℕ)) (cells : List ℕ) (k count : ℕ) (part : HasPart old_chunks old_cells row chunks cells k) (all : k ≡ count) (few : count < 2 ^ 32)
+module _ (old_chunks : List (List ℕ)) (old_cells row : List ℕ) (chunks : List (List ℕ)) (cells : List ℕ) (k count : ℕ) (part : HasPart old_chunks old_cells row chunks cells k) (all : k ≡ count) (some : 0 < count) (few : count < 2 ^ 32)
     (rest wider : List ℕ) (start size : ℕ) (rest_is : rest ≡ drop (128 * k) row) (wider_is : wider ≡ cells ++ rest) (starts : start ≡ length old_cells) (size_is : size ≡ length rest) where
   abbrev last : Span
-  last = record { start = start; chunks = count; rest = size }
+  last = record { start = start; whole = 0; chunks = count; rest = size }
 
   cells_at : wider ≡ old_cells ++ (part.numbers ++ rest)
   cells_at = wider_is ∙ (ap (λ (xs : List ℕ). xs ++ rest) part.cells_are ∙ append_assoc old_cells part.numbers rest)
@@ -99,13 +99,13 @@ module _ (old_chunks : List (List ℕ)) (old_cells row : List ℕ) (chunks : Lis
   numbers_at : numbers_in wider last ≡ part.numbers
   numbers_at = ap (λ (xs : List ℕ). take count xs) (ap (drop start) cells_at ∙ drop_at old_cells (part.numbers ++ rest) start (sym starts)) ∙ take_at part.numbers rest count (part.many ∙ all)
 
-  rest_at : take size (drop (start + count) wider) ≡ rest
-  rest_at = ap (λ (xs : List ℕ). take size (drop (start + count) xs)) (wider_is ∙ ap (λ (xs : List ℕ). xs ++ rest) part.cells_are)
-      ∙ (ap (take size) (drop_at (old_cells ++ part.numbers) rest (start + count) (let long = length-append old_cells part.numbers in let many = part.many in omega (arith, long, many, starts, all)))
-      ∙ take_all size rest (omega (arith, size_is)))
+  rest_at : take (0 + size) (drop (start + count) wider) ≡ rest
+  rest_at = ap (λ (xs : List ℕ). take (0 + size) (drop (start + count) xs)) (wider_is ∙ ap (λ (xs : List ℕ). xs ++ rest) part.cells_are)
+      ∙ (ap (take (0 + size)) (drop_at (old_cells ++ part.numbers) rest (start + count) (let long = length-append old_cells part.numbers in let many = part.many in omega (arith, long, many, starts, all)))
+      ∙ take_all (0 + size) rest (omega (arith, size_is)))
 
   pub part_row : row_in chunks wider last ≡ row
-  part_row = ap (λ (numbers : List ℕ). row_by chunks numbers (take size (drop (start + count) wider))) numbers_at
+  part_row = ap (λ (numbers : List ℕ). row_by chunks numbers (take (0 + size) (drop (start + count) wider))) numbers_at
       ∙ (ap (λ (xs : List ℕ). row_by chunks part.numbers xs) rest_at
       ∙ (ap (λ (xs : List ℕ). xs ++ rest) part.same ∙ (ap (λ (xs : List ℕ). take (128 * k) row ++ xs) rest_is ∙ take-append-drop (128 * k) row)))
 
@@ -114,21 +114,25 @@ module _ (old_chunks : List (List ℕ)) (old_cells row : List ℕ) (chunks : Lis
     within = (let long = ap length cells_at ∙ (length-append old_cells (part.numbers ++ rest)) in let own = length-append part.numbers rest in let many = part.many in omega (arith, long, own, many, starts, all, size_is));
     numbers_are = subst (AreNumbers chunks) (sym numbers_at) part.numbers_are;
     few = few;
+    whole = λ none. omega (arith, some, none);
+    chunked = λ lt. refl;
   }
 
 -- a row without chunks
 module _ (cells wider row : List ℕ) (start size : ℕ) (wider_is : wider ≡ cells ++ row) (starts : start ≡ length cells) (size_is : size ≡ length row) where
   abbrev whole : Span
-  whole = record { start = start; chunks = 0; rest = size }
+  whole = record { start = start; whole = size; chunks = 0; rest = 0 }
 
   pub whole_row : (chunks : List (List ℕ)) → row_in chunks wider whole ≡ row
-  whole_row chunks = ap (take size) (ap (λ (n : ℕ). drop n wider) (omega arith) ∙ (ap (drop start) wider_is ∙ drop_at cells row start (sym starts))) ∙ take_all size row (omega (arith, size_is))
+  whole_row chunks = ap (take (size + 0)) (ap (λ (n : ℕ). drop n wider) (omega arith) ∙ (ap (drop start) wider_is ∙ drop_at cells row start (sym starts))) ∙ take_all (size + 0) row (omega (arith, size_is))
 
   pub whole_inside : (chunks : List (List ℕ)) → IsInside chunks wider whole
   whole_inside chunks = record {
     within = (let long = ap length wider_is ∙ length-append cells row in omega (arith, long, starts, size_is));
     numbers_are = λ k lt. absurd (omega (arith, lt));
     few = omega arith;
+    whole = λ none. refl;
+    chunked = λ lt. omega (arith, lt);
   }
 
 -- rows change not by more cells and chunks behind theirs
@@ -139,18 +143,20 @@ module _ (chunks new : List (List ℕ)) (cells wider : List ℕ) (more_chunks : 
       ∙ take-append-le span.chunks (drop span.start cells) more_cells.more (let long = length-drop span.start cells in let low = inside.within in omega (arith, long, low)))
 
   pub row_grown : (span : Span) → IsInside chunks cells span → row_in new wider span ≡ row_in chunks cells span
-  row_grown span inside = ap (λ (numbers : List ℕ). row_by new numbers (take span.rest (drop (span.start + span.chunks) wider))) (numbers_same span inside)
-      ∙ (ap (λ (xs : List ℕ). xs ++ take span.rest (drop (span.start + span.chunks) wider)) (chunked_grown chunks new (numbers_in cells span) inside.numbers_are more_chunks)
+  row_grown span inside = ap (λ (numbers : List ℕ). row_by new numbers (take (span.whole + span.rest) (drop (span.start + span.chunks) wider))) (numbers_same span inside)
+      ∙ (ap (λ (xs : List ℕ). xs ++ take (span.whole + span.rest) (drop (span.start + span.chunks) wider)) (chunked_grown chunks new (numbers_in cells span) inside.numbers_are more_chunks)
       ∙ ap (λ (xs : List ℕ). chunked chunks (numbers_in cells span) ++ xs)
-      (ap (λ (xs : List ℕ). take span.rest (drop (span.start + span.chunks) xs)) more_cells.is
-      ∙ (ap (take span.rest) (drop-append-le (span.start + span.chunks) cells more_cells.more (let low = inside.within in omega (arith, low)))
-      ∙ take-append-le span.rest (drop (span.start + span.chunks) cells) more_cells.more (let long = length-drop (span.start + span.chunks) cells in let low = inside.within in omega (arith, long, low)))))
+      (ap (λ (xs : List ℕ). take (span.whole + span.rest) (drop (span.start + span.chunks) xs)) more_cells.is
+      ∙ (ap (take (span.whole + span.rest)) (drop-append-le (span.start + span.chunks) cells more_cells.more (let low = inside.within in omega (arith, low)))
+      ∙ take-append-le (span.whole + span.rest) (drop (span.start + span.chunks) cells) more_cells.more (let long = length-drop (span.start + span.chunks) cells in let low = inside.within in omega (arith, long, low)))))
 
   pub inside_grown : (span : Span) → IsInside chunks cells span → IsInside new wider span
   inside_grown span inside = record {
     within = (let long = ap length more_cells.is ∙ length-append cells more_cells.more in let low = inside.within in omega (arith, long, low));
     numbers_are = subst (AreNumbers new) (sym (numbers_same span inside)) (numbers_grown chunks new (numbers_in cells span) inside.numbers_are more_chunks);
     few = inside.few;
+    whole = inside.whole;
+    chunked = inside.chunked;
   }
 
   pub rows_grown : (spans : List Span) → AreInside chunks cells spans → rows_in new wider spans ≡ rows_in chunks cells spans
@@ -180,4 +186,70 @@ module _ (chunks new : List (List ℕ)) (cells wider : List ℕ) (more_chunks : 
         within = omega arith;
         numbers_are = λ k lt. absurd (omega (arith, lt));
         few = omega arith;
+        whole = λ none. refl;
+        chunked = λ lt. refl;
       }
+
+-- the row of a number
+pub row_here : (chunks : List (List ℕ)) (cells : List ℕ) (spans : List Span) (n : ℕ) → n < length spans → get_or (rows_in chunks cells spans) n [] ≡ row_in chunks cells (get_or spans n no_span)
+row_here chunks cells [] n lt = absurd (omega (arith, lt))
+row_here chunks cells (span ∷ spans) zero lt = refl
+row_here chunks cells (span ∷ spans) (suc n) lt = row_here chunks cells spans n (omega (arith, lt))
+
+rows_length : (chunks : List (List ℕ)) (cells : List ℕ) (spans : List Span) → length (rows_in chunks cells spans) ≡ length spans
+rows_length chunks cells [] = refl
+rows_length chunks cells (span ∷ spans) = ap suc (rows_length chunks cells spans)
+
+-- a row without chunks is some of the cells
+module _ (chunks : List (List ℕ)) (cells : List ℕ) (span : Span) (inside : IsInside chunks cells span) where
+  row_of_cells : span.chunks ≡ 0 → row_in chunks cells span ≡ take span.whole (drop span.start cells)
+  row_of_cells none = ap (λ (n : ℕ). row_by chunks (take n (drop span.start cells)) (take (span.whole + span.rest) (drop (span.start + n) cells))) none
+      ∙ (ap (λ (n : ℕ). take n (drop (span.start + 0) cells)) (let no_rest = inside.whole none in omega (arith, no_rest)) ∙ ap (λ (n : ℕ). take span.whole (drop n cells)) (omega arith))
+
+  no_chunks : (t : ℕ) → t < span.whole → span.chunks ≡ 0
+  no_chunks t lt = elim (cases_lt 0 span.chunks) [
+    | inl some ↦ (let none = inside.chunked some in omega (arith, none, lt))
+    | inr ge ↦ omega (arith, ge)
+  ]
+
+  pub entry_of_cells : (t : ℕ) → t < span.whole → ◌≡◌ {A = ℕ} (get_or cells (span.start + t) 0) (get_or (row_in chunks cells span) t 0)
+  entry_of_cells t lt = sym (ap (λ (row : List ℕ). get_or row t 0) (row_of_cells (no_chunks t lt)) ∙ (get_or-take span.whole (drop span.start cells) t 0 lt ∙ get_or-drop span.start cells t 0))
+
+  none_of_none : length chunks ≡ 0 → span.chunks ≡ 0
+  none_of_none none = elim (cases_lt 0 span.chunks) [
+    | inl some ↦ (let long = length-take span.chunks (drop span.start cells) in let left = length-drop span.start cells in let within = inside.within in
+        let low = inside.numbers_are 0 (omega (arith, some, long, left, within)) in omega (arith, low, none))
+    | inr ge ↦ omega (arith, ge)
+  ]
+
+  pub entry_past_cells : (t : ℕ) → length chunks ≡ 0 → span.whole ≤ t → ◌≡◌ {A = ℕ} 0 (get_or (row_in chunks cells span) t 0)
+  entry_past_cells t none le = sym (ap (λ (row : List ℕ). get_or row t 0) (row_of_cells (none_of_none none))
+      ∙ get_or_past (take span.whole (drop span.start cells)) t 0 (let long = length-take span.whole (drop span.start cells) in omega (arith, long, le)))
+
+-- where there is an item it is no default
+any_default : {A : Type 0} (xs : List A) (n : ℕ) (one other : A) → n < length xs → get_or xs n one ≡ get_or xs n other
+any_default [] n one other lt = absurd (omega (arith, lt))
+any_default (x ∷ xs) zero one other lt = refl
+any_default (x ∷ xs) (suc n) one other lt = any_default xs n one other (omega (arith, lt))
+
+-- an entry of the row of a number
+module _ (chunks : List (List ℕ)) (cells : List ℕ) (spans : List Span) (rows : List (List ℕ)) (n t : ℕ) (span : Span) (inside : AreInside chunks cells spans) (rows_are : rows_in chunks cells spans ≡ rows) (low : n < length rows) (is : span ≡ get_or spans n span) where
+  here : n < length spans
+  here = let as_many = rows_length chunks cells spans in let size = ap length rows_are in omega (arith, low, as_many, size)
+
+  span_is : span ≡ get_or spans n no_span
+  span_is = is ∙ any_default spans n span no_span here
+
+  own : IsInside chunks cells span
+  own = subst (IsInside chunks cells) (sym span_is) (inside n)
+
+  row_is : row_in chunks cells span ≡ get_or rows n []
+  row_is = ap (row_in chunks cells) span_is
+      ∙ (sym (row_here chunks cells spans n here) ∙ ap (λ (rs : List (List ℕ)). get_or rs n []) rows_are)
+
+  pub entry_found : (found : ℕ) → ◌≡◌ {A = ℕ} found (get_or cells (span.start + t) found) → t < span.whole → ◌≡◌ {A = ℕ} found (get_or (get_or rows n []) t 0)
+  entry_found found found_is lt = found_is ∙ (any_default cells (span.start + t) found 0 (let within = own.within in omega (arith, within, lt))
+      ∙ (entry_of_cells chunks cells span own t lt ∙ ap (λ (row : List ℕ). get_or row t 0) row_is))
+
+  pub entry_none : length chunks ≡ 0 → span.whole ≤ t → ◌≡◌ {A = ℕ} 0 (get_or (get_or rows n []) t 0)
+  entry_none none le = entry_past_cells chunks cells span own t none le ∙ ap (λ (row : List ℕ). get_or row t 0) row_is

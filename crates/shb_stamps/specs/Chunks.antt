@@ -27,21 +27,23 @@ numbers_in cells span = take span.chunks (drop span.start cells)
 
 -- the entries of a row
 abbrev pub row_in : List (List ℕ) → List ℕ → Span → List ℕ
-row_in chunks cells span = row_by chunks (numbers_in cells span) (take span.rest (drop (span.start + span.chunks) cells))
+row_in chunks cells span = row_by chunks (numbers_in cells span) (take (span.whole + span.rest) (drop (span.start + span.chunks) cells))
 
 -- all rows, in order
 abbrev pub rows_in : List (List ℕ) → List ℕ → List Span → List (List ℕ)
 rows_in chunks cells spans = map (row_in chunks cells) spans
 
--- the cells of a row are among these, and name chunks
+-- the cells of a row are among these, and name chunks; it is whole, or it has chunks
 pub record IsInside (chunks : List (List ℕ)) (cells : List ℕ) (span : Span) : Type 0 where
-  pub within : span.start + span.chunks + span.rest ≤ length cells
+  pub within : span.start + span.chunks + (span.whole + span.rest) ≤ length cells
   pub numbers_are : AreNumbers chunks (numbers_in cells span)
   pub few : span.chunks < 2 ^ 32
+  pub whole : span.chunks ≡ 0 → span.rest ≡ 0
+  pub chunked : 0 < span.chunks → span.whole ≡ 0
 
 -- so are those of each row
 abbrev pub AreInside : List (List ℕ) → List ℕ → List Span → Type 0
-AreInside chunks cells spans = (k : ℕ) → IsInside chunks cells (slice_index_or spans k record { start = 0; chunks = 0; rest = 0 })
+AreInside chunks cells spans = (k : ℕ) → IsInside chunks cells (slice_index_or spans k record { start = 0; whole = 0; chunks = 0; rest = 0 })
 
 -- a list, and more after it
 pub record IsLonger {A : Type 0} (old new : List A) : Type 0 where

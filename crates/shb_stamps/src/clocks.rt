@@ -18,9 +18,8 @@ ghost use Rattle.shb_stamps.specs.Clocks.{HasRowAfter, IsBefore, IsNext, KeepsWr
 ghost use Rattle.shb_stamps.specs.Rows.{AreMore};
 ghost use Rattle.shb_stamps.specs.Stamps.{IsSource, KnowsStamp, empty_stamp};
 
-use crate::clock::{set_length, zeros};
+use crate::clock::zeros;
 use crate::compact::compacted;
-use crate::row::Row;
 use crate::row_list::RowList;
 use crate::stamp::{Stamp, is_joined, no_stamps};
 use shb_io::NoMemory;
@@ -77,37 +76,42 @@ fn memory_of(alloc: Global, old: RowList, used: usize) -> RowList {
 
 /// Makes a clock that of a row, with a time put at a thread.
 #[inline(always)]
-fn set_clock(clock: &mut Vec<u32>, row: &Row<'_>, thread: u32, time: u32) -> Result<(), NoMemory>
-    ensures { OnOk result (IsPut 0 thread time row.now clock.new.items) }
+fn set_clock(
+    clock: &mut Vec<u32>,
+    rows: &RowList,
+    row: u32,
+    thread: u32,
+    time: u32,
+) -> Result<(), NoMemory>
+    ensures { OnOk result (IsPut 0 thread time (slice_index_or rows.now row []) clock.new.items) }
 {
-    row.copy_to(clock)?;
+    rows.copy_to(row, clock)?;
     put(clock, thread, time, 0)?;
     Ok(())
 }
 
 /// Whether no entry of a row is above that of a clock, where it is asked.
-fn is_asked_below(asks: bool, row: &Row<'_>, clock: &[u32]) -> bool
-    ensures { result ≡ true → (t : ℕ) → slice_index_or row.now t 0 ≤ slice_index_or clock.now t 0 }
+#[inline(always)]
+fn is_asked_below(asks: bool, rows: &RowList, row: u32, clock: &[u32]) -> bool
+    ensures { result ≡ true → (t : ℕ) → slice_index_or (slice_index_or rows.now row []) t 0 ≤ slice_index_or clock.now t 0 }
 {
     if asks {
-        return row.is_below(&Row::of(clock));
+        return rows.is_within(row, clock);
     }
     false
 }
 
 /// Raises each entry of a clock to that of a row. Where it is asked, says whether the clock is the same.
 #[inline(always)]
-fn join(clock: &mut Vec<u32>, other: &Row<'_>, asks: bool) -> Result<bool, NoMemory>
-    ensures raised { OnOk result ((t : ℕ) → slice_index_or clock.new.items t 0 ≡ max (slice_index_or clock.old.items t 0) (slice_index_or other.now t 0)) }
+fn join(clock: &mut Vec<u32>, rows: &RowList, row: u32, asks: bool) -> Result<bool, NoMemory>
+    ensures raised { OnOk result ((t : ℕ) → slice_index_or clock.new.items t 0 ≡ max (slice_index_or clock.old.items t 0) (slice_index_or (slice_index_or rows.now row []) t 0)) }
     ensures same { IfOk result (λ same. same ≡ true → clock.new.items ≡ clock.old.items) }
 {
-    let below = is_asked_below(asks, other, clock.as_slice());
+    let below = is_asked_below(asks, rows, row, clock.as_slice());
     if below {
         return Ok(true);
     }
-    let size = clock.len().max(other.len());
-    set_length(clock, size)?;
-    other.raise(clock.as_mut_slice());
+    rows.raise(row, clock)?;
     Ok(false)
 }
 
@@ -129,25 +133,23 @@ fn row_after(
 ) -> Result<AfterSource, NoMemory>
     ensures { IfOk result (HasRowAfter rows.old rows.new thread before source) }
 {
-    let known = rows.row(before);
-    let told = source.is_known(thread, &known);
+    let told = source.is_known(thread, rows, before);
     if told {
         return Ok(AfterSource {
             row: before,
             renames: false,
         });
     }
-    let given = rows.row(source.row);
-    let shared = is_joined(&known, &given, source);
+    let shared = is_joined(rows, before, source);
     if shared {
         return Ok(AfterSource {
             row: source.row,
             renames: false,
         });
     }
-    set_clock(clock, &given, source.thread, source.time)?;
-    let renames = join(clock, &known, reads)?;
-    let row = rows.push_like(&Row::of(clock.as_slice()), source.row)?;
+    set_clock(clock, rows, source.row, source.thread, source.time)?;
+    let renames = join(clock, rows, before, reads)?;
+    let row = rows.push(clock.as_slice(), source.row)?;
     Ok(AfterSource { row, renames })
 }
 
@@ -241,8 +243,7 @@ impl Clocks {
         ensures { result ≡ slice_index_or (slice_index_or self.now.rows (slice_index_or self.now.current.items thread 0) []) other 0 }
     {
         let number = self.row_number(thread);
-        let row = self.rows.row(number);
-        row.entry(other)
+        self.rows.entry(number, other)
     }
 
     /// Whether a thread knows the last write of a variable. Nothing changes when it reads it then.
@@ -294,8 +295,8 @@ impl Clocks {
         ensures more { OnOk result (AreMore self.old.rows self.new.rows) }
     {
         let own = self.row_number(thread);
-        set_clock(&mut self.clock, &self.rows.row(own), thread, time)?;
-        let forked = self.rows.push_like(&Row::of(self.clock.as_slice()), own)?;
+        set_clock(&mut self.clock, &self.rows, own, thread, time)?;
+        let forked = self.rows.push(self.clock.as_slice(), own)?;
         put(&mut self.current, child, forked, 0)?;
         Ok(())
     }

@@ -56,7 +56,7 @@ fn keep(
         return Ok(known - 1);
     }
     let last = rows.count().saturating_sub(1);
-    let number = rows.push_like(&clocks.rows.row(before), last)?;
+    let number = rows.push_from(&clocks.rows, before, last)?;
     note_copy(copies, before, number)?;
     Ok(number)
 }

@@ -54,6 +54,17 @@ fn raise(clock: &mut [u32], piece: &[u32])
     }
 }
 
+/// Raises each entry of a clock to that of another.
+#[inline(always)]
+pub fn raise_to(clock: &mut Vec<u32>, entries: &[u32]) -> Result<(), NoMemory>
+    ensures { OnOk result ((t : ℕ) → slice_index_or clock.new.items t 0 ≡ max (slice_index_or clock.old.items t 0) (slice_index_or entries.now t 0)) }
+{
+    let size = clock.len().max(entries.len());
+    set_length(clock, size)?;
+    raise(clock.as_mut_slice(), entries);
+    Ok(())
+}
+
 /// Raises the entries of a clock from a start on to those of a piece.
 fn raise_from(clock: &mut [u32], start: usize, piece: &[u32])
     requires { start + length piece.now ≤ length clock.old }
@@ -97,7 +108,7 @@ impl<'a> Row<'a> {
 
     /// Its entries, if it has no chunks.
     #[inline(always)]
-    fn whole(&self) -> Option<&'a [u32]>
+    pub fn whole(&self) -> Option<&'a [u32]>
         ensures { IfSome result (λ entries. entries.now ≡ self.now) }
     {
         if self.numbers.len() == 0 {
@@ -119,9 +130,6 @@ impl<'a> Row<'a> {
     pub fn entry(&self, t: u32) -> u32
         ensures { result ≡ slice_index_or self.now t 0 }
     {
-        if self.numbers.len() == 0 {
-            return entry(self.rest, t);
-        }
         let k = t as usize / CHUNK;
         if k < self.numbers.len() {
             return chunk_at(self.chunks, self.numbers[k])[t as usize % CHUNK];
@@ -159,11 +167,6 @@ impl<'a> Row<'a> {
         if self.len() > other.len() {
             return false;
         }
-        if let Some(entries) = self.whole() {
-            if let Some(others) = other.whole() {
-                return is_below(entries, others);
-            }
-        }
         for k in 0..self.pieces() {
             let below = is_below(self.piece(k), other.piece(k));
             if !below {
@@ -190,29 +193,28 @@ impl<'a> Row<'a> {
     }
 
     /// Makes a clock the row.
-    #[inline(always)]
     pub fn copy_to(&self, clock: &mut Vec<u32>) -> Result<(), NoMemory>
         ensures { OnOk result (clock.new.items ≡ self.now) }
     {
-        if let Some(entries) = self.whole() {
-            set_length(clock, entries.len())?;
-            clock.copy_from_slice(entries);
-            return Ok(());
-        }
         clock.clear();
         self.append_to(clock)
     }
 
+    /// Raises each entry of a clock to that of the row.
+    pub fn raise(&self, clock: &mut Vec<u32>) -> Result<(), NoMemory>
+        ensures { OnOk result ((t : ℕ) → slice_index_or clock.new.items t 0 ≡ max (slice_index_or clock.old.items t 0) (slice_index_or self.now t 0)) }
+    {
+        let size = clock.len().max(self.len());
+        set_length(clock, size)?;
+        self.raise_first(clock.as_mut_slice());
+        Ok(())
+    }
+
     /// Raises the first entries of a clock to those of the row.
-    #[inline(always)]
-    pub fn raise(&self, clock: &mut [u32])
+    fn raise_first(&self, clock: &mut [u32])
         requires { length self.now ≤ length clock.old }
         ensures { (t : ℕ) → slice_index_or clock.new t 0 ≡ max (slice_index_or clock.old t 0) (slice_index_or self.now t 0) }
     {
-        if let Some(entries) = self.whole() {
-            raise(clock, entries);
-            return;
-        }
         for k in 0..self.pieces() {
             raise_from(clock, k * CHUNK, self.piece(k));
         }

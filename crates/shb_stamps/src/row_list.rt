@@ -10,11 +10,12 @@
 //! Whoever adds a row says which one it may share chunks with; the chunks at the same place are compared. A compaction
 //! shares what was shared before.
 
-ghost use Rattle.std.specs.Prelude.{◌≡◌, ◌+◌, ◌-◌, ◌*◌, ◌≤◌, ◌<◌, ◌++◌, ◌^◌, List, [], ◌∷◌, ℕ, IfOk, OnOk, length, min, slice_index_or, true};
+ghost use Rattle.std.specs.Prelude.{◌≡◌, ◌+◌, ◌-◌, ◌*◌, ◌≤◌, ◌<◌, ◌++◌, ◌^◌, List, [], ◌∷◌, ℕ, IfOk, IfSome, OnOk, length, max, slice_index_or, true};
 ghost use Rattle.shb_stamps.specs.Chunks.{AreChunks, IsInside, IsLonger, row_in};
 ghost use Rattle.shb_stamps.specs.Moved.{AreKept};
 
-use crate::row::{CHUNK, Row, chunk_at};
+use crate::clock::{is_below, set_length};
+use crate::row::{CHUNK, Row, chunk_at, raise_to};
 use shb_io::NoMemory;
 use shb_lines::{item_or, put};
 use std::alloc::Global;
@@ -23,11 +24,12 @@ use std::marker::Model;
 /// Up to so many entries a row has no chunks: to find an entry costs least so.
 const WHOLE: usize = 1024;
 
-/// Where the cells of a row are in the memory of all: how many chunks it begins with, whose numbers come first, and
-/// how many entries it has after those.
+/// Where the cells of a row are in the memory of all. Either it is whole and has so many entries, or it begins with so
+/// many chunks, whose numbers come first, and has so many entries after those.
 #[derive(Clone, Copy, Drop)]
 struct Span {
     start: usize,
+    whole: usize,
     chunks: usize,
     rest: usize,
 }
@@ -45,14 +47,37 @@ pub struct RowList {
     size: usize,
 }
 
-/// How many bytes so many rows take, with so many cells and chunks.
-fn bytes_of(spans: usize, cells: usize, chunks: usize) -> usize
-    ensures { result ≡ min (24 * spans + 4 * cells + 512 * chunks) (2 ^ 64 - 1) }
+/// How many bytes so many rows take, with so many cells and chunks. They are in memory, so the sum is below 2^64.
+#[inline(always)]
+fn bytes_of(spans: usize, cells: usize, chunks: usize) -> usize {
+    let short = spans.wrapping_mul(32).wrapping_add(cells.wrapping_mul(4));
+    short.wrapping_add(chunks.wrapping_mul(512))
+}
+
+/// The row whose cells are there.
+#[inline(always)]
+fn row_of<'a>(chunks: &'a [[u32; 128]], cells: &'a [u32], span: Span) -> Row<'a>
+    requires chunks { AreChunks chunks.now }
+    requires inside { IsInside chunks.now cells.now span }
+    ensures { result ≡ row_in chunks.now cells.now span }
 {
-    let short = spans
-        .saturating_mul(24)
-        .saturating_add(cells.saturating_mul(4));
-    short.saturating_add(chunks.saturating_mul(512))
+    let middle = span.start + span.chunks;
+    Row::new(
+        chunks,
+        &cells[span.start..middle],
+        &cells[middle..middle + span.whole + span.rest],
+    )
+}
+
+/// The entry of a thread in the row whose cells are there.
+#[cold]
+#[inline(never)]
+fn entry_of(chunks: &[[u32; 128]], cells: &[u32], span: &Span, t: u32) -> u32
+    requires chunks { AreChunks chunks.now }
+    requires inside { IsInside chunks.now cells.now span.now }
+    ensures { result ≡ slice_index_or (row_in chunks.now cells.now span.now) t 0 }
+{
+    row_of(chunks, cells, *span).entry(t)
 }
 
 /// Whether two chunks are equal.
@@ -100,7 +125,8 @@ fn shared(chunks: &mut Vec<[u32; 128]>, hint: u32, piece: &[u32]) -> Result<u32,
     Ok(number)
 }
 
-/// Adds the cells of a row without chunks.
+/// Adds the cells of a row as a whole.
+#[inline(always)]
 fn add_whole(cells: &mut Vec<u32>, row: &Row<'_>) -> Result<Span, NoMemory>
     ensures longer { IsLonger cells.old.items cells.new.items }
     ensures inside { (chunks : List (List ℕ)) → IfOk result (IsInside chunks cells.new.items) }
@@ -110,13 +136,13 @@ fn add_whole(cells: &mut Vec<u32>, row: &Row<'_>) -> Result<Span, NoMemory>
     row.append_to(cells)?;
     Ok(Span {
         start,
+        whole: row.len(),
         chunks: 0,
-        rest: row.len(),
+        rest: 0,
     })
 }
 
 /// Adds the cells of a row. Where there are no numbers for its chunks it has none.
-#[inline(always)]
 fn add_cells(
     cells: &mut Vec<u32>,
     chunks: &mut Vec<[u32; 128]>,
@@ -147,6 +173,7 @@ fn add_cells(
     cells.extend_from_slice(rest)?;
     Ok(Span {
         start,
+        whole: 0,
         chunks: count,
         rest: rest.len(),
     })
@@ -190,7 +217,7 @@ impl RowList {
         ensures { IfOk result (λ rows. rows ≡ [] ∷ []) }
     {
         let mut rows = RowList::empty(alloc);
-        rows.push(&Row::of(&[]))?;
+        rows.push(&[], 0)?;
         Ok(rows)
     }
 
@@ -213,12 +240,10 @@ impl RowList {
         requires { number < length self.now }
         ensures { result ≡ slice_index_or self.now number [] }
     {
-        let span = self.spans[number as usize];
-        let middle = span.start + span.chunks;
-        Row::new(
+        row_of(
             self.chunks.as_slice(),
-            &self.cells[span.start..middle],
-            &self.cells[middle..middle + span.rest],
+            self.cells.as_slice(),
+            self.spans[number as usize],
         )
     }
 
@@ -233,9 +258,104 @@ impl RowList {
         self.row_at(number)
     }
 
-    /// Adds a row, and gives its number. Numbers count from 0.
+    /// The entries of a row, if it has no chunks.
     #[inline(always)]
-    pub fn push(&mut self, row: &Row<'_>) -> Result<u32, NoMemory>
+    fn whole(&self, number: u32) -> Option<&[u32]>
+        ensures { IfSome result (λ entries. entries.now ≡ slice_index_or self.now number []) }
+    {
+        self.row(number).whole()
+    }
+
+    /// The entry of a thread in the row of a number that there is, 0 where it has none.
+    #[inline(always)]
+    pub fn entry_at(&self, number: u32, t: u32) -> u32
+        requires { number < length self.now }
+        ensures { result ≡ slice_index_or (slice_index_or self.now number []) t 0 }
+    {
+        let span = &self.spans[number as usize];
+        if (t as usize) < span.whole {
+            return self.cells[span.start + t as usize];
+        }
+        if self.chunks.len() == 0 {
+            return 0;
+        }
+        entry_of(self.chunks.as_slice(), self.cells.as_slice(), span, t)
+    }
+
+    /// The entry of a thread in a row, 0 where it has none.
+    #[inline(always)]
+    pub fn entry(&self, number: u32, t: u32) -> u32
+        ensures { result ≡ slice_index_or (slice_index_or self.now number []) t 0 }
+    {
+        if number as usize >= self.spans.len() {
+            return 0;
+        }
+        self.entry_at(number, t)
+    }
+
+    /// Whether no entry of a row is above that of another one, which has as many at least.
+    #[inline(always)]
+    pub fn is_below(&self, number: u32, other: u32) -> bool
+        ensures { result ≡ true → (t : ℕ) → slice_index_or (slice_index_or self.now number []) t 0 ≤ slice_index_or (slice_index_or self.now other []) t 0 }
+    {
+        if let Some(entries) = self.whole(number) {
+            if let Some(others) = self.whole(other) {
+                return is_below(entries, others);
+            }
+        }
+        self.row(number).is_below(&self.row(other))
+    }
+
+    /// Whether no entry of a row is above that of a clock, which has as many at least.
+    #[inline(always)]
+    pub fn is_within(&self, number: u32, clock: &[u32]) -> bool
+        ensures { result ≡ true → (t : ℕ) → slice_index_or (slice_index_or self.now number []) t 0 ≤ slice_index_or clock.now t 0 }
+    {
+        if let Some(entries) = self.whole(number) {
+            return is_below(entries, clock);
+        }
+        self.row(number).is_below(&Row::of(clock))
+    }
+
+    /// Makes a clock the row of a number.
+    #[inline(always)]
+    pub fn copy_to(&self, number: u32, clock: &mut Vec<u32>) -> Result<(), NoMemory>
+        ensures { OnOk result (clock.new.items ≡ slice_index_or self.now number []) }
+    {
+        if let Some(entries) = self.whole(number) {
+            set_length(clock, entries.len())?;
+            clock.copy_from_slice(entries);
+            return Ok(());
+        }
+        self.row(number).copy_to(clock)
+    }
+
+    /// Raises each entry of a clock to that of a row.
+    #[inline(always)]
+    pub fn raise(&self, number: u32, clock: &mut Vec<u32>) -> Result<(), NoMemory>
+        ensures { OnOk result ((t : ℕ) → slice_index_or clock.new.items t 0 ≡ max (slice_index_or clock.old.items t 0) (slice_index_or (slice_index_or self.now number []) t 0)) }
+    {
+        if let Some(entries) = self.whole(number) {
+            return raise_to(clock, entries);
+        }
+        self.row(number).raise(clock)
+    }
+
+    /// Adds a row as a whole, and gives its number.
+    #[inline(always)]
+    fn push_whole(&mut self, entries: &[u32]) -> Result<u32, NoMemory>
+        ensures rows { OnOk result (self.new ≡ self.old ++ entries.now ∷ []) }
+        ensures number { length self.old < 2 ^ 32 → IfOk result (λ number. number ≡ length self.old) }
+    {
+        let number = self.count();
+        let span = add_whole(&mut self.cells, &Row::of(entries))?;
+        self.spans.push(span)?;
+        self.size = bytes_of(self.spans.len(), self.cells.len(), self.chunks.len());
+        Ok(number)
+    }
+
+    /// Adds a row, and gives its number. It has the chunks of the hints where they are equal.
+    fn push_row(&mut self, row: &Row<'_>) -> Result<u32, NoMemory>
         ensures rows { OnOk result (self.new ≡ self.old ++ row.now ∷ []) }
         ensures number { length self.old < 2 ^ 32 → IfOk result (λ number. number ≡ length self.old) }
     {
@@ -252,7 +372,6 @@ impl RowList {
     }
 
     /// Takes the numbers of a row's chunks as hints for the next row.
-    #[inline(always)]
     fn hint(&mut self, like: u32) -> Result<(), NoMemory>
         ensures { self.new ≡ self.old }
     {
@@ -270,15 +389,38 @@ impl RowList {
     }
 
     /// Adds a row that may share chunks with another one, and gives its number.
-    #[inline(always)]
-    pub fn push_like(&mut self, row: &Row<'_>, like: u32) -> Result<u32, NoMemory>
+    #[cold]
+    #[inline(never)]
+    fn push_like(&mut self, row: &Row<'_>, like: u32) -> Result<u32, NoMemory>
         ensures rows { OnOk result (self.new ≡ self.old ++ row.now ∷ []) }
         ensures number { length self.old < 2 ^ 32 → IfOk result (λ number. number ≡ length self.old) }
     {
-        if row.len() > WHOLE {
-            self.hint(like)?;
+        self.hint(like)?;
+        self.push_row(row)
+    }
+
+    /// Adds a row of these entries, which may share chunks with another one, and gives its number. Numbers count
+    /// from 0.
+    #[inline(always)]
+    pub fn push(&mut self, entries: &[u32], like: u32) -> Result<u32, NoMemory>
+        ensures rows { OnOk result (self.new ≡ self.old ++ entries.now ∷ []) }
+        ensures number { length self.old < 2 ^ 32 → IfOk result (λ number. number ≡ length self.old) }
+    {
+        if entries.len() > WHOLE {
+            return self.push_like(&Row::of(entries), like);
         }
-        self.push(row)
+        self.push_whole(entries)
+    }
+
+    /// Adds a row of other rows, which may share chunks with one of these, and gives its number.
+    pub fn push_from(&mut self, rows: &RowList, number: u32, like: u32) -> Result<u32, NoMemory>
+        ensures rows { OnOk result (self.new ≡ self.old ++ slice_index_or rows.now number [] ∷ []) }
+        ensures number { length self.old < 2 ^ 32 → IfOk result (λ number. number ≡ length self.old) }
+    {
+        if let Some(entries) = rows.whole(number) {
+            return self.push(entries, like);
+        }
+        self.push_like(&rows.row(number), like)
     }
 
     /// Takes the copies of chunks as hints for the next row.
@@ -322,6 +464,22 @@ impl RowList {
         }
     }
 
+    /// Adds a row of other rows. It has the copies of its chunks, where they are noted, and those that are new are
+    /// noted.
+    #[inline(always)]
+    fn keep(&mut self, rows: &RowList, number: u32, copies: &mut Vec<u32>) -> Result<(), NoMemory>
+        ensures { OnOk result (self.new ≡ self.old ++ slice_index_or rows.now number [] ∷ []) }
+    {
+        if let Some(entries) = rows.whole(number) {
+            self.push_whole(entries)?;
+            return Ok(());
+        }
+        let row = rows.row(number);
+        self.hint_copies(row.numbers(), copies.as_slice())?;
+        self.push_row(&row)?;
+        self.note_copies(row.numbers(), copies)
+    }
+
     /// The rows with these numbers, in this order, in the memory of rows that aren't used any more. What was one chunk
     /// is one again.
     pub fn kept(&self, alloc: Global, unused: RowList, kept: &[u32]) -> Result<RowList, NoMemory>
@@ -330,10 +488,7 @@ impl RowList {
         let mut list = unused.emptied();
         let mut copies = Vec::new(alloc);
         for b in 0..kept.len() {
-            let row = self.row(kept[b]);
-            list.hint_copies(row.numbers(), copies.as_slice())?;
-            list.push(&row)?;
-            list.note_copies(row.numbers(), &mut copies)?;
+            list.keep(self, kept[b], &mut copies)?;
         }
         Ok(list)
     }

@@ -1,9 +1,9 @@
 //! Stamps: the clock of an event in twelve bytes, over a row that others share.
 
-ghost use Rattle.std.specs.Prelude.{◌≡◌, ℕ, ◌≤◌, ◌↔◌, IfOk, IsTrue, true, replicate, slice_index_or};
+ghost use Rattle.std.specs.Prelude.{◌≡◌, ℕ, ◌≤◌, ◌↔◌, IfOk, IsTrue, [], true, replicate, slice_index_or};
 ghost use Rattle.shb_stamps.specs.Stamps.{KnowsStamp, empty_stamp};
 
-use crate::row::Row;
+use crate::row_list::RowList;
 use shb_io::NoMemory;
 use std::alloc::Global;
 
@@ -29,23 +29,25 @@ impl Stamp {
     }
 
     /// Whether a thread that knows a row, but for its own entry, knows the event of this stamp.
-    pub fn is_known(self, thread: u32, row: &Row<'_>) -> bool
-        ensures { IsTrue result ↔ KnowsStamp row.now thread self }
+    #[inline(always)]
+    pub fn is_known(self, thread: u32, rows: &RowList, row: u32) -> bool
+        ensures { IsTrue result ↔ KnowsStamp (slice_index_or rows.now row []) thread self }
     {
-        self.thread == thread || self.time <= row.entry(self.thread)
+        self.thread == thread || self.time <= rows.entry(row, self.thread)
     }
 }
 
-/// Whether a row is the clock of the stamp that names it, and a known row is below it. Then that clock
-/// is the known row raised to it.
-pub fn is_joined(known: &Row<'_>, row: &Row<'_>, stamp: Stamp) -> bool
-    ensures { result ≡ true → (slice_index_or row.now stamp.thread 0 ≡ stamp.time)
-        × ((t : ℕ) → slice_index_or known.now t 0 ≤ slice_index_or row.now t 0) }
+/// Whether a stamp's row is the clock of the stamp, and a known row is below it. Then that clock is the known row raised
+/// to it.
+#[inline(always)]
+pub fn is_joined(rows: &RowList, known: u32, stamp: Stamp) -> bool
+    ensures { result ≡ true → (slice_index_or (slice_index_or rows.now stamp.row []) stamp.thread 0 ≡ stamp.time)
+        × ((t : ℕ) → slice_index_or (slice_index_or rows.now known []) t 0 ≤ slice_index_or (slice_index_or rows.now stamp.row []) t 0) }
 {
-    if row.entry(stamp.thread) != stamp.time {
+    if rows.entry(stamp.row, stamp.thread) != stamp.time {
         return false;
     }
-    known.is_below(row)
+    rows.is_below(known, stamp.row)
 }
 
 /// Stamps of no event.

@@ -14,7 +14,7 @@ use std::marker::Model;
 
 /// An order that is asked event by event, in trace order: it can be asked about the next event alone.
 /// Contracts see it as the trace and the number of the next event. Memory: twelve bytes for each lock
-/// and variable, and for each row 24 bytes and some four for each thread up to the last one that it knows, of which
+/// and variable, and for each row 32 bytes and some four for each thread up to the last one that it knows, of which
 /// rows share what is equal. Where the rows have grown to twice what those in use took, these are moved to a second
 /// memory.
 #[derive(Drop)]

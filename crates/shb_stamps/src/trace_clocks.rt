@@ -167,5 +167,5 @@ pub fn count_below(linked: &Linked<'_>, rows: &RowList, row: u32, e: u32, t: u32
     if t == linked.events.thread(e) {
         return linked.links.local(e) - 1;
     }
-    rows.row_at(row).entry(t)
+    rows.entry_at(row, t)
 }

@@ -1,4 +1,4 @@
-use Rattle.std.proofs.Common.{ℕ, List, get_or, length, ap, arith, ◌∙◌}
+use Rattle.std.proofs.Common.{ℕ, List, [], get_or, length, ap, arith, refl, ◌∙◌}
 use Rattle.std.proofs.lemmas.List.{length_push}
 use Rattle.shb_lines.specs.declared.event.Event.{Event}
 use Rattle.shb_lines.specs.events.Order.{BelowPred}
@@ -18,21 +18,21 @@ returns-then-known-gt0-clause-row c t of_t =
     (c.row_before-before.ensures t of_t)
 
 pub returns-clause-more : goal.returns-clause-more
-returns-clause-more c = more_push c.args.rows.now c.push_like.new.self c.row.result c.in_ok-number.ensures.rows
+returns-clause-more c = more_push c.args.rows.now c.push_from.new.self (get_or c.args.clocks.now.rows c.row_before-before.result []) c.in_ok-number.ensures.rows
 
 pub returns-clause-few : goal.returns-clause-few
-returns-clause-few c = let size = ap length c.in_ok-number.ensures.rows ∙ length_push c.args.rows.now c.row.result in omega (arith, size)
+returns-clause-few c = let size = ap length c.in_ok-number.ensures.rows ∙ length_push c.args.rows.now (get_or c.args.clocks.now.rows c.row_before-before.result []) in omega (arith, size)
 
 pub returns-clause-copies : goal.returns-clause-copies
 returns-clause-copies c =
     let rows = c.args.clocks.now.rows in
-    c.in_ok-note_copy.ensures.copies rows c.push_like.new.self (row_in_range c.args.linked.now.events.now rows c.args.e c.row_before-before.result c.requires.in_range c.row_before-before.ensures)
-    (copy_pushed rows c.args.rows.now c.push_like.new.self c.row_before-before.result c.in_ok-number.number c.row.result c.in_ok-number.ensures.rows c.row.ensures (c.in_ok-number.ensures.number (let few = c.requires.few in omega (arith, few))))
-    (copies_more rows c.args.rows.now c.push_like.new.self c.args.copies.now.items (more_push c.args.rows.now c.push_like.new.self c.row.result c.in_ok-number.ensures.rows) c.requires.copies)
+    c.in_ok-note_copy.ensures.copies rows c.push_from.new.self (row_in_range c.args.linked.now.events.now rows c.args.e c.row_before-before.result c.requires.in_range c.row_before-before.ensures)
+    (copy_pushed rows c.args.rows.now c.push_from.new.self c.row_before-before.result c.in_ok-number.number (get_or c.args.clocks.now.rows c.row_before-before.result []) c.in_ok-number.ensures.rows refl (c.in_ok-number.ensures.number (let few = c.requires.few in omega (arith, few))))
+    (copies_more rows c.args.rows.now c.push_from.new.self c.args.copies.now.items (more_push c.args.rows.now c.push_from.new.self (get_or c.args.clocks.now.rows c.row_before-before.result []) c.in_ok-number.ensures.rows) c.requires.copies)
 
 pub returns-clause-row : goal.returns-clause-row
 returns-clause-row c t of_t =
     let trace : List Event = c.args.linked.now.events.now in
-    row_moved trace c.args.clocks.now.rows c.push_like.new.self t c.row_before-before.result c.in_ok-number.number (λ k. BelowPred trace k c.args.e)
-    (copy_pushed c.args.clocks.now.rows c.args.rows.now c.push_like.new.self c.row_before-before.result c.in_ok-number.number c.row.result c.in_ok-number.ensures.rows c.row.ensures (c.in_ok-number.ensures.number (let few = c.requires.few in omega (arith, few))))
+    row_moved trace c.args.clocks.now.rows c.push_from.new.self t c.row_before-before.result c.in_ok-number.number (λ k. BelowPred trace k c.args.e)
+    (copy_pushed c.args.clocks.now.rows c.args.rows.now c.push_from.new.self c.row_before-before.result c.in_ok-number.number (get_or c.args.clocks.now.rows c.row_before-before.result []) c.in_ok-number.ensures.rows refl (c.in_ok-number.ensures.number (let few = c.requires.few in omega (arith, few))))
     (c.row_before-before.ensures t of_t)

@@ -32,6 +32,9 @@ module _ (c : goal.In_ok-extend_from_slice) where
   few : count < 2 ^ 32
   few = let numbers = c.if-numbers.false in let sum = c.saturating_add-numbers.ensures in omega (arith, numbers, sum)
 
+  some : 0 < count
+  some = let less = c.saturating_sub-count.ensures in let long = c.len.ensures in let size = c.len-2.ensures in let over = c.if-len-le-WHOLE.false in omega (arith, less, long, size, over)
+
   rest_is : c.piece-rest.result.now ≡ drop (128 * c.loop-k.k) c.args.row.now
   rest_is =
       let left = length-drop (128 * count) c.args.row.now in
@@ -40,7 +43,7 @@ module _ (c : goal.In_ok-extend_from_slice) where
       c.piece-rest.ensures ∙ (take_all 128 (drop (128 * count) c.args.row.now) (omega (arith, left, less, long)) ∙ ap (λ (k : ℕ). drop (128 * k) c.args.row.now) (sym at_end))
 
 pub returns-clause-inside : goal.returns-clause-inside
-returns-clause-inside c = part_inside _ _ c.args.row.now c.loop-k.chunks.items c.loop-k.cells.items c.loop-k.k _ c.loop-k.invariant (at_end c) (few c) c.piece-rest.result.now _ c.len-start.result _ (rest_is c) c.in_ok-extend_from_slice.ensures.items (omega (arith, c.len-start.ensures)) refl
+returns-clause-inside c = part_inside _ _ c.args.row.now c.loop-k.chunks.items c.loop-k.cells.items c.loop-k.k _ c.loop-k.invariant (at_end c) (some c) (few c) c.piece-rest.result.now _ c.len-start.result _ (rest_is c) c.in_ok-extend_from_slice.ensures.items (omega (arith, c.len-start.ensures)) refl
 
 pub returns-clause-row : goal.returns-clause-row
-returns-clause-row c = part_row _ _ c.args.row.now c.loop-k.chunks.items c.loop-k.cells.items c.loop-k.k _ c.loop-k.invariant (at_end c) (few c) c.piece-rest.result.now _ c.len-start.result _ (rest_is c) c.in_ok-extend_from_slice.ensures.items (omega (arith, c.len-start.ensures)) refl
+returns-clause-row c = part_row _ _ c.args.row.now c.loop-k.chunks.items c.loop-k.cells.items c.loop-k.k _ c.loop-k.invariant (at_end c) (some c) (few c) c.piece-rest.result.now _ c.len-start.result _ (rest_is c) c.in_ok-extend_from_slice.ensures.items (omega (arith, c.len-start.ensures)) refl

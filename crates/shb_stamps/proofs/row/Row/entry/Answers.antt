@@ -1,4 +1,4 @@
-use Rattle.std.proofs.Common.{◌≡◌, length, List, ℕ, ◌/◌, ◌%◌, ◌∙◌, get_or, ap, arith, sym}
+use Rattle.std.proofs.Common.{List, ℕ, ◌/◌, ◌%◌, ◌∙◌, get_or, ap, arith, sym}
 use Rattle.shb_stamps.proofs.RowLemmas.{chunk_entry, rest_entry}
 use Rattle.shb_stamps.proofs.row.Row.entry.Goals as goal
 
@@ -8,16 +8,9 @@ returns-then-k-self c =
     ∙ (sym (chunk_entry c.self.inside.chunks.now c.self.inside.numbers.now c.self.inside.rest.now c.args.t (c.args.t / 128) (c.args.t % 128) c.self.invariant.chunks_are c.self.invariant.numbers_are c.if-k-self.true (omega arith) (omega arith))
     ∙ ap (λ (row : List ℕ). get_or row c.args.t 0) c.self.view_is)
 
-pub returns-then-self-eq0 : goal.returns-then-self-eq0
-returns-then-self-eq0 c =
-    let none : length c.self.inside.numbers.now ≡ 0 = (let is = c.if-self-eq0.true in omega (arith, is)) in
-    c.entry.ensures
-    ∙ (sym (rest_entry c.self.inside.chunks.now c.self.inside.numbers.now c.self.inside.rest.now c.args.t c.args.t c.self.invariant.chunks_are c.self.invariant.numbers_are (omega (arith, none)) (omega (arith, none)))
-    ∙ ap (λ (row : List ℕ). get_or row c.args.t 0) c.self.view_is)
-
 pub returns : goal.returns
 returns c =
     let past = c.if-k-self.false in
-    c.entry-2.ensures
+    c.entry.ensures
     ∙ (sym (rest_entry c.self.inside.chunks.now c.self.inside.numbers.now c.self.inside.rest.now c.args.t _ c.self.invariant.chunks_are c.self.invariant.numbers_are (omega (arith, past)) (omega arith))
     ∙ ap (λ (row : List ℕ). get_or row c.args.t 0) c.self.view_is)

@@ -1,6 +1,6 @@
 use Rattle.std.proofs.Common.{◌++◌, ◌∷◌, [], ap, ◌∙◌, List, ℕ}
 use Rattle.shb_stamps.proofs.ChunkLemmas.{inside_push, rows_push}
-use Rattle.shb_stamps.proofs.row_list.RowList.push.Goals as goal
+use Rattle.shb_stamps.proofs.row_list.RowList.push_row.Goals as goal
 
 pub invariant_of-self-2 : goal.invariant_of-self-2
 invariant_of-self-2 c = (

@@ -1,6 +1,6 @@
 use Rattle.std.proofs.Common.{arith, ap, drop, length, length-drop, length-take, refl, ◌*◌, ◌∙◌}
 use Rattle.shb_stamps.proofs.Raised.{raised_piece}
-use Rattle.shb_stamps.proofs.row.Row.raise.Goals as goal
+use Rattle.shb_stamps.proofs.row.Row.raise_first.Goals as goal
 
 pub raise_from-requires : goal.raise_from-requires
 raise_from-requires c =
