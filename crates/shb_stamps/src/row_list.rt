@@ -10,7 +10,7 @@
 //! Whoever adds a row says which one it may share chunks with; the chunks at the same place are compared. A compaction
 //! shares what was shared before.
 
-ghost use Rattle.std.specs.Prelude.{◌≡◌, ◌+◌, ◌-◌, ◌*◌, ◌≤◌, ◌<◌, ◌++◌, ◌^◌, List, [], ◌∷◌, ℕ, IfOk, IfSome, OnOk, length, max, slice_index_or, true};
+ghost use Rattle.std.specs.Prelude.{◌≡◌, ◌+◌, ◌-◌, ◌*◌, ◌≤◌, ◌<◌, ◌++◌, ◌^◌, List, [], ◌∷◌, ℕ, IfOk, IfSome, OnOk, length, max, min, slice_index_or, true};
 ghost use Rattle.shb_stamps.specs.Chunks.{AreChunks, IsInside, IsLonger, row_in};
 ghost use Rattle.shb_stamps.specs.Moved.{AreKept};
 
@@ -47,11 +47,15 @@ pub struct RowList {
     size: usize,
 }
 
-/// How many bytes so many rows take, with so many cells and chunks. They are in memory, so the sum is below 2^64.
+/// How many bytes so many rows take, with so many cells and chunks.
 #[inline(always)]
-fn bytes_of(spans: usize, cells: usize, chunks: usize) -> usize {
-    let short = spans.wrapping_mul(32).wrapping_add(cells.wrapping_mul(4));
-    short.wrapping_add(chunks.wrapping_mul(512))
+fn bytes_of(spans: usize, cells: usize, chunks: usize) -> usize
+    ensures { result ≡ min (32 * spans + 4 * cells + 512 * chunks) (2 ^ 64 - 1) }
+{
+    let short = spans
+        .saturating_mul(32)
+        .saturating_add(cells.saturating_mul(4));
+    short.saturating_add(chunks.saturating_mul(512))
 }
 
 /// The row whose cells are there.
