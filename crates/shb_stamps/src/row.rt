@@ -42,7 +42,7 @@ pub fn chunk_at(chunks: &[[u32; 128]], number: u32) -> &[u32]
 }
 
 /// Raises the first entries of a clock to those of a piece.
-#[inline(always)]
+#[inline(never)]
 #[tactic(auto, using(crate::proofs::Raised::raised_more, crate::proofs::Raised::raised_whole))]
 fn raise(clock: &mut [u32], piece: &[u32])
     requires { length piece.now ≤ length clock.old }
