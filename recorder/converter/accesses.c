@@ -34,6 +34,9 @@ static int means_more(u64 i) {
     return late_context(i) || (operation > OP_WRITE && operation != OP_FREE && operation != OP_USE && operation != OP_DESTROY);
 }
 
+/* Not so where an access that is late, with its context beside it, is none of the trace: its memory is of one thread alone. */
+int means_access(u64 i) { return !late_context(i) || known[i] != MARK; }
+
 void find_users(u64 i) {
     u64 end = end_of(i);
     if (!known) known = zeroed(record_count, sizeof *known);

@@ -168,7 +168,7 @@ const char *local_now(u64 at, const block *b);
 enum event_kind { IS_ACCESS, IS_ACQUIRE, IS_RELEASE, IS_FORK, IS_JOIN, IS_MARK };
 typedef void (*held_lock)(part thread, part lock, part line_end, u32 stack);
 u32 trace_lock(part name);             /* its number, from 1 */
-part lock_name(u32 number);            /* the same; it stands for good */
+part lock_name(u32 number);            /* with WIDE bytes that may be read; it stands for good */
 extern u32 thread_limit;               /* of the trace */
 u32 trace_threads(void);                /* so many were met, in any trace */
 u32 trace_thread(const char *name, u64 length);              /* its number, from 1 */
@@ -200,6 +200,7 @@ extern int whole_trace;                /* also what cannot conflict */
 extern u32 *known;                     /* of each record: 0 where the passes that follow pass over it (accesses.c) */
 piece *only_piece(u64 i);              /* that a record accesses, from the third pass on; null of several, or none */
 void find_users(u64 i);
+int means_access(u64 i);               /* does a record mean more than its context? */
 void find_cuts(u64 i);
 void share_pieces(u64 i);
 void share_object(u64 i);
@@ -235,9 +236,9 @@ const char *thread_name(u32 t);        /* with an end */
 u64 thread_epoch(u32 t);               /* it grows with each event of the thread that could order another */
 int has_events(u32 t);
 void pass_event(u32 t, int writes);    /* an access that the page's trace lacks */
-part name_of_thread(u32 t);
+part name_of_thread(u32 t);            /* with WIDE bytes that may be read */
 part variable_name(u64 address, const block *b);             /* it stands until the next call */
-void event(u32 t, const char *operation, part name, u64 caller);
+void event(u32 t, const char *operation, part name, u64 caller);        /* name: with WIDE bytes that may be read */
 void lock_event(u32 t, const char *operation, u32 lock, u64 caller);   /* the same; its number in state.c */
 void access_event(u32 t, const char *operation, u32 piece, u64 caller, u64 own);         /* the same of a piece; own: the caller's own_place */
 void hold_event(u32 t, const char *operation, u32 lock, u64 caller, u32 stack);       /* the same, which orders no thread */

@@ -150,7 +150,7 @@ static part symbol_of(u64 address) {
     if (count == MOST_KEPT) return found;
     map_number(&met, address, 0);
     GROW(kept, count, capacity);
-    return kept[count++] = (part){memcpy(zeroed(found.length + WIDE, 1), name, found.length), found.length};
+    return kept[count++] = (part){memcpy(zeroed(found.length + 1, 1), name, found.length), found.length};
 }
 
 part variable_name(u64 address, const block *b) {
@@ -160,7 +160,7 @@ part variable_name(u64 address, const block *b) {
     return (part){name, end - name};
 }
 
-/* Of a piece, with WIDE bytes behind it. Short ones are mostly found in a table of recent ones. */
+/* Of a piece, with WIDE bytes that may be read. Short ones are mostly found in a table of recent ones. */
 static part piece_name(u32 number) {
     enum { RECENT = 1 << 16, SHORT = 59 };
     static struct { u32 piece; uint8_t length; char name[SHORT]; } recent[RECENT];
@@ -231,11 +231,11 @@ static void keep_line(const char *end, u32 stack) {
 
 /* ---- the trace of a page ---- */
 static void acquire_again(part thread, part lock, part line_end, u32 stack) {
-    keep_line(add_line(room_for_line(), thread, "acq", lock, line_end), stack);
+    if (written < event_limit) keep_line(add_line(room_for_line(), thread, "acq", lock, line_end), stack);
 }
 
 static void release_before(part thread, part lock, part line_end, u32 stack) {
-    keep_line(add_line(room_for_line(), thread, "rel", lock, line_end), 0);
+    if (written < event_limit) keep_line(add_line(room_for_line(), thread, "rel", lock, line_end), 0);
 }
 
 /* Gives whether the page's trace has the next event: all between two ends of a span, else forks and joins, and the first of a thread. */
@@ -272,10 +272,11 @@ static void write_event(u32 t, const char *operation, part name, u32 lock, u64 c
     part line_end = line_end_of(caller), thread = name_of_thread(t);
     char *end = add_line(line, thread, operation, name, line_end);
     if (is_first) threads[t].number = trace_thread(thread.at, thread.length);
-    if (written >= event_limit && for_page) end_page();
-    else if (written >= event_limit) cut_reason = "at the limit of events";
+    int is_full = written == event_limit;
+    if (is_full && for_page) end_page();
+    else if (is_full) cut_reason = "at the limit of events";
     else if (bytes + (end - line) > byte_limit) cut_reason = "at 1 GiB of text";
-    if (cut_reason) return;
+    if (is_full || cut_reason) return;
     u32 other = kind == IS_FORK || kind == IS_JOIN ? trace_thread(name.at, name.length) : lock;
     need_event(name.length && trace_event(end - line - 1, kind, threads[t].number, other, line_end, stack), line, end);
     events++;

@@ -42,7 +42,7 @@ static void find_sharing(u64 i) {
     share_pieces(i);
     if (operation_of(i) == OP_FENCE) share_fence(i);
     if (is_for_object(operation_of(i))) share_object(i);
-    if (!is_of_stack(operation_of(i))) note_record(i);
+    if (!is_of_stack(operation_of(i)) && means_access(i)) note_record(i);
 }
 
 static u32 forked_by[THREADS];         /* plus one */
@@ -74,7 +74,7 @@ static void write_events(u64 i) {
         access_events(i);
         if (operation == OP_FREE) note_free(before + 1, written);
     }
-    note_record(i);
+    if (means_access(i)) note_record(i);
 }
 
 static void name_block(block *b, u64 i) {

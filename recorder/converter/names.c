@@ -70,17 +70,16 @@ void read_modules(char *header) {
 /* ---- symbols ---- */
 /* Those of a page, which are asked for together: in order, none over another. */
 static void ask_symbols(module *m, u64 page, page_symbols *to) {
-    const u64 last = page + (SYMBOL_PAGE - 1);
-    u64 behind = 0;
+    u64 behind = 0;                    /* of the page's bytes */
     answer a;
     ask(reader_of(m), ASK_SYMBOLS, &page, 1);
     while (next_answer(m->reader, &a)) {
-        u64 size = a.two >> SYMBOL_FLAGS;
-        if (a.one < behind || a.one > last || (a.one < page ? size <= page - a.one : !size)) {
+        u64 size = a.two >> SYMBOL_FLAGS, before = a.one < page ? page - a.one : 0, from = before ? 0 : a.one - page;
+        if (from < behind || from >= SYMBOL_PAGE || size <= before) {
             refuse_answer(m->reader);
             return;
         }
-        behind = last - a.one < size ? last + 1 : a.one + size;
+        behind = size - before < SYMBOL_PAGE - from ? from + size - before : SYMBOL_PAGE;
         GROW(to->list, to->count, to->capacity);
         to->list[to->count++] = (symbol){a.one + m->base, size, cleaned(copy(a.first)), a.two & SYMBOL_IS_TWICE};
     }

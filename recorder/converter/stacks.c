@@ -319,7 +319,7 @@ void forget_calls(void) {
         calls_of_thread *s = &stacks[t];
         s->count = s->known = s->owned = s->told = s->in = s->length = s->depth = s->last = 0;
     }
-    has_way = has_place = 0;
+    has_way = told_way = has_place = 0;
 }
 
 /* ---- locals ---- */

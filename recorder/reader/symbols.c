@@ -25,7 +25,7 @@ static void take_symbol(struct debug *d, int number) {
     GElf_Word section;
     const char *name = dwfl_module_getsym_info(d->file, number, &s, &at, &section, 0, 0);
     int type = GELF_ST_TYPE(s.st_info), is_function = type == STT_FUNC || type == STT_GNU_IFUNC;
-    if (!name || !*name || !s.st_size || section == SHN_UNDEF || section == SHN_ABS || section == SHN_COMMON) return;
+    if (!name || !*name || !s.st_size || s.st_size > ~0ull >> SYMBOL_FLAGS || section == SHN_UNDEF || section == SHN_ABS || section == SHN_COMMON) return;
     if (!is_function && type != STT_OBJECT && type != STT_NOTYPE) return;
     GROW(d->symbols, d->symbol_count, d->symbol_capacity);
     d->symbols[d->symbol_count++] = (symbol){s.st_value, s.st_size, name, 0, 0, is_function};
@@ -69,8 +69,8 @@ const symbol *symbol_from(struct debug *d, u64 address) {
     read_symbols(d);
     u64 k = count_up_to(d->symbols, d->symbol_count, sizeof *d->symbols, address);
     if (k && address - d->symbols[k - 1].at < d->symbols[k - 1].size) k--;
-    else while (k + 1 < d->symbol_count && d->symbols[k + 1].at == d->symbols[k].at) k++;
-    if (k == d->symbol_count) return 0;
+    else if (k == d->symbol_count) return 0;
+    else k = count_up_to(d->symbols, d->symbol_count, sizeof *d->symbols, d->symbols[k].at) - 1;
     symbol *s = &d->symbols[k];
     name_of(s);
     if (!s->is_function) mark_doubles(d);
