@@ -33,23 +33,36 @@ READ_ALONE = (  # thread 2 reads X before thread 1 writes it, and later what it 
 FAR_APART = (  # the race of Z is from the first part to the second
     BEGIN, write(1, X, 0x201), write(2, X, 0x202), write(1, Z, 0x203), b"".join(entry(2, "LOCK", OTHER_LOCK, 0x300) + write(2, 0x8000, 0x302) + entry(2, "UNLOCK", OTHER_LOCK, 0x303) for _ in range(60)),
     under(1, OTHER_LOCK, 0x304, read(1, 0x8000, 0x306)), write(2, Z, 0x204), write(1, Y, 0x205), write(2, Y, 0x206))
+HELD = [LOCK + 0x200 + 16 * k for k in range(9)]
+IN_LOCKS = (  # thread 1 holds nine locks before the page begins
+    BEGIN, *(under(2, lock, 0x210) for lock in HELD), *(entry(1, "LOCK", lock, 0x220) for lock in HELD), *(under(2, OTHER_LOCK, 0x300) for _ in range(60)),
+    under(1, OTHER_LOCK, 0x302), write(1, X, 0x201), write(2, X, 0x202), *(entry(1, "UNLOCK", lock, 0x222) for lock in HELD))
 
 
 class Parts(recorder.Case):
-    def explained(self, entries, *options):
-        """The view's document and text of a record whose page has spans of a few events."""
-        converter = planted(self.folder / "converter", "page.c", SPANS, "enum { CONTEXT = 2, SHORT_RUN = 4, ONE_TRACE = 20, SPARSE = 4 };")
-        record, page, scan, found = (self.folder / name for name in ("app.rec", "page.std", "page.scan", "found.json"))
+    def setUp(self):
+        super().setUp()
+        self.converter = planted(self.folder / "converter", "page.c", SPANS, "enum { CONTEXT = 2, SHORT_RUN = 4, ONE_TRACE = 20, SPARSE = 4 };")
+
+    def page_of(self, entries, *options):
+        """The page's trace of a record, with spans of a few events; the scan's report is beside it."""
+        record, page, scan = (self.folder / name for name in ("app.rec", "page.std", "page.scan"))
         record.write_bytes(HEADER + b"".join(entries))
-        whole = recorder.must(recorder.call(converter, "--scan", record)).stdout
+        whole = recorder.must(recorder.call(self.converter, "--scan", record)).stdout
         scan.write_bytes(recorder.must(recorder.call(recorder.SHB, "scan", "--variables", input=whole)).stdout)
         races = re.findall(rb"^race \d+: (\d+) (\d+)\nfirst .*?\|[rw]\((.*?)\)", scan.read_bytes(), re.M)
         uses = self.folder / "page.uses"
-        page.write_bytes(recorder.must(recorder.call(converter, "--only", "/dev/stdin", "--uses", uses, *options, record,
+        page.write_bytes(recorder.must(recorder.call(self.converter, "--only", "/dev/stdin", "--uses", uses, *options, record,
                                                      input=b"".join(b"%b %b %b\n" % race for race in races))).stdout)
-        view = recorder.SOURCES.parent / "view" / "shb-view"
-        text = recorder.must(recorder.call(sys.executable, view, "--all", "--text", "--json", found, "--scan", scan, "--uses", uses, page)).stdout.decode()
         self.uses, self.races = Uses(uses), {name.decode(): (int(first), int(second)) for first, second, name in races}
+        return page
+
+    def explained(self, entries, *options):
+        """The view's document and text of such a page."""
+        page, found = self.page_of(entries, *options), self.folder / "found.json"
+        view = recorder.SOURCES.parent / "view" / "shb-view"
+        text = recorder.must(recorder.call(sys.executable, view, "--all", "--text", "--json", found, "--scan", page.with_suffix(".scan"), "--uses",
+                                           page.with_suffix(".uses"), page)).stdout.decode()
         return json.loads(found.read_text()), re.split(r"(?m)^(?=\d+\. )", text)
 
     def test_nothing_of_another_part_is_shown(self):
@@ -64,3 +77,10 @@ class Parts(recorder.Case):
         self.assertEqual({name: bool(self.uses.pair(*race)) for name, race in self.races.items()}, {"0x5000": True, "0x6000": True, "0x7000": False})
         self.assertTrue(all(event in self.uses.events for event in self.races["0x7000"]))
         self.assertEqual({variable["name"] for place in document["places"] for variable in place["variables"]}, {"0x5000", "0x6000"})
+
+    def test_a_page_ends_at_its_limit(self):
+        """Also among the locks that are held where it begins; what comes up to there is what a longer page has."""
+        whole = self.page_of(IN_LOCKS).read_bytes().splitlines()
+        self.assertEqual(sum(b"|acq(" in line for line in whole[:13]), 9)
+        for most in range(1, len(whole)):
+            self.assertEqual(self.page_of(IN_LOCKS, "-n", str(most)).read_bytes().splitlines(), whole[:most])

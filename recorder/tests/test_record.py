@@ -224,6 +224,19 @@ class Orders(recorder.Case):
         trace = recorder.must(recorder.convert(record)).stdout
         self.assertEqual(trace.decode().splitlines(), [line for _, lines in ORDERS for line in lines])
 
+    def test_what_is_late_and_private_changes_nothing(self):
+        """A thread's access of its own stack, held back, comes between what the thread took and what it gives on."""
+        entries = [*(entry(0, "FORK", thread, 0x100) for thread in (1, 2, 3, 4)), entry(1, "START", 0x100000, 0x900, 0x1000),
+                   *(entry(thread, "ATOMIC_UPDATE", ATOMIC, 0x200 + thread, 4 | RELEASE) for thread in (2, 3, 1))]
+        loads = [entry(thread, "ATOMIC_LOAD", ATOMIC, 0x300 + thread, 4 | ACQUIRE) for thread in (1, 4, 2, 3, 1)]
+        private = late(len(b"".join(entries)) // 16, 1, entry(1, "WRITE", 0x100ff0, 0x777, 4))
+        record, traces = self.folder / "app.rec", []
+        for more in (b"", private):
+            record.write_bytes(HEADER + b"".join([*entries, *loads, more]))
+            traces.append(recorder.must(recorder.convert(record)).stdout)
+        self.assertIn(b"T4|acq(", traces[0])
+        self.assertEqual(traces[1], traces[0])
+
 
 class Held(recorder.Case):
     def test_locks_that_are_held_at_an_access_are_in_the_trace(self):
@@ -240,39 +253,6 @@ class Held(recorder.Case):
         record.write_bytes(HEADER + b"".join(entries))
         trace = recorder.must(recorder.convert(record)).stdout
         self.assertEqual(recorder.places(trace), {("0x103", "0x202")})  # a trace that is taken
-
-
-GUARDED, DATA, FLAG, LATE, MIXED, TAKEN = (0x10000100 + 16 * k for k in range(6))
-OPEN = [  # with -r: what locks, threads and the like order is left out, what a read alone orders isn't
-    (entry(0, "WRITE", CELL, 0x101, 4), []),
-    (entry(0, "FORK", 1, 0x102), ["main|fork(T1)|0x102"]),
-    (entry(1, "WRITE", CELL, 0x201, 4), []),  # after the fork
-    (entry(1, "READ", CELL, 0x202, 4), []),
-    (entry(1, "LOCK", LOCK, 0x203), ["T1|acq(0x10000010)|0x203"]),
-    (entry(1, "WRITE", GUARDED, 0x204, 4), []),
-    (entry(1, "WRITE", DATA, 0x205, 4), ["T1|w(0x10000110)|0x205"]),
-    (entry(1, "UNLOCK", LOCK, 0x206), ["T1|rel(0x10000010)|0x206"]),
-    (entry(1, "WRITE", FLAG, 0x207, 4), ["T1|w(0x10000120)|0x207"]),
-    (entry(1, "ATOMIC_STORE", MIXED, 0x208, 4 | RELAXED), ["T1|w(0x10000140!T1)|0x208"]),
-    (entry(1, "ATOMIC_STORE", TAKEN, 0x209, 4 | RELEASE),
-     ["T1|acq(0x10000150@1>main)|0x209", "T1|rel(0x10000150@1>main)|0x209"]),  # its own lock no other thread takes
-    (entry(1, "WRITE", LATE, 0x20a, 4), []),
-    (entry(0, "READ", FLAG, 0x103, 4), ["main|r(0x10000120)|0x103"]),
-    (entry(0, "READ", DATA, 0x104, 4), ["main|r(0x10000110)|0x104"]),
-    (entry(0, "READ", MIXED, 0x105, 4), ["main|r(0x10000140!T1)|0x105"]),
-    (entry(0, "LOCK", LOCK, 0x106), ["main|acq(0x10000010)|0x106"]),
-    (entry(0, "READ", GUARDED, 0x107, 4), []),
-    (entry(0, "UNLOCK", LOCK, 0x108), ["main|rel(0x10000010)|0x108"]),
-    (entry(0, "ATOMIC_LOAD", TAKEN, 0x109, 4 | ACQUIRE), ["main|acq(0x10000150@1>main)|0x109", "main|rel(0x10000150@1>main)|0x109"]),
-    (entry(0, "READ", TAKEN, 0x10a, 4), []),  # the load before took what the store gave
-    (entry(0, "JOIN", 1, 0x10b), ["main|join(T1)|0x10b"]),
-    (entry(0, "READ", LATE, 0x10c, 4), []),
-    (entry(0, "FORK", 2, 0x10d), ["main|fork(T2)|0x10d"]),
-    (entry(2, "WRITE", LATE, 0x20b, 4), ["T2|w(0x10000130)|0x20b"]),
-    (entry(0, "READ", LATE, 0x10e, 4), ["main|r(0x10000130)|0x10e"]),  # not ordered: so all of LATE is there
-]
-for number, line in ((11, "T1|w(0x10000130)|0x20a"), (21, "main|r(0x10000130)|0x10c")):
-    OPEN[number] = OPEN[number][0], [line]
 
 
 class Open(recorder.Case):
