@@ -21,7 +21,7 @@ use Rattle.shb_nearest.specs.declared.tables.Tables.{Tables}
 use Rattle.shb_nearest.specs.Classes.{IsNewestOf, IsOfClass}
 use Rattle.shb_nearest.specs.Found.{IsFoundAccess, location_in}
 use Rattle.shb_nearest.specs.Groups.{AreGroups, IsGroup, IsKept, access_of}
-use Rattle.shb_nearest.specs.Late.{AreLate, IsLateIn}
+use Rattle.shb_nearest.specs.Late.{AreLate, IsLateIn, access_in, each_in, late_in}
 use Rattle.shb_nearest.specs.Places.{IsAtPlace, IsNearestAt}
 use Rattle.shb_nearest.specs.Screen.{IsMarked, IsScreened}
 use Rattle.shb_nearest.specs.Searched.{AreTables}
@@ -83,8 +83,8 @@ module _ (past : List Event) (e : Event) (spots : List Spot) (s : Spot) (as_many
   late_in_longer : (x m : ℕ) (a : Late) → IsLateIn past spots x m (length past) a → IsLateIn (past ++ e ∷ []) (spots ++ s ∷ []) x m (length past) a
   late_in_longer x m a h = record {
     own = record {
-      own = access_longer x a.access h.past h.own.own;
-      time_is = h.own.time_is ∙ sym (time_longer past (e ∷ []) a.access.thread a.access.event h.past);
+      own = access_longer x (access_in a) h.past h.own.own;
+      time_is = h.own.time_is ∙ sym (time_longer past (e ∷ []) a.thread a.event h.past);
     };
     from = h.from;
     past = h.past;
@@ -147,10 +147,10 @@ module _ (past : List Event) (e : Event) (spots : List Spot) (s : Spot) (as_many
       each = λ x variable at. (let h = are.variables.each x variable at in record {
         accesses = record {
           since = h.accesses.since;
-          groups = groups_longer x h.accesses.since variable.accesses.groups.each.items h.accesses.late.within h.accesses.groups;
-          late = late_longer x h.accesses.since variable.accesses.late.items h.accesses.late;
+          groups = groups_longer x h.accesses.since (each_in variable.accesses) h.accesses.late.within h.accesses.groups;
+          late = late_longer x h.accesses.since (late_in variable.accesses) h.accesses.late;
         };
-        sites = h.sites;
+        locations = h.locations;
         run = record { alone = λ i from lt is. same_thread_at i lt ∙ h.run.alone i from lt (sym (same_variable_at i lt) ∙ is) };
         screened = screened_longer x variable.latest h.screened;
       });

@@ -21,11 +21,9 @@ use Rattle.shb_nearest.specs.declared.classes.Class.{Class}
 use Rattle.shb_nearest.specs.declared.groups.Group.{Group}
 use Rattle.shb_nearest.specs.declared.groups.KeptAccess.{KeptAccess}
 use Rattle.shb_nearest.specs.declared.groups.Run.{Run}
-use Rattle.shb_nearest.specs.declared.late.Late.{Late}
-use Rattle.shb_nearest.specs.Classes.{HasPut, IsNewestOf, IsOfClass, is_newest_in, newest_in, same_class}
+use Rattle.shb_nearest.specs.Classes.{HasLastOf, HasPut, IsNewestOf, IsOfClass, is_newest_in, newest_in, same_class}
 use Rattle.shb_nearest.specs.Found.{IsFoundAccess}
-use Rattle.shb_nearest.specs.Groups.{AreAmong, AreGroups, HasGroupAt, HasKept, HasLast, HasReplaced, HasSite, IsAmong, IsEarlier, IsGroup, IsKept, IsOfGroup, IsRun, KeepsAccess, access_of, class_of, is_newest_kept}
-use Rattle.shb_nearest.specs.Late.{HasNewest, IsBefore}
+use Rattle.shb_nearest.specs.Groups.{AreAmong, AreGroups, HasGroupAt, HasKept, HasLast, HasReplaced, HasLocation, IsAmong, IsEarlier, IsGroup, IsKept, IsOfGroup, IsRun, KeepsAccess, access_of, class_of, is_newest_kept}
 use Rattle.shb_nearest.proofs.ClassLemmas.{class_own, newest_before, one_class_at}
 use Rattle.shb_nearest.proofs.Members.{all_remove, index_of, member_at, member_filter, member_remove, member_set, stays_or_is}
 
@@ -189,7 +187,7 @@ module _ (trace : List Event) (spots : List Spot) (x n : ℕ) where
       newest_kept a there last = elim h.items [
         | inl all ↦ subst (λ (l : List KeptAccess). Contains l a) (sym all) there
         | inr (inl one) ↦ replaced_kept one a there last
-        | inr (inr some) ↦ subst (λ (l : List KeptAccess). Contains l a) (sym some.items) (member_filter (is_newest_kept some.newest x old.thread old.writes) pushed a there (newest_passes some.newest (class_in old a) a.event a.event (some.last pushed_rising a there last) refl))
+        | inr (inr some) ↦ subst (λ (l : List KeptAccess). Contains l a) (sym some.items) (member_filter (is_newest_kept some.newest x old.thread old.writes) pushed a there (newest_passes some.newest (class_in old a) a.event a.event (some.last pushed_rising a there (λ b in_pushed same. last b in_pushed (ap (λ (c : Class). c.location) same))) refl))
       ]
 
       -- each access of the group is of the class of its location
@@ -274,36 +272,39 @@ module _ (trace : List Event) (spots : List Spot) (x n : ℕ) where
           | inr other ↦ other_class c k is of_x (are.covers c k of_x is (omega (arith, lt, other)))
         ]
 
--- a table of the last access at each location, an access more
-pub last_more : (x thread : ℕ) (writes : Bool) (old new : List (Class × ℕ)) (kept : List KeptAccess) (m : ℕ) (y : KeptAccess) → AllPairs IsEarlier kept → slice_get kept m ≡ Some y → HasPut old new (class_of x (access_of thread writes y)) y.event → HasLast old x thread writes (take m kept) → HasLast new x thread writes (take (m + 1) kept)
-last_more x thread writes old new kept m y rising at put h a there last = elim (Contains-push_cases (take m kept) y a (subst (λ (l : List KeptAccess). Contains l a) more there)) [
-  | inr same ↦ subst (λ (b : KeptAccess). newest_in new (class_of x (access_of thread writes b)) ≡ Some b.event) same (put (class_of x (access_of thread writes y)) ∙ ap (λ (b : Bool). cond b (Some y.event) (newest_in old (class_of x (access_of thread writes y)))) (class_self (class_of x (access_of thread writes y))))
-  | inl before ↦ put (class_of x (access_of thread writes a)) ∙ (ap (λ (b : Bool). cond b (Some y.event) (newest_in old (class_of x (access_of thread writes a)))) (other before) ∙ h a before (λ b in_front at_b. last b (subst (λ (l : List KeptAccess). Contains l b) (sym more) (Contains-append_left (take m kept) (y ∷ []) b in_front)) at_b))
-]
-  where
-    more : take (m + 1) kept ≡ take m kept ++ y ∷ []
-    more = (let e : m + 1 ≡ suc m = omega arith in ap (λ (k : ℕ). take k kept) e) ∙ (take-suc kept m y (slice_get_within kept m y at) ∙ ap (λ (b : KeptAccess). take m kept ++ b ∷ []) (get_or_from_slice_get kept m y y at))
+-- a table of the last access of each class of some, by the event and the class of each, and one more
+module _ {A : Type 0} (event : A → ℕ) (class_at : A → Class) where
+  pub last_more : (old new : List (Class × ℕ)) (items : List A) (m : ℕ) (y : A) (class : Class) → class ≡ class_at y → AllPairs (λ (a b : A). event a < event b) items → slice_get items m ≡ Some y → HasPut old new class (event y) → HasLastOf event class_at old (take m items) → HasLastOf event class_at new (take (m + 1) items)
+  last_more old new items m y class of_y rising at put h a there last = elim (Contains-push_cases (take m items) y a (subst (λ (l : List A). Contains l a) more there)) [
+    | inr same ↦ subst (λ (b : A). newest_in new (class_at b) ≡ Some (event b)) same (put_y (class_at y) ∙ ap (λ (b : Bool). cond b (Some (event y)) (newest_in old (class_at y))) (class_self (class_at y)))
+    | inl before ↦ put_y (class_at a) ∙ (ap (λ (b : Bool). cond b (Some (event y)) (newest_in old (class_at a))) (other before) ∙ h a before (λ b in_front of_a. last b (subst (λ (l : List A). Contains l b) (sym more) (Contains-append_left (take m items) (y ∷ []) b in_front)) of_a))
+  ]
+    where
+      put_y : HasPut old new (class_at y) (event y)
+      put_y = subst (λ (c : Class). HasPut old new c (event y)) of_y put
 
-    earlier : Contains (take m kept) a → a.event < y.event
-    earlier before =
-        let long = length-take m kept in
-        let low = before.1 in
-        let lt : before.0 < m = omega (arith, long, low) in
-        let in_list = get_or-take m kept before.0 a lt in
-        let rise = rising before.0 m a lt (slice_get_within kept m y at) in
-        let at_a = ap (λ (b : KeptAccess). b.event) (sym in_list ∙ before.2) in
-        let at_y = ap (λ (b : KeptAccess). b.event) (get_or_from_slice_get kept m y a at) in
-        omega (arith, rise, at_a, at_y)
+      more : take (m + 1) items ≡ take m items ++ y ∷ []
+      more = (let e : m + 1 ≡ suc m = omega arith in ap (λ (k : ℕ). take k items) e) ∙ (take-suc items m y (slice_get_within items m y at) ∙ ap (λ (b : A). take m items ++ b ∷ []) (get_or_from_slice_get items m y y at))
 
-    other : Contains (take m kept) a → same_class (class_of x (access_of thread writes y)) (class_of x (access_of thread writes a)) ≡ false
-    other before = elim (cases_Bool (same_class (class_of x (access_of thread writes y)) (class_of x (access_of thread writes a)))) [
-      | inr differs ↦ differs
-      | inl same ↦ absurd (
-          let location = ap (λ (d : Class). d.location) (one_class (class_of x (access_of thread writes y)) (class_of x (access_of thread writes a)) same) in
-          let le = last y (subst (λ (l : List KeptAccess). Contains l y) (sym more) (Contains-push (take m kept) y)) location in
-          let lt = earlier before in
-          omega (arith, le, lt))
-    ]
+      earlier : Contains (take m items) a → event a < event y
+      earlier before =
+          let long = length-take m items in
+          let low = before.1 in
+          let lt : before.0 < m = omega (arith, long, low) in
+          let in_list = get_or-take m items before.0 a lt in
+          let rise = rising before.0 m a lt (slice_get_within items m y at) in
+          let at_a = ap event (sym in_list ∙ before.2) in
+          let at_y = ap event (get_or_from_slice_get items m y a at) in
+          omega (arith, rise, at_a, at_y)
+
+      other : Contains (take m items) a → same_class (class_at y) (class_at a) ≡ false
+      other before = elim (cases_Bool (same_class (class_at y) (class_at a))) [
+        | inr differs ↦ differs
+        | inl same ↦ absurd (
+            let le = last y (subst (λ (l : List A). Contains l y) (sym more) (Contains-push (take m items) y)) (one_class (class_at y) (class_at a) same) in
+            let lt = earlier before in
+            omega (arith, le, lt))
+      ]
 
 -- a group that is there, and one that is made
 pub group_found : (groups : List Group) (t : ℕ) (w : Bool) (at : ℕ) (g : Group) → slice_get groups at ≡ Some g → IsOfGroup g t w → HasGroupAt groups groups t w at
@@ -360,39 +361,6 @@ retained_passing R test f says (x ∷ xs) ys h =
     let rest = retained_passing R test f says xs h.4 (subst (λ g. RetainsInTurn R g xs h.4) said.1 h.5) in
     h.6 ∙ (λ i. cond (said.0 i) (said.2 i ∷ rest i) (rest i))
 
--- a table of the newest access of each class, an access more
-pub newest_more : (x : ℕ) (old new : List (Class × ℕ)) (late : List Late) (m : ℕ) (y : Late) (class : Class) → class ≡ class_of x y.access → AllPairs IsBefore late → slice_get late m ≡ Some y → HasPut old new class y.access.event → HasNewest old x (take m late) → HasNewest new x (take (m + 1) late)
-newest_more x old new late m y class of_y rising at put h a there last = elim (Contains-push_cases (take m late) y a (subst (λ (l : List Late). Contains l a) more there)) [
-  | inr same ↦ subst (λ (b : Late). newest_in new (class_of x b.access) ≡ Some b.access.event) same (put_y (class_of x y.access) ∙ ap (λ (b : Bool). cond b (Some y.access.event) (newest_in old (class_of x y.access))) (class_self (class_of x y.access)))
-  | inl before ↦ put_y (class_of x a.access) ∙ (ap (λ (b : Bool). cond b (Some y.access.event) (newest_in old (class_of x a.access))) (other before) ∙ h a before (λ b in_front of_a. last b (subst (λ (l : List Late). Contains l b) (sym more) (Contains-append_left (take m late) (y ∷ []) b in_front)) of_a))
-]
-  where
-    put_y : HasPut old new (class_of x y.access) y.access.event
-    put_y = subst (λ (c : Class). HasPut old new c y.access.event) of_y put
-
-    more : take (m + 1) late ≡ take m late ++ y ∷ []
-    more = (let e : m + 1 ≡ suc m = omega arith in ap (λ (k : ℕ). take k late) e) ∙ (take-suc late m y (slice_get_within late m y at) ∙ ap (λ (b : Late). take m late ++ b ∷ []) (get_or_from_slice_get late m y y at))
-
-    earlier : Contains (take m late) a → a.access.event < y.access.event
-    earlier before =
-        let long = length-take m late in
-        let low = before.1 in
-        let lt : before.0 < m = omega (arith, long, low) in
-        let in_list = get_or-take m late before.0 a lt in
-        let rise = rising before.0 m a lt (slice_get_within late m y at) in
-        let at_a = ap (λ (b : Late). b.access.event) (sym in_list ∙ before.2) in
-        let at_y = ap (λ (b : Late). b.access.event) (get_or_from_slice_get late m y a at) in
-        omega (arith, rise, at_a, at_y)
-
-    other : Contains (take m late) a → same_class (class_of x y.access) (class_of x a.access) ≡ false
-    other before = elim (cases_Bool (same_class (class_of x y.access) (class_of x a.access))) [
-      | inr differs ↦ differs
-      | inl same ↦ absurd (
-          let le = last y (subst (λ (l : List Late). Contains l y) (sym more) (Contains-push (take m late) y)) (one_class (class_of x y.access) (class_of x a.access) same) in
-          let lt = earlier before in
-          omega (arith, le, lt))
-    ]
-
 -- an access in place of the last one
 pub last_replaced : (old : List KeptAccess) (at : ℕ) (access : KeptAccess) → at + 1 ≡ length old → set old at access ≡ remove old at ++ access ∷ []
 last_replaced [] at access is = absurd (omega (arith, is))
@@ -400,13 +368,13 @@ last_replaced (a ∷ []) zero access is = refl
 last_replaced (a ∷ (b ∷ old)) zero access is = absurd (omega (arith, is))
 last_replaced (a ∷ old) (suc at) access is = ap (λ (l : List KeptAccess). a ∷ l) (last_replaced old at access (omega (arith, is)))
 
--- the sites of the groups, an access more
-pub sites_taken : (x : ℕ) (access : KeptAccess) (sites more : List ℕ) (groups mid : List Group) (t : ℕ) (w : Bool) (at : ℕ) (was now : Group) → HasSite sites more access.spot.location → HasGroupAt groups mid t w at → slice_get mid at ≡ Some was → HasKept x access was now
-    → (length sites ≤ 16 → All (AreAmong sites) groups) → length more ≤ 16 → All (AreAmong more) (set mid at now)
-sites_taken x access sites more groups mid t w at was now site found at_was h are few = All-set (AreAmong more) mid at now of_now in_mid
+-- the locations of the groups, an access more
+pub locations_taken : (x : ℕ) (access : KeptAccess) (locations more : List ℕ) (groups mid : List Group) (t : ℕ) (w : Bool) (at : ℕ) (was now : Group) → HasLocation locations more access.spot.location → HasGroupAt groups mid t w at → slice_get mid at ≡ Some was → HasKept x access was now
+    → (length locations ≤ 16 → All (AreAmong locations) groups) → length more ≤ 16 → All (AreAmong more) (set mid at now)
+locations_taken x access locations more groups mid t w at was now location_there found at_was h are few = All-set (AreAmong more) mid at now of_now in_mid
   where
     before : All (AreAmong more) groups
-    before = All-weaker (AreAmong sites) (AreAmong more) (λ g among. All-weaker (IsAmong sites) (IsAmong more) (λ a i. site.stay a.spot.location i) g.kept.items among) groups (are (let longer = site.longer in omega (arith, longer, few)))
+    before = All-weaker (AreAmong locations) (AreAmong more) (λ g among. All-weaker (IsAmong locations) (IsAmong more) (λ a i. location_there.stay a.spot.location i) g.kept.items among) groups (are (let longer = location_there.longer in omega (arith, longer, few)))
 
     in_mid : All (AreAmong more) mid
     in_mid = λ k d lt. elim (found.from (get_or mid k d) (Contains-get_or mid k d lt)) [
@@ -418,11 +386,11 @@ sites_taken x access sites more groups mid t w at was now site found at_was h ar
     of_was = All-contains (AreAmong more) mid was in_mid (member_at mid at was at_was)
 
     pushed : All (IsAmong more) (was.kept.items ++ access ∷ [])
-    pushed = All-push (IsAmong more) was.kept.items access of_was (site.there few)
+    pushed = All-push (IsAmong more) was.kept.items access of_was (location_there.there few)
 
     of_now : AreAmong more now
     of_now = elim h.items [
       | inl all ↦ subst (λ (l : List KeptAccess). All (IsAmong more) l) (sym all) pushed
-      | inr (inl one) ↦ subst (λ (l : List KeptAccess). All (IsAmong more) l) (sym one.items) (All-push (IsAmong more) (remove was.kept.items one.at) access (all_remove (IsAmong more) was.kept.items one.at (slice_get_within was.kept.items one.at one.gone one.there) of_was) (site.there few))
+      | inr (inl one) ↦ subst (λ (l : List KeptAccess). All (IsAmong more) l) (sym one.items) (All-push (IsAmong more) (remove was.kept.items one.at) access (all_remove (IsAmong more) was.kept.items one.at (slice_get_within was.kept.items one.at one.gone one.there) of_was) (location_there.there few))
       | inr (inr some) ↦ subst (λ (l : List KeptAccess). All (IsAmong more) l) (sym some.items) (All-filter (is_newest_kept some.newest x was.thread was.writes) (IsAmong more) (was.kept.items ++ access ∷ []) pushed)
     ]

@@ -22,7 +22,7 @@ use Rattle.shb_nearest.specs.Places.{AreKnown, ArePlaces, IsAtPlace, IsKnown, Is
 use Rattle.shb_nearest.specs.Rivals.{AreRivals}
 use Rattle.shb_nearest.proofs.ClassLemmas.{location_of_access}
 use Rattle.shb_nearest.proofs.PlaceTable.{AreOffered, IsCome, offered_are, place_with}
-use Rattle.shb_nearest.proofs.RivalLemmas.{site_of, variable_is}
+use Rattle.shb_nearest.proofs.RivalLemmas.{location_among, variable_is}
 
 below_pred_path : (trace : List Event) (a b e : ℕ) → ShbBelow trace a b → BelowPred trace b e → BelowPred trace a e
 below_pred_path trace a b e here below = below
@@ -169,8 +169,8 @@ module _ (by_variable : Bool) (trace : List Event) (disciplined : IsDisciplined 
 
 -- the places, where each race with the access is at a known one: those of locations that have all that the groups keep
 pub placed_known : (by_variable : Bool) (trace : List Event) → IsDisciplined trace → (spots : List Spot) (x n : ℕ) (access : FoundAccess) → access.event ≡ n → IsFoundAccess trace spots x access → (old : List PlaceEntry) → ArePlaces by_variable trace spots n old
-    → (groups : List Group) (sites : List ℕ) → AreGroups trace spots x (n + 1) (n + 1) groups → All (AreAmong sites) groups → AreKnown by_variable x access.spot.location old sites → ArePlaces by_variable trace spots (n + 1) old
-placed_known by_variable trace disciplined spots x n access at_n own old are groups sites groups_are among known = placed by_variable trace disciplined spots x n access at_n own n old are (λ i l race at lt. here_known i l race at) [] (record {
+    → (groups : List Group) (locations : List ℕ) → AreGroups trace spots x (n + 1) (n + 1) groups → All (AreAmong locations) groups → AreKnown by_variable x access.spot.location old locations → ArePlaces by_variable trace spots (n + 1) old
+placed_known by_variable trace disciplined spots x n access at_n own old are groups locations groups_are among known = placed by_variable trace disciplined spots x n access at_n own n old are (λ i l race at lt. here_known i l race at) [] (record {
   races = λ a there. absurd (contains_none a there);
   each = λ i l race at from. absurd (let lt = race.earlier in omega (arith, lt, from, at_n));
 })
@@ -180,5 +180,5 @@ placed_known by_variable trace disciplined spots x n access at_n own old are gro
         let conflict = race.conflict in
         let before = race.earlier in
         let one : conflict.variable ≡ x = (let s : Some conflict.variable ≡ Some x = sym conflict.second_accesses ∙ variable_is trace spots x access own in cc) in
-        All-contains (λ (m : ℕ). IsKnown old (place_with m access.spot.location (variable_part by_variable x))) sites l known
-        (site_of trace spots x access own groups sites (n + 1) groups_are among i l (omega (arith, before, at_n)) (conflict.first_accesses ∙ ap (λ (y : ℕ). Some y) one) at)
+        All-contains (λ (m : ℕ). IsKnown old (place_with m access.spot.location (variable_part by_variable x))) locations l known
+        (location_among trace spots x access own groups locations (n + 1) groups_are among i l (omega (arith, before, at_n)) (conflict.first_accesses ∙ ap (λ (y : ℕ). Some y) one) at)

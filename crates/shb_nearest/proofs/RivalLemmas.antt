@@ -206,15 +206,15 @@ module _ (trace : List Event) (spots : List Spot) (x : ℕ) where
         more = (let e : n + 1 ≡ suc n = omega arith in ap (λ (m : ℕ). take m groups) e) ∙ (take-suc groups n group (slice_get_within groups n group at) ∙ ap (λ (b : Group). take n groups ++ b ∷ []) (get_or_from_slice_get groups n group group at))
 
     -- the location of an earlier access of the variable is one of what the groups keep
-    pub site_of : (groups : List Group) (sites : List ℕ) (n : ℕ) → AreGroups trace spots x n n groups → All (AreAmong sites) groups → (i l : ℕ) → i < n → variable_at trace i ≡ Some x → location_in spots i ≡ Some l → Contains sites l
-    site_of groups sites n are among i l lt accesses at =
+    pub location_among : (groups : List Group) (locations : List ℕ) (n : ℕ) → AreGroups trace spots x n n groups → All (AreAmong locations) groups → (i l : ℕ) → i < n → variable_at trace i ≡ Some x → location_in spots i ≡ Some l → Contains locations l
+    location_among groups locations n are among i l lt accesses at =
         let e = event_at_access trace i x accesses in
         let of_i = thread_is trace i e.0 e.1 in
         let kind = kind_at trace i x accesses in
         let class : Class = record { variable = x; location = l; thread = e.0.thread; writes = kind.0 } in
         let new = newest_exists trace spots n class i lt (record { thread_is = of_i; op_is = kind.1; location_is = at }) in
         let keeps = are.covers class new.0 refl new.1 new.1.past in
-        subst (λ (m : ℕ). Contains sites m) keeps.location_is (All-contains (IsAmong sites) keeps.group.kept.items keeps.kept (All-contains (AreAmong sites) groups keeps.group among keeps.there) keeps.among)
+        subst (λ (m : ℕ). Contains locations m) keeps.location_is (All-contains (IsAmong locations) keeps.group.kept.items keeps.kept (All-contains (AreAmong locations) groups keeps.group among keeps.there) keeps.among)
 
     -- all groups: each access that races has a rival at its location that isn't before it
     pub rivals_are : (since : ℕ) (groups : List Group) (rivals : List FoundAccess) → AreGroups trace spots x (access.event + 1) (access.event + 1) groups → AreMet trace spots x access since groups rivals → AreRivals trace spots x access since rivals

@@ -26,6 +26,7 @@ use Rattle.shb_nearest.specs.declared.tables.Variable.{Variable}
 use Rattle.shb_nearest.specs.Classes.{AreClasses, HasPut, IsOfClass, newest_in, same_class}
 use Rattle.shb_nearest.specs.Found.{IsFoundAccess, access_op}
 use Rattle.shb_nearest.specs.Groups.{AreAmong, AreGroups, HasGroupAt, IsAt, IsGroup, IsKept, IsOfGroup, IsRun, IsSince, access_of, class_of}
+use Rattle.shb_nearest.specs.Late.{each_in, late_in, locations_in}
 use Rattle.shb_nearest.specs.Places.{ArePlaces, PlaceEntry}
 use Rattle.shb_nearest.specs.Screen.{HasNone}
 use Rattle.shb_nearest.specs.Searched.{AreTables, AreVariables, IsVariable}
@@ -112,7 +113,7 @@ module _ (trace : List Event) (spots : List Spot) where
     }
 
     -- a variable that nothing accessed
-    variable_new : (x : ℕ) (variable : Variable) → ((i : ℕ) → i < n → variable_at trace i ≡ Some x → ⊥) → variable.accesses.groups.each.items ≡ [] → variable.accesses.late.items ≡ [] → IsVariable trace spots x n variable
+    variable_new : (x : ℕ) (variable : Variable) → ((i : ℕ) → i < n → variable_at trace i ≡ Some x → ⊥) → each_in variable.accesses ≡ [] → late_in variable.accesses ≡ [] → IsVariable trace spots x n variable
     variable_new x variable never no_group no_late = record {
       accesses = record {
         since = n;
@@ -120,9 +121,9 @@ module _ (trace : List Event) (spots : List Spot) where
           each = subst (λ (l : List Group). All (IsGroup trace spots x n) l) (sym no_group) (All-nil (IsGroup trace spots x n));
           covers = λ c k of_x is lt. absurd (never k lt (class_variable trace spots c k is.own ∙ ap (λ (y : ℕ). Some y) of_x));
         };
-        late = late_none trace spots x n variable.accesses.late.items no_late;
+        late = late_none trace spots x n (late_in variable.accesses) no_late;
       };
-      sites = λ few. subst (λ (l : List Group). All (AreAmong variable.accesses.groups.sites.items) l) (sym no_group) (All-nil (AreAmong variable.accesses.groups.sites.items));
+      locations = λ few. subst (λ (l : List Group). All (AreAmong (locations_in variable.accesses)) l) (sym no_group) (All-nil (AreAmong (locations_in variable.accesses)));
       run = record { alone = λ i from lt is. absurd (never i lt is) };
       screened = screened_never trace x n variable.latest never;
     }
@@ -130,8 +131,8 @@ module _ (trace : List Event) (spots : List Spot) where
     -- a variable without an access more
     variable_later : (x : ℕ) (variable : Variable) → (variable_at trace n ≡ Some x → ⊥) → IsVariable trace spots x n variable → IsVariable trace spots x (n + 1) variable
     variable_later x variable never is = record {
-      accesses = record { since = is.accesses.since; groups = groups_next trace spots x is.accesses.since variable.accesses.groups.each.items n is.accesses.late.within is.accesses.groups; late = late_skip trace spots x n is.accesses.since variable.accesses.late.items never is.accesses.late };
-      sites = is.sites;
+      accesses = record { since = is.accesses.since; groups = groups_next trace spots x is.accesses.since (each_in variable.accesses) n is.accesses.late.within is.accesses.groups; late = late_skip trace spots x n is.accesses.since (late_in variable.accesses) never is.accesses.late };
+      locations = is.locations;
       run = run_later x variable.run never is.run;
       screened = screened_later trace x n variable.latest never is.screened;
     }

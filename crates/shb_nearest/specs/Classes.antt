@@ -1,5 +1,5 @@
 -- Classes of accesses, and the newest access of each.
-use Rattle.std.specs.Prelude.{◌≡◌, ◌==◌, ◌&&◌, ◌<◌, ◌≤◌, nat_eq, ℕ, Bool, false, cond, List, Option, None, Some}
+use Rattle.std.specs.Prelude.{◌≡◌, ◌==◌, ◌&&◌, ◌<◌, ◌≤◌, nat_eq, ℕ, Bool, false, cond, List, Option, None, Some, Contains}
 use Rattle.std.specs.Bool.{beq}
 use Rattle.std.specs.Map.{lookup}
 use Rattle.shb_lines.specs.declared.event.Event.{Event}
@@ -22,6 +22,10 @@ is_newest_in entries class event = elim (newest_in entries class) [ Some k ↦ k
 -- an access became the newest of its class
 abbrev pub HasPut : List (Class × ℕ) → List (Class × ℕ) → Class → ℕ → Type 0
 HasPut old new class event = (c : Class) → newest_in new c ≡ cond (same_class class c) (Some event) (newest_in old c)
+
+-- the table has the last of each class of some accesses, by the event and the class of each
+abbrev pub HasLastOf : {A : Type 0} → (A → ℕ) → (A → Class) → List (Class × ℕ) → List A → Type 0
+HasLastOf {A} event class newest items = (a : A) → Contains items a → ((b : A) → Contains items b → class b ≡ class a → event b ≤ event a) → newest_in newest (class a) ≡ Some (event a)
 
 -- an access of the class
 pub record IsOfClass (trace : List Event) (spots : List Spot) (class : Class) (i : ℕ) : Type 0 where

@@ -5,7 +5,7 @@ use Rattle.shb_lines.specs.declared.event.Event.{Event}
 use Rattle.shb_lines.specs.events.Discipline.{local_time}
 use Rattle.shb_lines.specs.events.Events.{thread_at}
 use Rattle.shb_lines.specs.events.Race.{variable_at}
-use Rattle.shb_nearest.specs.Classes.{IsNewestOf, IsOfClass, is_newest_in, newest_in}
+use Rattle.shb_nearest.specs.Classes.{HasLastOf, IsNewestOf, IsOfClass, is_newest_in}
 use Rattle.shb_nearest.specs.Found.{IsFoundAccess}
 use Rattle.shb_nearest.specs.declared.access.FoundAccess.{FoundAccess}
 use Rattle.shb_nearest.specs.declared.access.Spot.{Spot}
@@ -73,7 +73,7 @@ is_newest_kept newest x thread writes kept = is_newest_in newest (class_of x (ac
 
 -- a table has the last of some kept accesses at each location
 abbrev pub HasLast : List (Class × ℕ) → ℕ → ℕ → Bool → List KeptAccess → Type 0
-HasLast newest x thread writes kept = (a : KeptAccess) → Contains kept a → ((b : KeptAccess) → Contains kept b → b.spot.location ≡ a.spot.location → b.event ≤ a.event) → newest_in newest (class_of x (access_of thread writes a)) ≡ Some a.event
+HasLast newest x thread writes kept = HasLastOf (λ (a : KeptAccess). a.event) (λ (a : KeptAccess). class_of x (access_of thread writes a)) newest kept
 
 -- of a group's accesses those stay that a table has, which has the last at each location
 pub record HasForgotten (x thread : ℕ) (writes : Bool) (old new : List KeptAccess) : Type 0 where
@@ -95,22 +95,25 @@ pub record HasKept (x : ℕ) (access : KeptAccess) (old new : Group) : Type 0 wh
   pub items : (new.kept.items ≡ old.kept.items ++ access ∷ []) ⊎ (HasReplaced access old.kept.items new.kept.items ⊎ HasForgotten x old.thread old.writes (old.kept.items ++ access ∷ []) new.kept.items)
 
 -- a location came to others, unless they are more than a few
-pub record HasSite (old new : List ℕ) (location : ℕ) : Type 0 where
+pub record HasLocation (old new : List ℕ) (location : ℕ) : Type 0 where
   pub longer : length old ≤ length new
   pub stay : (l : ℕ) → Contains old l → Contains new l
   pub there : length new ≤ 16 → Contains new location
 
 -- the location of a kept access is among some
 abbrev pub IsAmong : List ℕ → KeptAccess → Type 0
-IsAmong sites kept = Contains sites kept.spot.location
+IsAmong locations kept = Contains locations kept.spot.location
 
 -- those of what a group keeps are
 abbrev pub AreAmong : List ℕ → Group → Type 0
-AreAmong sites group = All (IsAmong sites) group.kept.items
+AreAmong locations group = All (IsAmong locations) group.kept.items
 
--- the sites have the locations of what the groups keep, if they are few
-abbrev pub HasSites : Groups → Type 0
-HasSites groups = length groups.sites.items ≤ 16 → All (AreAmong groups.sites.items) groups.each.items
+-- the locations have the locations of what the groups keep, if they are few
+abbrev pub AreLocations : List ℕ → List Group → Type 0
+AreLocations locations groups = length locations ≤ 16 → All (AreAmong locations) groups
+
+abbrev pub HasLocations : Groups → Type 0
+HasLocations groups = AreLocations groups.locations.items groups.each.items
 
 -- an access of the kept ones at a location, or 0
 abbrev pub IsAt : List KeptAccess → ℕ → ℕ → Type 0

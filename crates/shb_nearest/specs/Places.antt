@@ -38,7 +38,7 @@ IsKnown entries place = (race : FoundRace) × (race_at entries place ≡ Some ra
 
 -- the places are known of accesses of a variable at some locations, each with a later one at a location
 abbrev pub AreKnown : Bool → ℕ → ℕ → List PlaceEntry → List ℕ → Type 0
-AreKnown by_variable x second entries sites = All (λ l. IsKnown entries (record { first = l; second = second; variable = variable_part by_variable x })) sites
+AreKnown by_variable x second entries locations = All (λ l. IsKnown entries (record { first = l; second = second; variable = variable_part by_variable x })) locations
 
 -- the places after a race is offered to its place
 abbrev pub offered : Bool → List PlaceEntry → FoundRace → List PlaceEntry

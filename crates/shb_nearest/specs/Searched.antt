@@ -9,8 +9,8 @@ use Rattle.shb_stamps.specs.StreamClocks.{IsStreamed}
 use Rattle.shb_stamps.specs.declared.stream_clocks.StreamClocks.{StreamClocks}
 use Rattle.shb_nearest.specs.Classes.{AreClasses}
 use Rattle.shb_nearest.specs.Found.{IsFoundRace, ends_of, site_in}
-use Rattle.shb_nearest.specs.Groups.{HasSites, IsRun}
-use Rattle.shb_nearest.specs.Late.{AreAccesses}
+use Rattle.shb_nearest.specs.Groups.{IsRun}
+use Rattle.shb_nearest.specs.Late.{AreAccesses, HaveLocations}
 use Rattle.shb_nearest.specs.Nearest.{AreNearest}
 use Rattle.shb_nearest.specs.Places.{ArePlaces}
 use Rattle.shb_nearest.specs.Screen.{IsScreened}
@@ -28,7 +28,7 @@ HasRoom past = length past + 1 < 2 ^ 32
 -- what is kept of a variable before n
 pub record IsVariable (trace : List Event) (spots : List Spot) (x n : ℕ) (variable : Variable) : Type 0 where
   pub accesses : AreAccesses trace spots x n variable.accesses
-  pub sites : HasSites variable.accesses.groups
+  pub locations : HaveLocations variable.accesses
   pub run : IsRun trace x n variable.run
   pub screened : IsScreened trace x n variable.latest
 

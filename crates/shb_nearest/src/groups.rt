@@ -4,8 +4,8 @@ ghost use Rattle.std.specs.Prelude.{AllPairs, Contains, ◌≡◌, ◌<◌, ◌�
 ghost use Rattle.shb_lines.specs.declared.event.Event.{Event};
 ghost use Rattle.shb_nearest.specs.Classes.{AreClasses};
 ghost use Rattle.shb_nearest.specs.Found.{IsFoundAccess};
-ghost use Rattle.shb_nearest.specs.Groups.{AreGroups, HasGroupAt, HasKept, HasLast, HasSite, HasSites, IsAt, IsEarlier, IsOfGroup, IsRun, IsSince, is_newest_kept};
-ghost use Rattle.shb_nearest.specs.Late.{IsLate};
+ghost use Rattle.shb_nearest.specs.Groups.{AreGroups, HasGroupAt, HasKept, HasLast, HasLocation, HasLocations, IsAt, IsEarlier, IsOfGroup, IsRun, IsSince, is_newest_kept};
+ghost use Rattle.shb_nearest.specs.Late.{IsLate, access_in};
 ghost use Rattle.shb_nearest.specs.declared.access.Spot.{Spot as SpotData};
 ghost use Rattle.shb_nearest.specs.declared.groups.KeptAccess.{KeptAccess as KeptData};
 
@@ -50,14 +50,14 @@ pub struct Run {
 pub struct Groups {
     pub each: Vec<Group>,
     /// The locations of what they keep, if these are few; else more than a few locations.
-    pub sites: Vec<u32>,
+    pub locations: SmallVec<u32, 4>,
 }
 
 /// A group that keeps so many accesses, or fewer, keeps one for each location: the next one there replaces it.
 const FEW: usize = 64;
 
 /// The locations of what groups keep are noted while they are so few.
-const SITES: usize = 16;
+const LOCATIONS: usize = 16;
 
 /// So many groups for each location are looked at no sooner than it is asked whether all their places are known.
 const MANY: usize = 16;
@@ -133,11 +133,11 @@ fn forget(
 }
 
 /// Whether a location is among some.
-fn is_among(sites: &[u32], location: u32) -> bool
-    ensures { result ≡ true → Contains sites.now location }
+fn is_among(locations: &[u32], location: u32) -> bool
+    ensures { result ≡ true → Contains locations.now location }
 {
-    for site in sites {
-        if *site == location {
+    for known in locations {
+        if *known == location {
             return true;
         }
     }
@@ -145,17 +145,17 @@ fn is_among(sites: &[u32], location: u32) -> bool
 }
 
 /// Adds a location to others, unless they are more than a few.
-fn note_site(sites: &mut Vec<u32>, location: u32) -> Result<(), NoMemory>
-    ensures { OnOk result (HasSite sites.old.items sites.new.items location) }
+fn note_location(locations: &mut SmallVec<u32, 4>, location: u32) -> Result<(), NoMemory>
+    ensures { OnOk result (HasLocation locations.old.items locations.new.items location) }
 {
-    if sites.len() > SITES {
+    if locations.len() > LOCATIONS {
         return Ok(());
     }
-    let known = is_among(sites.as_slice(), location);
+    let known = is_among(locations.as_slice(), location);
     if known {
         return Ok(());
     }
-    sites.push(location)?;
+    locations.push(location)?;
     Ok(())
 }
 
@@ -276,15 +276,25 @@ impl Group {
 }
 
 impl Groups {
+    /// None.
+    pub fn new(alloc: Global) -> Groups
+        ensures { result.each.items ≡ [] }
+    {
+        Groups {
+            each: Vec::new(alloc),
+            locations: SmallVec::new(alloc),
+        }
+    }
+
     /// Whether these are many groups of accesses at a few locations.
     pub fn are_crowded(&self) -> bool
-        ensures { result ≡ true → length self.now.sites.items ≤ 16 }
+        ensures { result ≡ true → length self.now.locations.items ≤ 16 }
     {
-        let sites = self.sites.len();
-        if sites > SITES {
+        let locations = self.locations.len();
+        if locations > LOCATIONS {
             return false;
         }
-        self.each.len() / MANY >= sites
+        self.each.len() / MANY >= locations
     }
 
     /// The index of the group of a thread and a kind, which is made where its index isn't noted.
@@ -300,7 +310,7 @@ impl Groups {
         writes: bool,
     ) -> Result<usize, NoMemory>
         ensures group { IfOk result (HasGroupAt self.old.each.items self.new.each.items thread writes) }
-        ensures sites { OnOk result (self.new.sites.items ≡ self.old.sites.items) }
+        ensures locations { OnOk result (self.new.locations.items ≡ self.old.locations.items) }
     {
         let noted = indices.index(thread, writes) as usize;
         let found = is_at(self.each.as_slice(), noted, thread, writes);
@@ -314,7 +324,7 @@ impl Groups {
     }
 
     /// Takes an access in, and answers an earlier access of its class, or 0: the last one, where its group keeps few;
-    /// else the one that the table of classes had, which takes this access. The indices are those of the groups.
+    /// else the one that the table of classes had, which takes this access.
     ///
     /// # Errors
     ///
@@ -327,21 +337,24 @@ impl Groups {
         variable: u32,
         late: Late,
     ) -> Result<u32, NoMemory>
-        ensures since { (trace : List Event) (spots : List SpotData) (n : ℕ) → AreGroups trace spots variable late.access.event n self.old.each.items
-            → AreClasses trace spots late.access.event classes.old.newest.entries → IfOk result (IsSince trace spots variable late.access) }
-        ensures classes { (trace : List Event) (spots : List SpotData) (n : ℕ) → IsLate trace spots variable late → late.access.event < n
+        ensures since { (trace : List Event) (spots : List SpotData) (n : ℕ) → AreGroups trace spots variable late.event n self.old.each.items
+            → AreClasses trace spots late.event classes.old.newest.entries → IfOk result (IsSince trace spots variable (access_in late)) }
+        ensures classes { (trace : List Event) (spots : List SpotData) (n : ℕ) → IsLate trace spots variable late → late.event < n
             → AreClasses trace spots n classes.old.newest.entries → OnOk result (AreClasses trace spots n classes.new.newest.entries) }
-        ensures groups { (trace : List Event) (spots : List SpotData) (n : ℕ) → AreGroups trace spots variable late.access.event n self.old.each.items
-            → IsLate trace spots variable late → late.access.event < n → OnOk result (AreGroups trace spots variable (late.access.event + 1) n self.new.each.items) }
-        ensures sites { HasSites self.old → OnOk result (HasSites self.new) }
+        ensures groups { (trace : List Event) (spots : List SpotData) (n : ℕ) → AreGroups trace spots variable late.event n self.old.each.items
+            → IsLate trace spots variable late → late.event < n → OnOk result (AreGroups trace spots variable (late.event + 1) n self.new.each.items) }
+        ensures locations { HasLocations self.old → OnOk result (HasLocations self.new) }
     {
-        let Late { access, time } = late;
-        note_site(&mut self.sites, access.spot.location)?;
-        let at = self.group_at(alloc, indices, access.thread, access.writes)?;
+        note_location(&mut self.locations, late.location)?;
+        indices.note_all(variable, self.each.as_slice(), late.thread, late.writes)?;
+        let at = self.group_at(alloc, indices, late.thread, late.writes)?;
         let kept = KeptAccess {
-            event: access.event,
-            time,
-            spot: access.spot,
+            event: late.event,
+            time: late.time,
+            spot: Spot {
+                location: late.location,
+                barred: late.barred,
+            },
         };
         let Some(group) = self.each.get_mut(at) else {
             return Ok(0);
@@ -352,11 +365,11 @@ impl Groups {
         }
         let class = Class {
             variable,
-            location: access.spot.location,
-            thread: access.thread,
-            writes: access.writes,
+            location: late.location,
+            thread: late.thread,
+            writes: late.writes,
         };
-        let before = classes.put(class, access.event)?;
+        let before = classes.put(class, late.event)?;
         group.keep(alloc, &*classes, variable, kept)?;
         Ok(before)
     }

@@ -1,6 +1,6 @@
 //! Where the groups of a variable are, by thread and kind.
 
-use crate::groups::Group;
+use crate::groups::{Group, is_at};
 use shb_io::NoMemory;
 use shb_lines::{item_or, put};
 use std::alloc::Global;
@@ -24,8 +24,8 @@ impl Indices {
         }
     }
 
-    /// Whether the groups are those of a variable. Then a group whose index isn't noted isn't there.
-    pub fn are_of(&self, variable: u32) -> bool {
+    /// Whether the groups are those of a variable.
+    fn are_of(&self, variable: u32) -> bool {
         match self.variable {
             Some(own) => own == variable,
             None => false,
@@ -53,12 +53,28 @@ impl Indices {
         put(&mut self.reads, thread, index, 0)
     }
 
-    /// Notes the indices of the groups of a variable.
+    /// Notes the indices of the groups of a variable, unless that of the group of a thread and a kind is, or all are. Then
+    /// a group whose index isn't noted isn't there.
     ///
     /// # Errors
     ///
     /// `NoMemory` where a growth was refused.
-    pub fn note_all(&mut self, variable: u32, groups: &[Group]) -> Result<(), NoMemory> {
+    pub fn note_all(
+        &mut self,
+        variable: u32,
+        groups: &[Group],
+        thread: u32,
+        writes: bool,
+    ) -> Result<(), NoMemory> {
+        let noted = self.are_of(variable);
+        if noted {
+            return Ok(());
+        }
+        let at = self.index(thread, writes) as usize;
+        let found = is_at(groups, at, thread, writes);
+        if found {
+            return Ok(());
+        }
         self.variable = Some(variable);
         for at in 0..groups.len() {
             self.note(groups[at].thread, groups[at].writes, at)?;

@@ -1,80 +1,98 @@
-//! The accesses of a variable: its groups, and those that its groups don't have yet.
+//! The accesses of a variable: those that wait, or groups of all of them.
 
 ghost use Rattle.std.specs.Prelude.{AllPairs, ◌≡◌, ◌<◌, ◌+◌, ◌++◌, ◌∷◌, [], ℕ, true, List, IfOk, IfSome, OnOk, Some, filter, length, slice_get};
 ghost use Rattle.std.specs.List.{remove};
 ghost use Rattle.shb_lines.specs.declared.event.Event.{Event};
 ghost use Rattle.shb_nearest.specs.Classes.{AreClasses};
-ghost use Rattle.shb_nearest.specs.Groups.{AreGroups, HasSites, IsSince, class_of};
-ghost use Rattle.shb_nearest.specs.Late.{AreAccesses, AreLate, HasNewest, HasTakenAll, IsBefore, IsLate, is_newest_late};
+ghost use Rattle.shb_nearest.specs.Groups.{AreGroups, HasLocations, IsSince, class_of};
+ghost use Rattle.shb_nearest.specs.Late.{AreAccesses, AreLate, HasNewest, HasTakenAll, HaveLocations, IsBefore, IsLate, access_in, each_in, is_newest_late, late_in};
 ghost use Rattle.shb_nearest.specs.declared.access.Spot.{Spot as SpotData};
 ghost use Rattle.shb_nearest.specs.declared.late.Late.{Late as LateData};
 
-use crate::access::FoundAccess;
 use crate::classes::{Class, Classes};
-use crate::groups::{Groups, Run, is_at};
+use crate::groups::{Group, Groups};
 use crate::indices::Indices;
 use shb_io::NoMemory;
 use smallvec::SmallVec;
 use std::alloc::Global;
 
-/// An access that comes to the groups, at once or later.
+/// An access that comes to the groups, at once or later, in 20 bytes.
 #[derive(Clone, Copy, Default)]
 pub struct Late {
-    pub access: FoundAccess,
+    pub event: u32,
+    pub thread: u32,
     /// How many events its thread had, with this one.
     pub time: u32,
+    pub location: u32,
+    pub writes: bool,
+    /// Whether its line has a second bar.
+    pub barred: bool,
 }
 
-/// The groups of a variable, and of the accesses since the newest one of each class, in their order. Others may be among them.
+/// Accesses of a variable in their order, the newest one of each class among them.
 #[derive(Drop)]
-pub struct Accesses {
-    pub groups: Groups,
-    pub late: SmallVec<Late, 2>,
+pub struct Waiting {
+    pub each: SmallVec<Late, 2>,
     /// When so many wait, those go that aren't the newest of their class.
-    pub most: usize,
+    pub most: u32,
+    /// The thread of the last one.
+    pub thread: u32,
+}
+
+/// The accesses of a variable. They wait until one of them may race.
+#[derive(Drop)]
+pub enum Accesses {
+    /// None may race: all wait.
+    Ungrouped(Waiting),
+    /// Groups of all of them.
+    Grouped(Groups),
 }
 
 /// So many accesses of a variable may wait whatever their classes are.
-const FEW: usize = 64;
+const FEW: u32 = 64;
+
+/// When those went that weren't the newest of their class, so many times as many as are left may wait.
+const MORE: u32 = 4;
 
 /// An access goes at once where one of its class is among so many that come next.
-const NEAR: usize = 4;
+const NEAR: usize = 2;
 
-/// The class of an access of a variable.
-fn class_of(variable: u32, access: FoundAccess) -> Class
-    ensures { result ≡ class_of variable access }
-{
-    Class {
-        variable,
-        location: access.spot.location,
-        thread: access.thread,
-        writes: access.writes,
+impl Late {
+    /// Its class, as an access of a variable.
+    pub fn class(self, variable: u32) -> Class
+        ensures { result ≡ class_of variable (access_in self) }
+    {
+        Class {
+            variable,
+            location: self.location,
+            thread: self.thread,
+            writes: self.writes,
+        }
     }
 }
 
 /// Whether accesses of a variable are of one class.
 #[inline(always)]
-fn are_alike(variable: u32, one: FoundAccess, other: FoundAccess) -> bool
-    ensures { result ≡ true → class_of variable one ≡ class_of variable other }
+fn are_alike(variable: u32, one: Late, other: Late) -> bool
+    ensures { result ≡ true → class_of variable (access_in one) ≡ class_of variable (access_in other) }
 {
-    one.spot.location == other.spot.location
-        && one.thread == other.thread
-        && one.writes == other.writes
+    one.location == other.location && one.thread == other.thread && one.writes == other.writes
 }
 
-/// The index of the last access of the class of an access, if it is one of the last few.
+/// The index of the last access of the class of an access, if it is one of the last few. These aren't looked at where another
+/// thread had the last one: they are seldom in the cache then.
 #[inline(always)]
-fn index_near(waiting: &[Late], variable: u32, run: Run, access: FoundAccess) -> Option<usize>
-    ensures { IfSome result (λ at. (a : LateData) × (slice_get waiting.now at ≡ Some a) × (class_of variable a.access ≡ class_of variable access)) }
+fn index_near(waiting: &[Late], variable: u32, thread: u32, late: Late) -> Option<usize>
+    ensures { IfSome result (λ at. (a : LateData) × (slice_get waiting.now at ≡ Some a) × (class_of variable (access_in a) ≡ class_of variable (access_in late))) }
 {
-    if run.thread != access.thread {
+    if thread != late.thread {
         return None;
     }
     let mut from = waiting.len();
     let end = from.saturating_sub(NEAR);
     while from > end {
         from -= 1;
-        let found = are_alike(variable, waiting[from].access, access);
+        let found = are_alike(variable, waiting[from], late);
         if found {
             return Some(from);
         }
@@ -103,7 +121,7 @@ fn newest_among(
 {
     let mut newest = classes.emptied(alloc);
     for late in waiting {
-        newest.put(class_of(variable, late.access), late.access.event)?;
+        newest.put(late.class(variable), late.event)?;
     }
     Ok(newest)
 }
@@ -112,13 +130,10 @@ fn newest_among(
 fn forget(waiting: &mut SmallVec<Late, 2>, newest: &Classes, variable: u32)
     ensures { waiting.new.items ≡ filter (is_newest_late newest.now.newest.entries variable) waiting.old.items }
 {
-    waiting.retain(|late| {
-        let class = class_of(variable, late.access);
-        newest.is_newest(class, late.access.event)
-    });
+    waiting.retain(|late| newest.is_newest(late.class(variable), late.event));
 }
 
-/// Takes accesses into the groups of their variable. The indices are those of the groups.
+/// Takes accesses into the groups of their variable.
 fn take_all(
     groups: &mut Groups,
     alloc: Global,
@@ -131,7 +146,7 @@ fn take_all(
         → OnOk result (AreGroups trace spots variable n n groups.new.each.items) }
     ensures classes { (trace : List Event) (spots : List SpotData) (n m : ℕ) → AreGroups trace spots variable m n groups.old.each.items → AreLate trace spots variable n m waiting.now
         → AreClasses trace spots n classes.old.newest.entries → OnOk result (AreClasses trace spots n classes.new.newest.entries) }
-    ensures sites { HasSites groups.old → OnOk result (HasSites groups.new) }
+    ensures locations { HasLocations groups.old → OnOk result (HasLocations groups.new) }
 {
     for late in waiting {
         groups.take(alloc, classes, indices, variable, *late)?;
@@ -139,65 +154,8 @@ fn take_all(
     Ok(())
 }
 
-impl Accesses {
-    /// No access.
-    pub fn new(alloc: Global) -> Accesses
-        ensures groups { result.groups.each.items ≡ [] }
-        ensures late { result.late.items ≡ [] }
-    {
-        Accesses {
-            groups: Groups {
-                each: Vec::new(alloc),
-                sites: Vec::new(alloc),
-            },
-            late: SmallVec::new(alloc),
-            most: FEW,
-        }
-    }
-
-    /// Whether none waits, and the group of an access is where its index says, or isn't there.
-    fn is_ready(&self, indices: &Indices, variable: u32, access: FoundAccess) -> bool
-        ensures { result ≡ true → self.now.late.items ≡ [] }
-    {
-        if self.late.len() > 0 {
-            return false;
-        }
-        if indices.are_of(variable) {
-            return true;
-        }
-        let at = indices.index(access.thread, access.writes) as usize;
-        is_at(
-            self.groups.each.as_slice(),
-            at,
-            access.thread,
-            access.writes,
-        )
-    }
-
-    /// Takes those into the groups that wait. The indices are those of the groups then.
-    ///
-    /// # Errors
-    ///
-    /// `NoMemory` where a growth was refused.
-    fn catch_up(
-        &mut self,
-        alloc: Global,
-        classes: &mut Classes,
-        indices: &mut Indices,
-        variable: u32,
-    ) -> Result<(), NoMemory>
-        ensures all { (trace : List Event) (spots : List SpotData) (n : ℕ) → AreAccesses trace spots variable n self.old
-            → OnOk result (HasTakenAll trace spots variable n n classes.old classes.new self.new) }
-        ensures sites { HasSites self.old.groups → OnOk result (HasSites self.new.groups) }
-    {
-        indices.note_all(variable, self.groups.each.as_slice())?;
-        let waiting = self.late.as_slice();
-        take_all(&mut self.groups, alloc, classes, indices, variable, waiting)?;
-        self.late = SmallVec::new(alloc);
-        Ok(())
-    }
-
-    /// Forgets accesses that wait and aren't the newest of their class.
+impl Waiting {
+    /// Forgets accesses that aren't the newest of their class.
     ///
     /// # Errors
     ///
@@ -208,13 +166,13 @@ impl Accesses {
         classes: &Classes,
         variable: u32,
     ) -> Result<(), NoMemory>
-        ensures accesses { (trace : List Event) (spots : List SpotData) (n : ℕ) → AreAccesses trace spots variable n self.old
-            → OnOk result (AreAccesses trace spots variable n self.new) }
-        ensures groups { OnOk result (self.new.groups ≡ self.old.groups) }
+        ensures { (trace : List Event) (spots : List SpotData) (n m : ℕ) → AreLate trace spots variable n m self.old.each.items
+            → OnOk result (AreLate trace spots variable n m self.new.each.items) }
     {
-        let newest = newest_among(alloc, classes, variable, self.late.as_slice())?;
-        forget(&mut self.late, &newest, variable);
-        self.most = self.late.len().saturating_mul(2).max(FEW);
+        let newest = newest_among(alloc, classes, variable, self.each.as_slice())?;
+        forget(&mut self.each, &newest, variable);
+        let left = self.each.len().min(u32::MAX as usize) as u32;
+        self.most = left.saturating_mul(MORE).max(FEW);
         Ok(())
     }
 
@@ -223,32 +181,88 @@ impl Accesses {
     /// # Errors
     ///
     /// `NoMemory` where a growth was refused.
-    pub fn put_off(
+    fn put(
         &mut self,
         alloc: Global,
         classes: &Classes,
         variable: u32,
-        run: Run,
         late: Late,
     ) -> Result<(), NoMemory>
-        ensures accesses { (trace : List Event) (spots : List SpotData) → AreAccesses trace spots variable late.access.event self.old → IsLate trace spots variable late
-            → OnOk result (AreAccesses trace spots variable (late.access.event + 1) self.new) }
-        ensures groups { OnOk result (self.new.groups ≡ self.old.groups) }
+        ensures { (trace : List Event) (spots : List SpotData) (m : ℕ) → AreLate trace spots variable late.event m self.old.each.items → IsLate trace spots variable late
+            → OnOk result (AreLate trace spots variable (late.event + 1) m self.new.each.items) }
     {
-        let near = index_near(self.late.as_slice(), variable, run, late.access);
+        let near = index_near(self.each.as_slice(), variable, self.thread, late);
+        self.thread = late.thread;
         if let Some(at) = near {
-            replace(&mut self.late, at, late)?;
+            replace(&mut self.each, at, late)?;
             return Ok(());
         }
-        let full = self.late.len() >= self.most;
+        let full = self.each.len() >= self.most as usize;
         if full {
             self.forget_some(alloc, classes, variable)?;
         }
-        self.late.push(late)?;
+        self.each.push(late)?;
         Ok(())
     }
+}
 
-    /// Takes an access into the groups, after those that wait, and answers an earlier access of its class, or 0.
+impl Accesses {
+    /// No access.
+    pub fn new(alloc: Global) -> Accesses
+        ensures groups { each_in result ≡ [] }
+        ensures locations { HaveLocations result }
+        ensures late { late_in result ≡ [] }
+    {
+        Accesses::Ungrouped(Waiting {
+            each: SmallVec::new(alloc),
+            most: FEW,
+            thread: 0,
+        })
+    }
+
+    /// The groups.
+    pub fn each(&self) -> &[Group]
+        ensures { result.now ≡ each_in self.now }
+    {
+        match self {
+            Accesses::Ungrouped(_) => &[],
+            Accesses::Grouped(groups) => groups.each.as_slice(),
+        }
+    }
+
+    /// Lets an access wait, if none that came before it might race.
+    ///
+    /// # Errors
+    ///
+    /// `NoMemory` where a growth was refused.
+    pub fn put_off(
+        &mut self,
+        alloc: Global,
+        classes: &mut Classes,
+        indices: &mut Indices,
+        variable: u32,
+        late: Late,
+    ) -> Result<(), NoMemory>
+        ensures accesses { (trace : List Event) (spots : List SpotData) → AreAccesses trace spots variable late.event self.old → IsLate trace spots variable late
+            → OnOk result (AreAccesses trace spots variable (late.event + 1) self.new) }
+        ensures classes { (trace : List Event) (spots : List SpotData) → IsLate trace spots variable late
+            → AreClasses trace spots late.event classes.old.newest.entries → OnOk result (AreClasses trace spots (late.event + 1) classes.new.newest.entries) }
+        ensures locations { HaveLocations self.old → OnOk result (HaveLocations self.new) }
+    {
+        match self {
+            Accesses::Ungrouped(waiting) => {
+                waiting.put(alloc, &*classes, variable, late)?;
+                Ok(())
+            }
+            Accesses::Grouped(groups) => {
+                groups.take(alloc, classes, indices, variable, late)?;
+                Ok(())
+            }
+        }
+    }
+
+    /// Takes an access into the groups, after those that wait, and answers an earlier access of its class, or 0. None
+    /// waits from then on.
     ///
     /// # Errors
     ///
@@ -261,17 +275,25 @@ impl Accesses {
         variable: u32,
         late: Late,
     ) -> Result<u32, NoMemory>
-        ensures since { (trace : List Event) (spots : List SpotData) → AreAccesses trace spots variable late.access.event self.old
-            → AreClasses trace spots late.access.event classes.old.newest.entries → IfOk result (IsSince trace spots variable late.access) }
-        ensures all { (trace : List Event) (spots : List SpotData) → AreAccesses trace spots variable late.access.event self.old → IsLate trace spots variable late
-            → OnOk result (HasTakenAll trace spots variable late.access.event (late.access.event + 1) classes.old classes.new self.new) }
-        ensures sites { HasSites self.old.groups → OnOk result (HasSites self.new.groups) }
+        ensures since { (trace : List Event) (spots : List SpotData) → AreAccesses trace spots variable late.event self.old
+            → AreClasses trace spots late.event classes.old.newest.entries → IfOk result (IsSince trace spots variable (access_in late)) }
+        ensures all { (trace : List Event) (spots : List SpotData) → AreAccesses trace spots variable late.event self.old → IsLate trace spots variable late
+            → OnOk result (HasTakenAll trace spots variable late.event (late.event + 1) classes.old classes.new self.new) }
+        ensures locations { HaveLocations self.old → OnOk result (HaveLocations self.new) }
     {
-        let ready = self.is_ready(&*indices, variable, late.access);
-        if !ready {
-            self.catch_up(alloc, classes, indices, variable)?;
+        match self {
+            Accesses::Grouped(groups) => {
+                let before = groups.take(alloc, classes, indices, variable, late)?;
+                Ok(before)
+            }
+            Accesses::Ungrouped(waiting) => {
+                let mut groups = Groups::new(alloc);
+                let each = waiting.each.as_slice();
+                take_all(&mut groups, alloc, classes, indices, variable, each)?;
+                let before = groups.take(alloc, classes, indices, variable, late)?;
+                *self = Accesses::Grouped(groups);
+                Ok(before)
+            }
         }
-        let before = self.groups.take(alloc, classes, indices, variable, late)?;
-        Ok(before)
     }
 }

@@ -9,11 +9,14 @@
 //!
 //! An access races with none before it where the last write of its variable is below its predecessor and, for a write,
 //! the newest read since is too (`screen`). Such an access waits (`late`): it is put behind the others that wait. When many
-//! wait, those go that aren't the newest of their class. So a variable that never races has no group, and its accesses lie
-//! in one list.
+//! wait, those go that aren't the newest of their class, and four times as many as are left may wait the next time: where
+//! all classes differ, this is seldom done in vain. So a variable that never races has no group, and its accesses lie in
+//! one list. Most accesses find what is kept of their variable in two lines of the cache, and write to the end of its list,
+//! at which they look only where their thread had the last access too.
 //!
 //! The first access for which this isn't known takes those that wait into their groups, which are found by thread and kind
-//! (`indices`), and nothing is known of later ones: each is taken into its group at once, and none waits any more.
+//! (`indices`), and nothing is known of later ones: each is taken into its group at once, and none waits any more. The
+//! groups lie where the list was.
 //!
 //! Then such an access looks at the groups of its variable by other threads, and at the accesses that a group keeps
 //! from the newest one back. It stops at the first that is below its predecessor, since those behind it are too, and at

@@ -135,11 +135,11 @@ impl Places {
     }
 
     /// Whether the places are known of accesses of a variable at some locations, each with a later one at a location.
-    pub fn know_all(&self, by_variable: bool, variable: u32, second: u32, sites: &[u32]) -> bool
-        ensures { result ≡ true → AreKnown by_variable variable second self.now.races.entries sites.now }
+    pub fn know_all(&self, by_variable: bool, variable: u32, second: u32, locations: &[u32]) -> bool
+        ensures { result ≡ true → AreKnown by_variable variable second self.now.races.entries locations.now }
     {
         let part = variable_part(by_variable, variable);
-        for first in sites {
+        for first in locations {
             let known = self.is_known(Place {
                 first: *first,
                 second,

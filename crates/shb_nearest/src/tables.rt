@@ -2,6 +2,7 @@
 
 ghost use Rattle.std.specs.Prelude.{◌≡◌, ◌≤◌, ◌+◌, ◌++◌, ◌∷◌, [], Bool, true, List, IfOk, OnOk, length};
 ghost use Rattle.shb_lines.specs.declared.event.Event.{Event};
+ghost use Rattle.shb_nearest.specs.Late.{locations_in};
 ghost use Rattle.shb_nearest.specs.Places.{AreKnown};
 ghost use Rattle.shb_nearest.specs.Rivals.{IsNextAccess};
 ghost use Rattle.shb_nearest.specs.Searched.{AreTables, HasRoom};
@@ -10,7 +11,7 @@ ghost use Rattle.shb_nearest.specs.declared.access.Spot.{Spot as SpotData};
 
 use crate::access::FoundAccess;
 use crate::classes::Classes;
-use crate::groups::{Groups, Run};
+use crate::groups::Run;
 use crate::indices::Indices;
 use crate::late::{Accesses, Late};
 use crate::places::Places;
@@ -60,14 +61,17 @@ fn make_space(variables: &mut Vec<Variable>, alloc: Global, variable: u32) -> Re
 /// Whether it is seen at once that each race of an access with what the groups of its variable keep has a known place.
 fn are_known(
     places: &Places,
-    groups: &Groups,
+    accesses: &Accesses,
     by_variable: bool,
     variable: u32,
     access: FoundAccess,
 ) -> bool
-    ensures few { result ≡ true → length groups.now.sites.items ≤ 16 }
-    ensures known { result ≡ true → AreKnown by_variable variable access.spot.location places.now.races.entries groups.now.sites.items }
+    ensures few { result ≡ true → length (locations_in accesses.now) ≤ 16 }
+    ensures known { result ≡ true → AreKnown by_variable variable access.spot.location places.now.races.entries (locations_in accesses.now) }
 {
+    let Accesses::Grouped(groups) = accesses else {
+        return false;
+    };
     let crowded = groups.are_crowded();
     if !crowded {
         return false;
@@ -76,7 +80,7 @@ fn are_known(
         by_variable,
         variable,
         access.spot.location,
-        groups.sites.as_slice(),
+        groups.locations.as_slice(),
     )
 }
 
@@ -122,26 +126,32 @@ impl Tables {
         let time = clocks
             .below_next(access.thread, access.thread)
             .saturating_add(1);
-        let late = Late { access, time };
+        let late = Late {
+            event: access.event,
+            thread: access.thread,
+            time,
+            location: access.spot.location,
+            writes: access.writes,
+            barred: access.spot.barred,
+        };
         let screened = screen(clocks, known.latest, access, time);
         known.run = run.after(access);
         known.latest = screened.latest;
+        let (classes, indices) = (&mut self.classes, &mut self.indices);
         if screened.free {
             known
                 .accesses
-                .put_off(alloc, &self.classes, variable, run, late)?;
+                .put_off(alloc, classes, indices, variable, late)?;
             return Ok(());
         }
-        let (classes, indices) = (&mut self.classes, &mut self.indices);
         let since = known
             .accesses
             .take(alloc, classes, indices, variable, late)?;
-        let groups = &known.accesses.groups;
-        let settled = are_known(&self.places, groups, by_variable, variable, access);
+        let settled = are_known(&self.places, &known.accesses, by_variable, variable, access);
         if settled {
             return Ok(());
         }
-        let each = groups.each.as_slice();
+        let each = known.accesses.each();
         self.rivals.find(clocks, run, each, access, since)?;
         let rivals = self.rivals.found.as_slice();
         self.places

@@ -1,13 +1,13 @@
-use Rattle.std.proofs.Common.{List, arith, subst}
+use Rattle.std.proofs.Common.{List, arith, refl, subst}
 use Rattle.std.proofs.lemmas.List.{take_all}
 use Rattle.std.proofs.lemmas.Option.{slice_get-get_or}
-use Rattle.shb_nearest.specs.Groups.{HasLast}
+use Rattle.shb_nearest.specs.Groups.{HasLast, access_of, class_of}
 use Rattle.shb_nearest.specs.declared.groups.KeptAccess.{KeptAccess}
 use Rattle.shb_nearest.proofs.GroupLemmas.{last_more}
 use Rattle.shb_nearest.proofs.groups.newest_of.Goals as goal
 
 pub loop-access-preserved : goal.loop-access-preserved
-loop-access-preserved c rising = last_more c.args.variable c.args.thread c.args.writes c.loop-access.newest.newest.entries c.put.new.self.newest.entries c.args.kept.now c.loop-access.access-index _ rising
+loop-access-preserved c rising = last_more (λ (a : KeptAccess). a.event) (λ (a : KeptAccess). class_of c.args.variable (access_of c.args.thread c.args.writes a)) c.loop-access.newest.newest.entries c.put.new.self.newest.entries c.args.kept.now c.loop-access.access-index _ _ refl rising
     (slice_get-get_or c.args.kept.now c.loop-access.access-index _ (let low = c.loop-access-test.true in omega (arith, low))) c.in_ok-put.ensures.updates (c.loop-access.invariant rising)
 
 pub returns : goal.returns

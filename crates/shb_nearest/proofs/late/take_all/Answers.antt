@@ -5,7 +5,7 @@ use Rattle.shb_nearest.proofs.LateLemmas.{last_taken, late_first, late_taken}
 use Rattle.shb_nearest.proofs.late.take_all.Goals as goal
 
 abbrev none : Late
-none = record { access = record { event = 0; thread = 0; writes = false; spot = record { location = 0; barred = false } }; time = 0 }
+none = record { event = 0; thread = 0; time = 0; location = 0; writes = false; barred = false }
 
 pub loop-late-preserved : goal.loop-late-preserved
 loop-late-preserved c = (
@@ -20,7 +20,7 @@ loop-late-preserved c = (
         late_taken trace spots c.args.variable n index waiting a c.loop-late.groups.each.items c.take.new.self.each.items more is was.0 (λ are. c.in_ok-take.ensures.groups trace spots n are first.0 first.1),
         λ are. c.in_ok-take.ensures.classes trace spots n first.0 first.1 (was.1 are),
       )),
-  λ sites. c.in_ok-take.ensures.sites (c.loop-late.invariant.1 sites),
+  λ locations. c.in_ok-take.ensures.locations (c.loop-late.invariant.1 locations),
 )
 
 pub returns-clause-groups : goal.returns-clause-groups
@@ -31,5 +31,5 @@ returns-clause-groups c trace spots n m groups late =
 pub returns-clause-classes : goal.returns-clause-classes
 returns-clause-classes c trace spots n m groups late are = (c.loop-late.invariant.0 trace spots n m groups late).1 are
 
-pub returns-clause-sites : goal.returns-clause-sites
-returns-clause-sites c sites = c.loop-late.invariant.1 sites
+pub returns-clause-locations : goal.returns-clause-locations
+returns-clause-locations c locations = c.loop-late.invariant.1 locations

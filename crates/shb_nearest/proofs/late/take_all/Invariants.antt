@@ -2,7 +2,7 @@
 use Rattle.std.proofs.Common.{ℕ, List}
 use Rattle.shb_lines.specs.declared.event.Event.{Event}
 use Rattle.shb_nearest.specs.Classes.{AreClasses}
-use Rattle.shb_nearest.specs.Groups.{AreGroups, HasSites}
+use Rattle.shb_nearest.specs.Groups.{AreGroups, HasLocations}
 use Rattle.shb_nearest.specs.Late.{AreLate}
 use Rattle.shb_nearest.specs.declared.access.Spot.{Spot}
 use Rattle.shb_nearest.proofs.LateLemmas.{HasTaken}
@@ -11,4 +11,4 @@ use Rattle.shb_nearest.proofs.late.take_all.Given as goal
 abbrev pub invariant-loop-late : goal.invariant-loop-late
 invariant-loop-late l = ((trace : List Event) (spots : List Spot) (n m : ℕ) → AreGroups trace spots l.variable m n l.fn.groups.each.items → AreLate trace spots l.variable n m l.waiting
     → HasTaken trace spots l.variable n l.late-index l.waiting l.groups.each.items × (AreClasses trace spots n l.fn.classes.newest.entries → AreClasses trace spots n l.classes.newest.entries))
-    × (HasSites l.fn.groups → HasSites l.groups)
+    × (HasLocations l.fn.groups → HasLocations l.groups)

@@ -3,12 +3,12 @@ use Rattle.std.proofs.lemmas.Option.{slice_get_read}
 use Rattle.shb_lines.specs.events.Order.{IsBelowPredCount}
 use Rattle.shb_nearest.specs.declared.access.FoundAccess.{FoundAccess}
 use Rattle.shb_nearest.specs.declared.groups.Group.{Group}
-use Rattle.shb_nearest.specs.declared.groups.Groups.{Groups}
-use Rattle.shb_nearest.specs.Groups.{AreGroups, HasSites}
+use Rattle.shb_nearest.specs.Groups.{AreGroups}
+use Rattle.shb_nearest.specs.Late.{each_in, late_in, locations_in}
 use Rattle.shb_nearest.specs.Places.{ArePlaces, PlaceEntry, offered_all}
 use Rattle.shb_nearest.proofs.LateLemmas.{late_none}
 use Rattle.shb_nearest.proofs.PlaceLemmas.{placed, placed_known, since_known}
-use Rattle.shb_nearest.proofs.TableLemmas.{classes_later, places_later, time_next, variables_put, variables_space}
+use Rattle.shb_nearest.proofs.TableLemmas.{places_later, time_next, variables_put, variables_space}
 use Rattle.shb_nearest.proofs.tables.Tables.take.Goals as goal
 
 pub returns-then-screened : goal.returns-then-screened
@@ -26,10 +26,10 @@ returns-then-screened c past e spots room next are =
     let time = time_next trace next.disciplined access.thread n c.below_next.result c.saturating_add-time.result next.own.thread_is (omega (arith, room, at_end))
     (subst (λ (m : ℕ). IsBelowPredCount (past ++ e ∷ []) c.args.access.thread m c.below_next.result) (sym next.event_is) (c.below_next.ensures past e next.thread_is next.disciplined next.streamed)) c.saturating_add-time.ensures in
     record {
-      classes = classes_later trace spots n c.args.self.now.classes.newest.entries are.classes;
+      classes = c.in_ok-put_off.ensures.classes trace spots (record { own = next.own; time_is = time }) are.classes;
       variables = variables_put trace spots n x access refl next.own mid (record { accesses = c.put_off.new.self; run = c.after-known.result; latest = c.screen-screened.result.latest }) space.wide all (record {
         accesses = c.in_ok-put_off.ensures.accesses trace spots was.accesses (record { own = next.own; time_is = time });
-        sites = subst (λ (g : Groups). HasSites g) (sym c.in_ok-put_off.ensures.groups) was.sites;
+        locations = c.in_ok-put_off.ensures.locations was.locations;
         run = c.after-known.ensures trace spots x next.own was.run;
         screened = c.screen-screened.ensures.latest past e spots x next time was.screened;
       });
@@ -55,13 +55,13 @@ returns-then-settled c past e spots room next are =
     record {
       classes = taken.classes are.classes;
       variables = variables_put trace spots n x access refl next.own mid (record { accesses = c.take.new.self; run = c.after-known.result; latest = c.screen-screened.result.latest }) space.wide all (record {
-        accesses = record { since = n + 1; groups = taken.groups; late = late_none trace spots x (n + 1) c.take.new.self.late.items taken.none };
-        sites = c.in_ok-since.ensures.sites was.sites;
+        accesses = record { since = n + 1; groups = taken.groups; late = late_none trace spots x (n + 1) (late_in c.take.new.self) taken.none };
+        locations = c.in_ok-since.ensures.locations was.locations;
         run = c.after-known.ensures trace spots x next.own was.run;
         screened = c.screen-screened.ensures.latest past e spots x next time was.screened;
       });
-      places = placed_known c.args.by_variable trace next.disciplined spots x n access refl next.own c.args.self.now.places.races.entries are.places c.take.new.self.groups.each.items c.take.new.self.groups.sites.items taken.groups
-          (c.in_ok-since.ensures.sites was.sites (c.are_known-settled.ensures.few c.if-settled.true)) (c.are_known-settled.ensures.known c.if-settled.true);
+      places = placed_known c.args.by_variable trace next.disciplined spots x n access refl next.own c.args.self.now.places.races.entries are.places (each_in c.take.new.self) (locations_in c.take.new.self) taken.groups
+          (c.in_ok-since.ensures.locations was.locations (c.are_known-settled.ensures.few c.if-settled.true)) (c.are_known-settled.ensures.known c.if-settled.true);
     }
 
 pub returns : goal.returns
@@ -80,12 +80,12 @@ returns c past e spots room next are =
     (subst (λ (m : ℕ). IsBelowPredCount (past ++ e ∷ []) c.args.access.thread m c.below_next.result) (sym next.event_is) (c.below_next.ensures past e next.thread_is next.disciplined next.streamed)) c.saturating_add-time.ensures in
     let since = c.in_ok-since.ensures.since trace spots was.accesses are.classes in
     let taken = c.in_ok-since.ensures.all trace spots was.accesses (record { own = next.own; time_is = time }) in
-    let rivals = c.in_ok-find.ensures past e spots x next (subst (λ (l : List Group). AreGroups (past ++ e ∷ []) spots c.args.variable (c.args.access.event + 1) (c.args.access.event + 1) l) (sym c.as_slice-each.ensures.value) taken.groups) was.run in
+    let rivals = c.in_ok-find.ensures past e spots x next (subst (λ (l : List Group). AreGroups (past ++ e ∷ []) spots c.args.variable (c.args.access.event + 1) (c.args.access.event + 1) l) (sym c.each-each.ensures) taken.groups) was.run in
     record {
       classes = taken.classes are.classes;
       variables = variables_put trace spots n x access refl next.own mid (record { accesses = c.take.new.self; run = c.after-known.result; latest = c.screen-screened.result.latest }) space.wide all (record {
-        accesses = record { since = n + 1; groups = taken.groups; late = late_none trace spots x (n + 1) c.take.new.self.late.items taken.none };
-        sites = c.in_ok-since.ensures.sites was.sites;
+        accesses = record { since = n + 1; groups = taken.groups; late = late_none trace spots x (n + 1) (late_in c.take.new.self) taken.none };
+        locations = c.in_ok-since.ensures.locations was.locations;
         run = c.after-known.ensures trace spots x next.own was.run;
         screened = c.screen-screened.ensures.latest past e spots x next time was.screened;
       });
