@@ -18,7 +18,7 @@ enum request_kind {
     ASK_BLOCK                          /* pc of the allocation's call, size, offset, length: a row where the type is certain: its name's length,
                                           or 0; "Account.balance" */
 };
-enum { MOST_NUMBERS = 4096, MOST_TEXT = 16384, MOST_INLINED = 64, MOST_SOURCES = 1 << 20, SYMBOL_PAGE = 1024, END_ROW = 0x7fffffff };
+enum { MOST_NUMBERS = 4096, MOST_TEXT = 16384, MOST_INLINED = 64, MOST_SOURCES = 1 << 20, SYMBOL_PAGE = 4096, END_ROW = 0x7fffffff };
 enum { SYMBOL_IS_TWICE = 1, SYMBOL_FLAGS = 1 };            /* a flag, and how many bits of the second number they have */
 typedef struct { uint64_t kind, count; } request;
 typedef struct { uint64_t one, two; uint32_t first, second; } row;
