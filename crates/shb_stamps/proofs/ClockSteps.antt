@@ -386,12 +386,6 @@ module _ (trace : List Event) (n thread time joined : ℕ) (op : Op) (next : IsN
         go y (inl renames) = put_at (named renames) renames y (cases_eq y x)
         go y (inr plain) = subst (IsLatestStamp trace more (KeepsWrite all trace y) n) (ap (λ (xs : List Stamp). get_or xs y empty_stamp) (sym (kept plain))) (as_before y)
 
--- rows that an event leaves are more
-pub after_more : (rows more : List (List ℕ)) (thread before : ℕ) (source : Stamp) (after : AfterSource) → HasRowAfter rows more thread before source after → AreMore rows more
-after_more rows more thread before source after (knows known same_rows same_row plain) = subst (AreMore rows) (sym same_rows) (more_same rows)
-after_more rows more thread before source after (shares unknown there below same_rows same_row plain) = subst (AreMore rows) (sym same_rows) (more_same rows)
-after_more rows more thread before source after (learns unknown clock raised put each pushed number same) = more_push rows more raised pushed
-
 -- before the first event
 empty_stamps : (size x : ℕ) → (get_or (replicate size empty_stamp) x empty_stamp).time ≡ 0
 empty_stamps size x = elim (cases_lt x size) [

@@ -7,17 +7,12 @@ use Rattle.std.proofs.lemmas.List.{get_or_append_left, get_or_past, get_or_push,
 use Rattle.std.proofs.lemmas.List.Folds.{sum_by-replicate}
 use Rattle.std.proofs.lemmas.List.Sums.{get_or-le-sum_by, sum_by-set}
 use Rattle.shb_stamps.specs.Moved.{AreAlike, AreKept, AreMoved, HasMoved, HasMovedOn, IsMovedRow, IsMovedStamp, IsNewNumber, MovesRow, unmoved}
-use Rattle.shb_stamps.specs.Rows.{AreMore}
 use Rattle.shb_stamps.specs.declared.stamp.Stamp.{Stamp}
 use Rattle.shb_lines.specs.declared.event.Event.{Event}
 use Rattle.shb_lines.specs.events.Discipline.{local_time}
 use Rattle.shb_lines.specs.events.Order.{ShbBelow}
 use Rattle.shb_stamps.specs.Fronts.{IsFrontBut}
 use Rattle.shb_stamps.specs.Stamps.{IsLatestStamp, of_event, of_none, IsRowFor, empty_stamp}
-
--- what was moved stays so as the new rows grow
-pub row_further : (old new more : List (List ℕ)) → AreMore new more → (a b : ℕ) → IsMovedRow old new a b → IsMovedRow old more a b
-row_further old new more grown a b h = record { in_range = (let long = grown.as_long in let low = h.in_range in omega (arith, long, low)); same = grown.same b h.in_range ∙ h.same }
 
 -- no row is kept
 pub moved_start : (count : ℕ) (kept moved : List ℕ) → kept ≡ [] → moved ≡ replicate count 0 → AreMoved kept moved

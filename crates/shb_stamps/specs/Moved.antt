@@ -18,10 +18,6 @@ pub record IsMovedStamp (IsMoved : ℕ → ℕ → Type 0) (before after : Stamp
   pub time : after.time ≡ before.time
   pub row : IsMoved before.row after.row
 
--- for each row one more than the number of its copy among the kept rows, or 0 where none is noted
-pub record AreCopies (rows kept : List (List ℕ)) (copies : List ℕ) : Type 0 where
-  pub each : (a b : ℕ) → slice_index_or copies a 0 ≡ b + 1 → (a < length rows) × IsMovedRow rows kept a b
-
 -- lists of one length, in which the items at each position stand in the relation
 pub record AreAlike {A : Type 0} (default : A) (IsAlike : A → A → Type 0) (before after : List A) : Type 0 where
   pub as_many : length after ≡ length before

@@ -15,7 +15,6 @@ ghost use Rattle.shb_lines.specs.Growing.{IsPut};
 ghost use Rattle.shb_lines.specs.declared.event.Event.{Event};
 ghost use Rattle.shb_lines.specs.declared.event.Op.TheVariants.{Fork, Read, Release, Write};
 ghost use Rattle.shb_stamps.specs.Clocks.{HasRowAfter, IsBefore, IsNext, KeepsWrite};
-ghost use Rattle.shb_stamps.specs.Rows.{AreMore};
 ghost use Rattle.shb_stamps.specs.Stamps.{IsSource, KnowsStamp, empty_stamp};
 
 use crate::clock::zeros;
@@ -266,9 +265,8 @@ impl Clocks {
     /// Takes a write, and keeps its stamp. Its thread learns nothing of others.
     #[inline(always)]
     pub fn take_write(&mut self, thread: u32, variable: u32, time: u32) -> Result<(), NoMemory>
-        ensures taken { (trace : List Event) (n joined : ℕ) (all : Bool) → IsNext trace n thread (Write variable) time joined
+        ensures { (trace : List Event) (n joined : ℕ) (all : Bool) → IsNext trace n thread (Write variable) time joined
             → KeepsWrite all trace variable n → IsBefore trace n all self.old → OnOk result (IsBefore trace (n + 1) all self.new) }
-        ensures rows { self.new.rows ≡ self.old.rows }
     {
         let row = self.row_number(thread);
         let stamp = Stamp { row, thread, time };
@@ -278,9 +276,8 @@ impl Clocks {
 
     /// Takes a release, and keeps its stamp. Its thread learns nothing of others.
     fn take_release(&mut self, thread: u32, lock: u32, time: u32) -> Result<(), NoMemory>
-        ensures taken { (trace : List Event) (n joined : ℕ) (all : Bool) → IsNext trace n thread (Release lock) time joined
+        ensures { (trace : List Event) (n joined : ℕ) (all : Bool) → IsNext trace n thread (Release lock) time joined
             → IsBefore trace n all self.old → OnOk result (IsBefore trace (n + 1) all self.new) }
-        ensures rows { self.new.rows ≡ self.old.rows }
     {
         let row = self.row_number(thread);
         let stamp = Stamp { row, thread, time };
@@ -290,9 +287,8 @@ impl Clocks {
 
     /// Takes a fork: the forked thread knows its clock. Its own thread learns nothing of others.
     fn take_fork(&mut self, thread: u32, child: u32, time: u32) -> Result<(), NoMemory>
-        ensures taken { (trace : List Event) (n joined : ℕ) (all : Bool) → IsNext trace n thread (Fork child) time joined
+        ensures { (trace : List Event) (n joined : ℕ) (all : Bool) → IsNext trace n thread (Fork child) time joined
             → IsBefore trace n all self.old → OnOk result (IsBefore trace (n + 1) all self.new) }
-        ensures more { OnOk result (AreMore self.old.rows self.new.rows) }
     {
         let own = self.row_number(thread);
         set_clock(&mut self.clock, &self.rows, own, thread, time)?;
@@ -306,9 +302,8 @@ impl Clocks {
         requires no_write { (x : ℕ) → op ≡ Write x → ⊥ }
         requires no_release { (l : ℕ) → op ≡ Release l → ⊥ }
         requires no_fork { (t : ℕ) → op ≡ Fork t → ⊥ }
-        ensures taken { (trace : List Event) (n : ℕ) (all : Bool) → IsNext trace n thread op time joined → IsBefore trace n all self.old
+        ensures { (trace : List Event) (n : ℕ) (all : Bool) → IsNext trace n thread op time joined → IsBefore trace n all self.old
             → OnOk result (IsBefore trace (n + 1) all self.new) }
-        ensures more { OnOk result (AreMore self.old.rows self.new.rows) }
     {
         let source = self.source(op, joined);
         let before = self.row_number(thread);
@@ -332,9 +327,8 @@ impl Clocks {
     #[inline(always)]
     fn take_event(&mut self, thread: u32, op: Op, time: u32, joined: u32) -> Result<(), NoMemory>
         requires no_write { (x : ℕ) → op ≡ Write x → ⊥ }
-        ensures taken { (trace : List Event) (n : ℕ) (all : Bool) → IsNext trace n thread op time joined → IsBefore trace n all self.old
+        ensures { (trace : List Event) (n : ℕ) (all : Bool) → IsNext trace n thread op time joined → IsBefore trace n all self.old
             → OnOk result (IsBefore trace (n + 1) all self.new) }
-        ensures more { OnOk result (AreMore self.old.rows self.new.rows) }
     {
         match op {
             Op::Release(lock) => self.take_release(thread, lock, time),
@@ -363,23 +357,19 @@ impl Clocks {
         Ok(())
     }
 
-    /// Frees the rows that nothing names where all have grown to their limit. Says whether the others were moved for that,
-    /// and so have other numbers.
+    /// Frees the rows that nothing names where all have grown to their limit.
     #[inline(always)]
-    fn make_room(&mut self, alloc: Global) -> Result<bool, NoMemory>
-        ensures before { (trace : List Event) (n : ℕ) (all : Bool) → n + 1 < 2 ^ 32 → IsBefore trace n all self.old → OnOk result (IsBefore trace n all self.new) }
-        ensures same { IfOk result (λ moved. moved ≡ false → self.new.rows ≡ self.old.rows) }
+    fn make_room(&mut self, alloc: Global) -> Result<(), NoMemory>
+        ensures { (trace : List Event) (n : ℕ) (all : Bool) → n + 1 < 2 ^ 32 → IsBefore trace n all self.old → OnOk result (IsBefore trace n all self.new) }
     {
         if self.rows.size() < self.limit {
-            return Ok(false);
+            return Ok(());
         }
-        self.compact(alloc)?;
-        Ok(true)
+        self.compact(alloc)
     }
 
     /// Takes an event that is no write. Where the rows had grown to their limit, those that nothing names are freed first.
-    /// Says whether the others were moved for that, and so have other numbers.
-    #[inline(always)]
+    #[inline(never)]
     pub fn take_other(
         &mut self,
         alloc: Global,
@@ -387,14 +377,12 @@ impl Clocks {
         op: Op,
         time: u32,
         joined: u32,
-    ) -> Result<bool, NoMemory>
+    ) -> Result<(), NoMemory>
         requires no_write { (x : ℕ) → op ≡ Write x → ⊥ }
-        ensures taken { (trace : List Event) (n : ℕ) (all : Bool) → IsNext trace n thread op time joined → IsBefore trace n all self.old
+        ensures { (trace : List Event) (n : ℕ) (all : Bool) → IsNext trace n thread op time joined → IsBefore trace n all self.old
             → OnOk result (IsBefore trace (n + 1) all self.new) }
-        ensures more { IfOk result (λ moved. moved ≡ false → AreMore self.old.rows self.new.rows) }
     {
-        let moved = self.make_room(alloc)?;
-        self.take_event(thread, op, time, joined)?;
-        Ok(moved)
+        self.make_room(alloc)?;
+        self.take_event(thread, op, time, joined)
     }
 }

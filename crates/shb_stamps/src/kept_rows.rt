@@ -6,17 +6,15 @@ ghost use Rattle.shb_lines.specs.declared.event.Event.{Event};
 ghost use Rattle.shb_lines.specs.events.Events.{thread_at};
 ghost use Rattle.shb_lines.specs.events.Order.{BelowPred};
 ghost use Rattle.shb_stamps.specs.KeptRows.{AreListedRows};
-ghost use Rattle.shb_stamps.specs.Moved.{AreCopies};
 ghost use Rattle.shb_stamps.specs.Clocks.{IsBefore};
 ghost use Rattle.shb_stamps.specs.Rows.{AreMore};
 ghost use Rattle.shb_stamps.specs.Stamps.{IsRowFor};
 
-use crate::clock::entry;
 use crate::clocks::Clocks;
-use crate::copies::note_copy;
 use crate::row_list::RowList;
 use crate::trace_clocks::row_before;
 use shb_io::NoMemory;
+use shb_lines::{item_or, put};
 use shb_links::Linked;
 use std::alloc::Global;
 
@@ -26,51 +24,48 @@ pub struct KeptRows {
     pub rows: RowList,
     /// For each of these events the number of the row of what its thread knew before it.
     pub before: Vec<u32>,
-    /// For each row of the clocks the number of the kept row that is its copy, plus 1, or 0 where none
-    /// is; none is past the end.
-    pub copies: Vec<u32>,
+    /// For each thread the number of the last row that was kept for it, 0 for none.
+    pub last: Vec<u32>,
 }
 
 /// The number of a kept row of what the thread of e, the next event, knows before it. A row is added
-/// where none is a copy of the row of the clocks.
+/// where the thread's last one is another.
 fn keep(
     linked: &Linked<'_>,
     e: u32,
     clocks: &Clocks,
     rows: &mut RowList,
-    copies: &mut Vec<u32>,
+    last: &mut Vec<u32>,
 ) -> Result<u32, NoMemory>
     requires in_range { e < length linked.now.events.now }
     requires before { IsBefore linked.now.events.now e false clocks.now }
     requires few { length rows.old + 1 < 2 ^ 32 }
-    requires copies { AreCopies clocks.now.rows rows.old copies.old.items }
-    ensures copies { OnOk result (AreCopies clocks.now.rows rows.new copies.new.items) }
     ensures more { OnOk result (AreMore rows.old rows.new) }
     ensures few { OnOk result (length rows.new ≤ length rows.old + 1) }
     ensures row { (t : ℕ) → thread_at linked.now.events.now e ≡ Some t
         → IfOk result (IsRowFor linked.now.events.now rows.new t (λ k. BelowPred linked.now.events.now k e)) }
 {
     let before = row_before(clocks, linked, e);
-    let known = entry(copies.as_slice(), before);
-    if known > 0 {
-        return Ok(known - 1);
+    let thread = linked.events.thread(e);
+    let kept = item_or(last.as_slice(), thread, 0);
+    let same = rows.is_copy(kept, &clocks.rows, before);
+    if same {
+        return Ok(kept);
     }
-    let last = rows.count().saturating_sub(1);
-    let number = rows.push_from(&clocks.rows, before, last)?;
-    note_copy(copies, before, number)?;
+    let number = rows.push_from(&clocks.rows, before, kept)?;
+    put(last, thread, number, 0)?;
     Ok(number)
 }
 
 impl KeptRows {
     /// What is kept before the first event.
     pub fn new(alloc: Global) -> Self
-        ensures listed { (trace : List Event) (events : List ℕ) → AreListedRows trace events 0 result }
-        ensures copies { (rows : List (List ℕ)) → AreCopies rows result.rows result.copies.items }
+        ensures { (trace : List Event) (events : List ℕ) → AreListedRows trace events 0 result }
     {
         KeptRows {
             rows: RowList::empty(alloc),
             before: Vec::new(alloc),
-            copies: Vec::new(alloc),
+            last: Vec::new(alloc),
         }
     }
 
@@ -87,12 +82,10 @@ impl KeptRows {
         requires of_trace { slice_index_or events.now at 0 < length linked.now.events.now }
         requires before { IsBefore linked.now.events.now (slice_index_or events.now at 0) false clocks.now }
         requires kept { AreListedRows linked.now.events.now events.now at self.old }
-        requires copies { AreCopies clocks.now.rows self.old.rows self.old.copies.items }
-        ensures kept { OnOk result (AreListedRows linked.now.events.now events.now (at + 1) self.new) }
-        ensures copies { OnOk result (AreCopies clocks.now.rows self.new.rows self.new.copies.items) }
+        ensures { OnOk result (AreListedRows linked.now.events.now events.now (at + 1) self.new) }
     {
         let e = events[at];
-        let number = keep(linked, e, clocks, &mut self.rows, &mut self.copies)?;
+        let number = keep(linked, e, clocks, &mut self.rows, &mut self.last)?;
         self.before.push(number)?;
         Ok(())
     }

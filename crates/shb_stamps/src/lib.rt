@@ -24,15 +24,13 @@
 //! number, and no row is made for them. Rows are never changed. When there are many, `compact` moves those
 //! that these tables name to new ones, and the memory of the old ones is used the next time; `moving` says
 //! which these are and what numbers they get. `KeptRows`
-//! copies the row before each listed event to rows that stay. A table of copies has the
-//! number of each row's copy, so a row is copied once, whichever threads share it. When rows were moved
-//! the table is emptied.
+//! copies the row before each listed event to rows that stay, unless it is the last one that was copied for its
+//! thread.
 #![tactic(auto)]
 
 mod clock;
 mod clocks;
 mod compact;
-mod copies;
 mod kept_rows;
 pub mod laws;
 mod listed_rows;

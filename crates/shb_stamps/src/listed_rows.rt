@@ -73,7 +73,7 @@ fn listed_rows(alloc: Global, linked: &Linked<'_>, events: &[u32]) -> Result<Kep
     let mut next = 0;
     for at in 0..events.len() {
         let e = events[at];
-        pass_up_to(&mut clocks, alloc, linked, next, e, &mut kept.copies)?;
+        pass_up_to(&mut clocks, alloc, linked, next, e)?;
         kept.note_listed(linked, &clocks, events, at)?;
         next = e;
     }
@@ -82,9 +82,8 @@ fn listed_rows(alloc: Global, linked: &Linked<'_>, events: &[u32]) -> Result<Kep
 
 /// The order of a trace at these events, in any order, found by one forward pass up to the last of
 /// them. Memory: eight bytes for each of them, and four bytes a thread for each row that is kept. Events of
-/// one thread share a row where it learns nothing in between, and threads that read one write share a row where
-/// all that they knew is below the write. After a move of the rows in use each of them is kept anew. While it
-/// runs, also four bytes for each row in use, and what a [`Sweep`](crate::Sweep) takes.
+/// one thread share a row where it learns nothing in between. While it runs, also what a
+/// [`Sweep`](crate::Sweep) takes.
 ///
 /// # Errors
 ///

@@ -321,6 +321,23 @@ impl RowList {
         self.row(number).is_below(&Row::of(clock))
     }
 
+    /// Whether there is a row of this number, with the same entries as one of other rows.
+    pub fn is_copy(&self, number: u32, rows: &RowList, other: u32) -> bool
+        ensures in_range { result ≡ true → number < length self.now }
+        ensures same { result ≡ true → (t : ℕ) → slice_index_or (slice_index_or self.now number []) t 0 ≡ slice_index_or (slice_index_or rows.now other []) t 0 }
+    {
+        if number as usize >= self.spans.len() {
+            return false;
+        }
+        let copy = self.row_at(number);
+        let row = rows.row(other);
+        let below = copy.is_below(&row);
+        if !below {
+            return false;
+        }
+        row.is_below(&copy)
+    }
+
     /// Makes a clock the row of a number.
     #[inline(always)]
     pub fn copy_to(&self, number: u32, clock: &mut Vec<u32>) -> Result<(), NoMemory>

@@ -67,25 +67,6 @@ impl StreamClocks {
         self.clocks.known_of(thread, other)
     }
 
-    /// Takes the next event, which is no write.
-    #[inline(never)]
-    fn take_other(
-        &mut self,
-        alloc: Global,
-        thread: u32,
-        op: Op,
-        time: u32,
-        joined: u32,
-    ) -> Result<(), NoMemory>
-        requires no_write { (x : ℕ) → op ≡ Write x → ⊥ }
-        ensures clocks { (trace : List Event) (n : ℕ) → IsNext trace n thread op time joined → IsBefore trace n true self.old.clocks
-            → OnOk result (IsBefore trace (n + 1) true self.new.clocks) }
-        ensures times { self.new.times.items ≡ self.old.times.items }
-    {
-        self.clocks.take_other(alloc, thread, op, time, joined)?;
-        Ok(())
-    }
-
     /// Takes the next event. Where its thread may learn something and the rows have grown to their limit then, those
     /// that nothing names are freed.
     ///
@@ -109,11 +90,11 @@ impl StreamClocks {
                 if known {
                     return Ok(());
                 }
-                self.take_other(alloc, thread, op, time, joined)?;
+                self.clocks.take_other(alloc, thread, op, time, joined)?;
                 Ok(())
             }
             _ => {
-                self.take_other(alloc, thread, op, time, joined)?;
+                self.clocks.take_other(alloc, thread, op, time, joined)?;
                 Ok(())
             }
         }

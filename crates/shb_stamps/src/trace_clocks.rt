@@ -1,18 +1,15 @@
 //! The clocks of a stored trace, event by event.
 
-ghost use Rattle.std.specs.Prelude.{◌≡◌, ◌+◌, ◌<◌, ◌≤◌, ℕ, List, Some, IfOk, OnOk, false, true, length, take, count_by};
+ghost use Rattle.std.specs.Prelude.{◌≡◌, ◌+◌, ◌<◌, ◌≤◌, ℕ, Some, OnOk, false, true, length, take, count_by};
 ghost use Rattle.shb_lines.specs.declared.event.Op.TheVariants.{Join, Read, Write};
 ghost use Rattle.shb_lines.specs.events.Discipline.{is_of};
 ghost use Rattle.shb_lines.specs.events.Events.{op_at, thread_at};
 ghost use Rattle.shb_lines.specs.events.Order.{BelowPred, IsBelowPredCount};
 ghost use Rattle.shb_links.specs.Sharing.{IsShared};
 ghost use Rattle.shb_stamps.specs.Clocks.{IsBefore};
-ghost use Rattle.shb_stamps.specs.Moved.{AreCopies};
-ghost use Rattle.shb_stamps.specs.Rows.{AreMore};
 ghost use Rattle.shb_stamps.specs.Stamps.{IsRowFor};
 
 use crate::clocks::Clocks;
-use crate::copies::forget_moved;
 use crate::row_list::RowList;
 use shb_io::NoMemory;
 use shb_lines::Op;
@@ -40,12 +37,11 @@ fn pass_other(
     alloc: Global,
     linked: &Linked<'_>,
     e: u32,
-) -> Result<bool, NoMemory>
+) -> Result<(), NoMemory>
     requires in_range { e < length linked.now.events.now }
     requires no_write { (x : ℕ) → op_at linked.now.events.now e ≡ Some (Write x) → ⊥ }
     requires before { IsBefore linked.now.events.now e false clocks.old }
-    ensures passed { OnOk result (IsBefore linked.now.events.now (e + 1) false clocks.new) }
-    ensures more { IfOk result (λ moved. moved ≡ false → AreMore clocks.old.rows clocks.new.rows) }
+    ensures { OnOk result (IsBefore linked.now.events.now (e + 1) false clocks.new) }
 {
     let op = linked.events.op(e);
     let thread = linked.events.thread(e);
@@ -66,8 +62,7 @@ fn pass_write(
     requires writes { op_at linked.now.events.now e ≡ Some (Write variable) }
     requires shared { IsShared linked.now.events.now variable }
     requires before { IsBefore linked.now.events.now e false clocks.old }
-    ensures passed { OnOk result (IsBefore linked.now.events.now (e + 1) false clocks.new) }
-    ensures more { OnOk result (AreMore clocks.old.rows clocks.new.rows) }
+    ensures { OnOk result (IsBefore linked.now.events.now (e + 1) false clocks.new) }
 {
     let thread = linked.events.thread(e);
     let time = linked.links.local(e);
@@ -87,36 +82,29 @@ fn is_known(clocks: &Clocks, linked: &Linked<'_>, e: u32, variable: u32) -> bool
 }
 
 /// Takes the event e. An access mostly tells its thread nothing of others, and that of a variable that isn't shared
-/// changes nothing. Says whether the rows were moved, and so have other numbers.
+/// changes nothing.
 #[inline(always)]
-pub fn pass(
-    clocks: &mut Clocks,
-    alloc: Global,
-    linked: &Linked<'_>,
-    e: u32,
-) -> Result<bool, NoMemory>
+pub fn pass(clocks: &mut Clocks, alloc: Global, linked: &Linked<'_>, e: u32) -> Result<(), NoMemory>
     requires in_range { e < length linked.now.events.now }
     requires before { IsBefore linked.now.events.now e false clocks.old }
-    ensures passed { OnOk result (IsBefore linked.now.events.now (e + 1) false clocks.new) }
-    ensures more { IfOk result (λ moved. moved ≡ false → AreMore clocks.old.rows clocks.new.rows) }
+    ensures { OnOk result (IsBefore linked.now.events.now (e + 1) false clocks.new) }
 {
     match linked.events.op(e) {
         Op::Write(variable) => {
             let shared = linked.links.is_shared(variable);
             if !shared {
-                return Ok(false);
+                return Ok(());
             }
-            pass_write(clocks, linked, e, variable)?;
-            Ok(false)
+            pass_write(clocks, linked, e, variable)
         }
         Op::Read(variable) => {
             let shared = linked.links.is_shared(variable);
             if !shared {
-                return Ok(false);
+                return Ok(());
             }
             let known = is_known(clocks, linked, e, variable);
             if known {
-                return Ok(false);
+                return Ok(());
             }
             pass_other(clocks, alloc, linked, e)
         }
@@ -124,24 +112,20 @@ pub fn pass(
     }
 }
 
-/// Takes the events from n on up to the end, without the end. Copies of rows that were moved are forgotten.
+/// Takes the events from n on up to the end, without the end.
 pub fn pass_up_to(
     clocks: &mut Clocks,
     alloc: Global,
     linked: &Linked<'_>,
     n: u32,
     end: u32,
-    copies: &mut Vec<u32>,
 ) -> Result<(), NoMemory>
     requires in_range { (n ≤ end) × (end ≤ length linked.now.events.now) }
     requires before { IsBefore linked.now.events.now n false clocks.old }
-    ensures passed { OnOk result (IsBefore linked.now.events.now end false clocks.new) }
-    ensures copies { (kept : List (List ℕ)) → AreCopies clocks.old.rows kept copies.old.items
-        → OnOk result (AreCopies clocks.new.rows kept copies.new.items) }
+    ensures { OnOk result (IsBefore linked.now.events.now end false clocks.new) }
 {
     for e in n..end {
-        let moved = pass(clocks, alloc, linked, e)?;
-        forget_moved(copies, moved);
+        pass(clocks, alloc, linked, e)?;
     }
     Ok(())
 }

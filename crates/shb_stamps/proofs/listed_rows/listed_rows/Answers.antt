@@ -7,19 +7,14 @@ pub loop-at-init : goal.loop-at-init
 loop-at-init c = record {
   before = c.in_ok-clocks.ensures c.args.linked.now.events.now false;
   passed = λ i low lt. omega arith;
-  kept = c.new-kept.ensures.listed c.args.linked.now.events.now c.args.events.now;
-  copies = c.new-kept.ensures.copies c.in_ok-clocks.clocks.rows;
+  kept = c.new-kept.ensures c.args.linked.now.events.now c.args.events.now;
 }
-
-pub note_listed-requires-clause-copies : goal.note_listed-requires-clause-copies
-note_listed-requires-clause-copies c = c.in_ok-pass_up_to.ensures.copies c.loop-at.kept.rows c.loop-at.invariant.copies
 
 pub loop-at-preserved : goal.loop-at-preserved
 loop-at-preserved c = record {
-  before = c.in_ok-pass_up_to.ensures.passed;
+  before = c.in_ok-pass_up_to.ensures;
   passed = λ i low lt. rising_order c.args.events.now c.requires.rising c.loop-at.at i 0 (omega (arith, low)) lt;
-  kept = c.in_ok-note_listed.ensures.kept;
-  copies = c.in_ok-note_listed.ensures.copies;
+  kept = c.in_ok-note_listed.ensures;
 }
 
 pub returns : goal.returns

@@ -1,7 +1,6 @@
 use Rattle.std.proofs.Common.{ℕ, false, ◌<◌, ◌≤◌, length, get_or}
 use Rattle.shb_stamps.specs.Clocks.{IsBefore}
 use Rattle.shb_stamps.specs.KeptRows.{AreListedRows}
-use Rattle.shb_stamps.specs.Moved.{AreCopies}
 use Rattle.shb_stamps.proofs.listed_rows.listed_rows.Given as goal
 
 abbrev pub invariant-loop-at : goal.invariant-loop-at
@@ -9,5 +8,4 @@ invariant-loop-at l = record {
   before : IsBefore l.linked.events.now l.next false l.clocks;
   passed : (i : ℕ) → l.at ≤ i → i < length l.events → l.next ≤ get_or l.events i 0;
   kept : AreListedRows l.linked.events.now l.events l.at l.kept;
-  copies : AreCopies l.clocks.rows l.kept.rows l.kept.copies.items;
 }

@@ -3,8 +3,8 @@ use Rattle.shb_lines.specs.declared.event.Op.{Op}
 use Rattle.shb_stamps.specs.Clocks.{IsNext}
 use Rattle.shb_stamps.proofs.clocks.Clocks.take_event.Goals as goal
 
-pub returns-in-Release-clause-taken : goal.returns-in-Release-clause-taken
-returns-in-Release-clause-taken c = λ trace n all next old. c.take_release.ensures.taken trace n c.args.joined all (subst (λ (o : Op). IsNext trace n c.args.thread o c.args.time c.args.joined) c.in-Release.is next) old
+pub returns-in-Release : goal.returns-in-Release
+returns-in-Release c = λ trace n all next old. c.take_release.ensures trace n c.args.joined all (subst (λ (o : Op). IsNext trace n c.args.thread o c.args.time c.args.joined) c.in-Release.is next) old
 
-pub returns-in-Fork-clause-taken : goal.returns-in-Fork-clause-taken
-returns-in-Fork-clause-taken c = λ trace n all next old. c.take_fork.ensures.taken trace n c.args.joined all (subst (λ (o : Op). IsNext trace n c.args.thread o c.args.time c.args.joined) c.in-Fork.is next) old
+pub returns-in-Fork : goal.returns-in-Fork
+returns-in-Fork c = λ trace n all next old. c.take_fork.ensures trace n c.args.joined all (subst (λ (o : Op). IsNext trace n c.args.thread o c.args.time c.args.joined) c.in-Fork.is next) old

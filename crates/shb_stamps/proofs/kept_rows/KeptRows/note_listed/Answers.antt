@@ -9,8 +9,8 @@ use Rattle.shb_stamps.proofs.kept_rows.KeptRows.note_listed.Goals as goal
 pub keep-requires-clause-few : goal.keep-requires-clause-few
 keep-requires-clause-few c = grind (arith, common_steps, rising_above, c.requires.rising, c.requires.in_range, c.requires.kept.few, c.requires.of_trace)
 
-pub returns-clause-kept : goal.returns-clause-kept
-returns-clause-kept c = record {
+pub returns : goal.returns
+returns c = record {
   few = (let few = c.requires.kept.few in let more = c.in_ok-number.ensures.few in omega (arith, few, more));
   before = listed_push c.args.linked.now.events.now c.args.events.now c.keep.new.rows c.args.at c.in_ok-number.number c.args.self.now.before.items c.push.new.self.items
       (λ e t at of_e. subst (λ (m : ℕ). IsRowFor c.args.linked.now.events.now c.keep.new.rows t (λ k. BelowPred c.args.linked.now.events.now k m) c.in_ok-number.number) at
