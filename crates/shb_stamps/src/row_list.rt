@@ -183,6 +183,16 @@ fn add_cells(
     })
 }
 
+/// Takes all items away, and makes room for half as many again as so many.
+fn clear_for<T: Copy>(items: &mut Vec<T>, count: usize) -> Result<(), NoMemory>
+    ensures { OnOk result (items.new.items ≡ []) }
+{
+    items.clear();
+    let room = count.saturating_add(count / 2);
+    items.reserve(room)?;
+    Ok(())
+}
+
 /// Adds for each of these chunks the number of its copy, where it has one.
 fn add_copies(hints: &mut Vec<u32>, numbers: &[u32], copies: &[u32]) -> Result<(), NoMemory> {
     for k in 0..numbers.len() {
@@ -462,9 +472,10 @@ impl RowList {
         Ok(())
     }
 
-    /// No rows, in the memory of these, which are gone then.
-    fn emptied(self) -> RowList
-        ensures { result ≡ [] }
+    /// No rows, in the memory of these, which are gone then. There is room at once for half as many again as other ones:
+    /// memory that grows is moved, and takes as much again meanwhile.
+    fn emptied(self, other: &RowList) -> Result<RowList, NoMemory>
+        ensures { IfOk result (λ rows. rows ≡ []) }
     {
         let RowList {
             mut spans,
@@ -473,16 +484,16 @@ impl RowList {
             hints,
             ..
         } = self;
-        spans.clear();
-        cells.clear();
-        chunks.clear();
-        RowList {
+        clear_for(&mut spans, other.spans.len())?;
+        clear_for(&mut cells, other.cells.len())?;
+        clear_for(&mut chunks, other.chunks.len())?;
+        Ok(RowList {
             spans,
             cells,
             chunks,
             hints,
             size: 0,
-        }
+        })
     }
 
     /// Adds a row of other rows. It has the copies of its chunks, where they are noted, and those that are new are
@@ -506,7 +517,7 @@ impl RowList {
     pub fn kept(&self, alloc: Global, unused: RowList, kept: &[u32]) -> Result<RowList, NoMemory>
         ensures { IfOk result (AreKept self.now kept.now (length kept.now)) }
     {
-        let mut list = unused.emptied();
+        let mut list = unused.emptied(self)?;
         let mut copies = Vec::new(alloc);
         for b in 0..kept.len() {
             list.keep(self, kept[b], &mut copies)?;
