@@ -17,7 +17,7 @@ use Rattle.shb_lines.proofs.events.Events.{event_of_thread, is_of_true, thread_i
 use Rattle.shb_lines.proofs.events.Prefix.{is_of_thread}
 use Rattle.shb_lines.proofs.events.Search.{IsLatest, latest_below, of_thread_at, of_thread_true}
 use Rattle.shb_links.specs.Latest.{IsLatestBefore, OfThread, ReleasesLock}
-use Rattle.shb_stamps.specs.Clocks.{AreClocks, HasRowAfter, knows, learns, shares, IsNext, KeepsWrite}
+use Rattle.shb_stamps.specs.Clocks.{AreClocks, HasRowAfter, IsNext, KeepsWrite}
 use Rattle.shb_stamps.specs.Fronts.{IsFront, IsFrontBut, Learns}
 use Rattle.shb_stamps.specs.Moved.{AreAlike, HasMoved, IsMovedRow, IsMovedStamp, MovesRow}
 use Rattle.shb_stamps.specs.Rows.{AreMore}
@@ -170,49 +170,30 @@ module _ (trace : List Event) (n thread time joined : ℕ) (op : Op) (next : IsN
 
   -- the row after the event
   module _ (more : List (List ℕ)) (before : ℕ) (source : Stamp) (after : AfterSource) (before_is : before ≡ get_or current thread 0) (is_source : IsSource trace rows n source) where
-    own_row : HasRowAfter rows more thread before source after → AreMore rows more × (length more ≤ length rows + 1) × IsRowFor trace more thread (λ k. ShbBelow trace k n) after.row
-    own_row (knows known same_rows same_row plain) = (
-      subst (AreMore rows) (sym same_rows) (more_same rows),
-      omega (arith, ap length same_rows),
-      subst (λ (rs : List (List ℕ)). IsRowFor trace rs thread (λ k. ShbBelow trace k n) after.row) (sym same_rows) (subst (IsRowFor trace rows thread (λ k. ShbBelow trace k n)) (sym same_row)
-          (row_known trace next.disciplined rows n thread before next.of_thread (row_before before before_is) source is_source known)),
-    )
-    own_row (shares unknown there below same_rows same_row plain) = (
-      subst (AreMore rows) (sym same_rows) (more_same rows),
-      omega (arith, ap length same_rows),
-      subst (λ (rs : List (List ℕ)). IsRowFor trace rs thread (λ k. ShbBelow trace k n) after.row) (sym same_rows) (subst (IsRowFor trace rows thread (λ k. ShbBelow trace k n)) (sym same_row) (record {
-        in_range = (source_new trace next.disciplined rows n thread before next.of_thread (row_before before before_is) source is_source unknown).2.row_is.in_range;
-        front = joined_front trace next.disciplined rows n thread before next.of_thread (row_before before before_is) source is_source unknown (get_or rows source.row []) (get_or rows source.row []) (record { there = there; others = λ k ne. refl }) (λ t. (let le = below t in omega (arith, le)));
-      })),
-    )
-    own_row (learns unknown clock raised put each pushed number same) = (
-      more_push rows more raised pushed,
-      omega (arith, size),
-      record {
-        in_range = (let at = number few_rows in omega (arith, size, at));
-        front = subst (IsFrontBut trace thread (λ k. ShbBelow trace k n)) (sym (ap (λ (r : ℕ). get_or more r []) (number few_rows) ∙ (ap (λ (rs : List (List ℕ)). get_or rs (length rows) []) pushed ∙ get_or_push rows raised [] (length rows) refl)))
-            (joined_front trace next.disciplined rows n thread before next.of_thread (row_before before before_is) source is_source unknown clock raised put (λ t. (let m = each t in omega (arith, m))));
-      },
-    )
-      where
-        size : length more ≡ length rows + 1
-        size = ap length pushed ∙ length_push rows raised
+    -- whether the thread knew the source
+    asked : KnowsStamp (get_or rows before []) thread source ⊎ (KnowsStamp (get_or rows before []) thread source → ⊥)
+    asked = elim (cases_eq source.thread thread) [
+      | inl same ↦ inl (inl same)
+      | inr ne ↦ elim (cases_lt (get_or (get_or rows before []) source.thread 0) source.time) [
+        | inr le ↦ inl (inr le)
+        | inl high ↦ inr (λ knows. elim knows [ inl same ↦ ne same | inr le ↦ absurd (omega (arith, high, le)) ])
+      ]
+    ]
 
-    -- a row that renames the source is its clock
-    renamed : HasRowAfter rows more thread before source after → after.renames ≡ true → (after.row < length more) × IsPut 0 source.thread source.time (get_or rows source.row []) (get_or more after.row [])
-    renamed (knows known same_rows same_row plain) renames = absurd (let f : ⊥ = cc in f)
-    renamed (shares unknown there below same_rows same_row plain) renames = absurd (let f : ⊥ = cc in f)
-    renamed (learns unknown clock raised put each pushed number same) renames = (
-      (let at = number few_rows in let size = ap length pushed ∙ length_push rows raised in omega (arith, size, at)),
-      subst (IsPut 0 source.thread source.time (get_or rows source.row [])) (sym (ap (λ (r : ℕ). get_or more r []) (number few_rows) ∙ (ap (λ (rs : List (List ℕ)). get_or rs (length rows) []) pushed ∙ (get_or_push rows raised [] (length rows) refl ∙ same renames)))) put,
-    )
+    own_row : HasRowAfter rows more thread before source after → KnowsStamp (get_or rows before []) thread source ⊎ (KnowsStamp (get_or rows before []) thread source → ⊥) → IsRowFor trace more thread (λ k. ShbBelow trace k n) after.row
+    own_row has (inl known) = subst (IsRowFor trace more thread (λ k. ShbBelow trace k n)) (sym (has.knew known))
+        (row_more trace rows more thread before (λ k. ShbBelow trace k n) has.more (row_known trace next.disciplined rows n thread before next.of_thread (row_before before before_is) source is_source known))
+    own_row has (inr unknown) =
+        let known_row = (source_new trace next.disciplined rows n thread before next.of_thread (row_before before before_is) source is_source unknown).2.row_is in
+        let joined = has.learned unknown few_rows known_row.in_range in
+        record { in_range = joined.0; front = joined_front trace next.disciplined rows n thread before next.of_thread (row_before before before_is) source is_source unknown joined.1.clock (get_or more after.row []) joined.1.clock_is joined.1.each }
 
     renamed_stamp : (P : ℕ → Type 0) → HasRowAfter rows more thread before source after → after.renames ≡ true → IsLatestStamp trace rows P n source → IsLatestStamp trace more P n (record { row = after.row; thread = source.thread; time = source.time })
     renamed_stamp P has renames (of_none absent zero) = of_none absent zero
     renamed_stamp P has renames (of_event w latest is) = of_event w latest (record { of_thread = is.of_thread; time_is = is.time_is; row_is = record { in_range = put.0; front = record { within = λ t ne. front.within t; exact = λ t k of_k ne. front.exact t k of_k } } })
       where
         put : (after.row < length more) × IsPut 0 source.thread source.time (get_or rows source.row []) (get_or more after.row [])
-        put = renamed has renames
+        put = has.renames renames few_rows
 
         front : IsFront trace (λ k. ShbBelow trace k w) (get_or more after.row [])
         front = front_put trace w source.thread (get_or rows source.row []) (get_or more after.row []) is.of_thread (subst (λ (m : ℕ). IsPut 0 source.thread m (get_or rows source.row []) (get_or more after.row [])) is.time_is put.1) is.row_is.front
@@ -365,17 +346,17 @@ module _ (trace : List Event) (n thread time joined : ℕ) (op : Op) (next : IsN
 
   -- the event was taken, as the code names what it did
   module _ (before : ℕ) (source : Stamp) (after : AfterSource) (more : List (List ℕ)) (current_after : List ℕ) (before_is : before ≡ get_or current thread 0) (is_source : IsSource trace rows n source) (has : HasRowAfter rows more thread before source after) (put_row : IsPut 0 thread after.row current current_after) where
-    own : AreMore rows more × (length more ≤ length rows + 1) × IsRowFor trace more thread (λ k. ShbBelow trace k n) after.row
-    own = own_row more before source after before_is is_source has
+    own : IsRowFor trace more thread (λ k. ShbBelow trace k n) after.row
+    own = own_row more before source after before_is is_source has (asked more before source after before_is is_source)
 
     pub taken_other : ((u : ℕ) → op ≡ Fork u → ⊥) → ((l : ℕ) → op ≡ Release l → ⊥) → ((x : ℕ) → op ≡ Write x → ⊥) → AreClocks trace (n + 1) all more current_after locks variables
-    taken_other no_fork no_release no_write = after_other more own.0 own.1 after.row own.2 current_after put_row (λ t. not_at (Fork t) (no_fork t)) (λ l. not_at (Release l) (no_release l)) (λ x kept. not_at (Write x) (no_write x) kept.1)
+    taken_other no_fork no_release no_write = after_other more has.more has.few after.row own current_after put_row (λ t. not_at (Fork t) (no_fork t)) (λ l. not_at (Release l) (no_release l)) (λ x kept. not_at (Write x) (no_write x) kept.1)
 
     pub taken_read : (x : ℕ) → op ≡ Read x → source ≡ get_or variables x empty_stamp → (variables_after : List Stamp) → (after.renames ≡ false → variables_after ≡ variables) → (after.renames ≡ true → IsPut empty_stamp x (record { row = after.row; thread = source.thread; time = source.time }) variables variables_after) → AreClocks trace (n + 1) all more current_after locks variables_after
-    taken_read x is source_is variables_after kept named = after_read more own.0 own.1 after.row own.2 current_after put_row x is variables_after (λ y. go y (cases_Bool after.renames))
+    taken_read x is source_is variables_after kept named = after_read more has.more has.few after.row own current_after put_row x is variables_after (λ y. go y (cases_Bool after.renames))
       where
         as_before : (y : ℕ) → IsLatestStamp trace more (KeepsWrite all trace y) n (get_or variables y empty_stamp)
-        as_before y = latest_more trace rows more (KeepsWrite all trace y) n (get_or variables y empty_stamp) own.0 (old.variables_are y)
+        as_before y = latest_more trace rows more (KeepsWrite all trace y) n (get_or variables y empty_stamp) has.more (old.variables_are y)
 
         put_at : IsPut empty_stamp x (record { row = after.row; thread = source.thread; time = source.time }) variables variables_after → after.renames ≡ true → (y : ℕ) → (y ≡ x) ⊎ (y ≢ x) → IsLatestStamp trace more (KeepsWrite all trace y) n (get_or variables_after y empty_stamp)
         put_at put renames y (inl same) = subst (λ (z : ℕ). IsLatestStamp trace more (KeepsWrite all trace z) n (get_or variables_after z empty_stamp)) (sym same) (subst (IsLatestStamp trace more (KeepsWrite all trace x) n) (sym put.there)

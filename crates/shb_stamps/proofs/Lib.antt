@@ -3,7 +3,6 @@ pub mod ListedLemmas
 pub mod Locals
 pub mod MovedLemmas
 pub mod Sources
-pub mod CopiesLemmas
 pub mod Counting
 pub mod Stamping
 pub mod Streams

@@ -58,6 +58,16 @@ listed_found xs x i rising listed position =
       | inr high ↦ (let more = parts.2 at.0 high at.1 in omega (arith, more, item))
     ]
 
+-- a row with the same entries as one of other rows
+pub row_copied : (trace : List Event) (rows kept : List (List ℕ)) (t row number : ℕ) (P : ℕ → Type 0) → number < length kept → ((u : ℕ) → get_or (get_or kept number []) u 0 ≡ get_or (get_or rows row []) u 0) → IsRowFor trace rows t P row → IsRowFor trace kept t P number
+row_copied trace rows kept t row number P low alike is = record {
+  in_range = low;
+  front = record {
+    within = λ u ne. (let le = is.front.within u ne in let same = alike u in omega (arith, le, same));
+    exact = λ u k of_k ne. (let known = is.front.exact u k of_k ne in let same = alike u in ((λ le. known.0 (omega (arith, le, same))), (λ p. let le = known.1 p in omega (arith, le, same))));
+  };
+}
+
 module _ (trace : List Event) (events : List ℕ) where
   pub listed_more : (rows more : List (List ℕ)) (n : ℕ) (before : List ℕ) → AreMore rows more → HasListedRows trace rows events n before → HasListedRows trace more events n before
   listed_more rows more n before grown h = record { as_many = h.as_many; each = λ i e t lt at of_e. row_more trace rows more t _ _ grown (h.each i e t lt at of_e) }

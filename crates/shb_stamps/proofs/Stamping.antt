@@ -1,9 +1,9 @@
 -- What an event learns of others, and the row and the stamps after it.
 use Rattle.std.proofs.lemmas.Grind.{common_steps}
-use Rattle.std.proofs.Common.{◌≡◌, ◌≢◌, ℕ, ◌+◌, ◌<◌, ◌≤◌, ◌⊎◌, inl, inr, Bool, true, false, List, [], ◌∷◌, ◌++◌, Option, Some, get_or, take, arith, subst, ap, sym, ◌∙◌, refl}
+use Rattle.std.proofs.Common.{◌≡◌, length, ◌≢◌, ℕ, ◌+◌, ◌<◌, ◌≤◌, ◌⊎◌, inl, inr, Bool, true, false, List, [], ◌∷◌, ◌++◌, Option, Some, get_or, take, arith, subst, ap, sym, ◌∙◌, refl}
 use Rattle.std.specs.Prelude.{◌↔◌, ◌==◌, option_and_then, slice_get}
 use Rattle.std.proofs.lemmas.Bool.{cases_lt, cases_eq, cases_order, cases_Bool, eqb-true, ne_eqb}
-use Rattle.std.proofs.lemmas.List.{get_or_append_left, length_push}
+use Rattle.std.proofs.lemmas.List.{get_or_append_left, get_or_push, length_push}
 use Rattle.shb_lines.specs.declared.event.Event.{Event}
 use Rattle.shb_lines.specs.declared.event.Op.{Op}
 use Rattle.shb_lines.specs.declared.event.Op.TheVariants.{Read, Write, Acquire, Release, Fork}
@@ -30,6 +30,10 @@ more_same rows = record { as_long = omega arith; same = λ i lt. refl }
 
 pub more_push : (rows new : List (List ℕ)) (row : List ℕ) → new ≡ rows ++ row ∷ [] → AreMore rows new
 more_push rows new row is = grind (arith, common_steps, length_push, get_or_append_left)
+
+-- a row that is added is the last one
+pub row_pushed : (rows new : List (List ℕ)) (row : List ℕ) (number : ℕ) → new ≡ rows ++ row ∷ [] → number ≡ length rows → (number < length new) × (get_or new number [] ≡ row)
+row_pushed rows new row number is at_end = grind (arith, common_steps, length_push, get_or_push)
 
 module _ (trace : List Event) where
   -- what is known of the rows stays known as they grow

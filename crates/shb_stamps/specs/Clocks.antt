@@ -1,5 +1,5 @@
 -- What is kept of the order of a trace before one of its events.
-use Rattle.std.specs.Prelude.{◌≡◌, ℕ, ◌+◌, ◌<◌, ◌≤◌, ◌⊎◌, ◌++◌, ◌∷◌, ◌^◌, Bool, true, false, List, [], Some, length, max, slice_index_or, take, count_by}
+use Rattle.std.specs.Prelude.{◌≡◌, ℕ, ◌+◌, ◌<◌, ◌≤◌, ◌⊎◌, ◌^◌, Bool, true, List, [], Some, length, max, slice_index_or, take, count_by}
 use Rattle.shb_lines.specs.Growing.{IsPut}
 use Rattle.shb_lines.specs.declared.event.Event.{Event}
 use Rattle.shb_lines.specs.declared.event.Op.{Op}
@@ -8,6 +8,7 @@ use Rattle.shb_lines.specs.events.Discipline.{IsDisciplined, is_of, local_time}
 use Rattle.shb_lines.specs.events.Events.{op_at, thread_at}
 use Rattle.shb_links.specs.Latest.{ReleasesLock}
 use Rattle.shb_links.specs.Sharing.{IsShared}
+use Rattle.shb_stamps.specs.Rows.{AreMore}
 use Rattle.shb_stamps.specs.Stamps.{IsKnown, IsLatestStamp, IsRowFor, KnowsStamp, empty_stamp}
 use Rattle.shb_stamps.specs.declared.clocks.AfterSource.{AfterSource}
 use Rattle.shb_stamps.specs.declared.clocks.Clocks.{Clocks}
@@ -38,11 +39,16 @@ pub record IsNext (trace : List Event) (n thread : ℕ) (op : Op) (time joined :
   pub time_is : time ≡ local_time trace thread n
   pub joined_is : (t : ℕ) → op ≡ Join t → joined ≡ count_by (is_of t) (take n trace)
 
--- the row of a thread after an event: the one before where it knows the source already; that of the source where it is the source's clock and the row before is below it; or a new one, in which each entry is the greater of the two; it renames the source where it is its clock
-pub data HasRowAfter (old new : List (List ℕ)) (thread before : ℕ) (source : Stamp) (after : AfterSource) : Type 0 where
-  knows : KnowsStamp (slice_index_or old before []) thread source → new ≡ old → after.row ≡ before → after.renames ≡ false → HasRowAfter old new thread before source after
-  shares : (KnowsStamp (slice_index_or old before []) thread source → ⊥) → slice_index_or (slice_index_or old source.row []) source.thread 0 ≡ source.time
-      → ((t : ℕ) → slice_index_or (slice_index_or old before []) t 0 ≤ slice_index_or (slice_index_or old source.row []) t 0) → new ≡ old → after.row ≡ source.row → after.renames ≡ false → HasRowAfter old new thread before source after
-  learns : (KnowsStamp (slice_index_or old before []) thread source → ⊥) → (clock joined : List ℕ) → IsPut 0 source.thread source.time (slice_index_or old source.row []) clock
-      → ((t : ℕ) → slice_index_or joined t 0 ≡ max (slice_index_or clock t 0) (slice_index_or (slice_index_or old before []) t 0)) → new ≡ old ++ joined ∷ [] → (length old < 2 ^ 32 → after.row ≡ length old)
-      → (after.renames ≡ true → joined ≡ clock) → HasRowAfter old new thread before source after
+-- each entry of a row is the greater of those of the row before and of the source's clock
+pub record IsJoined (rows : List (List ℕ)) (before : ℕ) (source : Stamp) (row : List ℕ) : Type 0 where
+  pub clock : List ℕ
+  pub clock_is : IsPut 0 source.thread source.time (slice_index_or rows source.row []) clock
+  pub each : (t : ℕ) → slice_index_or row t 0 ≡ max (slice_index_or (slice_index_or rows before []) t 0) (slice_index_or clock t 0)
+
+-- the rows stay, and one more is added at most; a thread that knew the source has the row before, and another one has a joined row; it renames the source only where it is the source's clock
+pub record HasRowAfter (old new : List (List ℕ)) (thread before : ℕ) (source : Stamp) (after : AfterSource) : Type 0 where
+  pub more : AreMore old new
+  pub few : length new ≤ length old + 1
+  pub knew : KnowsStamp (slice_index_or old before []) thread source → after.row ≡ before
+  pub learned : (KnowsStamp (slice_index_or old before []) thread source → ⊥) → length old < 2 ^ 32 → source.row < length old → (after.row < length new) × IsJoined old before source (slice_index_or new after.row [])
+  pub renames : after.renames ≡ true → length old < 2 ^ 32 → (after.row < length new) × IsPut 0 source.thread source.time (slice_index_or old source.row []) (slice_index_or new after.row [])

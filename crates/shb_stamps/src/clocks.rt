@@ -323,20 +323,6 @@ impl Clocks {
         Ok(())
     }
 
-    /// Takes an event that is no write. No row is freed.
-    #[inline(always)]
-    fn take_event(&mut self, thread: u32, op: Op, time: u32, joined: u32) -> Result<(), NoMemory>
-        requires no_write { (x : ℕ) → op ≡ Write x → ⊥ }
-        ensures { (trace : List Event) (n : ℕ) (all : Bool) → IsNext trace n thread op time joined → IsBefore trace n all self.old
-            → OnOk result (IsBefore trace (n + 1) all self.new) }
-    {
-        match op {
-            Op::Release(lock) => self.take_release(thread, lock, time),
-            Op::Fork(child) => self.take_fork(thread, child, time),
-            _ => self.learn(thread, op, time, joined),
-        }
-    }
-
     /// Frees the rows that nothing names.
     fn compact(&mut self, alloc: Global) -> Result<(), NoMemory>
         ensures { (trace : List Event) (n : ℕ) (all : Bool) → n + 1 < 2 ^ 32 → IsBefore trace n all self.old → OnOk result (IsBefore trace n all self.new) }
@@ -383,6 +369,10 @@ impl Clocks {
             → OnOk result (IsBefore trace (n + 1) all self.new) }
     {
         self.make_room(alloc)?;
-        self.take_event(thread, op, time, joined)
+        match op {
+            Op::Release(lock) => self.take_release(thread, lock, time),
+            Op::Fork(child) => self.take_fork(thread, child, time),
+            _ => self.learn(thread, op, time, joined),
+        }
     }
 }

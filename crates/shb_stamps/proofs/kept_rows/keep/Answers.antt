@@ -1,10 +1,9 @@
-use Rattle.std.proofs.Common.{List, [], get_or, length, ap, arith, refl, ◌∙◌}
+use Rattle.std.proofs.Common.{ℕ, List, [], get_or, length, ap, arith, ◌∙◌}
 use Rattle.std.proofs.lemmas.List.{length_push}
 use Rattle.shb_lines.specs.declared.event.Event.{Event}
 use Rattle.shb_lines.specs.events.Order.{BelowPred}
-use Rattle.shb_stamps.proofs.CopiesLemmas.{copy_pushed, row_copied}
-use Rattle.shb_stamps.proofs.MovedLemmas.{row_moved}
-use Rattle.shb_stamps.proofs.Stamping.{more_push, more_same}
+use Rattle.shb_stamps.proofs.ListedLemmas.{row_copied}
+use Rattle.shb_stamps.proofs.Stamping.{more_push, more_same, row_pushed}
 use Rattle.shb_stamps.proofs.kept_rows.keep.Goals as goal
 
 pub returns-then-same-clause-more : goal.returns-then-same-clause-more
@@ -25,6 +24,7 @@ returns-clause-few c = let size = ap length c.in_ok-number.ensures.rows ∙ leng
 pub returns-clause-row : goal.returns-clause-row
 returns-clause-row c t of_t =
     let trace : List Event = c.args.linked.now.events.now in
-    row_moved trace c.args.clocks.now.rows c.push_from.new.self t c.row_before-before.result c.in_ok-number.number (λ k. BelowPred trace k c.args.e)
-    (copy_pushed c.args.clocks.now.rows c.args.rows.now c.push_from.new.self c.row_before-before.result c.in_ok-number.number (get_or c.args.clocks.now.rows c.row_before-before.result []) c.in_ok-number.ensures.rows refl (c.in_ok-number.ensures.number (let few = c.requires.few in omega (arith, few))))
-    (c.row_before-before.ensures t of_t)
+    let row : List ℕ = get_or c.args.clocks.now.rows c.row_before-before.result [] in
+    let pushed = row_pushed c.args.rows.now c.push_from.new.self row c.in_ok-number.number c.in_ok-number.ensures.rows (c.in_ok-number.ensures.number (let few = c.requires.few in omega (arith, few))) in
+    row_copied trace c.args.clocks.now.rows c.push_from.new.self t c.row_before-before.result c.in_ok-number.number (λ k. BelowPred trace k c.args.e)
+    pushed.0 (λ u. ap (λ (xs : List ℕ). get_or xs u 0) pushed.1) (c.row_before-before.ensures t of_t)
