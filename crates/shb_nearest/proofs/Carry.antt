@@ -1,12 +1,13 @@
 -- What is known of the accesses of a stream stays so when an event comes.
-use Rattle.std.proofs.Common.{◌≡◌, ℕ, zero, suc, ◌<◌, ◌≤◌, inl, inr, Bool, List, [], ◌∷◌, ◌++◌, Some, length, arith, refl, sym, ap, ◌∙◌}
+use Rattle.std.proofs.Common.{◌≡◌, ℕ, zero, suc, ◌<◌, ◌≤◌, Bool, List, [], ◌∷◌, ◌++◌, Some, length, arith, refl, sym, ap, ◌∙◌}
 use Rattle.std.specs.Prelude.{option_and_then, slice_get}
 use Rattle.std.proofs.lemmas.List.Elements.{All-weaker}
 use Rattle.shb_lines.specs.declared.event.Event.{Event}
 use Rattle.shb_lines.specs.events.Discipline.{IsDisciplined}
 use Rattle.shb_lines.specs.events.Events.{op_at, thread_at, variable_of}
 use Rattle.shb_lines.specs.events.Race.{Race, variable_at}
-use Rattle.shb_lines.proofs.events.Longer.{below_pred_longer, op_longer, race_longer, thread_longer, time_longer}
+use Rattle.shb_lines.proofs.events.Longer.{op_longer, race_longer, thread_longer, time_longer}
+use Rattle.shb_stamps.proofs.Screening.{screened_longer}
 use Rattle.shb_nearest.specs.declared.access.FoundAccess.{FoundAccess}
 use Rattle.shb_nearest.specs.declared.access.FoundRace.{FoundRace}
 use Rattle.shb_nearest.specs.declared.access.Spot.{Spot}
@@ -15,15 +16,12 @@ use Rattle.shb_nearest.specs.declared.groups.Group.{Group}
 use Rattle.shb_nearest.specs.declared.groups.KeptAccess.{KeptAccess}
 use Rattle.shb_nearest.specs.declared.late.Late.{Late}
 use Rattle.shb_nearest.specs.declared.places.Place.{Place}
-use Rattle.shb_nearest.specs.declared.screen.Latest.{Latest}
-use Rattle.shb_nearest.specs.declared.screen.Epoch.{Epoch}
 use Rattle.shb_nearest.specs.declared.tables.Tables.{Tables}
 use Rattle.shb_nearest.specs.Classes.{IsNewestOf, IsOfClass}
 use Rattle.shb_nearest.specs.Found.{IsFoundAccess, location_in}
 use Rattle.shb_nearest.specs.Groups.{AreGroups, IsGroup, IsKept, access_of}
 use Rattle.shb_nearest.specs.Late.{AreLate, IsLateIn, access_in, each_in, late_in}
 use Rattle.shb_nearest.specs.Places.{IsAtPlace, IsNearestAt}
-use Rattle.shb_nearest.specs.Screen.{IsMarked, IsScreened}
 use Rattle.shb_nearest.specs.Searched.{AreTables}
 
 spot_longer : (spots more : List Spot) (k : ℕ) → k < length spots → slice_get (spots ++ more) k ≡ slice_get spots k
@@ -120,24 +118,6 @@ module _ (past : List Event) (e : Event) (spots : List Spot) (s : Spot) (as_many
     nearest = λ k l lt race at. (let own = race_back k l lt race in h.nearest k l lt own (at_place_back by_variable p k l own.earlier lt at));
   }
 
-  marked_longer : (epoch : Epoch) (k : ℕ) → IsMarked past (length past) epoch k → IsMarked (past ++ e ∷ []) (length past) epoch k
-  marked_longer epoch k h = record {
-    event = h.event;
-    past = h.past;
-    thread_is = same_thread_at h.event h.past ∙ h.thread_is;
-    time_is = h.time_is ∙ sym (time_longer past (e ∷ []) epoch.thread h.event h.past);
-    ordered = elim h.ordered [ inl same ↦ inl same | inr below ↦ inr ((below_pred_longer past (e ∷ []) whole k h.event h.past).1 below) ];
-  }
-
-  screened_longer : (x : ℕ) (latest : Latest) → IsScreened past x (length past) latest → IsScreened (past ++ e ∷ []) x (length past) latest
-  screened_longer x latest h = record {
-    writes = λ known k lt is. marked_longer latest.write k (h.writes known k lt (sym (same_op_at k lt) ∙ is));
-    accesses = λ known also k lt is. elim (h.accesses known also k lt (sym (same_variable_at k lt) ∙ is)) [
-      | inl w ↦ inl (marked_longer latest.write k w)
-      | inr r ↦ inr (marked_longer latest.read k r)
-    ];
-  }
-
   pub tables_longer : (by_variable : Bool) (tables : Tables) → AreTables by_variable past spots (length past) tables → AreTables by_variable (past ++ e ∷ []) (spots ++ s ∷ []) (length past) tables
   tables_longer by_variable tables are = record {
     classes = record {
@@ -152,7 +132,7 @@ module _ (past : List Event) (e : Event) (spots : List Spot) (s : Spot) (as_many
         };
         locations = h.locations;
         run = record { alone = λ i from lt is. same_thread_at i lt ∙ h.run.alone i from lt (sym (same_variable_at i lt) ∙ is) };
-        screened = screened_longer x variable.latest h.screened;
+        screened = screened_longer past e whole x variable.latest h.screened;
       });
       wide = λ i x lt is. are.variables.wide i x lt (sym (same_variable_at i lt) ∙ is);
     };

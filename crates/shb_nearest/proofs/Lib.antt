@@ -9,6 +9,5 @@ pub mod NearestLaws
 pub mod PlaceLemmas
 pub mod PlaceTable
 pub mod RivalLemmas
-pub mod ScreenLemmas
 pub mod StepLemmas
 pub mod TableLemmas

@@ -1,5 +1,5 @@
 -- The tables after an access more, and after another event.
-use Rattle.std.proofs.Common.{◌≡◌, ℕ, ◌+◌, ◌-◌, ◌^◌, ◌<◌, ◌≤◌, inl, inr, Bool, true, false, cond, List, [], None, Option, Some, length, take, arith, refl, sym, ap, subst, ◌∙◌}
+use Rattle.std.proofs.Common.{◌≡◌, ℕ, ◌+◌, ◌-◌, ◌^◌, ◌<◌, ◌≤◌, inl, inr, Bool, true, false, cond, List, [], ◌∷◌, ◌++◌, None, Option, Some, length, take, arith, refl, sym, ap, subst, ◌∙◌}
 use Rattle.std.specs.Prelude.{All, min, option_and_then, slice_get, unwrap_or}
 use Rattle.std.proofs.Math.ListN.{length-set, set}
 use Rattle.std.proofs.lemmas.Bool.{cases_Bool, cases_lt}
@@ -16,6 +16,11 @@ use Rattle.shb_lines.specs.events.Race.{Race, variable_at}
 use Rattle.shb_lines.proofs.events.Increasing.{increasing_equal}
 use Rattle.shb_stamps.proofs.Counting.{count_own}
 use Rattle.shb_stamps.proofs.Locals.{time_at}
+use Rattle.shb_stamps.proofs.Screening.{screened_later, screened_never}
+use Rattle.shb_stamps.specs.Screen.{IsAccess, IsScreened}
+use Rattle.shb_stamps.specs.declared.screen.Epoch.{Epoch}
+use Rattle.shb_stamps.specs.declared.screen.Latest.{Latest}
+use Rattle.shb_stamps.specs.declared.stream_clocks.StreamClocks.{StreamClocks}
 use Rattle.shb_nearest.specs.declared.access.FoundAccess.{FoundAccess}
 use Rattle.shb_nearest.specs.declared.access.Spot.{Spot}
 use Rattle.shb_nearest.specs.declared.classes.Class.{Class}
@@ -28,15 +33,14 @@ use Rattle.shb_nearest.specs.Found.{IsFoundAccess, access_op}
 use Rattle.shb_nearest.specs.Groups.{AreAmong, AreGroups, HasGroupAt, IsAt, IsGroup, IsKept, IsOfGroup, IsRun, IsSince, access_of, class_of}
 use Rattle.shb_nearest.specs.Late.{each_in, late_in, locations_in}
 use Rattle.shb_nearest.specs.Places.{ArePlaces, PlaceEntry}
-use Rattle.shb_nearest.specs.Screen.{HasNone}
+use Rattle.shb_nearest.specs.Rivals.{IsNextAccess}
 use Rattle.shb_nearest.specs.Searched.{AreTables, AreVariables, IsVariable}
 use Rattle.shb_nearest.specs.Wide.{AreMoreVariables}
 use Rattle.shb_nearest.proofs.GroupLemmas.{class_self, group_empty, group_same, groups_next, one_class}
 use Rattle.shb_nearest.proofs.ClassLemmas.{class_own, class_variable, class_with, op_variable}
 use Rattle.shb_nearest.proofs.LateLemmas.{late_none, late_skip}
 use Rattle.shb_nearest.proofs.Members.{member_at}
-use Rattle.shb_nearest.proofs.RivalLemmas.{variable_is}
-use Rattle.shb_nearest.proofs.ScreenLemmas.{screened_later, screened_never}
+use Rattle.shb_nearest.proofs.RivalLemmas.{variable_is, writes_where}
 
 module _ (trace : List Event) (spots : List Spot) where
   -- no access of an event that does something else
@@ -164,7 +168,7 @@ module _ (trace : List Event) (spots : List Spot) where
         only y is = (let s : Some y ≡ Some x = sym is ∙ subst (λ (m : ℕ). variable_at trace m ≡ Some x) at_n (variable_is trace spots x access found) in cc)
 
     -- the places, an event more that races with none before it
-    pub places_later : (by_variable : Bool) (entries : List PlaceEntry) → HasNone trace n → ArePlaces by_variable trace spots n entries → ArePlaces by_variable trace spots (n + 1) entries
+    pub places_later : (by_variable : Bool) (entries : List PlaceEntry) → ((i : ℕ) → Race trace i n → ⊥) → ArePlaces by_variable trace spots n entries → ArePlaces by_variable trace spots (n + 1) entries
     places_later by_variable entries none are = record {
       each = λ p r at. (let h = are.each p r at in record {
         accesses = h.accesses;
@@ -201,6 +205,17 @@ module _ (trace : List Event) (spots : List Spot) where
       where
         no_access : (x : ℕ) → variable_at trace n ≡ Some x → ⊥
         no_access x at = let v = sym at ∙ (ap (option_and_then variable_of) is ∙ none) in (let f : ⊥ = cc in f)
+
+-- what is kept of a variable after its next access
+pub screened_next : (past : List Event) (e : Event) (spots : List Spot) (x : ℕ) (clocks : StreamClocks) (access : FoundAccess) → IsNextAccess past e spots x clocks access → (own : Epoch) → own.thread ≡ access.thread → own.time ≡ local_time (past ++ e ∷ []) access.thread access.event → (old new : Latest)
+    → (IsAccess (past ++ e ∷ []) (length past) x own access.writes → IsScreened (past ++ e ∷ []) x (length past) old → IsScreened (past ++ e ∷ []) x (length past + 1) new) → IsScreened (past ++ e ∷ []) x access.event old → IsScreened (past ++ e ∷ []) x (access.event + 1) new
+screened_next past e spots x clocks access next own same time old new taken =
+    let trace = past ++ e ∷ [] in
+    subst (λ (n : ℕ). IsAccess trace n x own access.writes → IsScreened trace x n old → IsScreened trace x (n + 1) new) (sym next.event_is) taken (record {
+      own_is = record { thread_is = next.own.thread_is ∙ ap (λ (t : ℕ). Some t) (sym same); time_is = time ∙ ap (λ (t : ℕ). local_time trace t access.event) (sym same) };
+      accesses = variable_is trace spots x access next.own;
+      reads = λ reads writes. (let w = sym (writes_where trace access.event x x access.writes next.own.op_is writes) ∙ reads in let f : ⊥ = cc in f);
+    })
 
 -- a number of events is one number
 number_one : (P : ℕ → Type 0) (m n : ℕ) → IsNumberOf P m → IsNumberOf P n → m ≡ n

@@ -4,7 +4,6 @@ pub mod Classes
 pub mod Groups
 pub mod Late
 pub mod Rivals
-pub mod Screen
 pub mod Places
 pub mod Searched
 pub mod Wide

@@ -5,6 +5,7 @@ use Rattle.shb_lines.specs.declared.event.Op.{Op}
 use Rattle.shb_lines.specs.events.Discipline.{IsDisciplined}
 use Rattle.shb_lines.specs.events.Race.{variable_at}
 use Rattle.shb_lines.specs.events.Tests.{is_write}
+use Rattle.shb_stamps.specs.Screen.{IsScreened}
 use Rattle.shb_stamps.specs.StreamClocks.{IsStreamed}
 use Rattle.shb_stamps.specs.declared.stream_clocks.StreamClocks.{StreamClocks}
 use Rattle.shb_nearest.specs.Classes.{AreClasses}
@@ -13,7 +14,6 @@ use Rattle.shb_nearest.specs.Groups.{IsRun}
 use Rattle.shb_nearest.specs.Late.{AreAccesses, HaveLocations}
 use Rattle.shb_nearest.specs.Nearest.{AreNearest}
 use Rattle.shb_nearest.specs.Places.{ArePlaces}
-use Rattle.shb_nearest.specs.Screen.{IsScreened}
 use Rattle.shb_nearest.specs.declared.access.FoundAccess.{FoundAccess}
 use Rattle.shb_nearest.specs.declared.access.FoundRace.{FoundRace}
 use Rattle.shb_nearest.specs.declared.access.Spot.{Spot}

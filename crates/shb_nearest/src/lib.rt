@@ -8,7 +8,7 @@
 //! class among them.
 //!
 //! An access races with none before it where the last write of its variable is below its predecessor and, for a write,
-//! the newest read since is too (`screen`). Such an access waits (`late`): it is put behind the others that wait. When many
+//! the newest read since is too (`StreamClocks::screen`). Such an access waits (`late`): it is put behind the others that wait. When many
 //! wait, those go that aren't the newest of their class, and four times as many as are left may wait the next time: where
 //! all classes differ, this is seldom done in vain. So a variable that never races has no group, and its accesses lie in
 //! one list. Most accesses find what is kept of their variable in two lines of the cache, and write to the end of its list,
@@ -44,7 +44,6 @@ mod late;
 pub mod laws;
 mod places;
 mod rivals;
-mod screen;
 mod search;
 mod tables;
 

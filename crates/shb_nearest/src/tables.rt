@@ -16,9 +16,8 @@ use crate::indices::Indices;
 use crate::late::{Accesses, Late};
 use crate::places::Places;
 use crate::rivals::Rivals;
-use crate::screen::{Latest, screen, unscreened};
 use shb_io::NoMemory;
-use shb_stamps::StreamClocks;
+use shb_stamps::{Epoch, Latest, StreamClocks};
 use std::alloc::Global;
 use std::random::RandomSource;
 
@@ -52,7 +51,7 @@ fn make_space(variables: &mut Vec<Variable>, alloc: Global, variable: u32) -> Re
                 thread: 0,
                 start: 0,
             },
-            latest: unscreened(),
+            latest: Latest::none(),
         })?;
     }
     Ok(())
@@ -134,11 +133,15 @@ impl Tables {
             writes: access.writes,
             barred: access.spot.barred,
         };
-        let screened = screen(clocks, known.latest, access, time);
+        let own = Epoch {
+            time,
+            thread: access.thread,
+        };
         known.run = run.after(access);
-        known.latest = screened.latest;
+        known.latest = clocks.screen(known.latest, own, access.writes);
+        let open = known.latest.may_race();
         let (classes, indices) = (&mut self.classes, &mut self.indices);
-        if screened.free {
+        if !open {
             known
                 .accesses
                 .put_off(alloc, classes, indices, variable, late)?;

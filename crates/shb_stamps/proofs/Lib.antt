@@ -12,3 +12,4 @@ pub mod Raised
 pub mod ClockSteps
 pub mod Streaming
 pub mod TraceSteps
+pub mod Screening

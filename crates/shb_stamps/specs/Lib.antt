@@ -6,6 +6,7 @@ pub mod Listed
 pub mod Moved
 pub mod Open
 pub mod Rows
+pub mod Screen
 pub mod Stamps
 pub mod StreamClocks
 pub mod SweepData

@@ -5,7 +5,8 @@
 //! asked about the next event alone, so it keeps only what later events may need. [`ListedRows`] can be
 //! asked about the events of a list, so it keeps rows for these alone, found by binary search. Orders that can be asked about each event are in
 //! `shb_orders`, for tests. [`Ordered`] is a trace with its links and an order of it, which are of one
-//! trace by its type.
+//! trace by its type. What is kept of a variable, its [`Latest`] write and read, tells of most accesses that they race with
+//! none before them; the clocks of the next event are asked for that (`screen`).
 //!
 //! A vector clock of a property of events has for each thread the number of its events, from the
 //! first on, that have the property (`IsFront`). Clocks are rows of one memory, and a row says
@@ -40,6 +41,7 @@ mod order;
 mod ordered;
 mod row;
 mod row_list;
+mod screen;
 mod stamp;
 mod stream_clocks;
 mod sweep;
@@ -49,5 +51,6 @@ pub use listed_rows::{ListedRows, at_events};
 pub use open::is_open;
 pub use order::Order;
 pub use ordered::Ordered;
+pub use screen::{Epoch, Latest};
 pub use stream_clocks::StreamClocks;
 pub use sweep::Sweep;

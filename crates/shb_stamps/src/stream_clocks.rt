@@ -6,9 +6,11 @@ ghost use Rattle.shb_lines.specs.declared.event.Op.TheVariants.{Join, Write};
 ghost use Rattle.shb_lines.specs.events.Discipline.{IsDisciplined};
 ghost use Rattle.shb_lines.specs.events.Order.{IsBelowPredCount};
 ghost use Rattle.shb_stamps.specs.Clocks.{IsBefore, IsNext};
+ghost use Rattle.shb_stamps.specs.Screen.{IsAccess, IsScreened};
 ghost use Rattle.shb_stamps.specs.StreamClocks.{IsStreamed};
 
 use crate::clocks::Clocks;
+use crate::screen::{Epoch, Latest, after_access};
 use shb_io::NoMemory;
 use shb_lines::{Op, Sizes, item_or, put};
 use std::alloc::Global;
@@ -54,6 +56,16 @@ impl StreamClocks {
             Op::Join(child) => self.time(child),
             _ => 0,
         }
+    }
+
+    /// What is kept of a variable after the next event, which accesses it: it is that of an epoch, and writes or reads.
+    #[inline(always)]
+    pub fn screen(&self, latest: Latest, own: Epoch, writes: bool) -> Latest
+        ensures { (past : List Event) (e : Event) (x : ℕ) → IsDisciplined (past ++ e ∷ []) → IsStreamed past self.now
+            → IsAccess (past ++ e ∷ []) (length past) x own writes → IsScreened (past ++ e ∷ []) x (length past) latest
+            → IsScreened (past ++ e ∷ []) x (length past + 1) result }
+    {
+        after_access(&self.clocks, latest, own, writes)
     }
 
     /// How many events of a thread are SHB-below the predecessor of the next event, which is of this thread.

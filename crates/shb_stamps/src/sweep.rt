@@ -1,11 +1,14 @@
 //! An order that is asked event by event.
 
-ghost use Rattle.std.specs.Prelude.{◌≡◌, ◌+◌, ◌<◌, ◌==◌, IfOk, OnOk, false, length};
+ghost use Rattle.std.specs.Prelude.{◌≡◌, ◌+◌, ◌<◌, ◌==◌, ℕ, IfOk, OnOk, Some, false, length};
+ghost use Rattle.shb_lines.specs.events.Race.{variable_at};
 ghost use Rattle.shb_stamps.specs.Clocks.{IsBefore};
+ghost use Rattle.shb_stamps.specs.Screen.{IsScreened};
 ghost use Rattle.shb_stamps.specs.SweepData.{SweepData};
 
 use crate::clocks::Clocks;
 use crate::order::Order;
+use crate::screen::{Epoch, Latest, after_access};
 use crate::trace_clocks::{count_below, pass, row_before};
 use shb_io::NoMemory;
 use shb_links::Linked;
@@ -48,6 +51,22 @@ impl<'a> Sweep<'a> {
             clocks,
             next: 0,
         })
+    }
+
+    /// What is kept of a variable after the next event, which accesses it.
+    #[inline(always)]
+    pub fn screen(&self, latest: Latest) -> Latest
+        requires { self.now.next < length self.now.trace }
+        ensures { (x : ℕ) → variable_at self.now.trace self.now.next ≡ Some x → IsScreened self.now.trace x self.now.next latest
+            → IsScreened self.now.trace x (self.now.next + 1) result }
+    {
+        let e = self.next;
+        let own = Epoch {
+            time: self.linked.links.local(e),
+            thread: self.linked.events.thread(e),
+        };
+        let writes = self.linked.events.op(e).is_write();
+        after_access(&self.clocks, latest, own, writes)
     }
 
     /// Goes past the next event.

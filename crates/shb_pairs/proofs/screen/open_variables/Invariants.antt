@@ -4,7 +4,6 @@ use Rattle.shb_pairs.proofs.screen.open_variables.Given as goal
 
 abbrev pub invariant-loop-e : goal.invariant-loop-e
 invariant-loop-e l = record {
-  of_trace : l.sweep.trace ≡ l.disciplined.events.now;
-  next : l.sweep.next ≡ l.e;
+  next : l.sweep ≡ record { trace = l.disciplined.events.now; next = l.e };
   screened : AreScreened l.disciplined.events.now l.e l.disciplined.sizes.variables l.table.items;
 }
