@@ -7,14 +7,15 @@ use Rattle.shb_lines.specs.declared.event.Event.{Event}
 use Rattle.shb_lines.specs.declared.event.Op.TheVariants.{Write}
 use Rattle.shb_lines.specs.events.Discipline.{IsDisciplined, local_time}
 use Rattle.shb_lines.specs.events.Events.{thread_at}
-use Rattle.shb_lines.specs.events.Order.{BelowPred, IsBelowPredCount, IsPred, ShbBelow, by_fork, forked, happens_before, here, in_thread, same_thread, step}
+use Rattle.shb_lines.specs.events.Order.{BelowPred, IsBelowPredCount}
 use Rattle.shb_lines.specs.events.Race.{Race, variable_at}
 use Rattle.shb_lines.specs.events.Reach.{is_race, numbers_where}
-use Rattle.shb_lines.proofs.events.Events.{and_parts, fork_earlier, thread_is}
+use Rattle.shb_lines.proofs.events.Events.{and_parts, thread_is}
 use Rattle.shb_lines.proofs.events.Prefix.{below_from_local, local_from_below}
 use Rattle.shb_lines.proofs.events.Reach.{event_at_access, reflect_race}
-use Rattle.shb_lines.proofs.events.Schedulable.{below_pred_closed, thread_below_pred}
+use Rattle.shb_lines.proofs.events.Schedulable.{thread_below_pred}
 use Rattle.shb_stamps.proofs.Fronts.{zero_entry}
+use Rattle.shb_stamps.proofs.Sources.{chain_below}
 use Rattle.shb_lists.specs.Occurs.{HasCounts, with_key}
 use Rattle.shb_pairs.proofs.Counting.{numbers_few, numbers_more_no, numbers_more_yes}
 use Rattle.shb_lists.proofs.KeyCounts.{filter_few}
@@ -36,18 +37,10 @@ use Rattle.shb_lists.proofs.RankLemmas.{IsRanked, numbers_alike, rank_after, ran
 
 -- ---- what is below the predecessor of an event is below that of each later event of its thread
 
-pred_below : (trace : List Event) → IsDisciplined trace → (p w j : ℕ) → IsPred trace p w → BelowPred trace w j → BelowPred trace p j
-pred_below trace disciplined p w j (in_thread t of_p of_w earlier last) below = below_pred_closed trace p w j (happens_before (record { earlier = earlier; rule = same_thread t of_p of_w })) below
-pred_below trace disciplined p w j (by_fork t forks of_w last) below = below_pred_closed trace p w j (happens_before (record { earlier = fork_earlier trace disciplined t p w forks of_w; rule = forked t forks of_w })) below
-
-path_below : (trace : List Event) (a b e : ℕ) → ShbBelow trace a b → BelowPred trace b e → BelowPred trace a e
-path_below trace a b e here below = below
-path_below trace a b e (step {b = c} edge rest) below = below_pred_closed trace a c e edge (path_below trace c b e rest below)
-
 stays_below : (trace : List Event) → IsDisciplined trace → (s i e k : ℕ) → thread_at trace e ≡ Some s → thread_at trace k ≡ Some s → e ≤ k → BelowPred trace i e → BelowPred trace i k
 stays_below trace disciplined s i e k of_e of_k le below = elim (cases_eq e k) [
   | inl same ↦ subst (λ (n : ℕ). BelowPred trace i n) same below
-  | inr ne ↦ path_below trace i below.0 k below.2 (pred_below trace disciplined below.0 e k below.1 (thread_below_pred trace s e k (omega (arith, le, ne)) of_e of_k))
+  | inr ne ↦ chain_below trace disciplined i e k below (thread_below_pred trace s e k (omega (arith, le, ne)) of_e of_k)
 ]
 
 -- ---- whether an access is known

@@ -7,7 +7,7 @@ use Rattle.shb_lines.specs.declared.event.Op.{Op}
 use Rattle.shb_lines.specs.declared.event.Op.TheVariants.{Read, Acquire, Join}
 use Rattle.shb_lines.specs.events.Events.{thread_at, op_at}
 use Rattle.shb_lines.specs.events.Discipline.{IsDisciplined}
-use Rattle.shb_lines.specs.events.Order.{LastWrite, HbRule, same_thread, lock_passed, forked, joined, ShbEdge, happens_before, read_from, here, step, ShbBelow, IsPred, in_thread, by_fork}
+use Rattle.shb_lines.specs.events.Order.{LastWrite, HbRule, same_thread, lock_passed, forked, joined, BelowPred, ShbEdge, happens_before, read_from, here, step, ShbBelow, IsPred, in_thread, by_fork}
 use Rattle.shb_lines.proofs.events.Decide.{last_write_unique}
 use Rattle.shb_lines.proofs.events.Events.{join_later}
 use Rattle.shb_lines.proofs.events.Schedulable.{thread_below_pred, fork_below_pred, pred_earlier}
@@ -63,6 +63,10 @@ module _ (trace : List Event) (disciplined : IsDisciplined trace) (k e : ℕ) wh
       go : (k ≡ e) ⊎ ((c : ℕ) × ShbBelow trace k c × ShbEdge trace c e) → (k ≡ e) ⊎ StrictlyBelow trace e k
       go (inl same) = inl same
       go (inr last) = inr (from_edge last.0 last.1 last.2)
+
+-- one predecessor after the other
+pub chain_below : (trace : List Event) → IsDisciplined trace → (i w j : ℕ) → BelowPred trace i w → BelowPred trace w j → BelowPred trace i j
+chain_below trace disciplined i w j below after = (after.0, after.1, path_append trace i w after.0 (strictly_below_below trace disciplined i w (inl below)) after.2)
 
 module _ (trace : List Event) (disciplined : IsDisciplined trace) (e : ℕ) where
   -- what an event learns, by its operation
