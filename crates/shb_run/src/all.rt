@@ -1,5 +1,5 @@
 //! The report of all races of a trace.
-ghost use Rattle.std.specs.Prelude.{◌-◌, ◌^◌, ◌<◌, false, true};
+ghost use Rattle.std.specs.Prelude.{◌-◌, ◌^◌, ◌<◌};
 ghost use Rattle.shb_run.specs.declared.settings.Choice.TheVariants.{All};
 ghost use Rattle.shb_run.specs.Outcomes.{HasSummed};
 
@@ -10,12 +10,10 @@ use shb_discipline::Disciplined;
 use shb_fan::Gate;
 use shb_format::places_of;
 use shb_io::Sink;
-use shb_links::{Linked, links_of};
+use shb_links::links_of;
 use shb_lists::{Settled, kept_races, pairs_in_pieces};
 use shb_pairs::open_variables;
 use shb_search::leading_races;
-use shb_stamps::Ordered;
-use shb_witness::order_of_races;
 use shb_write::{BlockPlan, WriteError, kept_at_once, write_search};
 use std::alloc::Global;
 use std::random::RandomSource;
@@ -38,48 +36,16 @@ fn report_many<R: Threads + Wait + Sync + RandomSource, K: Sink, G: Gate + Sync>
     Ok(summary_of(settled.disciplined.trace, races))
 }
 
-/// Finds all races of a trace, and writes their report without schedules. Where there are more of them than events,
-/// they aren't kept.
-pub(crate) fn list_all<
-    R: Threads + Wait + Sync + RandomSource,
-    K: Sink,
-    P: Gate + Sync,
-    W: Gate + Sync,
->(
-    rt: &R,
-    alloc: Global,
-    sink: &mut K,
-    disciplined: &Disciplined<'_>,
-    settings: Settings,
-    gates: &Gates<'_, '_, P, W>,
-) -> Result<Summary, WriteError>
-    requires countable { K.failure_count sink.old < 2 ^ 64 - 1 }
-    ensures { HasSummed All false disciplined.now.trace.now K.taken K.failure_count sink.old sink.new result }
-{
-    let links = links_of(alloc, &*disciplined)?;
-    let flags = open_variables(alloc, &*disciplined, &links)?;
-    let most = u64::from(disciplined.trace.len());
-    match kept_races(alloc, &*disciplined, &links, &flags, Some(most))? {
-        Some(kept) => {
-            let races = pairs_in_pieces(rt, alloc, &kept, gates.pair, settings.workers)?;
-            let places = places_of(rt, alloc, disciplined.trace, &races)?;
-            list_known(sink, disciplined, &races, &places)
-        }
-        None => {
-            let settled = Settled::new(&*disciplined, &links, &flags);
-            let plan = BlockPlan {
-                workers: settings.workers,
-                gate: gates.pair,
-                schedules: false,
-            };
-            report_many(rt, alloc, sink, &settled, &plan)
-        }
+/// How many races of a trace of so many events are kept: as many as events; with schedules, as many as a batch has.
+fn most_kept(events: u32, schedules: bool) -> u64 {
+    if schedules {
+        return kept_at_once(events);
     }
+    u64::from(events)
 }
 
-/// Finds all races of a trace, and writes their report with schedules, which go by an order that can be asked about the
-/// events of these races alone. Where there are many more of them than events, they aren't kept.
-pub(crate) fn schedule_all<
+/// Finds all races of a trace, and writes their report. Where there are more of them than may be kept, they aren't.
+pub(crate) fn report_all<
     R: Threads + Wait + Sync + RandomSource,
     K: Sink,
     P: Gate + Sync,
@@ -93,26 +59,23 @@ pub(crate) fn schedule_all<
     gates: &Gates<'_, '_, P, W>,
 ) -> Result<Summary, WriteError>
     requires countable { K.failure_count sink.old < 2 ^ 64 - 1 }
-    ensures { HasSummed All true disciplined.now.trace.now K.taken K.failure_count sink.old sink.new result }
+    ensures { HasSummed All settings.schedules disciplined.now.trace.now K.taken K.failure_count sink.old sink.new result }
 {
     let links = links_of(alloc, &*disciplined)?;
     let flags = open_variables(alloc, &*disciplined, &links)?;
-    let most = kept_at_once(disciplined.trace.len());
-    let plan = BlockPlan {
-        workers: settings.workers,
-        gate: gates.witness,
-        schedules: true,
+    let settled = Settled::new(&*disciplined, &links, &flags);
+    let most = most_kept(disciplined.trace.len(), settings.schedules);
+    let Some(kept) = kept_races(alloc, &*disciplined, &links, &flags, Some(most))? else {
+        if !settings.schedules {
+            return report_many(rt, alloc, sink, &settled, &settings.plan(gates.pair));
+        }
+        return report_many(rt, alloc, sink, &settled, &settings.plan(gates.witness));
     };
-    match kept_races(alloc, &*disciplined, &links, &flags, Some(most))? {
-        Some(kept) => {
-            let races = pairs_in_pieces(rt, alloc, &kept, gates.pair, settings.workers)?;
-            let order = order_of_races(alloc, Linked::new(&*disciplined, &links), &races)?;
-            let ordered = Ordered::new(&order, &*disciplined, &links);
-            write_known(rt, alloc, sink, &ordered, &races, &plan)
-        }
-        None => {
-            let settled = Settled::new(&*disciplined, &links, &flags);
-            report_many(rt, alloc, sink, &settled, &plan)
-        }
+    let races = pairs_in_pieces(rt, alloc, &kept, gates.pair, settings.workers)?;
+    if settings.schedules {
+        let plan = settings.plan(gates.witness);
+        return write_known(rt, alloc, sink, &settled, &races, &plan);
     }
+    let places = places_of(rt, alloc, disciplined.trace, &races)?;
+    list_known(sink, disciplined, &races, &places)
 }

@@ -2,7 +2,7 @@
 ghost use Rattle.std.specs.Prelude.{◌≡◌, ◌-◌, ◌^◌, ◌<◌, false, map, true};
 ghost use Rattle.shb_lines.specs.events.Race.{ends};
 ghost use Rattle.shb_format.specs.Places.{counts_in, places_of_pairs};
-ghost use Rattle.shb_witness.specs.Schedules.{AreRaces, AsksEach};
+ghost use Rattle.shb_witness.specs.Schedules.{AreRaces};
 ghost use Rattle.shb_run.specs.Outcomes.{HasSummed};
 ghost use Rattle.shb_run.specs.Runs.{ListedBy};
 ghost use Rattle.shb_run.specs.declared.settings.Choice.{Choice};
@@ -14,7 +14,10 @@ use shb_fan::Gate;
 use shb_format::Places;
 use shb_io::Sink;
 use shb_lines::Pair;
-use shb_stamps::{Order, Ordered};
+use shb_links::Linked;
+use shb_lists::Settled;
+use shb_stamps::Ordered;
+use shb_witness::order_of_races;
 use shb_write::{BlockPlan, WriteError, write_list, write_report};
 use std::alloc::Global;
 use std::random::RandomSource;
@@ -38,26 +41,24 @@ pub(crate) fn list_known<K: Sink>(
     Ok(summary_of(disciplined.trace, races.len() as u64))
 }
 
-/// Writes the report with schedules of a trace that lists these races.
-pub(crate) fn write_known<
-    R: Threads + Wait + Sync + RandomSource,
-    K: Sink,
-    O: Order + Sync,
-    G: Gate + Sync,
->(
+/// Writes the report with schedules of a trace that lists these races. Schedules go by an order that can be asked about
+/// the events of these races alone.
+pub(crate) fn write_known<R: Threads + Wait + Sync + RandomSource, K: Sink, G: Gate + Sync>(
     rt: &R,
     alloc: Global,
     sink: &mut K,
-    ordered: &Ordered<'_, O>,
+    settled: &Settled<'_>,
     races: &[Pair],
     plan: &BlockPlan<'_, G>,
 ) -> Result<Summary, WriteError>
     requires countable { K.failure_count sink.old < 2 ^ 64 - 1 }
-    requires races { AreRaces ordered.now.disciplined.now.events.now races.now }
-    requires asked { AsksEach (O.asks ordered.now.order.now) races.now }
-    ensures { (choice : Choice) → ListedBy choice ordered.now.disciplined.now.trace.now (map ends races.now)
-        → HasSummed choice true ordered.now.disciplined.now.trace.now K.taken K.failure_count sink.old sink.new result }
+    requires races { AreRaces settled.now.disciplined.now.events.now races.now }
+    ensures { (choice : Choice) → ListedBy choice settled.now.disciplined.now.trace.now (map ends races.now)
+        → HasSummed choice true settled.now.disciplined.now.trace.now K.taken K.failure_count sink.old sink.new result }
 {
-    write_report(rt, alloc, sink, ordered, races, plan)?;
-    Ok(summary_of(ordered.disciplined.trace, races.len() as u64))
+    let linked = Linked::new(settled.disciplined, settled.links);
+    let order = order_of_races(alloc, linked, races)?;
+    let ordered = Ordered::new(&order, settled.disciplined, settled.links);
+    write_report(rt, alloc, sink, &ordered, races, plan)?;
+    Ok(summary_of(settled.disciplined.trace, races.len() as u64))
 }

@@ -6,7 +6,7 @@ ghost use Rattle.shb_format.specs.Report.{counts_of};
 ghost use Rattle.shb_format.specs.Value.{AreShown, IsShown};
 ghost use Rattle.shb_run.specs.Runs.{summary_of};
 
-use crate::all::{list_all, schedule_all};
+use crate::all::report_all;
 use crate::leading::report_leading;
 use crate::settings::{Choice, Gates, Settings, Summary, Task};
 use shb_check::{RunError, judge, read_trace};
@@ -31,25 +31,6 @@ pub(crate) fn summary_of(trace: &Trace, races: u64) -> Summary
         locks: u64::from(trace.locks()),
         variables: u64::from(trace.variables()),
         races,
-    }
-}
-
-/// Finds all races of a trace, and writes their report.
-fn report_all<R: Threads + Wait + Sync + RandomSource, K: Sink, P: Gate + Sync, W: Gate + Sync>(
-    rt: &R,
-    alloc: Global,
-    sink: &mut K,
-    disciplined: &Disciplined<'_>,
-    settings: Settings,
-    gates: &Gates<'_, '_, P, W>,
-) -> Result<Summary, WriteError>
-    requires countable { K.failure_count sink.old < 2 ^ 64 - 1 }
-    ensures { HasSummed All settings.schedules disciplined.now.trace.now K.taken K.failure_count sink.old sink.new result }
-{
-    if settings.schedules {
-        schedule_all(rt, alloc, sink, disciplined, settings, gates)
-    } else {
-        list_all(rt, alloc, sink, disciplined, settings, gates)
     }
 }
 

@@ -1,5 +1,8 @@
 //! How a run is made, and what it found.
+ghost use Rattle.std.specs.Prelude.{◌≡◌};
+
 use shb_fan::Workers;
+use shb_write::BlockPlan;
 
 /// How a run is made.
 #[derive(Clone, Copy, Debug, PartialEq, Eq)]
@@ -9,6 +12,19 @@ pub struct Settings {
     pub workers: Workers,
     /// Whether each race is shown with its schedule.
     pub schedules: bool,
+}
+
+impl Settings {
+    /// How workers make the blocks of the report, who pass a gate before each piece.
+    pub(crate) fn plan<'g, G>(self, gate: &'g G) -> BlockPlan<'g, G>
+        ensures { result.schedules ≡ self.schedules }
+    {
+        BlockPlan {
+            workers: self.workers,
+            gate,
+            schedules: self.schedules,
+        }
+    }
 }
 
 /// Which races of a trace a report lists.
