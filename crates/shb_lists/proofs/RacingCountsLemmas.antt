@@ -30,7 +30,7 @@ use Rattle.shb_lists.specs.declared.racing_counts.Side.{Side}
 use Rattle.shb_lists.specs.declared.racing_counts.RacingCounts.{RacingCounts}
 use Rattle.shb_discipline.proofs.Steps.{set_cases}
 use Rattle.std.proofs.Math.ListN.{set}
-use Rattle.std.proofs.lemmas.Option.{get_or_from_slice_get, slice_get-get_or, slice_get_past, slice_get_within}
+use Rattle.std.proofs.lemmas.Option.{get_or_from_slice_get, slice_get-get_or, slice_get_past, slice_get_read, slice_get_within}
 use Rattle.shb_lists.proofs.MetLemmas.{IsMet, met_from_test, met_other_thread, test_from_met, test_from_write}
 use Rattle.shb_lists.proofs.RacingLemmas.{met_conflicts}
 use Rattle.shb_lists.proofs.RankLemmas.{IsRanked, numbers_alike, rank_after, rank_less, rank_mono, rank_own, ranked, times, times_less, times_push}
@@ -57,6 +57,19 @@ and_none true = refl
 and_none false = refl
 
 module _ (a : Accessed) where
+  -- one of the accesses of a thread, by its index
+  pub met_at : (n t p : ℕ) (met : List ℕ) → met ≡ met_before a t n → p < length met → (p < length (met_before a t n)) × (get_or met p 0 ≡ get_or (met_before a t n) p 0) × IsRanked (is_met a.trace a.writes a.x t) n p (get_or met p 0)
+  met_at n t p met is lt =
+      let within : p < length (met_before a t n) = (let size = ap length is in omega (arith, size, lt)) in
+      let same = ap (λ (l : List ℕ). get_or l p 0) is in
+      (within, same, ranked (is_met a.trace a.writes a.x t) n p (get_or met p 0) within same)
+
+  -- what a thread knows, where it is read
+  pub side_read : (numbers : List ℕ) (classes threads n : ℕ) (counts : RacingCounts) → IsRacingCounts a numbers classes threads n counts → (s : ℕ) (side : Side) → s < threads → side ≡ get_or counts.sides.items s side → (slice_get counts.sides.items s ≡ Some side) × IsSide a numbers classes threads s n side.known.items side.counts.items
+  side_read numbers classes threads n counts state s side low is =
+      let at = slice_get_read counts.sides.items (length counts.sides.items) s side refl (let many = state.each_side in omega (arith, low, many)) is in
+      (at, state.sides s side at)
+
   -- the test of an access of thread t
   met : ℕ → ℕ → Bool
   met t k = is_met a.trace a.writes a.x t k
