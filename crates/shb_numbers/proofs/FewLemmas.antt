@@ -5,56 +5,48 @@ use Rattle.std.specs.Global.{Global}
 use Rattle.std.specs.Int.{bit_at}
 use Rattle.std.specs.Prelude.{Box, IfNone, IfSome}
 use Rattle.shb_numbers.specs.Few.{numbers_of}
+use Rattle.shb_numbers.specs.declared.number_set.Kept.{Kept}
+use Rattle.shb_numbers.specs.declared.number_set.Kept.TheVariants.{Few, Many}
 use Rattle.shb_numbers.specs.Numbers.{HasNone, IsLeast, Numbers, marked}
 use Rattle.shb_numbers.proofs.FarLemmas.{all_there, only_near}
 use Rattle.shb_numbers.proofs.SetLemmas.{first_inserted, first_removed, none_less}
 
 -- the numbers of a set with no large one, and of one that is large
-few_is : (few : ℕ) → numbers_of few None ≡ marked (few ∷ [])
+pub few_is : (few : ℕ) → numbers_of (Few few) ≡ marked (few ∷ [])
 unfolding numbers_of
 few_is few = refl
 
-pub none_few : (s : Numbers) → marked (0 ∷ []) ≡ s → numbers_of 0 None ≡ s
-none_few s is = few_is 0 ∙ is
-
-pub many_is : (few : ℕ) (set : Box Numbers Global) (s : Numbers) → set.value ≡ s → numbers_of few (Some set) ≡ s
+pub many_is : (set : Box Numbers Global) (s : Numbers) → set.value ≡ s → numbers_of (Many set) ≡ s
 unfolding numbers_of
-many_is few set s is = is
+many_is set s is = is
 
-pub none_is : (many : Option (Box Numbers Global)) → ((set : Box Numbers Global) → many ≡ Some set → ⊥) → many ≡ None
-none_is None other = refl
-none_is (Some set) other = absurd (other set refl)
+pub few_are : (few : ℕ) (kept : Kept) (s : Numbers) → kept ≡ Few few → numbers_of kept ≡ s → marked (few ∷ []) ≡ s
+few_are few kept s none is = sym (few_is few) ∙ ap numbers_of (sym none) ∙ is
 
-pub few_are : (few : ℕ) (many : Option (Box Numbers Global)) (s : Numbers) → many ≡ None → numbers_of few many ≡ s → marked (few ∷ []) ≡ s
-few_are few many s none is = sym (few_is few) ∙ ap (numbers_of few) (sym none) ∙ is
-
-pub many_are : (few : ℕ) (many : Option (Box Numbers Global)) (set : Box Numbers Global) (s : Numbers) → many ≡ Some set → numbers_of few many ≡ s → set.value ≡ s
-many_are few many set s some is = sym (many_is few set set.value refl) ∙ ap (numbers_of few) (sym some) ∙ is
+pub many_are : (kept : Kept) (set : Box Numbers Global) (s : Numbers) → kept ≡ Many set → numbers_of kept ≡ s → set.value ≡ s
+many_are kept set s some is = sym (many_is set set.value refl) ∙ ap numbers_of (sym some) ∙ is
 
 -- a number below 64 comes, or goes; no other is there to go
-module _ (few word : ℕ) (many : Option (Box Numbers Global)) (s : Numbers) (number : ℕ) (none : many ≡ None) (is : numbers_of few many ≡ s) where
+module _ (few : ℕ) (kept : Kept) (s : Numbers) (number : ℕ) (none : kept ≡ Few few) (is : numbers_of kept ≡ s) where
   was : marked (few ∷ []) ≡ s
-  was = few_are few many s none is
+  was = few_are few kept s none is
 
-  after : numbers_of word many ≡ marked (word ∷ [])
-  after = ap (numbers_of word) none ∙ few_is word
-
-  pub few_inserted : number < 64 → bit_at word number ≡ 1 → ((k : ℕ) → k ≢ number → bit_at word k ≡ bit_at few k) → numbers_of word many ≡ fin.insert s number
-  few_inserted low one others =
+  pub few_inserted : (word : ℕ) → number < 64 → bit_at word number ≡ 1 → ((k : ℕ) → k ≢ number → bit_at word k ≡ bit_at few k) → numbers_of (Few word) ≡ fin.insert s number
+  few_inserted word low one others =
       let own : number % 64 ≡ number = omega (arith, low) in
-      after
+      few_is word
       ∙ first_inserted few word [] number (omega (arith, low)) (λ k small other. others k (λ same. other (same ∙ sym own))) (ap (bit_at word) own ∙ one)
       ∙ ap (λ (t : Numbers). fin.insert t number) was
 
-  pub few_removed : number < 64 → bit_at word number ≡ 0 → ((k : ℕ) → k < 64 → k ≢ number → bit_at word k ≡ bit_at few k) → numbers_of word many ≡ fin.remove s number
-  few_removed low zero others =
+  pub few_removed : (word : ℕ) → number < 64 → bit_at word number ≡ 0 → ((k : ℕ) → k < 64 → k ≢ number → bit_at word k ≡ bit_at few k) → numbers_of (Few word) ≡ fin.remove s number
+  few_removed word low zero others =
       let own : number % 64 ≡ number = omega (arith, low) in
-      after
+      few_is word
       ∙ first_removed few word [] number (omega (arith, low)) (λ k small other. others k small (λ same. other (same ∙ sym own))) (ap (bit_at word) own ∙ zero)
       ∙ ap (λ (t : Numbers). fin.remove t number) was
 
-  pub few_past : 64 ≤ number → numbers_of few many ≡ fin.remove s number
-  few_past high = is ∙ sym was ∙ none_less (few ∷ []) number (omega (arith, high)) ∙ ap (λ (t : Numbers). fin.remove t number) was
+  pub few_past : 64 ≤ number → numbers_of (Few few) ≡ fin.remove s number
+  few_past high = few_is few ∙ none_less (few ∷ []) number (omega (arith, high)) ∙ ap (λ (t : Numbers). fin.remove t number) was
 
 -- the same sets under other names
 pub same_first : (r : Option ℕ) (h t here there : Numbers) (from end : ℕ) → h ≡ here → t ≡ there
