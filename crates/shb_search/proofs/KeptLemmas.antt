@@ -2,7 +2,7 @@
 use Rattle.std.proofs.Common.{◌≡◌, ◌≢◌, ◌+◌, ◌<◌, ◌⊎◌, inl, inr, ℕ, zero, suc, Bool, true, false, List, [], ◌∷◌, ◌++◌, Option, Some, length, map, slice_get, get_or, set, arith, refl, subst, ap, sym, ◌∙◌}
 use Rattle.std.specs.Prelude.{Contains}
 use Rattle.std.proofs.lemmas.Bool.{cases_eq}
-use Rattle.std.proofs.lemmas.List.{length-append, length-set, map-append}
+use Rattle.std.proofs.lemmas.List.{length-append, length-set}
 use Rattle.std.proofs.lemmas.List.Elements.{Contains-push, Contains-push_cases}
 use Rattle.std.proofs.lemmas.Option.{slice_get-get_or, slice_get_past, slice_get_within}
 use Rattle.std.specs.FinSet as fin
@@ -49,7 +49,7 @@ module _ (trace : TraceData) (sites after : Sites) (old new : Classes) (meant : 
     (same_all : after.all.items ≡ sites.all.items) (are : AreClassed trace sites old meant access.event) (time : local ≡ local_time trace.events access.thread access.event) (past : (d e : ℕ) (class : ClassData) → slice_get meant d ≡ Some class → Contains class.events e → e < access.event)
     (has_kinds : access.variable < length old.kinds.items) where
   -- a new class
-  module _ (put : Classes) (h : HasPut old put sites.classes after.classes access index local c) (numbers : new.numbers ≡ old.numbers ++ (access.site, kind access.thread access.writes) ∷ []) (all : new.all.items ≡ put.all.items) (kinds : new.kinds.items ≡ put.kinds.items) (pushed : HasPushed put.events new.events c access.event) (count : length new.events ≡ length put.events) where
+  module _ (put : Classes) (h : HasPut old put sites.classes after.classes access index local c) (all : new.all.items ≡ put.all.items) (kinds : new.kinds.items ≡ put.kinds.items) (pushed : HasPushed put.events new.events c access.event) (count : length new.events ≡ length put.events) where
     abbrev own : ClassData
     own = record { site = access.site; thread = access.thread; writes = access.writes; events = access.event ∷ [] }
 
@@ -126,7 +126,6 @@ module _ (trace : TraceData) (sites after : Sites) (old new : Classes) (meant : 
         others = λ d other. last_other meant own d (λ same. other (same ∙ sym c_is));
       };
       are = record {
-        keys = numbers ∙ (ap (λ (l : List (ℕ × ℕ)). l ++ (access.site, kind access.thread access.writes) ∷ []) are.keys ∙ (sym (map-append class_key old.all.items (fresh ∷ [])) ∙ ap (λ (l : List Class). map class_key l) (sym all_is)));
         as_many = (let a = length-append meant (own ∷ []) in let b = ap length all_is ∙ length-append old.all.items (fresh ∷ []) in let same = are.as_many in omega (arith, a, b, same));
         with_events = (let a = count ∙ (ap length h.events ∙ length-append old.events ([] ∷ [])) in let b = ap length all_is ∙ length-append old.all.items (fresh ∷ []) in let same = are.with_events in omega (arith, a, b, same));
         each = λ d class at. elim (get_cases meant own d class at) [
@@ -191,7 +190,7 @@ module _ (trace : TraceData) (sites after : Sites) (old new : Classes) (meant : 
     begun_still d before at = (before, old_there d before at, refl, refl)
 
   -- a class that is known
-  module _ (before : Class) (at_before : slice_get old.all.items c ≡ Some before) (key : class_key before ≡ (access.site, kind access.thread access.writes)) (numbers : new.numbers ≡ old.numbers) (all : new.all.items ≡ set old.all.items c (record { site = before.site; index = before.index; thread = before.thread; writes = before.writes; local = local })) (kinds : new.kinds.items ≡ old.kinds.items) (same_of : after.classes ≡ sites.classes) (pushed : HasPushed old.events new.events c access.event) (count : length new.events ≡ length old.events) where
+  module _ (before : Class) (at_before : slice_get old.all.items c ≡ Some before) (key : class_key before ≡ (access.site, kind access.thread access.writes)) (all : new.all.items ≡ set old.all.items c (record { site = before.site; index = before.index; thread = before.thread; writes = before.writes; local = local })) (kinds : new.kinds.items ≡ old.kinds.items) (same_of : after.classes ≡ sites.classes) (pushed : HasPushed old.events new.events c access.event) (count : length new.events ≡ length old.events) where
     abbrev newer : Class
     newer = record { site = before.site; index = before.index; thread = before.thread; writes = before.writes; local = local }
 
@@ -258,7 +257,6 @@ module _ (trace : TraceData) (sites after : Sites) (old new : Classes) (meant : 
         others = λ d other. get_set_other meant c d longer other;
       };
       are = record {
-        keys = numbers ∙ (are.keys ∙ (sym (map_set old.all.items c at_before) ∙ ap (λ (l : List Class). map class_key l) (sym all)));
         as_many = length-set meant c longer ∙ (are.as_many ∙ (sym (length-set old.all.items c newer) ∙ sym (ap length all)));
         with_events = count ∙ (are.with_events ∙ (sym (length-set old.all.items c newer) ∙ sym (ap length all)));
         each = λ d class at. elim (from d class at) [
@@ -319,17 +317,17 @@ module _ (trace : TraceData) (sites after : Sites) (old new : Classes) (meant : 
     ]
 
   pub kept_in : IsNoted old new sites.classes after.classes access index local c → IsKeptIn trace after new meant access index c × AreStill old new
-  kept_in (begins put h numbers all kinds pushed count) = (begun put h numbers all kinds pushed count, begun_still put h numbers all kinds pushed count)
-  kept_in (extends before at_before key numbers all kinds same_of pushed count) = (extended before at_before key numbers all kinds same_of pushed count, extended_still before at_before key numbers all kinds same_of pushed count)
+  kept_in (begins put h all kinds pushed count) = (begun put h all kinds pushed count, begun_still put h all kinds pushed count)
+  kept_in (extends before at_before key all kinds same_of pushed count) = (extended before at_before key all kinds same_of pushed count, extended_still before at_before key all kinds same_of pushed count)
 
 -- how many lists and sets there are stays
 pub noted_of : (old new : Classes) (of_old of_new : List (List ℕ)) (access : Access) (index local c : ℕ) → IsNoted old new of_old of_new access index local c → length of_new ≡ length of_old
-noted_of old new of_old of_new access index local c (begins put h numbers all kinds pushed count) = h.of_length
-noted_of old new of_old of_new access index local c (extends before at_before key numbers all kinds same_of pushed count) = ap length same_of
+noted_of old new of_old of_new access index local c (begins put h all kinds pushed count) = h.of_length
+noted_of old new of_old of_new access index local c (extends before at_before key all kinds same_of pushed count) = ap length same_of
 
 pub noted_kinds : (old new : Classes) (of_old of_new : List (List ℕ)) (access : Access) (index local c : ℕ) → access.variable < length old.kinds.items → IsNoted old new of_old of_new access index local c → length new.kinds.items ≡ length old.kinds.items
-noted_kinds old new of_old of_new access index local c fits (begins put h numbers all kinds pushed count) =
+noted_kinds old new of_old of_new access index local c fits (begins put h all kinds pushed count) =
     let none : Kinds = record { written = fin.empty; others = fin.empty } in
     let k = h.kinds (get_or old.kinds.items access.variable none) (slice_get-get_or old.kinds.items access.variable none fits) in
     ap length (kinds ∙ k.1) ∙ length-set old.kinds.items access.variable k.0
-noted_kinds old new of_old of_new access index local c fits (extends before at_before key numbers all kinds same_of pushed count) = ap length kinds
+noted_kinds old new of_old of_new access index local c fits (extends before at_before key all kinds same_of pushed count) = ap length kinds

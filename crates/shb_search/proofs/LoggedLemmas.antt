@@ -109,8 +109,8 @@ module _ (trace : TraceData) (disciplined : IsDisciplined trace.events) (flags :
         stands = record {
           variables = stands.variables;
           with_kinds = noted_kinds before.classes classes before.sites.classes of_sites access index local c has_kinds noted ∙ with_kinds;
+          with_sides = stands.with_sides;
           sites_are = record {
-            keys = stands.sites_are.keys;
             listed = stands.sites_are.listed;
             own = stands.sites_are.own;
             few = stands.sites_are.few;

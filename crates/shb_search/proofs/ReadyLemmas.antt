@@ -8,16 +8,17 @@ use Rattle.shb_lines.specs.text.TraceData.{TraceData}
 use Rattle.shb_format.specs.Places.{location_at}
 use Rattle.shb_numbers.specs.Numbers.{Numbers}
 use Rattle.shb_search.specs.Accesses.{IsAccessOf}
-use Rattle.shb_search.specs.Classes.{class_key, of_kind}
+use Rattle.shb_search.specs.Classes.{of_kind}
 use Rattle.shb_search.specs.Kept.{IsNotedAt, SiteData}
 use Rattle.shb_search.specs.Looks.{side_of}
 use Rattle.shb_search.specs.Searched.{SearchData, wants_none}
 use Rattle.shb_search.specs.Sides.{IsOfKind, Meets}
-use Rattle.shb_search.specs.State.{HasFound, HasRoom, IsReady, IsSearching, IsWantingNone, Stands}
+use Rattle.shb_search.specs.State.{HasFound, HasRoom, IsReady, IsSearching, IsWantingNone, Stands, side_key}
 use Rattle.shb_search.specs.Tables.{AreSites, HasMore, IsSite, data_of, list_at, log_at}
 use Rattle.shb_search.specs.declared.kept.Kinds.{Kinds}
 use Rattle.shb_search.specs.declared.look.Access.{Access}
 use Rattle.shb_search.specs.declared.look.Class.{Class}
+use Rattle.shb_search.specs.declared.sides.SideKey.{SideKey}
 use Rattle.shb_search.specs.declared.search.Search.{Search}
 use Rattle.shb_search.specs.declared.sites.Site.{Site}
 use Rattle.shb_search.specs.declared.sites.Sites.{Sites}
@@ -45,6 +46,7 @@ ready_room trace flags search after access sites classes logs sides found room r
       stands = record {
         variables = ready.stands.variables;
         with_kinds = ready.stands.with_kinds;
+        with_sides = ready.stands.with_sides;
         sites_are = ready.stands.sites_are;
         sites_mean = ready.stands.sites_mean;
         classed = ready.stands.classed;
@@ -114,10 +116,10 @@ module _ (trace : TraceData) (flags : List Bool) (search : Search) (sites : Site
         stands = record {
           variables = λ e x of_e. (let lt = stands.variables e x of_e in let same = more.of_length in omega (arith, lt, same));
           with_kinds = stands.with_kinds ∙ sym more.of_length;
+          with_sides = stands.with_sides ∙ sym more.of_length;
           sites_are = are;
           sites_mean = refl;
           classed = record {
-            keys = stands.classed.keys;
             as_many = stands.classed.as_many;
             with_events = stands.classed.with_events;
             each = stands.classed.each;
@@ -173,15 +175,15 @@ module _ (trace : TraceData) (flags : List Bool) (search : Search) (sites : Site
           data_at sites.all.items s g.0 (more.stay s g.0 g.1) ∙ ap (λ (d : SiteData). Some d) g.2
 
 -- before the first event
-pub searching_none : (trace : TraceData) (flags : List Bool) (search : Search) (count : ℕ) → ((e x : ℕ) → variable_at trace.events e ≡ Some x → x < count) → search.sites.numbers ≡ [] → search.sites.all.items ≡ [] → search.sites.classes ≡ [] → length search.sites.of ≡ count → ((x : ℕ) → list_at search.sites.of x ≡ [])
-    → search.classes.numbers ≡ [] → search.classes.all.items ≡ [] → search.classes.events ≡ [] → length search.classes.kinds.items ≡ count → length search.logs ≡ count * 2 → ((k : ℕ) → list_at search.logs k ≡ []) → search.sides.numbers ≡ [] → search.sides.all.items ≡ [] → search.paired.items ≡ [] → search.found.races.entries ≡ [] → IsSearching trace flags search 0
-searching_none trace flags search count sized no_numbers no_sites no_classes_of long_of no_of no_keys no_classes no_events long_kinds long_logs no_logs no_side_numbers no_sides no_paired no_found = record {
+pub searching_none : (trace : TraceData) (flags : List Bool) (search : Search) (count : ℕ) → ((e x : ℕ) → variable_at trace.events e ≡ Some x → x < count) → search.sites.all.items ≡ [] → search.sites.classes ≡ [] → length search.sites.of ≡ count → ((x : ℕ) → list_at search.sites.of x ≡ [])
+    → search.classes.all.items ≡ [] → search.classes.events ≡ [] → length search.classes.kinds.items ≡ count → length search.logs ≡ count * 2 → ((k : ℕ) → list_at search.logs k ≡ []) → search.sides.keys.items ≡ [] → search.sides.all.items ≡ [] → length search.sides.of ≡ count → search.paired.items ≡ [] → search.found.races.entries ≡ [] → IsSearching trace flags search 0
+searching_none trace flags search count sized no_sites no_classes_of long_of no_of no_classes no_events long_kinds long_logs no_logs no_side_keys no_sides long_sides no_paired no_found = record {
   meant = record { sites = []; classes = []; logs = λ x writes. []; sides = []; pairs = []; found = [] };
   stands = record {
     variables = λ e x of_e. (let lt = sized e x of_e in omega (arith, lt, long_of));
     with_kinds = long_kinds ∙ sym long_of;
+    with_sides = long_sides ∙ sym long_of;
     sites_are = record {
-      keys = no_numbers ∙ ap (λ (l : List Site). map (λ (s : Site). (s.variable, s.location)) l) (sym no_sites);
       listed = λ s site at. absurd (nothing_in site s (subst (λ (l : List Site). slice_get l s ≡ Some site) no_sites at));
       own = λ x k s at. absurd (nothing_in s k (subst (λ (l : List ℕ). slice_get l k ≡ Some s) (no_of x) at));
       few = (let is = ap length no_sites in omega (arith, is));
@@ -190,7 +192,6 @@ searching_none trace flags search count sized no_numbers no_sites no_classes_of 
     };
     sites_mean = ap (λ (l : List Site). map data_of l) (sym no_sites);
     classed = record {
-      keys = no_keys ∙ ap (λ (l : List Class). map class_key l) (sym no_classes);
       as_many = sym (ap length no_classes);
       with_events = ap length no_events ∙ sym (ap length no_classes);
       each = λ c class at. absurd (nothing_in class c at);
@@ -211,7 +212,7 @@ searching_none trace flags search count sized no_numbers no_sites no_classes_of 
       room = long_logs ∙ ap (λ (n : ℕ). n * 2) (sym long_of);
     };
     sided = record {
-      numbered = ap length no_side_numbers ∙ sym (ap length no_sides);
+      numbered = ap (λ (l : List SideKey). length (map side_key l)) no_side_keys ∙ sym (ap length no_sides);
       as_many = sym (ap length no_sides);
       each = λ k side at. absurd (nothing_in side k at);
     };
@@ -229,8 +230,8 @@ pub stands_later : (trace : TraceData) (search : Search) (meant : SearchData) (n
 stands_later trace search meant n h = record {
   variables = h.variables;
   with_kinds = h.with_kinds;
+  with_sides = h.with_sides;
   sites_are = record {
-    keys = h.sites_are.keys;
     listed = h.sites_are.listed;
     own = h.sites_are.own;
     few = (let le = h.sites_are.few in omega (arith, le));
@@ -239,7 +240,6 @@ stands_later trace search meant n h = record {
   };
   sites_mean = h.sites_mean;
   classed = record {
-    keys = h.classed.keys;
     as_many = h.classed.as_many;
     with_events = h.classed.with_events;
     each = h.classed.each;

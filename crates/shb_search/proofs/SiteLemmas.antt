@@ -1,8 +1,8 @@
 -- A site more.
-use Rattle.std.proofs.Common.{◌≡◌, ◌+◌, ◌⊎◌, inl, inr, ℕ, List, [], ◌∷◌, ◌++◌, Option, Some, length, slice_get, option_map, map, arith, refl, subst, ap, sym, ◌∙◌}
+use Rattle.std.proofs.Common.{◌≡◌, ◌+◌, ◌⊎◌, inl, inr, ℕ, List, [], ◌∷◌, ◌++◌, Some, length, slice_get, arith, refl, subst, ap, sym, ◌∙◌}
 use Rattle.std.proofs.lemmas.Bool.{cases_eq}
-use Rattle.std.proofs.lemmas.List.{length-append, map-append}
-use Rattle.std.proofs.lemmas.Option.{slice_get-map}
+use Rattle.std.proofs.lemmas.List.{length-append}
+use Rattle.shb_search.specs.Numbered.{IsFoundBy}
 use Rattle.shb_search.specs.Tables.{AreSites, HasCome, HasMore, IsSite, key_of, list_at}
 use Rattle.shb_search.specs.declared.sites.Site.{Site}
 use Rattle.shb_search.specs.declared.sites.Sites.{Sites}
@@ -37,9 +37,8 @@ module _ (old new : Sites) (variable location : ℕ) (came : HasCome old new var
       stays : (s : ℕ) (site : Site) → slice_get old.all.items s ≡ Some site → slice_get new.all.items s ≡ Some site
       stays s site at = subst (λ (l : List Site). slice_get l s ≡ Some site) (sym came.all) (get_more old.all.items (new_site old variable location ∷ []) s site at)
 
-  pub came_sites : (n : ℕ) → new.numbers ≡ old.numbers ++ (variable, location) ∷ [] → AreSites old n → AreSites new (n + 1)
-  came_sites n numbers are = record {
-    keys = numbers ∙ (ap (λ (l : List (ℕ × ℕ)). l ++ (variable, location) ∷ []) are.keys ∙ (sym (map-append key_of old.all.items (new_site old variable location ∷ [])) ∙ ap (λ (l : List Site). map key_of l) (sym came.all)));
+  pub came_sites : (n : ℕ) → AreSites old n → AreSites new (n + 1)
+  came_sites n are = record {
     listed = λ s site at. elim (came_from s site at) [
       | inl was ↦ pushed_stay old.of new.of variable (length old.all.items) came.of site.variable site.index s (are.listed s site was)
       | inr last ↦ subst (λ (k : Site). slice_get (list_at new.of k.variable) k.index ≡ Some s) last.1 (subst (λ (l : List ℕ). slice_get l (length (list_at old.of variable)) ≡ Some s) (sym came.of.own) (get_number (list_at old.of variable) (length old.all.items) s (sym last.0)))
@@ -62,19 +61,17 @@ module _ (old new : Sites) (variable location : ℕ) (came : HasCome old new var
   }
 
 -- a site that is known
-pub known_site : (sites : Sites) (n s variable location : ℕ) → AreSites sites n → slice_get sites.numbers s ≡ Some (variable, location) → IsSite sites.all.items variable location s
-known_site sites n s variable location are at = by (slice_get sites.all.items s) refl (sym (slice_get-map key_of sites.all.items s) ∙ subst (λ (l : List (ℕ × ℕ)). slice_get l s ≡ Some (variable, location)) are.keys at)
-  where
-    by : (o : Option Site) → slice_get sites.all.items s ≡ o → option_map key_of o ≡ Some (variable, location) → IsSite sites.all.items variable location s
-    by (Some site) there is = (
-        let same : key_of site ≡ (variable, location) = cc in
-        record { site = site; there = there; variable_is = ap (λ (p : ℕ × ℕ). p.0) same; location_is = ap (λ (p : ℕ × ℕ). p.1) same })
-    by _ there is = absurd (let f : ⊥ = cc in f)
+pub known_site : (all : List Site) (variable location s : ℕ) → IsFoundBy key_of all (variable, location) s → IsSite all variable location s
+known_site all variable location s found = record {
+  site = found.0;
+  there = found.1;
+  variable_is = ap (λ (p : ℕ × ℕ). p.0) found.2;
+  location_is = ap (λ (p : ℕ × ℕ). p.1) found.2;
+}
 
 -- where no site came
-pub sites_later : (old : Sites) (numbers : List (ℕ × ℕ)) (n : ℕ) → numbers ≡ old.numbers → AreSites old n → AreSites (record { numbers = numbers; all = old.all; of = old.of; classes = old.classes }) (n + 1)
-sites_later old numbers n same are = record {
-  keys = same ∙ are.keys;
+pub sites_later : (sites : Sites) (n : ℕ) → AreSites sites n → AreSites sites (n + 1)
+sites_later sites n are = record {
   listed = are.listed;
   own = are.own;
   few = (let le = are.few in omega (arith, le));
@@ -82,8 +79,8 @@ sites_later old numbers n same are = record {
   with_classes = are.with_classes;
 }
 
-pub known_more : (old : Sites) (numbers : List (ℕ × ℕ)) → HasMore old (record { numbers = numbers; all = old.all; of = old.of; classes = old.classes })
-known_more old numbers = record {
+pub known_more : (sites : Sites) → HasMore sites sites
+known_more sites = record {
   stay = λ s site at. at;
   classes = λ s. refl;
   of = λ x k s at. at;

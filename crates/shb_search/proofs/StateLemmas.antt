@@ -18,7 +18,7 @@ use Rattle.shb_search.specs.Looks.{AreIndexed, AreTable, looked_of, read_of, sid
 use Rattle.shb_search.specs.Members.{members}
 use Rattle.shb_search.specs.Searched.{AreSearched, IsAccessAt, SearchData, searches}
 use Rattle.shb_search.specs.Sides.{Side}
-use Rattle.shb_search.specs.State.{ArePaired, AreClassed, AreLogged, AreSided, HasFound, HasSide, IsLookedBy, IsReady, Stands, comes, is_known, nothing_seen}
+use Rattle.shb_search.specs.State.{ArePaired, AreClassed, AreLogged, AreSided, HasFound, HasSide, IsLookedBy, IsReady, Stands, comes, is_known, keys_in, nothing_seen}
 use Rattle.shb_search.specs.Tables.{AreSites, data_of, list_at, log_at}
 use Rattle.shb_search.specs.declared.kept.Classes.{Classes}
 use Rattle.shb_search.specs.declared.look.Access.{Access}
@@ -87,14 +87,14 @@ pub record IsSided (trace : TraceData) (flags : List Bool) (of : List (List ℕ)
   pub at : slice_get all k ≡ Some (record { of = side_of access; looked = looked })
 
 pub side_there : (trace : TraceData) (flags : List Bool) (of : List (List ℕ)) (old new : Sides) (meant : SearchData) (access : Access) (k : ℕ) → is_open flags access.variable ≡ true → AreSided of old meant.sides → AreSearched trace flags meant access.event → HasSide old new access k → IsSided trace flags of new meant access k
-side_there trace flags of old new meant access k is_so are searched (is_known at_key numbers all) =
+side_there trace flags of old new meant access k is_so are searched (is_known at_key numbers all long) =
     let numbered = are.numbered in
     let many = are.as_many in
-    let lt = slice_get_within old.numbers k (access.variable, kind access.thread access.writes) at_key in
+    let lt = slice_get_within (keys_in old) k (access.variable, kind access.thread access.writes) at_key in
     let own : SideData = get_or meant.sides k (record { of = side_of access; looked = record { seen = 0; read = λ w. 0; dirty = [] } }) in
     let at = slice_get-get_or meant.sides k (record { of = side_of access; looked = record { seen = 0; read = λ w. 0; dirty = [] } }) (omega (arith, numbered, many, lt)) in
     let h = are.each k own at in
-    let key = same_entry old.numbers k (own.of.variable, kind own.of.thread own.of.writes) (access.variable, kind access.thread access.writes) h.2 at_key in
+    let key = same_entry (keys_in old) k (own.of.variable, kind own.of.thread own.of.writes) (access.variable, kind access.thread access.writes) h.2 at_key in
     let kinds = one_kind_of own.of.thread access.thread own.of.writes access.writes (ap (λ (p : ℕ × ℕ). p.1) key) in
     let side : own.of ≡ side_of access = (λ i. record { variable = (ap (λ (p : ℕ × ℕ). p.0) key) i; thread = kinds.0 i; writes = kinds.1 i }) in
     record {
@@ -108,11 +108,11 @@ side_there trace flags of old new meant access k is_so are searched (is_known at
       looked = own.looked;
       at = at ∙ ap (λ (s : Side). Some (record { of = s; looked = own.looked })) side;
     }
-side_there trace flags of old new meant access k is_so are searched (comes is numbers all) =
+side_there trace flags of old new meant access k is_so are searched (comes is numbers all long) =
     let fresh : SideData = record { of = side_of access; looked = record { seen = 0; read = λ w. 0; dirty = [] } } in
     let numbered = are.numbered in
     let many = are.as_many in
-    let longer_numbers = ap length numbers ∙ length-append old.numbers ((access.variable, kind access.thread access.writes) ∷ []) in
+    let longer_numbers = ap length numbers ∙ length-append (keys_in old) ((access.variable, kind access.thread access.writes) ∷ []) in
     let longer = ap length all ∙ length-append old.all.items (nothing_seen ∷ []) in
     let longer_sides = length-append meant.sides (fresh ∷ []) in
     record {
@@ -121,13 +121,13 @@ side_there trace flags of old new meant access k is_so are searched (comes is nu
         numbered = omega (arith, longer_numbers, longer, numbered);
         as_many = omega (arith, longer_sides, longer, many);
         each = λ j other at_j. elim (get_cases meant.sides fresh j other at_j) [
-          | inl was ↦ (let g = are.each j other was in (g.0, subst (λ (l : List Seen). slice_get l j ≡ Some g.0) (sym all) (get_more old.all.items (nothing_seen ∷ []) j g.0 g.1), subst (λ (l : List (ℕ × ℕ)). slice_get l j ≡ Some (other.of.variable, kind other.of.thread other.of.writes)) (sym numbers) (get_more old.numbers ((access.variable, kind access.thread access.writes) ∷ []) j (other.of.variable, kind other.of.thread other.of.writes) g.2), g.3))
+          | inl was ↦ (let g = are.each j other was in (g.0, subst (λ (l : List Seen). slice_get l j ≡ Some g.0) (sym all) (get_more old.all.items (nothing_seen ∷ []) j g.0 g.1), subst (λ (l : List (ℕ × ℕ)). slice_get l j ≡ Some (other.of.variable, kind other.of.thread other.of.writes)) (sym numbers) (get_more (keys_in old) ((access.variable, kind access.thread access.writes) ∷ []) j (other.of.variable, kind other.of.thread other.of.writes) g.2), g.3))
           | inr last ↦ (
               let here = last.0 in
-              subst (λ (s : SideData). (seen : Seen) × (slice_get new.all.items j ≡ Some seen) × (slice_get new.numbers j ≡ Some (s.of.variable, kind s.of.thread s.of.writes)) × IsLookedBy (list_at of s.of.variable) seen s.looked) last.1 (
+              subst (λ (s : SideData). (seen : Seen) × (slice_get new.all.items j ≡ Some seen) × (slice_get (keys_in new) j ≡ Some (s.of.variable, kind s.of.thread s.of.writes)) × IsLookedBy (list_at of s.of.variable) seen s.looked) last.1 (
                 nothing_seen,
                 subst (λ (l : List Seen). slice_get l j ≡ Some nothing_seen) (sym all) (get_last old.all.items nothing_seen j (omega (arith, here, many))),
-                subst (λ (l : List (ℕ × ℕ)). slice_get l j ≡ Some (access.variable, kind access.thread access.writes)) (sym numbers) (get_last old.numbers (access.variable, kind access.thread access.writes) j (omega (arith, here, many, numbered))),
+                subst (λ (l : List (ℕ × ℕ)). slice_get l j ≡ Some (access.variable, kind access.thread access.writes)) (sym numbers) (get_last (keys_in old) (access.variable, kind access.thread access.writes) j (omega (arith, here, many, numbered))),
                 fresh_looked,
               ))
         ];
@@ -148,6 +148,10 @@ side_there trace flags of old new meant access k is_so are searched (comes is nu
       stay = λ s there. absurd (contains_none s there);
     }
 
+side_long : (old new : Sides) (access : Access) (k : ℕ) → HasSide old new access k → length new.of ≡ length old.of
+side_long old new access k (is_known at numbers all long) = long
+side_long old new access k (comes is numbers all long) = long
+
 module _ (trace : TraceData) (flags : List Bool) (before after : Search) (access : Access) (sides : Sides) (k : ℕ) (seen looked : Seen) (known more dirty : Numbers) where
   abbrev seen_after : Seen
   seen_after = record { seen = looked.seen; read_writes = looked.read_writes; read_others = looked.read_others; dirty = dirty }
@@ -156,8 +160,8 @@ module _ (trace : TraceData) (flags : List Bool) (before after : Search) (access
       → ((of : List ℕ) (sites : List SiteData) (meant : List ClassData) (logs : Logs) → AreTable trace sites before.classes.all.items meant access.event → AreIndexed of before.classes.all.items (list_at before.logs (log_at access.variable true)) → AreIndexed of before.classes.all.items (list_at before.logs (log_at access.variable false))
       → logs access.variable true ≡ list_at before.logs (log_at access.variable true) → logs access.variable false ≡ list_at before.logs (log_at access.variable false) → HasLooked trace.events meant logs access.event (side_of access) (looked_of of seen) (looked_of of looked))
       → ((meant : List ClassData) (old : AskData) → IsScene trace before.sites before.classes meant access → IsAsking trace (list_at before.sites.of access.variable) access.site (access.event + 1) known looked.dirty before.found.races.entries old → HasAskedAll trace before.sites meant access more dirty after.found.races.entries old)
-      → after.sites ≡ before.sites → after.classes ≡ before.classes → after.logs ≡ before.logs → after.sides.numbers ≡ sides.numbers → after.sides.all.items ≡ set sides.all.items k seen_after → after.paired.items ≡ set before.paired.items access.site more → HasFound trace flags after access
-  found_after side at_seen at_known ready looks asks same_sites same_classes same_logs numbers all paired =
+      → after.sites ≡ before.sites → after.classes ≡ before.classes → after.logs ≡ before.logs → keys_in after.sides ≡ keys_in sides → length after.sides.of ≡ length sides.of → after.sides.all.items ≡ set sides.all.items k seen_after → after.paired.items ≡ set before.paired.items access.site more → HasFound trace flags after access
+  found_after side at_seen at_known ready looks asks same_sites same_classes same_logs numbers long all paired =
       let stands = ready.stands in
       let own = side_there trace flags before.sites.of before.sides sides ready.meant access k ready.is_so stands.sided ready.searched side in
       let x_fits = stands.variables access.event access.variable ready.is_access.of_side.kind.variable in
@@ -202,6 +206,7 @@ module _ (trace : TraceData) (flags : List Bool) (before after : Search) (access
         stands = record {
           variables = subst (λ (s : Sites). (e x : ℕ) → variable_at trace.events e ≡ Some x → x < length s.of) (sym same_sites) stands.variables;
           with_kinds = subst (λ (s : Sites). length after.classes.kinds.items ≡ length s.of) (sym same_sites) (subst (λ (c : Classes). length c.kinds.items ≡ length before.sites.of) (sym same_classes) stands.with_kinds);
+          with_sides = subst (λ (s : Sites). length after.sides.of ≡ length s.of) (sym same_sites) (long ∙ (side_long before.sides sides access k side ∙ stands.with_sides));
           sites_are = subst (λ (s : Sites). AreSites s (access.event + 1)) (sym same_sites) stands.sites_are;
           sites_mean = subst (λ (s : Sites). ready.meant.sites ≡ map data_of s.all.items) (sym same_sites) stands.sites_mean;
           classed = subst (λ (s : Sites). AreClassed trace s after.classes ready.meant.classes access.event) (sym same_sites) (subst (λ (c : Classes). AreClassed trace before.sites c ready.meant.classes access.event) (sym same_classes) stands.classed);
@@ -240,7 +245,7 @@ module _ (trace : TraceData) (flags : List Bool) (before after : Search) (access
             (g.0, g.1, g.2, g.3, stay (g.2, m) g.4))
       ]
 
-      sided_after : (all_sides : List SideData) (next : SideData) → AreSided before.sites.of sides all_sides → k < length all_sides → IsLookedBy (list_at before.sites.of next.of.variable) seen_after next.looked → slice_get sides.numbers k ≡ Some (next.of.variable, kind next.of.thread next.of.writes) → AreSided before.sites.of after.sides (set all_sides k next)
+      sided_after : (all_sides : List SideData) (next : SideData) → AreSided before.sites.of sides all_sides → k < length all_sides → IsLookedBy (list_at before.sites.of next.of.variable) seen_after next.looked → slice_get (keys_in sides) k ≡ Some (next.of.variable, kind next.of.thread next.of.writes) → AreSided before.sites.of after.sides (set all_sides k next)
       sided_after all_sides next are fits by key = record {
         numbered = (let a = ap length numbers in let b = ap length all ∙ length-set sides.all.items k seen_after in let c = are.numbered in omega (arith, a, b, c));
         as_many = (let a = length-set all_sides k next in let b = ap length all ∙ length-set sides.all.items k seen_after in let c = are.as_many in omega (arith, a, b, c));
@@ -248,10 +253,10 @@ module _ (trace : TraceData) (flags : List Bool) (before after : Search) (access
           | inl same ↦ (
               let is : next ≡ other = same_entry (set all_sides k next) k next other (get_set all_sides k next fits) (subst (λ (n : ℕ). slice_get (set all_sides k next) n ≡ Some other) same at) in
               let many = are.as_many in
-              subst (λ (s : SideData). (one : Seen) × (slice_get after.sides.all.items j ≡ Some one) × (slice_get after.sides.numbers j ≡ Some (s.of.variable, kind s.of.thread s.of.writes)) × IsLookedBy (list_at before.sites.of s.of.variable) one s.looked) is (
+              subst (λ (s : SideData). (one : Seen) × (slice_get after.sides.all.items j ≡ Some one) × (slice_get (keys_in after.sides) j ≡ Some (s.of.variable, kind s.of.thread s.of.writes)) × IsLookedBy (list_at before.sites.of s.of.variable) one s.looked) is (
                 seen_after,
                 subst (λ (n : ℕ). slice_get after.sides.all.items n ≡ Some seen_after) (sym same) (subst (λ (l : List Seen). slice_get l k ≡ Some seen_after) (sym all) (get_set sides.all.items k seen_after (omega (arith, fits, many)))),
-                subst (λ (n : ℕ). slice_get after.sides.numbers n ≡ Some (next.of.variable, kind next.of.thread next.of.writes)) (sym same) (subst (λ (l : List (ℕ × ℕ)). slice_get l k ≡ Some (next.of.variable, kind next.of.thread next.of.writes)) (sym numbers) key),
+                subst (λ (n : ℕ). slice_get (keys_in after.sides) n ≡ Some (next.of.variable, kind next.of.thread next.of.writes)) (sym same) (subst (λ (l : List (ℕ × ℕ)). slice_get l k ≡ Some (next.of.variable, kind next.of.thread next.of.writes)) (sym numbers) key),
                 by,
               ))
           | inr ne ↦ (
@@ -261,6 +266,6 @@ module _ (trace : TraceData) (flags : List Bool) (before after : Search) (access
       }
 
 -- the number of a side is one
-pub side_fits : (old new : Sides) (access : Access) (k : ℕ) → length old.numbers ≡ length old.all.items → HasSide old new access k → k < length new.all.items
-side_fits old new access k numbered (is_known at numbers all) = (let lt = slice_get_within old.numbers k (access.variable, kind access.thread access.writes) at in let same = ap length all in omega (arith, lt, same, numbered))
-side_fits old new access k numbered (comes is numbers all) = (let longer = ap length all ∙ length-append old.all.items (nothing_seen ∷ []) in omega (arith, is, longer, numbered))
+pub side_fits : (old new : Sides) (access : Access) (k : ℕ) → length (keys_in old) ≡ length old.all.items → HasSide old new access k → k < length new.all.items
+side_fits old new access k numbered (is_known at numbers all long) = (let lt = slice_get_within (keys_in old) k (access.variable, kind access.thread access.writes) at in let same = ap length all in omega (arith, lt, same, numbered))
+side_fits old new access k numbered (comes is numbers all long) = (let longer = ap length all ∙ length-append old.all.items (nothing_seen ∷ []) in omega (arith, is, longer, numbered))

@@ -42,6 +42,6 @@ pub record HasPut (old new : Classes) (of_old of_new : List (List ℕ)) (access 
 
 -- an access was added to its class c: a new one, or one that has a new newest access
 pub data IsNoted (old new : Classes) (of_old of_new : List (List ℕ)) (access : Access) (index local c : ℕ) : Type 0 where
-  begins : (put : Classes) → HasPut old put of_old of_new access index local c → new.numbers ≡ old.numbers ++ (access.site, kind access.thread access.writes) ∷ [] → new.all.items ≡ put.all.items → new.kinds.items ≡ put.kinds.items → HasPushed put.events new.events c access.event → length new.events ≡ length put.events → IsNoted old new of_old of_new access index local c
-  extends : (before : Class) → slice_get old.all.items c ≡ Some before → class_key before ≡ (access.site, kind access.thread access.writes) → new.numbers ≡ old.numbers → new.all.items ≡ slice_set old.all.items c (record { site = before.site; index = before.index; thread = before.thread; writes = before.writes; local = local })
+  begins : (put : Classes) → HasPut old put of_old of_new access index local c → new.all.items ≡ put.all.items → new.kinds.items ≡ put.kinds.items → HasPushed put.events new.events c access.event → length new.events ≡ length put.events → IsNoted old new of_old of_new access index local c
+  extends : (before : Class) → slice_get old.all.items c ≡ Some before → class_key before ≡ (access.site, kind access.thread access.writes) → new.all.items ≡ slice_set old.all.items c (record { site = before.site; index = before.index; thread = before.thread; writes = before.writes; local = local })
       → new.kinds.items ≡ old.kinds.items → of_new ≡ of_old → HasPushed old.events new.events c access.event → length new.events ≡ length old.events → IsNoted old new of_old of_new access index local c

@@ -6,7 +6,7 @@ use Rattle.shb_lines.specs.text.TraceData.{TraceData}
 use Rattle.shb_numbers.specs.Numbers.{Numbers}
 use Rattle.shb_stamps.specs.Open.{is_open}
 use Rattle.shb_search.specs.Asking.{AreOfSites}
-use Rattle.shb_search.specs.Classes.{class_key, kind, of_kind}
+use Rattle.shb_search.specs.Classes.{kind, of_kind}
 use Rattle.shb_search.specs.Kept.{ClassData, Logs, Looked, SideData}
 use Rattle.shb_search.specs.Looks.{AllStay, StandsFor, read_of, side_of}
 use Rattle.shb_search.specs.Members.{members}
@@ -19,6 +19,7 @@ use Rattle.shb_search.specs.declared.look.Access.{Access}
 use Rattle.shb_search.specs.declared.look.Class.{Class}
 use Rattle.shb_search.specs.declared.look.Seen.{Seen}
 use Rattle.shb_search.specs.declared.search.Search.{Search}
+use Rattle.shb_search.specs.declared.sides.SideKey.{SideKey}
 use Rattle.shb_search.specs.declared.sides.Sides.{Sides}
 use Rattle.shb_search.specs.declared.sites.Site.{Site}
 use Rattle.shb_search.specs.declared.sites.Sites.{Sites}
@@ -27,10 +28,18 @@ use Rattle.shb_search.specs.declared.sites.Sites.{Sites}
 abbrev pub nothing_seen : Seen
 nothing_seen = record { seen = 0; read_writes = 0; read_others = 0; dirty = set.empty }
 
+-- by what a side is found
+abbrev pub side_key : SideKey → ℕ × ℕ
+side_key key = (key.variable, kind key.thread key.writes)
+
+-- the same of all sides
+abbrev pub keys_in : Sides → List (ℕ × ℕ)
+keys_in sides = map side_key sides.keys.items
+
 -- the number of the side of an access: one that is known, or a new last one
 pub data HasSide (old new : Sides) (access : Access) (k : ℕ) : Type 0 where
-  is_known : slice_get old.numbers k ≡ Some (access.variable, kind access.thread access.writes) → new.numbers ≡ old.numbers → new.all.items ≡ old.all.items → HasSide old new access k
-  comes : k ≡ length old.numbers → new.numbers ≡ old.numbers ++ (access.variable, kind access.thread access.writes) ∷ [] → new.all.items ≡ old.all.items ++ nothing_seen ∷ [] → HasSide old new access k
+  is_known : slice_get (keys_in old) k ≡ Some (access.variable, kind access.thread access.writes) → keys_in new ≡ keys_in old → new.all.items ≡ old.all.items → length new.of ≡ length old.of → HasSide old new access k
+  comes : k ≡ length (keys_in old) → keys_in new ≡ keys_in old ++ (access.variable, kind access.thread access.writes) ∷ [] → new.all.items ≡ old.all.items ++ nothing_seen ∷ [] → length new.of ≡ length old.of → HasSide old new access k
 
 -- no site at which an access of this kind can conflict is missing in the pairs
 abbrev pub IsWantingNone : Kinds → Numbers → Bool → Type 0
@@ -43,7 +52,6 @@ pub record HasRoom (old new : List Numbers) (s : ℕ) : Type 0 where
 
 -- the classes stand for these
 pub record AreClassed (trace : TraceData) (sites : Sites) (classes : Classes) (meant : List ClassData) (n : ℕ) : Type 0 where
-  pub keys : classes.numbers ≡ map class_key classes.all.items
   pub as_many : length meant ≡ length classes.all.items
   pub with_events : length classes.events ≡ length classes.all.items
   pub each : (c : ℕ) (class : ClassData) → slice_get meant c ≡ Some class → (seen : Class) × (slice_get classes.all.items c ≡ Some seen) × StandsFor trace.events seen class
@@ -71,9 +79,9 @@ pub record IsLookedBy (of : List ℕ) (seen : Seen) (looked : Looked) : Type 0 w
 
 -- the sides stand for these
 pub record AreSided (of : List (List ℕ)) (sides : Sides) (meant : List SideData) : Type 0 where
-  pub numbered : length sides.numbers ≡ length sides.all.items
+  pub numbered : length (keys_in sides) ≡ length sides.all.items
   pub as_many : length meant ≡ length sides.all.items
-  pub each : (k : ℕ) (side : SideData) → slice_get meant k ≡ Some side → (seen : Seen) × (slice_get sides.all.items k ≡ Some seen) × (slice_get sides.numbers k ≡ Some (side.of.variable, kind side.of.thread side.of.writes)) × IsLookedBy (list_at of side.of.variable) seen side.looked
+  pub each : (k : ℕ) (side : SideData) → slice_get meant k ≡ Some side → (seen : Seen) × (slice_get sides.all.items k ≡ Some seen) × (slice_get (keys_in sides) k ≡ Some (side.of.variable, kind side.of.thread side.of.writes)) × IsLookedBy (list_at of side.of.variable) seen side.looked
 
 -- what is paired with a site is a pair
 abbrev pub ArePaired : Sites → List Numbers → List (ℕ × ℕ) → Type 0
@@ -84,6 +92,7 @@ ArePaired sites paired pairs = (m k : ℕ) (known : Numbers) → slice_get paire
 pub record Stands (trace : TraceData) (search : Search) (meant : SearchData) (n count : ℕ) : Type 0 where
   pub variables : (e x : ℕ) → variable_at trace.events e ≡ Some x → x < length search.sites.of
   pub with_kinds : length search.classes.kinds.items ≡ length search.sites.of
+  pub with_sides : length search.sides.of ≡ length search.sites.of
   pub sites_are : AreSites search.sites count
   pub sites_mean : meant.sites ≡ map data_of search.sites.all.items
   pub classed : AreClassed trace search.sites search.classes meant.classes n

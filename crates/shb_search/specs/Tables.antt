@@ -1,5 +1,5 @@
 -- The tables of the search, and what they stand for.
-use Rattle.std.specs.Prelude.{◌≡◌, ◌≢◌, ◌+◌, ◌*◌, ◌≤◌, ℕ, Bool, true, false, List, [], ◌∷◌, ◌++◌, Some, length, map, slice_get, slice_index_or}
+use Rattle.std.specs.Prelude.{◌≡◌, ◌≢◌, ◌+◌, ◌*◌, ◌≤◌, ℕ, Bool, true, false, List, [], ◌∷◌, ◌++◌, Some, length, slice_get, slice_index_or}
 use Rattle.shb_search.specs.Kept.{SiteData}
 use Rattle.shb_search.specs.declared.sites.Site.{Site}
 use Rattle.shb_search.specs.declared.sites.Sites.{Sites}
@@ -35,9 +35,8 @@ pub record HasCome (old new : Sites) (variable location : ℕ) : Type 0 where
   pub of : HasPushed old.of new.of variable (length old.all.items)
   pub of_length : length new.of ≡ length old.of
 
--- each site is found by its variable and location, and is in the list of its variable; there are at most n
+-- each site is in the list of its variable; there are at most n
 pub record AreSites (sites : Sites) (n : ℕ) : Type 0 where
-  pub keys : sites.numbers ≡ map key_of sites.all.items
   pub listed : (s : ℕ) (site : Site) → slice_get sites.all.items s ≡ Some site → slice_get (list_at sites.of site.variable) site.index ≡ Some s
   pub own : (x k s : ℕ) → slice_get (list_at sites.of x) k ≡ Some s → (site : Site) × (slice_get sites.all.items s ≡ Some site) × (site.variable ≡ x)
   pub few : length sites.all.items ≤ n

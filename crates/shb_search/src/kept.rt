@@ -1,12 +1,12 @@
 //! The accesses so far, by class.
 
-ghost use Rattle.std.specs.Prelude.{◌≡◌, ◌^◌, ◌+◌, ◌-◌, ◌<◌, ℕ, [], Bool, true, IfOk, OnOk, Some, length, map, slice_get};
+ghost use Rattle.std.specs.Prelude.{◌≡◌, ◌^◌, ◌+◌, ◌-◌, ◌<◌, ℕ, [], Bool, true, IfOk, OnOk, Some, length, slice_get};
 ghost use Rattle.std.specs.FinSet as set;
-ghost use Rattle.shb_search.specs.Classes.{HasKind, HasPut, IsNoted, class_key, kind};
+ghost use Rattle.shb_search.specs.Classes.{HasKind, HasPut, IsNoted, kind};
 ghost use Rattle.shb_search.specs.Tables.{list_at};
 
 use crate::look::{Access, Class};
-use crate::numbering::Numbering;
+use crate::numbering::{Numbering, Paired};
 use shb_io::NoMemory;
 use shb_numbers::{Lists, NumberSet};
 use std::alloc::Global;
@@ -17,6 +17,16 @@ use std::random::RandomSource;
 pub struct Kinds {
     pub written: NumberSet,
     pub others: NumberSet,
+}
+
+impl Paired for Class {
+    ghost use Rattle.shb_search.specs.Classes.{class_key};
+
+    ghost pair = { class_key };
+
+    fn pair(&self) -> (u32, u64) {
+        (self.site, kind_of(self.thread, self.writes))
+    }
 }
 
 /// The classes, the accesses of each, and of each variable the kinds of accesses at its sites.
@@ -69,7 +79,6 @@ impl Classes {
     ///
     /// `NoMemory` where memory was refused, or where there were no random numbers for the table.
     pub fn new<R: RandomSource>(rt: &R, alloc: Global, variables: u32) -> Result<Classes, NoMemory>
-        ensures numbers { IfOk result (λ classes. classes.numbers ≡ []) }
         ensures all { IfOk result (λ classes. classes.all.items ≡ []) }
         ensures events { IfOk result (λ classes. classes.events ≡ []) }
         ensures kinds { IfOk result (λ classes. length classes.kinds.items ≡ variables) }
@@ -91,15 +100,17 @@ impl Classes {
         access: Access,
         index: u32,
         local: u32,
-    ) -> Result<(), NoMemory>
+    ) -> Result<u32, NoMemory>
         requires site { access.site < length of_site.old }
         requires variable { access.variable < length self.old.kinds.items }
         requires few { length self.old.all.items < 2 ^ 32 - 1 }
         requires short { length (list_at of_site.old access.site) < 2 ^ 32 - 1 }
-        ensures numbers { OnOk result (self.new.numbers ≡ self.old.numbers) }
-        ensures put { OnOk result (HasPut self.old self.new of_site.old of_site.new access index local (length self.old.all.items)) }
+        ensures { IfOk result (λ c. HasPut self.old self.new of_site.old of_site.new access index local c) }
     {
         let c = self.all.len() as u32;
+        let pair = (access.site, kind_of(access.thread, access.writes));
+        let list = of_site.list(access.site as usize);
+        self.numbers.note(list, self.all.as_slice(), pair, c)?;
         self.all.push(Class {
             site: access.site,
             index,
@@ -114,7 +125,7 @@ impl Classes {
             access.writes,
             index,
         )?;
-        Ok(())
+        Ok(c)
     }
 
     /// Adds an access at a site to its class, or as the first of a new one, and answers the number of the class. Of the
@@ -135,21 +146,19 @@ impl Classes {
         requires short { length (list_at of_site.old access.site) < 2 ^ 32 - 1 }
         requires short_events { (c : ℕ) → length (list_at self.old.events c) < 2 ^ 32 - 1 }
         requires few { length self.old.all.items < 2 ^ 32 - 1 }
-        requires numbered { self.old.numbers ≡ map class_key self.old.all.items }
         requires with_events { length self.old.events ≡ length self.old.all.items }
         ensures { IfOk result (IsNoted self.old self.new of_site.old of_site.new access index local) }
     {
-        let (c, is_new) = self
-            .numbers
-            .number_of((access.site, kind_of(access.thread, access.writes)))?;
-        if is_new {
-            self.add(of_site, access, index, local)?;
-            self.events.push(c, access.event)?;
-            return Ok(c as u32);
-        }
-        let class = self.all[c];
-        self.all[c] = Class { local, ..class };
-        self.events.push(c, access.event)?;
-        Ok(c as u32)
+        let pair = (access.site, kind_of(access.thread, access.writes));
+        let list = of_site.list(access.site as usize);
+        let Some(c) = self.numbers.known(list, self.all.as_slice(), pair) else {
+            let c = self.add(of_site, access, index, local)?;
+            self.events.push(c as usize, access.event)?;
+            return Ok(c);
+        };
+        let class = self.all[c as usize];
+        self.all[c as usize] = Class { local, ..class };
+        self.events.push(c as usize, access.event)?;
+        Ok(c)
     }
 }

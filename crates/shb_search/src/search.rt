@@ -92,7 +92,7 @@ impl Search {
         let sites = Sites::new(rt, alloc, variables)?;
         let classes = Classes::new(rt, alloc, variables)?;
         let logs = empty_lists(alloc, variables as usize * 2)?;
-        let sides = Sides::new(rt, alloc)?;
+        let sides = Sides::new(rt, alloc, variables)?;
         let found = PlaceRaces::new(rt, alloc)?;
         Ok(Search {
             sites,

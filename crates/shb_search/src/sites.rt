@@ -3,7 +3,7 @@
 ghost use Rattle.std.specs.Prelude.{◌≡◌, ◌⊎◌, ◌^◌, ◌+◌, ◌-◌, ◌<◌, ℕ, [], IfOk, OnOk, Some, length, slice_get};
 ghost use Rattle.shb_search.specs.Tables.{AreSites, HasCome, HasMore, IsSite, list_at};
 
-use crate::numbering::Numbering;
+use crate::numbering::{Numbering, Paired};
 use crate::rows::empty_lists;
 use shb_io::NoMemory;
 use shb_numbers::Lists;
@@ -16,6 +16,16 @@ pub struct Site {
     pub variable: u32,
     pub location: u32,
     pub index: u32,
+}
+
+impl Paired for Site {
+    ghost use Rattle.shb_search.specs.Tables.{key_of};
+
+    ghost pair = { key_of };
+
+    fn pair(&self) -> (u32, u64) {
+        (self.variable, u64::from(self.location))
+    }
 }
 
 /// The sites, those of each variable, and the classes of each site.
@@ -34,7 +44,6 @@ impl Sites {
     ///
     /// `NoMemory` where memory was refused, or where there were no random numbers for the table.
     pub fn new<R: RandomSource>(rt: &R, alloc: Global, variables: u32) -> Result<Sites, NoMemory>
-        ensures numbers { IfOk result (λ sites. sites.numbers ≡ []) }
         ensures all { IfOk result (λ sites. sites.all.items ≡ []) }
         ensures classes { IfOk result (λ sites. sites.classes ≡ []) }
         ensures of { IfOk result (λ sites. length sites.of ≡ variables) }
@@ -51,22 +60,25 @@ impl Sites {
     }
 
     /// A new site.
-    fn add(&mut self, variable: u32, location: u32) -> Result<(), NoMemory>
+    fn add(&mut self, variable: u32, location: u32) -> Result<u32, NoMemory>
         requires inside { variable < length self.old.of }
         requires few { length self.old.all.items < 2 ^ 32 - 1 }
         requires short { length (list_at self.old.of variable) < 2 ^ 32 - 1 }
-        ensures numbers { OnOk result (self.new.numbers ≡ self.old.numbers) }
-        ensures came { OnOk result (HasCome self.old self.new variable location) }
+        ensures { IfOk result (λ s. (s ≡ length self.old.all.items) × HasCome self.old self.new variable location) }
     {
         let s = self.all.len() as u32;
-        let index = self.of.list(variable as usize).len() as u32;
+        let list = self.of.list(variable as usize);
+        let index = list.len() as u32;
+        let pair = (variable, u64::from(location));
+        self.numbers.note(list, self.all.as_slice(), pair, s)?;
         self.all.push(Site {
             variable,
             location,
             index,
         })?;
         self.classes.add()?;
-        self.of.push(variable as usize, s)
+        self.of.push(variable as usize, s)?;
+        Ok(s)
     }
 
     /// The number of the site of a variable and a location.
@@ -81,11 +93,12 @@ impl Sites {
         ensures more { (n : ℕ) → AreSites self.old n → OnOk result (HasMore self.old self.new) }
         ensures from { OnOk result ((s : ℕ) (site : Site) → slice_get self.new.all.items s ≡ Some site → (slice_get self.old.all.items s ≡ Some site) ⊎ (site.location ≡ location)) }
     {
-        let (s, is_new) = self.numbers.number_of((variable, location as u64))?;
-        if !is_new {
-            return Ok(s as u32);
+        let pair = (variable, u64::from(location));
+        let list = self.of.list(variable as usize);
+        if let Some(s) = self.numbers.known(list, self.all.as_slice(), pair) {
+            return Ok(s);
         }
-        self.add(variable, location)?;
-        Ok(s as u32)
+        let s = self.add(variable, location)?;
+        Ok(s)
     }
 }

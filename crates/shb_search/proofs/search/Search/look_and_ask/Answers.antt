@@ -29,4 +29,4 @@ returns-clause-found g c flags ready =
     (subst (λ (l : List ℕ). AreIndexed of c.as_slice.result.now l) (sym others_are) (subst (λ (l : List Class). AreIndexed of l (list_at own.logs (log_at access.variable false))) (sym classes_are) second))
     (at_first ∙ sym writes_are) (at_second ∙ sym others_are))
     (λ meant old scene are. c.in_ok-ask.ensures.told meant old scene are)
-    refl refl refl refl refl refl
+    refl refl refl refl refl refl refl
