@@ -1,11 +1,13 @@
 -- Locations and their numbers.
 use Rattle.std.proofs.lemmas.Grind.{common_steps}
-use Rattle.std.proofs.Common.{◌≡◌, ◌||◌, ◌++◌, ℕ, Bool, true, false, cond, List, [], ◌∷◌, map, refl, ap, arith}
+use Rattle.std.proofs.Common.{◌≡◌, ◌||◌, ◌++◌, ℕ, Bool, true, false, cond, List, [], ◌∷◌, Some, map, slice_get, refl, ap, arith}
 use Rattle.std.specs.Cmp.Lexicographic.{nat_list_eq_equiv}
 use Rattle.std.specs.List.{IsDistinct, list_any}
 use Rattle.std.specs.Str.{bytes_eq}
 use Rattle.std.proofs.lemmas.List.{map-append}
 use Rattle.std.proofs.lemmas.Map.Keys.{IsDistinct-push}
+use Rattle.std.proofs.lemmas.Map.Views.{list_any-from_Contains}
+use Rattle.std.proofs.lemmas.Option.{get_or_from_slice_get, slice_get_within}
 use Rattle.indexmap.specs.IndexSet.{insert_key}
 use Rattle.shb_lines.specs.declared.hashing.TextKey.{TextKey}
 
@@ -31,3 +33,9 @@ still_different texts text differ = by (list_any (bytes_eq text) texts) refl
     by : (b : Bool) → list_any (bytes_eq text) texts ≡ b → IsDistinct bytes_eq (cond b texts (texts ++ text ∷ []))
     by true is = differ
     by false is = IsDistinct-push nat_list_eq_equiv texts text differ is
+
+-- a location that has a number isn't put
+pub known_stay : (texts : List (List ℕ)) (text : List ℕ) (number : ℕ) → slice_get texts number ≡ Some text → insert_key bytes_eq texts text ≡ texts
+known_stay texts text number at =
+    ap (λ (b : Bool). cond b texts (texts ++ text ∷ []))
+    (list_any-from_Contains nat_list_eq_equiv text texts (number, slice_get_within texts number text at, get_or_from_slice_get texts number text text at))

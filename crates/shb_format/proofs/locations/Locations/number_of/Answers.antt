@@ -1,9 +1,9 @@
 -- A set puts a new location last and keeps a known one.
 use Rattle.std.proofs.lemmas.Grind.{common_steps}
-use Rattle.std.proofs.Common.{option_map, arith}
+use Rattle.std.proofs.Common.{option_map, arith, sym}
 use Rattle.std.proofs.lemmas.Option.{slice_get-map}
 use Rattle.std.proofs.lemmas.Slice.Eq.{bytes_eq-Decides}
-use Rattle.shb_format.proofs.Numbered.{inserted, still_different}
+use Rattle.shb_format.proofs.Numbered.{inserted, known_stay, still_different}
 use Rattle.shb_format.proofs.locations.Locations.number_of.Goals as goal
 
 pub invariant_of-self-2 : goal.invariant_of-self-2
@@ -14,3 +14,6 @@ returns-clause-known c = grind (arith, common_steps, c.in_ok-number.ensures.keys
 
 pub returns-clause-number : goal.returns-clause-number
 returns-clause-number c = grind (arith, common_steps, c.in_ok-number.ensures.stored, slice_get-map, option_map, bytes_eq-Decides)
+
+pub returns-in-Some-clause-known : goal.returns-in-Some-clause-known
+returns-in-Some-clause-known c = sym (known_stay c.args.self.now c.args.location.now c.in-Some.number c.in-Some.ensures)
