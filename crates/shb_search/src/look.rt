@@ -1,6 +1,6 @@
 //! A look of a side at the accesses since its last one.
 
-ghost use Rattle.std.specs.Prelude.{◌≡◌, ◌≢◌, ◌<◌, ◌≤◌, ℕ, true, false, List, OnOk, Some, length, slice_get};
+ghost use Rattle.std.specs.Prelude.{◌≡◌, ◌≢◌, ◌^◌, ◌<◌, ◌≤◌, ℕ, true, false, List, OnOk, Some, length, slice_get};
 ghost use Rattle.shb_search.specs.Kept.{ClassData, HasLooked, Logs, SiteData};
 ghost use Rattle.shb_search.specs.Looks.{AllStay, AreIndexed, AreMarked, AreTable, IsMarked, looked_of, side_of};
 ghost use Rattle.shb_search.specs.Members.{members};
@@ -36,8 +36,8 @@ pub struct Access {
 #[derive(Drop)]
 pub struct Seen {
     pub seen: u32,
-    pub read_writes: usize,
-    pub read_others: usize,
+    pub read_writes: u32,
+    pub read_others: u32,
     pub dirty: NumberSet,
 }
 
@@ -76,7 +76,7 @@ fn look_at<O: Order>(
     ordered: &Ordered<'_, O>,
     classes: &[Class],
     log: &[u32],
-    read: usize,
+    read: u32,
     access: Access,
     dirty: &mut NumberSet,
 ) -> Result<(), NoMemory>
@@ -86,7 +86,7 @@ fn look_at<O: Order>(
     ensures marked { (of : List ℕ) (sites : List SiteData) (meant : List ClassData) → AreTable ordered.now.disciplined.now.trace.now sites classes.now meant access.event → AreIndexed of classes.now log.now
         → OnOk result (AreMarked ordered.now.disciplined.now.trace.now meant log.now access.event access.thread read (length log.now) (members of 0 dirty.new)) }
 {
-    for k in read.saturating_sub(1)..log.len() {
+    for k in read.saturating_sub(1) as usize..log.len() {
         mark(ordered, classes, log[k], access, dirty)?;
     }
     Ok(())
@@ -98,12 +98,13 @@ fn read_log<O: Order>(
     classes: &[Class],
     log: &[u32],
     wanted: bool,
-    read: &mut usize,
+    read: &mut u32,
     access: Access,
     dirty: &mut NumberSet,
 ) -> Result<(), NoMemory>
     requires in_range { access.event < length ordered.now.disciplined.now.trace.now.events }
     requires asked { O.asks ordered.now.order.now access.event ≡ true }
+    requires short { length log.now < 2 ^ 32 }
     ensures stay { (of : List ℕ) → OnOk result (AllStay (members of 0 dirty.old) (members of 0 dirty.new)) }
     ensures read { wanted ≡ true → OnOk result (read.new ≡ length log.now) }
     ensures marked { (of : List ℕ) (sites : List SiteData) (meant : List ClassData) → AreTable ordered.now.disciplined.now.trace.now sites classes.now meant access.event → AreIndexed of classes.now log.now → wanted ≡ true
@@ -113,7 +114,7 @@ fn read_log<O: Order>(
         return Ok(());
     }
     look_at(ordered, classes, log, *read, access, dirty)?;
-    *read = log.len();
+    *read = log.len() as u32;
     Ok(())
 }
 
@@ -133,6 +134,8 @@ pub fn look<O: Order>(
 ) -> Result<(), NoMemory>
     requires in_range { access.event < length ordered.now.disciplined.now.trace.now.events }
     requires asked { O.asks ordered.now.order.now access.event ≡ true }
+    requires short_writes { length writes.now < 2 ^ 32 }
+    requires short_others { length others.now < 2 ^ 32 }
     ensures { (of : List ℕ) (sites : List SiteData) (meant : List ClassData) (logs : Logs) → AreTable ordered.now.disciplined.now.trace.now sites classes.now meant access.event
         → AreIndexed of classes.now writes.now → AreIndexed of classes.now others.now
         → logs access.variable true ≡ writes.now → logs access.variable false ≡ others.now

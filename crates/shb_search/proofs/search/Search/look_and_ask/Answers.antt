@@ -1,4 +1,4 @@
-use Rattle.std.proofs.Common.{◌≡◌, ◌+◌, ℕ, true, false, List, arith, refl, subst, ap, sym, ◌∙◌}
+use Rattle.std.proofs.Common.{◌≡◌, ◌+◌, ℕ, true, false, List, length, arith, refl, subst, ap, sym, ◌∙◌}
 use Rattle.shb_search.specs.Looks.{AreIndexed, AreTable}
 use Rattle.shb_search.specs.Tables.{list_at, log_at}
 use Rattle.shb_search.specs.declared.look.Class.{Class}
@@ -10,6 +10,24 @@ pub ask-requires-clause-events_in_range : goal.ask-requires-clause-events_in_ran
 ask-requires-clause-events_in_range g c number k d lt =
     let low = c.requires.in_range in
     events_within c.args.ordered.now.disciplined.now.trace.now c.requires.ready.0 c.args.self.now c.requires.ready.1.meant c.args.access.event (c.args.access.event + 1) (omega (arith, low)) c.requires.ready.1.stands c.requires.ready.1.searched number k d lt
+
+pub look-requires-clause-short_writes : goal.look-requires-clause-short_writes
+look-requires-clause-short_writes g c =
+    let few = c.args.ordered.now.disciplined.now.few in
+    let same = ap length c.args.ordered.now.disciplined.now.of_trace in
+    let low = c.requires.in_range in
+    let short = c.requires.ready.1.stands.logged.short c.log_of.result in
+    let is = ap length c.list-writes.ensures in
+    omega (arith, few, same, low, short, is)
+
+pub look-requires-clause-short_others : goal.look-requires-clause-short_others
+look-requires-clause-short_others g c =
+    let few = c.args.ordered.now.disciplined.now.few in
+    let same = ap length c.args.ordered.now.disciplined.now.of_trace in
+    let low = c.requires.in_range in
+    let short = c.requires.ready.1.stands.logged.short c.log_of-2.result in
+    let is = ap length c.list-others.ensures in
+    omega (arith, few, same, low, short, is)
 
 pub returns-clause-found : goal.returns-clause-found
 returns-clause-found g c flags ready =
