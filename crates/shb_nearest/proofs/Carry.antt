@@ -1,6 +1,6 @@
 -- What is known of the accesses of a stream stays so when an event comes.
 use Rattle.std.proofs.Common.{◌≡◌, ℕ, zero, suc, ◌<◌, ◌≤◌, Bool, List, [], ◌∷◌, ◌++◌, Some, length, arith, refl, sym, ap, ◌∙◌}
-use Rattle.std.specs.Prelude.{option_and_then, slice_get}
+use Rattle.std.specs.Prelude.{option_and_then, reverse, slice_get}
 use Rattle.std.proofs.lemmas.List.Elements.{All-weaker}
 use Rattle.shb_lines.specs.declared.event.Event.{Event}
 use Rattle.shb_lines.specs.events.Discipline.{IsDisciplined}
@@ -13,14 +13,18 @@ use Rattle.shb_nearest.specs.declared.access.FoundRace.{FoundRace}
 use Rattle.shb_nearest.specs.declared.access.Spot.{Spot}
 use Rattle.shb_nearest.specs.declared.classes.Class.{Class}
 use Rattle.shb_nearest.specs.declared.groups.Group.{Group}
+use Rattle.shb_nearest.specs.declared.groups.Groups.{Groups}
 use Rattle.shb_nearest.specs.declared.groups.KeptAccess.{KeptAccess}
 use Rattle.shb_nearest.specs.declared.late.Late.{Late}
+use Rattle.shb_nearest.specs.declared.log.Accesses.{Accesses}
+use Rattle.shb_nearest.specs.declared.log.Accesses.TheVariants.{Grouped, Waiting}
+use Rattle.shb_nearest.specs.declared.log.Entry.{Entry}
 use Rattle.shb_nearest.specs.declared.places.Place.{Place}
 use Rattle.shb_nearest.specs.declared.tables.Tables.{Tables}
 use Rattle.shb_nearest.specs.Classes.{IsNewestOf, IsOfClass}
 use Rattle.shb_nearest.specs.Found.{IsFoundAccess, location_in}
 use Rattle.shb_nearest.specs.Groups.{AreGroups, IsGroup, IsKept, access_of}
-use Rattle.shb_nearest.specs.Late.{AreLate, IsLateIn, access_in, each_in, late_in}
+use Rattle.shb_nearest.specs.Late.{AreAccesses, AreLate, IsLateIn, access_in}
 use Rattle.shb_nearest.specs.Places.{IsAtPlace, IsNearestAt}
 use Rattle.shb_nearest.specs.Searched.{AreTables}
 
@@ -96,6 +100,10 @@ module _ (past : List Event) (e : Event) (spots : List Spot) (s : Spot) (as_many
     covers = λ c k of_x is. h.covers c k of_x (newest_back c k is);
   }
 
+  accesses_longer : (x : ℕ) (entries : List Entry) (groups : List Groups) (accesses : Accesses) → AreAccesses past spots x (length past) entries groups accesses → AreAccesses (past ++ e ∷ []) (spots ++ s ∷ []) x (length past) entries groups accesses
+  accesses_longer x entries groups (Waiting place) w = record { late = w.late; chain = w.chain; are = late_longer x 0 (reverse w.late) w.are }
+  accesses_longer x entries groups (Grouped at) h = record { groups = h.groups; there = h.there; own = h.own; are = groups_longer x (length past) h.groups.each.items (omega arith) h.are; locations = h.locations }
+
   race_back : (i j : ℕ) → j < length past → Race (past ++ e ∷ []) i j → Race past i j
   race_back i j lt race = (race_longer past (e ∷ []) whole i j lt).0 race
 
@@ -125,17 +133,13 @@ module _ (past : List Event) (e : Event) (spots : List Spot) (s : Spot) (as_many
     };
     variables = record {
       each = λ x variable at. (let h = are.variables.each x variable at in record {
-        accesses = record {
-          since = h.accesses.since;
-          groups = groups_longer x h.accesses.since (each_in variable.accesses) h.accesses.late.within h.accesses.groups;
-          late = late_longer x h.accesses.since (late_in variable.accesses) h.accesses.late;
-        };
-        locations = h.locations;
+        accesses = accesses_longer x tables.log.entries.items tables.opened.each.items variable.accesses h.accesses;
         run = record { alone = λ i from lt is. same_thread_at i lt ∙ h.run.alone i from lt (sym (same_variable_at i lt) ∙ is) };
         screened = screened_longer past e whole x variable.latest h.screened;
       });
       wide = λ i x lt is. are.variables.wide i x lt (sym (same_variable_at i lt) ∙ is);
     };
+    short = are.short;
     places = record {
       each = λ p r at. nearest_longer by_variable p r (are.places.each p r at);
       known = λ p i j lt race at. (let own = race_back i j lt race in are.places.known p i j lt own (at_place_back by_variable p i j own.earlier lt at));

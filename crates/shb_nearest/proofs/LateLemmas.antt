@@ -1,55 +1,56 @@
 -- Accesses that wait to be taken into the groups of their variable.
-use Rattle.std.proofs.Common.{◌≡◌, ℕ, zero, suc, ◌+◌, ◌<◌, ◌≤◌, inl, inr, List, [], ◌∷◌, ◌++◌, Some, length, drop, filter, get_or, arith, refl, sym, ap, subst, ◌∙◌}
-use Rattle.std.specs.Prelude.{All, AllPairs, Contains, slice_get}
+use Rattle.std.proofs.Common.{◌≡◌, ℕ, zero, suc, ◌+◌, ◌<◌, ◌≤◌, inl, inr, false, List, [], ◌∷◌, ◌++◌, Some, length, drop, get_or, arith, refl, sym, ap, subst, ◌∙◌}
+use Rattle.std.specs.Prelude.{AllPairs, Contains, slice_get}
 use Rattle.std.proofs.lemmas.Bool.{cases_eq}
 use Rattle.std.proofs.lemmas.List.{drop_all, drop_more}
-use Rattle.std.proofs.lemmas.List.Elements.{All-contains, All-filter, All-nil, All-push, All-weaker, Contains-append_left, Contains-push}
-use Rattle.std.proofs.lemmas.List.Kept.{AllPairs-filter}
+use Rattle.std.proofs.lemmas.List.Elements.{All-contains, All-nil, All-push, All-weaker, Contains-append_left, Contains-append_right, Contains-push}
 use Rattle.std.proofs.lemmas.List.Quantifiers.{all_pairs_push, all_pairs_remove}
 use Rattle.std.proofs.lemmas.Option.{slice_get_within}
 use Rattle.std.specs.List.{remove}
 use Rattle.shb_lines.specs.declared.event.Event.{Event}
 use Rattle.shb_lines.specs.events.Race.{variable_at}
-use Rattle.shb_lines.proofs.events.Increasing.{contains_cases, contains_none}
+use Rattle.shb_lines.proofs.events.Increasing.{contains_cases, contains_none, contains_tail}
 use Rattle.shb_nearest.specs.declared.access.Spot.{Spot}
 use Rattle.shb_nearest.specs.declared.classes.Class.{Class}
 use Rattle.shb_nearest.specs.declared.groups.Group.{Group}
-use Rattle.shb_nearest.specs.declared.groups.Groups.{Groups}
-use Rattle.shb_nearest.specs.declared.late.Accesses.{Accesses}
-use Rattle.shb_nearest.specs.declared.late.Accesses.TheVariants.{Grouped, Ungrouped}
 use Rattle.shb_nearest.specs.declared.late.Late.{Late}
-use Rattle.shb_nearest.specs.declared.late.Waiting.{Waiting}
 use Rattle.shb_nearest.specs.Classes.{IsNewestOf, IsOfClass}
 use Rattle.shb_nearest.specs.Groups.{AreGroups, class_of}
-use Rattle.shb_nearest.specs.Late.{AreAccesses, AreLate, HasNewest, IsBefore, IsLate, IsLateIn, access_in, each_in, is_newest_late, late_in}
+use Rattle.shb_nearest.specs.Late.{AreLate, IsAlike, IsBefore, IsLate, IsLateIn, access_in}
 use Rattle.shb_nearest.proofs.ClassLemmas.{class_own, class_variable, newest_before, one_class_at}
-use Rattle.shb_nearest.proofs.GroupLemmas.{groups_until, newest_passes}
-use Rattle.shb_nearest.proofs.Members.{all_remove, index_of, member_at, member_filter, member_remove}
+use Rattle.shb_nearest.proofs.GroupLemmas.{groups_until}
+use Rattle.shb_nearest.proofs.Members.{all_remove, index_of, member_at, member_remove}
+
+abbrev pub no_access : Late
+no_access = record { event = 0; thread = 0; time = 0; location = 0; writes = false; barred = false }
+
+-- the element between two lists
+module _ {X : Type 0} where
+  pub middle : (p : List X) (a : X) (q : List X) → slice_get (p ++ a ∷ q) (length p) ≡ Some a
+  middle [] a q = refl
+  middle (b ∷ p) a q = middle p a q
+
+  middle_before : (R : X → X → Type 0) (p : List X) (a : X) (q : List X) → AllPairs R (p ++ a ∷ q) → (b : X) → Contains q b → R a b
+  middle_before R [] a q all b there = subst (λ (c : X). R a c) there.2 (let low = there.1 in all zero (suc there.0) b (omega arith) (omega (arith, low)))
+  middle_before R (c ∷ p) a q all b there = middle_before R p a q (λ i j d lt within. all (suc i) (suc j) d (omega (arith, lt)) (omega (arith, within))) b there
+
+  without_middle : (p : List X) (a : X) (q : List X) → remove (p ++ a ∷ q) (length p) ≡ p ++ q
+  without_middle [] a q = refl
+  without_middle (b ∷ p) a q = ap (λ (l : List X). b ∷ l) (without_middle p a q)
 
 module _ (trace : List Event) (spots : List Spot) (x : ℕ) where
-  -- none waits
-  pub late_none : (n : ℕ) (late : List Late) → late ≡ [] → AreLate trace spots x n n late
-  late_none n late none = subst (λ (l : List Late). AreLate trace spots x n n l) (sym none) (record {
+  -- no access before n
+  pub late_none : (n : ℕ) → ((i : ℕ) → i < n → variable_at trace i ≡ Some x → ⊥) → AreLate trace spots x n 0 []
+  late_none n never = record {
     within = omega arith;
-    each = All-nil (IsLateIn trace spots x n n);
+    each = All-nil (IsLateIn trace spots x 0 n);
     rising = λ i j d lt within. absurd (omega (arith, lt, within));
-    covers = λ c k of_x is from. absurd (let past = is.past in omega (arith, past, from));
-  })
+    covers = λ c k of_x is from. absurd (never k is.past (class_variable trace spots c k is.own ∙ ap (λ (y : ℕ). Some y) of_x));
+  }
 
   -- groups up to m, and no access since
   late_over : (groups : List Group) (m n : ℕ) → AreLate trace spots x n m [] → AreGroups trace spots x m n groups → AreGroups trace spots x n n groups
   late_over groups m n late are = groups_until trace spots x m groups n n late.within (λ c k of_x is from lt. let found = late.covers c k of_x is from in contains_none found.0 found.1) are
-
-  pub none_left : (n : ℕ) (accesses : Accesses) → AreAccesses trace spots x n accesses → late_in accesses ≡ [] → AreGroups trace spots x n n (each_in accesses)
-  none_left n accesses are none = late_over (each_in accesses) are.since n (subst (λ (l : List Late). AreLate trace spots x n are.since l) none are.late) are.groups
-
-  -- all are in groups
-  pub grouped : (n : ℕ) (accesses : Accesses) (groups : Groups) → accesses ≡ Grouped groups → AreAccesses trace spots x n accesses → AreGroups trace spots x n n groups.each.items
-  grouped n accesses groups is are = none_left n (Grouped groups) (subst (λ (a : Accesses). AreAccesses trace spots x n a) is are) refl
-
-  -- all since m wait
-  pub ungrouped : (n : ℕ) (accesses : Accesses) (waiting : Waiting) → accesses ≡ Ungrouped waiting → AreAccesses trace spots x n accesses → (m : ℕ) × AreGroups trace spots x m n [] × AreLate trace spots x n m waiting.each.items
-  ungrouped n accesses waiting is are = let all = subst (λ (a : Accesses). AreAccesses trace spots x n a) is are in (all.since, all.groups, all.late)
 
   -- the first one that waits
   module _ (n m : ℕ) (a : Late) (rest : List Late) (h : AreLate trace spots x n m (a ∷ rest)) where
@@ -99,42 +100,40 @@ module _ (trace : List Event) (spots : List Spot) (x : ℕ) where
     ];
   }
 
-  -- an access more, in place of one of its class
-  module _ (n m : ℕ) (late : List Late) (a gone : Late) (at : ℕ) (there : slice_get late at ≡ Some gone) (alike : class_of x (access_in gone) ≡ class_of x (access_in a)) (at_n : a.event ≡ n) (own : IsLate trace spots x a) (h : AreLate trace spots x n m late) where
-    gone_within : at < length late
-    gone_within = slice_get_within late at gone there
+  -- without one that has a later one of its class
+  module _ (n m : ℕ) (p q : List Late) (a b : Late) (h : AreLate trace spots x n m (p ++ a ∷ q)) (later : Contains q b) (alike : IsAlike b a) where
+    there : slice_get (p ++ a ∷ q) (length p) ≡ Some a
+    there = middle p a q
 
-    left_each : All (IsLateIn trace spots x m n) (remove late at)
-    left_each = all_remove (IsLateIn trace spots x m n) late at gone_within h.each
+    inside : length p < length (p ++ a ∷ q)
+    inside = slice_get_within (p ++ a ∷ q) (length p) a there
 
-    of_gone : IsOfClass trace spots (class_of x (access_in a)) n
-    of_gone = subst (λ (i : ℕ). IsOfClass trace spots (class_of x (access_in a)) i) at_n (class_own trace spots x (access_in a) own.own)
+    member : (d : Late) → Contains (p ++ a ∷ q) d → IsLateIn trace spots x m n d
+    member d is = All-contains (IsLateIn trace spots x m n) (p ++ a ∷ q) d h.each is
 
-    -- one that is gone isn't the newest of its class
-    stays : (c : Class) (k : ℕ) → IsNewestOf trace spots (n + 1) c k → (b : Late) → slice_get late at ≡ Some b → b.event ≡ k → k < n → ⊥
-    stays c k is b here at_k lt =
-        let same : b ≡ gone = (let s : Some b ≡ Some gone = sym here ∙ there in cc) in
-        let event : gone.event ≡ k = ap (λ (l : Late). l.event) (sym same) ∙ at_k in
-        let kept = All-contains (IsLateIn trace spots x m n) late gone h.each (member_at late at gone there) in
-        let of_c : class_of x (access_in gone) ≡ c = one_class_at trace spots (class_of x (access_in gone)) c gone.event (class_own trace spots x (access_in gone) kept.own.own) (subst (λ (i : ℕ). IsOfClass trace spots c i) (sym event) is.own) in
-        let le = is.last n (omega arith) (subst (λ (d : Class). IsOfClass trace spots d n) (sym alike ∙ of_c) of_gone) in
-        omega (arith, le, lt)
+    -- it isn't the newest of its class
+    stays : (c : Class) (k : ℕ) → IsNewestOf trace spots n c k → (d : Late) → slice_get (p ++ a ∷ q) (length p) ≡ Some d → d.event ≡ k → ⊥
+    stays c k is d here at_k =
+        let same : d ≡ a = (let s : Some d ≡ Some a = sym here ∙ there in cc) in
+        let event : a.event ≡ k = ap (λ (l : Late). l.event) (sym same) ∙ at_k in
+        let kept = member a (member_at (p ++ a ∷ q) (length p) a there) in
+        let last = member b (Contains-append_right p (a ∷ q) b (contains_tail a b q later)) in
+        let of_c : class_of x (access_in a) ≡ c = one_class_at trace spots (class_of x (access_in a)) c a.event (class_own trace spots x (access_in a) kept.own.own) (subst (λ (i : ℕ). IsOfClass trace spots c i) (sym event) is.own) in
+        let past = last.past in
+        let le = is.last b.event past (subst (λ (d : Class). IsOfClass trace spots d b.event) (alike x ∙ of_c) (class_own trace spots x (access_in b) last.own.own)) in
+        let rise = middle_before IsBefore p a q h.rising b later in
+        omega (arith, le, rise, event)
 
-    pub late_replaced : AreLate trace spots x (n + 1) m (remove late at ++ a ∷ [])
-    late_replaced = record {
-      within = (let within = h.within in omega (arith, within));
-      each = All-push (IsLateIn trace spots x m (n + 1)) (remove late at) a (All-weaker (IsLateIn trace spots x m n) (IsLateIn trace spots x m (n + 1)) (later_in m n) (remove late at) left_each) (record { own = own; from = (let within = h.within in omega (arith, within, at_n)); past = omega (arith, at_n) });
-      rising = all_pairs_push IsBefore (remove late at) a (all_pairs_remove IsBefore late at gone_within h.rising) (λ k d lt. let past = (left_each k d lt).past in omega (arith, past, at_n));
-      covers = λ c k of_x is from. elim (cases_eq k n) [
-        | inl same ↦ (a, Contains-push (remove late at) a, at_n ∙ sym same)
-        | inr other ↦ (
-            let found = h.covers c k of_x (newest_before trace spots n c k is other) from in
-            let at_k = found.2 in
-            let index = index_of late found.0 found.1 in
-            let past = is.past in
-            (found.0, Contains-append_left (remove late at) (a ∷ []) found.0 (member_remove late at index.0 found.0 gone_within index.1 (λ same. stays c k is found.0 (ap (slice_get late) (sym same) ∙ index.1) at_k (omega (arith, past, other)))), found.2))
-      ];
-    }
+    pub late_without : AreLate trace spots x n m (p ++ q)
+    late_without = subst (λ (l : List Late). AreLate trace spots x n m l) (without_middle p a q) (record {
+      within = h.within;
+      each = all_remove (IsLateIn trace spots x m n) (p ++ a ∷ q) (length p) inside h.each;
+      rising = all_pairs_remove IsBefore (p ++ a ∷ q) (length p) inside h.rising;
+      covers = λ c k of_x is from. (
+          let found = h.covers c k of_x is from in
+          let index = index_of (p ++ a ∷ q) found.0 found.1 in
+          (found.0, member_remove (p ++ a ∷ q) (length p) index.0 found.0 inside index.1 (λ same. stays c k is found.0 (ap (slice_get (p ++ a ∷ q)) (sym same) ∙ index.1) found.2), found.2));
+    })
 
   -- an event more that doesn't access the variable
   pub late_skip : (n m : ℕ) (late : List Late) → (variable_at trace n ≡ Some x → ⊥) → AreLate trace spots x n m late → AreLate trace spots x (n + 1) m late
@@ -144,26 +143,6 @@ module _ (trace : List Event) (spots : List Spot) (x : ℕ) where
     rising = h.rising;
     covers = λ c k of_x is from. h.covers c k of_x (newest_before trace spots n c k is (λ same. never (subst (λ (i : ℕ). variable_at trace i ≡ Some x) same (class_variable trace spots c k is.own ∙ ap (λ (y : ℕ). Some y) of_x)))) from;
   }
-
-  -- without those that aren't the newest of their class
-  pub late_forgotten : (n m : ℕ) (late new : List Late) (newest : List (Class × ℕ)) → (AllPairs IsBefore late → HasNewest newest x late) → new ≡ filter (is_newest_late newest x) late → AreLate trace spots x n m late → AreLate trace spots x n m new
-  late_forgotten n m late new newest has left h = subst (λ (l : List Late). AreLate trace spots x n m l) (sym left) (record {
-    within = h.within;
-    each = All-filter (is_newest_late newest x) (IsLateIn trace spots x m n) late h.each;
-    rising = AllPairs-filter IsBefore (is_newest_late newest x) late h.rising;
-    covers = λ c k of_x is from. (
-        let found = h.covers c k of_x is from in
-        let a = found.0 in
-        let of_c = class_at c k is.own a found.1 found.2 in
-        let last = has h.rising a found.1 (λ b there same. let own = member b there in let past = own.past in let le = is.last b.event past (subst (λ (d : Class). IsOfClass trace spots d b.event) (same ∙ of_c) (class_own trace spots x (access_in b) own.own.own)) in let at_k = found.2 in omega (arith, le, at_k)) in
-        (a, member_filter (is_newest_late newest x) late a found.1 (newest_passes newest (class_of x (access_in a)) a.event a.event last refl), found.2));
-  })
-    where
-      member : (b : Late) → Contains late b → IsLateIn trace spots x m n b
-      member b there = All-contains (IsLateIn trace spots x m n) late b h.each there
-
-      class_at : (c : Class) (k : ℕ) → IsOfClass trace spots c k → (a : Late) → Contains late a → a.event ≡ k → class_of x (access_in a) ≡ c
-      class_at c k is a there at_k = one_class_at trace spots (class_of x (access_in a)) c a.event (class_own trace spots x (access_in a) (member a there).own.own) (subst (λ (i : ℕ). IsOfClass trace spots c i) (sym at_k) is)
 
   -- groups up to some event, and the accesses since from an index on
   pub record HasTaken (n index : ℕ) (late : List Late) (groups : List Group) : Type 0 where

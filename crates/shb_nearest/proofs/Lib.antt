@@ -1,5 +1,6 @@
 pub mod AddedLemmas
 pub mod Carry
+pub mod Chains
 pub mod ClassLemmas
 pub mod FinalLemmas
 pub mod GroupLemmas

@@ -8,12 +8,16 @@ use Rattle.std.proofs.lemmas.List.Elements.{All-push}
 use Rattle.std.proofs.lemmas.Bool.{cases_eq, cases_lt}
 use Rattle.std.proofs.lemmas.List.{get_or-drop, length-drop}
 use Rattle.std.proofs.lemmas.List.Edits.{get_or-remove_above, get_or-remove_below, length-remove}
-use Rattle.std.proofs.lemmas.Option.{get_or_from_slice_get, slice_get-get_or, slice_get_within}
+use Rattle.std.proofs.lemmas.Option.{get_or_from_slice_get, slice_get-get_or, slice_get_read, slice_get_within}
 use Rattle.shb_lines.proofs.events.Increasing.{contains_cases, contains_head, contains_none, contains_tail}
 
 module _ {X : Type 0} where
   pub member_at : (xs : List X) (k : ℕ) (x : X) → slice_get xs k ≡ Some x → Contains xs x
   member_at xs k x at = (k, slice_get_within xs k x at, get_or_from_slice_get xs k x x at)
+
+  -- what is read there
+  pub one_there : (xs : List X) (k : ℕ) (x y : X) → slice_get xs k ≡ Some x → y ≡ get_or xs k y → x ≡ y
+  one_there xs k x y at is = let s : Some x ≡ Some y = sym at ∙ slice_get_read xs (length xs) k y refl (slice_get_within xs k x at) is in cc
 
   pub index_of : (xs : List X) (x : X) → Contains xs x → (k : ℕ) × (slice_get xs k ≡ Some x)
   index_of xs x h = (h.0, slice_get-get_or xs h.0 x h.1 ∙ ap (λ (y : X). Some y) h.2)
@@ -53,6 +57,13 @@ module _ {X : Type 0} where
   -- at an index that is written
   pub member_set : (xs : List X) (i : ℕ) (y : X) → i < length xs → Contains (set xs i y) y
   member_set xs i y low = (i, (let long = length-set xs i y in omega (arith, long, low)), get_or-set_same xs i y y low)
+
+  pub get_set : (xs : List X) (i : ℕ) (y : X) → i < length xs → slice_get (set xs i y) i ≡ Some y
+  get_set xs i y low = slice_get-get_or (set xs i y) i y (let long = length-set xs i y in omega (arith, long, low)) ∙ ap (λ (z : X). Some z) (get_or-set_same xs i y y low)
+
+  pub get_set_other : (xs : List X) (i j : ℕ) (y x : X) → (j ≡ i → ⊥) → slice_get xs j ≡ Some x → slice_get (set xs i y) j ≡ Some x
+  get_set_other xs i j y x other at = slice_get-get_or (set xs i y) j x (let low = slice_get_within xs j x at in let long = length-set xs i y in omega (arith, long, low))
+      ∙ ap (λ (z : X). Some z) (get_or-set_other xs i j y x other ∙ get_or_from_slice_get xs j x x at)
 
   -- a member is at the index that is written, or stays
   pub stays_or_is : (xs : List X) (i : ℕ) (x y : X) → slice_get xs i ≡ Some x → (z : X) → Contains xs z → (z ≡ x) ⊎ Contains (set xs i y) z

@@ -1,6 +1,6 @@
 -- The tables after an access more, and after another event.
-use Rattle.std.proofs.Common.{◌≡◌, ℕ, ◌+◌, ◌-◌, ◌^◌, ◌<◌, ◌≤◌, inl, inr, Bool, true, false, cond, List, [], ◌∷◌, ◌++◌, None, Option, Some, length, take, arith, refl, sym, ap, subst, ◌∙◌}
-use Rattle.std.specs.Prelude.{All, min, option_and_then, slice_get, unwrap_or}
+use Rattle.std.proofs.Common.{◌≡◌, ◌≢◌, ℕ, ◌+◌, ◌-◌, ◌^◌, ◌<◌, ◌≤◌, inl, inr, Bool, true, false, cond, List, [], ◌∷◌, ◌++◌, None, Option, Some, length, take, arith, refl, sym, ap, subst, ◌∙◌}
+use Rattle.std.specs.Prelude.{All, min, option_and_then, reverse, slice_get, unwrap_or}
 use Rattle.std.proofs.Math.ListN.{length-set, set}
 use Rattle.std.proofs.lemmas.Bool.{cases_Bool, cases_lt}
 use Rattle.std.proofs.lemmas.List.Elements.{All-contains, All-nil}
@@ -25,18 +25,22 @@ use Rattle.shb_nearest.specs.declared.access.FoundAccess.{FoundAccess}
 use Rattle.shb_nearest.specs.declared.access.Spot.{Spot}
 use Rattle.shb_nearest.specs.declared.classes.Class.{Class}
 use Rattle.shb_nearest.specs.declared.groups.Group.{Group}
+use Rattle.shb_nearest.specs.declared.groups.Groups.{Groups}
 use Rattle.shb_nearest.specs.declared.groups.Run.{Run}
+use Rattle.shb_nearest.specs.declared.log.Accesses.{Accesses}
+use Rattle.shb_nearest.specs.declared.log.Accesses.TheVariants.{Grouped, Waiting}
+use Rattle.shb_nearest.specs.declared.log.Entry.{Entry}
 use Rattle.shb_nearest.specs.declared.tables.Tables.{Tables}
 use Rattle.shb_nearest.specs.declared.tables.Variable.{Variable}
 use Rattle.shb_nearest.specs.Classes.{AreClasses, HasPut, IsOfClass, newest_in, same_class}
 use Rattle.shb_nearest.specs.Found.{IsFoundAccess, access_op}
-use Rattle.shb_nearest.specs.Groups.{AreAmong, AreGroups, HasGroupAt, IsAt, IsGroup, IsKept, IsOfGroup, IsRun, IsSince, access_of, class_of}
-use Rattle.shb_nearest.specs.Late.{each_in, late_in, locations_in}
+use Rattle.shb_nearest.specs.Groups.{AreGroups, HasGroupAt, IsAt, IsGroup, IsKept, IsOfGroup, IsRun, IsSince, access_of, class_of}
+use Rattle.shb_nearest.specs.Late.{AreAccesses, HaveGroups, StayGroups, StayWaiting}
 use Rattle.shb_nearest.specs.Places.{ArePlaces, PlaceEntry}
 use Rattle.shb_nearest.specs.Rivals.{IsNextAccess}
 use Rattle.shb_nearest.specs.Searched.{AreTables, AreVariables, IsVariable}
 use Rattle.shb_nearest.specs.Wide.{AreMoreVariables}
-use Rattle.shb_nearest.proofs.GroupLemmas.{class_self, group_empty, group_same, groups_next, one_class}
+use Rattle.shb_nearest.proofs.GroupLemmas.{class_self, group_empty, group_same, groups_next, groups_until, one_class}
 use Rattle.shb_nearest.proofs.ClassLemmas.{class_own, class_variable, class_with, op_variable}
 use Rattle.shb_nearest.proofs.LateLemmas.{late_none, late_skip}
 use Rattle.shb_nearest.proofs.Members.{member_at}
@@ -116,47 +120,69 @@ module _ (trace : List Event) (spots : List Spot) where
       ];
     }
 
+    -- groups without an access more
+    groups_skip : (x : ℕ) (groups : List Group) → (variable_at trace n ≡ Some x → ⊥) → AreGroups trace spots x n n groups → AreGroups trace spots x (n + 1) (n + 1) groups
+    groups_skip x groups never are = groups_until trace spots x n groups (n + 1) (n + 1) (omega arith)
+        (λ c k of_x is from lt. let same : k ≡ n = omega (arith, from, lt) in never (subst (λ (i : ℕ). variable_at trace i ≡ Some x) same (class_variable trace spots c k is.own ∙ ap (λ (y : ℕ). Some y) of_x)))
+        (groups_next trace spots x n groups n (omega arith) are)
+
+    -- accesses without one more
+    accesses_later : (x : ℕ) (entries : List Entry) (groups : List Groups) (accesses : Accesses) → (variable_at trace n ≡ Some x → ⊥) → AreAccesses trace spots x n entries groups accesses → AreAccesses trace spots x (n + 1) entries groups accesses
+    accesses_later x entries groups (Waiting place) never w = record { late = w.late; chain = w.chain; are = late_skip trace spots x n 0 (reverse w.late) never w.are }
+    accesses_later x entries groups (Grouped at) never h = record { groups = h.groups; there = h.there; own = h.own; are = groups_skip x h.groups.each.items never h.are; locations = h.locations }
+
+    -- accesses of a variable beside one that waits more, and beside one that comes to groups
+    pub beside_waiting : (x : ℕ) (old new : List Entry) (groups : List Groups) → StayWaiting trace spots x old new → (y : ℕ) → y ≢ x → (accesses : Accesses) → AreAccesses trace spots y n old groups accesses → AreAccesses trace spots y n new groups accesses
+    beside_waiting x old new groups stay y other (Waiting place) w = stay y n place other w
+    beside_waiting x old new groups stay y other (Grouped at) h = h
+
+    pub beside_groups : (x : ℕ) (entries : List Entry) (old new : List Groups) → StayGroups x old new → (y : ℕ) → y ≢ x → (accesses : Accesses) → AreAccesses trace spots y n entries old accesses → AreAccesses trace spots y n entries new accesses
+    beside_groups x entries old new stay y other (Waiting place) w = w
+    beside_groups x entries old new stay y other (Grouped at) h = record { groups = h.groups; there = stay at h.groups (λ same. other (sym h.own ∙ same)) h.there; own = h.own; are = h.are; locations = h.locations }
+
+    -- no groups, of no access
+    pub none_grouped : (x : ℕ) (groups : List Group) → groups ≡ [] → AreGroups trace spots x 0 n groups
+    none_grouped x groups none = record {
+      each = subst (λ (l : List Group). All (IsGroup trace spots x 0) l) (sym none) (All-nil (IsGroup trace spots x 0));
+      covers = λ c k of_x is lt. absurd (omega (arith, lt));
+    }
+
     -- a variable that nothing accessed
-    variable_new : (x : ℕ) (variable : Variable) → ((i : ℕ) → i < n → variable_at trace i ≡ Some x → ⊥) → each_in variable.accesses ≡ [] → late_in variable.accesses ≡ [] → IsVariable trace spots x n variable
-    variable_new x variable never no_group no_late = record {
-      accesses = record {
-        since = n;
-        groups = record {
-          each = subst (λ (l : List Group). All (IsGroup trace spots x n) l) (sym no_group) (All-nil (IsGroup trace spots x n));
-          covers = λ c k of_x is lt. absurd (never k lt (class_variable trace spots c k is.own ∙ ap (λ (y : ℕ). Some y) of_x));
-        };
-        late = late_none trace spots x n (late_in variable.accesses) no_late;
-      };
-      locations = λ few. subst (λ (l : List Group). All (AreAmong (locations_in variable.accesses)) l) (sym no_group) (All-nil (AreAmong (locations_in variable.accesses)));
+    variable_new : (x : ℕ) (entries : List Entry) (groups : List Groups) (variable : Variable) → ((i : ℕ) → i < n → variable_at trace i ≡ Some x → ⊥) → variable.accesses ≡ Waiting 0 → IsVariable trace spots x n entries groups variable
+    variable_new x entries groups variable never is = record {
+      accesses = subst (λ (a : Accesses). AreAccesses trace spots x n entries groups a) (sym is) (record { late = []; chain = refl; are = late_none trace spots x n never });
       run = record { alone = λ i from lt is. absurd (never i lt is) };
       screened = screened_never trace x n variable.latest never;
     }
 
     -- a variable without an access more
-    variable_later : (x : ℕ) (variable : Variable) → (variable_at trace n ≡ Some x → ⊥) → IsVariable trace spots x n variable → IsVariable trace spots x (n + 1) variable
-    variable_later x variable never is = record {
-      accesses = record { since = is.accesses.since; groups = groups_next trace spots x is.accesses.since (each_in variable.accesses) n is.accesses.late.within is.accesses.groups; late = late_skip trace spots x n is.accesses.since (late_in variable.accesses) never is.accesses.late };
-      locations = is.locations;
+    variable_later : (x : ℕ) (entries : List Entry) (groups : List Groups) (variable : Variable) → (variable_at trace n ≡ Some x → ⊥) → IsVariable trace spots x n entries groups variable → IsVariable trace spots x (n + 1) entries groups variable
+    variable_later x entries groups variable never is = record {
+      accesses = accesses_later x entries groups variable.accesses never is.accesses;
       run = run_later x variable.run never is.run;
       screened = screened_later trace x n variable.latest never is.screened;
     }
 
     -- variables more
-    pub variables_space : (old mid : List Variable) → AreMoreVariables old mid → AreVariables trace spots n old → AreVariables trace spots n mid
-    variables_space old mid more are = record {
+    pub variables_space : (entries : List Entry) (groups : List Groups) (old mid : List Variable) → AreMoreVariables old mid → AreVariables trace spots n entries groups old → AreVariables trace spots n entries groups mid
+    variables_space entries groups old mid more are = record {
       each = λ x variable at. elim (more.from x variable at) [
         | inl was ↦ are.each x variable was
-        | inr empty ↦ variable_new x variable (λ i lt is. let low = are.wide i x lt is in let high = empty.0 in omega (arith, low, high)) empty.1 empty.2
+        | inr empty ↦ variable_new x entries groups variable (λ i lt is. let low = are.wide i x lt is in let high = empty.0 in omega (arith, low, high)) empty.1
       ];
       wide = λ i x lt is. (let low = are.wide i x lt is in let long = more.longer in omega (arith, low, long));
     }
 
     -- the variables, an access of one more
-    pub variables_put : (x : ℕ) (access : FoundAccess) → access.event ≡ n → IsFoundAccess trace spots x access → (mid : List Variable) (new : Variable) → x < length mid → AreVariables trace spots n mid → IsVariable trace spots x (n + 1) new → AreVariables trace spots (n + 1) (set mid x new)
-    variables_put x access at_n found mid new low are own = record {
+    pub variables_put : (x : ℕ) (access : FoundAccess) → access.event ≡ n → IsFoundAccess trace spots x access → (mid : List Variable) (new : Variable) → x < length mid → (old_entries entries : List Entry) (old_groups groups : List Groups)
+        → ((y : ℕ) → y ≢ x → (accesses : Accesses) → AreAccesses trace spots y n old_entries old_groups accesses → AreAccesses trace spots y n entries groups accesses)
+        → AreVariables trace spots n old_entries old_groups mid → IsVariable trace spots x (n + 1) entries groups new → AreVariables trace spots (n + 1) entries groups (set mid x new)
+    variables_put x access at_n found mid new low old_entries entries old_groups groups beside are own = record {
       each = λ y variable at. elim (set_cases mid x y new variable low at) [
-        | inl same ↦ subst (λ (z : ℕ). IsVariable trace spots z (n + 1) variable) (sym same.0) (subst (λ (v : Variable). IsVariable trace spots x (n + 1) v) (sym same.1) own)
-        | inr other ↦ variable_later y variable (λ is. other.0 (only y is)) (are.each y variable other.1)
+        | inl same ↦ subst (λ (z : ℕ). IsVariable trace spots z (n + 1) entries groups variable) (sym same.0) (subst (λ (v : Variable). IsVariable trace spots x (n + 1) entries groups v) (sym same.1) own)
+        | inr other ↦ (
+            let was = are.each y variable other.1 in
+            variable_later y entries groups variable (λ is. other.0 (only y is)) (record { accesses = beside y (λ same. other.0 same) variable.accesses was.accesses; run = was.run; screened = was.screened }))
       ];
       wide = λ i y lt is. (let long = length-set mid x new in elim (cases_lt i n) [
         | inl past ↦ (let within = are.wide i y past is in omega (arith, within, long))
@@ -166,6 +192,15 @@ module _ (trace : List Event) (spots : List Spot) where
       where
         only : (y : ℕ) → variable_at trace n ≡ Some y → y ≡ x
         only y is = (let s : Some y ≡ Some x = sym is ∙ subst (λ (m : ℕ). variable_at trace m ≡ Some x) at_n (variable_is trace spots x access found) in cc)
+
+    -- and the access came to the groups of its variable
+    pub variables_grouped : (x : ℕ) (access : FoundAccess) → access.event ≡ n → IsFoundAccess trace spots x access → (mid : List Variable) (at : ℕ) (run : Run) (latest : Latest) → x < length mid → (old_entries entries : List Entry) → entries ≡ old_entries
+        → (old between groups : List Groups) → StayGroups x old between → StayGroups x between groups → AreVariables trace spots n old_entries old mid → HaveGroups trace spots x (n + 1) groups at → IsRun trace x (n + 1) run → IsScreened trace x (n + 1) latest
+        → AreVariables trace spots (n + 1) entries groups (set mid x (record { accesses = Grouped at; run = run; latest = latest }))
+    variables_grouped x access at_n found mid at run latest low old_entries entries same old between groups first then are have is_run screened =
+        variables_put x access at_n found mid (record { accesses = Grouped at; run = run; latest = latest }) low old_entries entries old groups
+        (λ y other accesses was. beside_groups x entries between groups then y other accesses (beside_groups x entries old between first y other accesses (subst (λ (l : List Entry). AreAccesses trace spots y n l old accesses) (sym same) was)))
+        are (record { accesses = have; run = is_run; screened = screened })
 
     -- the places, an event more that races with none before it
     pub places_later : (by_variable : Bool) (entries : List PlaceEntry) → ((i : ℕ) → Race trace i n → ⊥) → ArePlaces by_variable trace spots n entries → ArePlaces by_variable trace spots (n + 1) entries
@@ -192,14 +227,15 @@ module _ (trace : List Event) (spots : List Spot) where
     -- an event that is no access
     pub tables_skip : (by_variable : Bool) (tables : Tables) (op : Op) → op_at trace n ≡ Some op → variable_of op ≡ None → AreTables by_variable trace spots n tables → AreTables by_variable trace spots (n + 1) tables
     tables_skip by_variable tables op is none are = record {
-      classes = classes_later tables.classes.newest.entries are.classes;
+      classes = classes_later tables.opened.classes.newest.entries are.classes;
       variables = record {
-        each = λ x variable at. variable_later x variable (no_access x) (are.variables.each x variable at);
+        each = λ x variable at. variable_later x tables.log.entries.items tables.opened.each.items variable (no_access x) (are.variables.each x variable at);
         wide = λ i x lt at. elim (cases_lt i n) [
           | inl low ↦ are.variables.wide i x low at
           | inr high ↦ absurd (let same : i ≡ n = omega (arith, lt, high) in no_access x (subst (λ (m : ℕ). variable_at trace m ≡ Some x) same at))
         ];
       };
+      short = ((let low = are.short.0 in omega (arith, low)), (let low = are.short.1 in omega (arith, low)));
       places = places_later by_variable tables.places.races.entries (λ i race. no_race i n op is none race) are.places;
     }
       where

@@ -1,22 +1,30 @@
--- The accesses of a variable: groups of those before some event, and the newest ones since.
-use Rattle.std.specs.Prelude.{◌≡◌, ◌<◌, ◌≤◌, ℕ, Bool, List, [], All, AllPairs, Contains}
+-- The accesses of a variable: those that wait in the log, or its groups.
+use Rattle.std.specs.Prelude.{◌≡◌, ◌≢◌, ◌+◌, ◌<◌, ◌≤◌, ◌∷◌, ℕ, List, [], Some, All, AllPairs, Contains, reverse, slice_get}
 use Rattle.shb_lines.specs.declared.event.Event.{Event}
 use Rattle.shb_lines.specs.events.Discipline.{local_time}
-use Rattle.shb_nearest.specs.Classes.{AreClasses, HasLastOf, IsNewestOf, is_newest_in}
+use Rattle.shb_nearest.specs.Classes.{IsNewestOf}
 use Rattle.shb_nearest.specs.Found.{IsFoundAccess}
-use Rattle.shb_nearest.specs.Groups.{AreGroups, AreLocations, class_of}
+use Rattle.shb_nearest.specs.Groups.{AreGroups, HasLocations, class_of}
 use Rattle.shb_nearest.specs.declared.access.FoundAccess.{FoundAccess}
 use Rattle.shb_nearest.specs.declared.access.Spot.{Spot}
 use Rattle.shb_nearest.specs.declared.classes.Class.{Class}
-use Rattle.shb_nearest.specs.declared.classes.Classes.{Classes}
-use Rattle.shb_nearest.specs.declared.groups.Group.{Group}
-use Rattle.shb_nearest.specs.declared.late.Accesses.{Accesses}
-use Rattle.shb_nearest.specs.declared.late.Accesses.TheVariants.{Grouped, Ungrouped}
+use Rattle.shb_nearest.specs.declared.groups.Groups.{Groups}
 use Rattle.shb_nearest.specs.declared.late.Late.{Late}
+use Rattle.shb_nearest.specs.declared.log.Accesses.{Accesses}
+use Rattle.shb_nearest.specs.declared.log.Accesses.TheVariants.{Grouped, Waiting}
+use Rattle.shb_nearest.specs.declared.log.Entry.{Entry}
 
 -- the access, with where it stands
 abbrev pub access_in : Late → FoundAccess
 access_in late = record { event = late.event; thread = late.thread; writes = late.writes; spot = record { location = late.location; barred = late.barred } }
+
+-- accesses of a variable are of one class
+abbrev pub IsAlike : Late → Late → Type 0
+IsAlike a b = (x : ℕ) → class_of x (access_in a) ≡ class_of x (access_in b)
+
+-- one of some accesses is of the class of an access
+abbrev pub IsAlikeOne : List Late → Late → Type 0
+IsAlikeOne late a = (b : Late) × Contains late b × IsAlike b a
 
 -- the access is one of the variable, with its local time
 pub record IsLate (trace : List Event) (spots : List Spot) (x : ℕ) (late : Late) : Type 0 where
@@ -40,41 +48,50 @@ pub record AreLate (trace : List Event) (spots : List Spot) (x n m : ℕ) (late 
   pub rising : AllPairs IsBefore late
   pub covers : (c : Class) (k : ℕ) → c.variable ≡ x → IsNewestOf trace spots n c k → m ≤ k → (a : Late) × Contains late a × (a.event ≡ k)
 
--- whether the table has the access as the newest of its class
-abbrev pub is_newest_late : List (Class × ℕ) → ℕ → Late → Bool
-is_newest_late newest x late = is_newest_in newest (class_of x (access_in late)) late.event
+-- the entry at a place of the log; places count from 1
+pub record IsEntryAt (entries : List Entry) (place : ℕ) (entry : Entry) : Type 0 where
+  pub index : ℕ
+  pub place_is : place ≡ index + 1
+  pub there : slice_get entries index ≡ Some entry
 
--- the table has the last access of each class of some accesses
-abbrev pub HasNewest : List (Class × ℕ) → ℕ → List Late → Type 0
-HasNewest newest x late = HasLastOf (λ (a : Late). a.event) (λ (a : Late). class_of x (access_in a)) newest late
+-- the accesses from this place back, each at an earlier place than the one after it
+abbrev pub IsChain : List Entry → ℕ → List Late → Type 0
+IsChain entries place [] = place ≡ 0
+IsChain entries place (a ∷ late) = (before : ℕ) × IsEntryAt entries place (record { late = a; before = before }) × (before < place) × IsChain entries before late
 
--- the groups of a variable, none while its accesses wait
-abbrev pub each_in : Accesses → List Group
-each_in (Ungrouped waiting) = []
-each_in (Grouped groups) = groups.each.items
+-- an entry was written at a place, and those at other places stay
+pub record HasWritten (old new : List Entry) (place : ℕ) (entry : Entry) : Type 0 where
+  pub there : (gone : Entry) → IsEntryAt old place gone → IsEntryAt new place entry
+  pub others : (other : ℕ) (e : Entry) → other ≢ place → IsEntryAt old other e → IsEntryAt new other e
 
--- the locations of what they keep
-abbrev pub locations_in : Accesses → List ℕ
-locations_in (Ungrouped waiting) = []
-locations_in (Grouped groups) = groups.locations.items
+-- an access came behind those from a place back, and those of other places stay
+pub record HasPut (old new : List Entry) (newest : ℕ) (a : Late) (place : ℕ) : Type 0 where
+  pub longer : (late : List Late) → IsChain old newest late → IsChain new place (a ∷ late)
+  pub stay : (other : ℕ) (late : List Late) → IsChain old other late → IsChain new other late
 
--- the accesses that wait
-abbrev pub late_in : Accesses → List Late
-late_in (Ungrouped waiting) = waiting.each.items
-late_in (Grouped groups) = []
+-- all accesses of the variable before n wait, the newest at this place
+pub record AreWaiting (trace : List Event) (spots : List Spot) (x n : ℕ) (entries : List Entry) (place : ℕ) : Type 0 where
+  pub late : List Late
+  pub chain : IsChain entries place late
+  pub are : AreLate trace spots x n 0 (reverse late)
 
--- the locations of what the groups keep are these, if they are few
-abbrev pub HaveLocations : Accesses → Type 0
-HaveLocations accesses = AreLocations (locations_in accesses) (each_in accesses)
+-- the accesses of other variables still wait
+abbrev pub StayWaiting : List Event → List Spot → ℕ → List Entry → List Entry → Type 0
+StayWaiting trace spots x old new = (y n place : ℕ) → y ≢ x → AreWaiting trace spots y n old place → AreWaiting trace spots y n new place
 
--- the groups of the accesses before some event, and the accesses since before n
-pub record AreAccesses (trace : List Event) (spots : List Spot) (x n : ℕ) (accesses : Accesses) : Type 0 where
-  pub since : ℕ
-  pub groups : AreGroups trace spots x since n (each_in accesses)
-  pub late : AreLate trace spots x n since (late_in accesses)
+-- the groups of the variable at an index have its accesses before n
+pub record HaveGroups (trace : List Event) (spots : List Spot) (x n : ℕ) (each : List Groups) (at : ℕ) : Type 0 where
+  pub groups : Groups
+  pub there : slice_get each at ≡ Some groups
+  pub own : groups.variable ≡ x
+  pub are : AreGroups trace spots x n n groups.each.items
+  pub locations : HasLocations groups
 
--- the groups have the accesses before n, none waits, and the table of classes has those before n, if it had those before m
-pub record HasTakenAll (trace : List Event) (spots : List Spot) (x m n : ℕ) (before after : Classes) (accesses : Accesses) : Type 0 where
-  pub groups : AreGroups trace spots x n n (each_in accesses)
-  pub none : late_in accesses ≡ []
-  pub classes : AreClasses trace spots m before.newest.entries → AreClasses trace spots n after.newest.entries
+-- the groups of other variables stay
+abbrev pub StayGroups : ℕ → List Groups → List Groups → Type 0
+StayGroups x old new = (at : ℕ) (groups : Groups) → groups.variable ≢ x → slice_get old at ≡ Some groups → slice_get new at ≡ Some groups
+
+-- the accesses of the variable before n wait, or are in its groups
+abbrev pub AreAccesses : List Event → List Spot → ℕ → ℕ → List Entry → List Groups → Accesses → Type 0
+AreAccesses trace spots x n entries each (Waiting place) = AreWaiting trace spots x n entries place
+AreAccesses trace spots x n entries each (Grouped at) = HaveGroups trace spots x n each at

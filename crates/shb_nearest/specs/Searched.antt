@@ -1,5 +1,5 @@
 -- What a search has taken of a stream.
-use Rattle.std.specs.Prelude.{◌≡◌, ◌++◌, ◌∷◌, [], ◌+◌, ◌<◌, ◌^◌, ℕ, Bool, List, Some, All, length, map, slice_get}
+use Rattle.std.specs.Prelude.{◌≡◌, ◌++◌, ◌∷◌, [], ◌+◌, ◌<◌, ◌≤◌, ◌^◌, ℕ, Bool, List, Some, All, length, map, slice_get}
 use Rattle.shb_lines.specs.declared.event.Event.{Event}
 use Rattle.shb_lines.specs.declared.event.Op.{Op}
 use Rattle.shb_lines.specs.events.Discipline.{IsDisciplined}
@@ -11,12 +11,14 @@ use Rattle.shb_stamps.specs.declared.stream_clocks.StreamClocks.{StreamClocks}
 use Rattle.shb_nearest.specs.Classes.{AreClasses}
 use Rattle.shb_nearest.specs.Found.{IsFoundRace, ends_of, site_in}
 use Rattle.shb_nearest.specs.Groups.{IsRun}
-use Rattle.shb_nearest.specs.Late.{AreAccesses, HaveLocations}
+use Rattle.shb_nearest.specs.Late.{AreAccesses}
 use Rattle.shb_nearest.specs.Nearest.{AreNearest}
 use Rattle.shb_nearest.specs.Places.{ArePlaces}
 use Rattle.shb_nearest.specs.declared.access.FoundAccess.{FoundAccess}
 use Rattle.shb_nearest.specs.declared.access.FoundRace.{FoundRace}
 use Rattle.shb_nearest.specs.declared.access.Spot.{Spot}
+use Rattle.shb_nearest.specs.declared.groups.Groups.{Groups}
+use Rattle.shb_nearest.specs.declared.log.Entry.{Entry}
 use Rattle.shb_nearest.specs.declared.search.NearestRaces.{NearestRaces}
 use Rattle.shb_nearest.specs.declared.tables.Tables.{Tables}
 use Rattle.shb_nearest.specs.declared.tables.Variable.{Variable}
@@ -26,21 +28,21 @@ abbrev pub HasRoom : List Event → Type 0
 HasRoom past = length past + 1 < 2 ^ 32
 
 -- what is kept of a variable before n
-pub record IsVariable (trace : List Event) (spots : List Spot) (x n : ℕ) (variable : Variable) : Type 0 where
-  pub accesses : AreAccesses trace spots x n variable.accesses
-  pub locations : HaveLocations variable.accesses
+pub record IsVariable (trace : List Event) (spots : List Spot) (x n : ℕ) (entries : List Entry) (groups : List Groups) (variable : Variable) : Type 0 where
+  pub accesses : AreAccesses trace spots x n entries groups variable.accesses
   pub run : IsRun trace x n variable.run
   pub screened : IsScreened trace x n variable.latest
 
 -- the variables, those that have an access at least
-pub record AreVariables (trace : List Event) (spots : List Spot) (n : ℕ) (variables : List Variable) : Type 0 where
-  pub each : (x : ℕ) (variable : Variable) → slice_get variables x ≡ Some variable → IsVariable trace spots x n variable
+pub record AreVariables (trace : List Event) (spots : List Spot) (n : ℕ) (entries : List Entry) (groups : List Groups) (variables : List Variable) : Type 0 where
+  pub each : (x : ℕ) (variable : Variable) → slice_get variables x ≡ Some variable → IsVariable trace spots x n entries groups variable
   pub wide : (i x : ℕ) → i < n → variable_at trace i ≡ Some x → x < length variables
 
 -- the tables are those of the accesses before n
 pub record AreTables (by_variable : Bool) (trace : List Event) (spots : List Spot) (n : ℕ) (tables : Tables) : Type 0 where
-  pub classes : AreClasses trace spots n tables.classes.newest.entries
-  pub variables : AreVariables trace spots n tables.variables.items
+  pub classes : AreClasses trace spots n tables.opened.classes.newest.entries
+  pub variables : AreVariables trace spots n tables.log.entries.items tables.opened.each.items tables.variables.items
+  pub short : (length tables.log.entries.items ≤ n) × (length tables.opened.each.items ≤ n)
   pub places : ArePlaces by_variable trace spots n tables.places.races.entries
 
 -- the event is the next one of a stream, with its operation, and what is found of it if it is an access

@@ -48,6 +48,7 @@ pub struct Run {
 /// The groups of a variable.
 #[derive(Drop)]
 pub struct Groups {
+    pub variable: u32,
     pub each: Vec<Group>,
     /// The locations of what they keep, if these are few; else more than a few locations.
     pub locations: SmallVec<u32, 4>,
@@ -277,10 +278,12 @@ impl Group {
 
 impl Groups {
     /// None.
-    pub fn new(alloc: Global) -> Groups
-        ensures { result.each.items ≡ [] }
+    pub fn new(alloc: Global, variable: u32) -> Groups
+        ensures none { result.each.items ≡ [] }
+        ensures own { result.variable ≡ variable }
     {
         Groups {
+            variable,
             each: Vec::new(alloc),
             locations: SmallVec::new(alloc),
         }
@@ -311,6 +314,7 @@ impl Groups {
     ) -> Result<usize, NoMemory>
         ensures group { IfOk result (HasGroupAt self.old.each.items self.new.each.items thread writes) }
         ensures locations { OnOk result (self.new.locations.items ≡ self.old.locations.items) }
+        ensures own { OnOk result (self.new.variable ≡ self.old.variable) }
     {
         let noted = indices.index(thread, writes) as usize;
         let found = is_at(self.each.as_slice(), noted, thread, writes);
@@ -344,6 +348,7 @@ impl Groups {
         ensures groups { (trace : List Event) (spots : List SpotData) (n : ℕ) → AreGroups trace spots variable late.event n self.old.each.items
             → IsLate trace spots variable late → late.event < n → OnOk result (AreGroups trace spots variable (late.event + 1) n self.new.each.items) }
         ensures locations { HasLocations self.old → OnOk result (HasLocations self.new) }
+        ensures own { OnOk result (self.new.variable ≡ self.old.variable) }
     {
         note_location(&mut self.locations, late.location)?;
         indices.note_all(variable, self.each.as_slice(), late.thread, late.writes)?;

@@ -8,15 +8,17 @@
 //! class among them.
 //!
 //! An access races with none before it where the last write of its variable is below its predecessor and, for a write,
-//! the newest read since is too (`StreamClocks::screen`). Such an access waits (`late`): it is put behind the others that wait. When many
-//! wait, those go that aren't the newest of their class, and four times as many as are left may wait the next time: where
-//! all classes differ, this is seldom done in vain. So a variable that never races has no group, and its accesses lie in
-//! one list. Most accesses find what is kept of their variable in two lines of the cache, and write to the end of its list,
-//! at which they look only where their thread had the last access too.
+//! the newest read since is too (`StreamClocks::screen`). Such an access waits: it comes to the end of one log of all variables (`log`),
+//! with the place of the access of its variable that came before it. So a variable that never races has no group, and most
+//! accesses find what is kept of their variable in a line of the cache or two, and write to the end of the log. Where the
+//! same thread had the last access of the variable too, the last two are looked at first: one of the same class is replaced.
 //!
-//! The first access for which this isn't known takes those that wait into their groups, which are found by thread and kind
-//! (`indices`), and nothing is known of later ones: each is taken into its group at once, and none waits any more. The
-//! groups lie where the list was.
+//! When the log has grown to its limit, it is written anew, variable by variable, without those that aren't the newest of
+//! their class. Four times as many as are left may wait the next time, and as many as there are variables, and at least a
+//! million: where all classes differ, this is seldom done in vain.
+//!
+//! The first access for which this isn't known takes those that wait into their groups (`opened`), which are found by thread
+//! and kind (`indices`), and nothing is known of later ones: each is taken into its group at once, and none waits any more.
 //!
 //! Then such an access looks at the groups of its variable by other threads, and at the accesses that a group keeps
 //! from the newest one back. It stops at the first that is below its predecessor, since those behind it are too, and at
@@ -42,6 +44,8 @@ mod groups;
 mod indices;
 mod late;
 pub mod laws;
+mod log;
+mod opened;
 mod places;
 mod rivals;
 mod search;

@@ -2,8 +2,8 @@
 
 ghost use Rattle.std.specs.Prelude.{◌≡◌, ◌≤◌, ◌+◌, ◌++◌, ◌∷◌, [], Bool, true, List, IfOk, OnOk, length};
 ghost use Rattle.shb_lines.specs.declared.event.Event.{Event};
-ghost use Rattle.shb_nearest.specs.Late.{locations_in};
-ghost use Rattle.shb_nearest.specs.Places.{AreKnown};
+ghost use Rattle.shb_nearest.specs.Groups.{AreGroups, HasLocations, IsRun, IsSince};
+ghost use Rattle.shb_nearest.specs.Places.{AreKnown, ArePlaces};
 ghost use Rattle.shb_nearest.specs.Rivals.{IsNextAccess};
 ghost use Rattle.shb_nearest.specs.Searched.{AreTables, HasRoom};
 ghost use Rattle.shb_nearest.specs.Wide.{HasSpace};
@@ -11,9 +11,10 @@ ghost use Rattle.shb_nearest.specs.declared.access.Spot.{Spot as SpotData};
 
 use crate::access::FoundAccess;
 use crate::classes::Classes;
-use crate::groups::Run;
-use crate::indices::Indices;
-use crate::late::{Accesses, Late};
+use crate::groups::{Groups, Run};
+use crate::late::Late;
+use crate::log::{Accesses, Log};
+use crate::opened::Opened;
 use crate::places::Places;
 use crate::rivals::Rivals;
 use shb_io::NoMemory;
@@ -21,32 +22,41 @@ use shb_stamps::{Epoch, Latest, StreamClocks};
 use std::alloc::Global;
 use std::random::RandomSource;
 
-/// What is kept of a variable: its accesses, its run, and that by which most of its accesses are known to race with none.
-#[derive(Drop)]
+/// What is kept of a variable: where its accesses are, its run, and that by which most of its accesses are known to race
+/// with none.
+#[derive(Clone, Copy)]
 pub struct Variable {
     pub accesses: Accesses,
     pub run: Run,
     pub latest: Latest,
 }
 
-/// What is kept of each variable, accesses by class where groups keep many, and the places that are found.
+/// An access that came to the groups of its variable, with the run before it and an earlier access of its class, or 0.
+#[derive(Clone, Copy)]
+struct Next {
+    access: FoundAccess,
+    run: Run,
+    since: u32,
+}
+
+/// What is kept of each variable, the accesses, and the places that are found.
 #[derive(Drop)]
 pub struct Tables {
-    pub classes: Classes,
-    pub indices: Indices,
     pub variables: Vec<Variable>,
+    pub log: Log,
+    pub opened: Opened,
     pub places: Places,
     /// Those that race with an access while it is taken.
     pub rivals: Rivals,
 }
 
 /// Makes variables, so that there is one of this number.
-fn make_space(variables: &mut Vec<Variable>, alloc: Global, variable: u32) -> Result<(), NoMemory>
+fn make_space(variables: &mut Vec<Variable>, variable: u32) -> Result<(), NoMemory>
     ensures { OnOk result (HasSpace variables.old.items variables.new.items variable) }
 {
     while variables.len() <= variable as usize {
         variables.push(Variable {
-            accesses: Accesses::new(alloc),
+            accesses: Accesses::Waiting(0),
             run: Run {
                 thread: 0,
                 start: 0,
@@ -58,29 +68,45 @@ fn make_space(variables: &mut Vec<Variable>, alloc: Global, variable: u32) -> Re
 }
 
 /// Whether it is seen at once that each race of an access with what the groups of its variable keep has a known place.
-fn are_known(
-    places: &Places,
-    accesses: &Accesses,
-    by_variable: bool,
-    variable: u32,
-    access: FoundAccess,
-) -> bool
-    ensures few { result ≡ true → length (locations_in accesses.now) ≤ 16 }
-    ensures known { result ≡ true → AreKnown by_variable variable access.spot.location places.now.races.entries (locations_in accesses.now) }
+fn are_known(places: &Places, groups: &Groups, by_variable: bool, access: FoundAccess) -> bool
+    ensures few { result ≡ true → length groups.now.locations.items ≤ 16 }
+    ensures known { result ≡ true → AreKnown by_variable groups.now.variable access.spot.location places.now.races.entries groups.now.locations.items }
 {
-    let Accesses::Grouped(groups) = accesses else {
-        return false;
-    };
     let crowded = groups.are_crowded();
     if !crowded {
         return false;
     }
     places.know_all(
         by_variable,
-        variable,
+        groups.variable,
         access.spot.location,
         groups.locations.as_slice(),
     )
+}
+
+/// Offers the races of the next access with those that the groups of its variable keep. They have it already.
+fn offer_races(
+    places: &mut Places,
+    rivals: &mut Rivals,
+    clocks: &StreamClocks,
+    by_variable: bool,
+    groups: &Groups,
+    next: Next,
+) -> Result<(), NoMemory>
+    ensures { (past : List Event) (e : Event) (spots : List SpotData) → IsNextAccess past e spots groups.now.variable clocks.now next.access
+        → AreGroups (past ++ e ∷ []) spots groups.now.variable (next.access.event + 1) (next.access.event + 1) groups.now.each.items → HasLocations groups.now
+        → IsRun (past ++ e ∷ []) groups.now.variable next.access.event next.run → IsSince (past ++ e ∷ []) spots groups.now.variable next.access next.since
+        → ArePlaces by_variable (past ++ e ∷ []) spots next.access.event places.old.races.entries → OnOk result (ArePlaces by_variable (past ++ e ∷ []) spots (next.access.event + 1) places.new.races.entries) }
+{
+    let settled = are_known(&*places, groups, by_variable, next.access);
+    if settled {
+        return Ok(());
+    }
+    let each = groups.each.as_slice();
+    rivals.find(clocks, next.run, each, next.access, next.since)?;
+    let found = rivals.found.as_slice();
+    places.offer_all(by_variable, groups.variable, next.access, found)?;
+    Ok(())
 }
 
 impl Tables {
@@ -94,10 +120,11 @@ impl Tables {
     {
         let classes = Classes::new(rt, alloc)?;
         let places = Places::new(rt, alloc)?;
+        let none = classes.emptied(alloc);
         Ok(Tables {
-            classes,
-            indices: Indices::new(alloc),
             variables: Vec::new(alloc),
+            log: Log::new(alloc, none),
+            opened: Opened::new(alloc, classes),
             places,
             rivals: Rivals::new(alloc),
         })
@@ -119,7 +146,8 @@ impl Tables {
         ensures { (past : List Event) (e : Event) (spots : List SpotData) → HasRoom past → IsNextAccess past e spots variable clocks.now access
             → AreTables by_variable (past ++ e ∷ []) spots access.event self.old → OnOk result (AreTables by_variable (past ++ e ∷ []) spots (access.event + 1) self.new) }
     {
-        make_space(&mut self.variables, alloc, variable)?;
+        self.log.make_room(alloc, &mut self.variables)?;
+        make_space(&mut self.variables, variable)?;
         let known = &mut self.variables[variable as usize];
         let run = known.run;
         let time = clocks
@@ -140,25 +168,23 @@ impl Tables {
         known.run = run.after(access);
         known.latest = clocks.screen(known.latest, own, access.writes);
         let open = known.latest.may_race();
-        let (classes, indices) = (&mut self.classes, &mut self.indices);
         if !open {
-            known
-                .accesses
-                .put_off(alloc, classes, indices, variable, late)?;
-            return Ok(());
+            if let Accesses::Waiting(newest) = known.accesses {
+                let place = self.log.put_off(newest, run.thread, late)?;
+                known.accesses = Accesses::Waiting(place);
+                return Ok(());
+            }
         }
-        let since = known
-            .accesses
-            .take(alloc, classes, indices, variable, late)?;
-        let settled = are_known(&self.places, &known.accesses, by_variable, variable, access);
-        if settled {
+        let log = &mut self.log;
+        let at = self.opened.open(alloc, log, variable, known.accesses)?;
+        known.accesses = Accesses::Grouped(at);
+        let since = self.opened.take(alloc, at, variable, late)?;
+        let Some(groups) = self.opened.each.get(at as usize) else {
             return Ok(());
-        }
-        let each = known.accesses.each();
-        self.rivals.find(clocks, run, each, access, since)?;
-        let rivals = self.rivals.found.as_slice();
-        self.places
-            .offer_all(by_variable, variable, access, rivals)?;
+        };
+        let next = Next { access, run, since };
+        let (places, rivals) = (&mut self.places, &mut self.rivals);
+        offer_races(places, rivals, clocks, by_variable, groups, next)?;
         Ok(())
     }
 }

@@ -1,71 +1,78 @@
-use Rattle.std.proofs.Common.{ℕ, ◌+◌, List, [], ◌∷◌, ◌++◌, ◌∙◌, ap, arith, length, refl, subst, sym}
-use Rattle.std.proofs.lemmas.Option.{slice_get_read}
+use Rattle.std.proofs.Common.{◌≡◌, ◌+◌, ◌∷◌, ◌++◌, [], ℕ, List, ap, arith, length, refl, slice_index_or, subst, sym, ◌≤◌, ◌∙◌}
+use Rattle.std.proofs.lemmas.Option.{slice_get_read, slice_get_within}
 use Rattle.shb_lines.specs.events.Order.{IsBelowPredCount}
-use Rattle.shb_nearest.specs.declared.access.FoundAccess.{FoundAccess}
-use Rattle.shb_nearest.specs.declared.groups.Group.{Group}
-use Rattle.shb_nearest.specs.Groups.{AreGroups}
-use Rattle.shb_nearest.specs.Late.{each_in, late_in, locations_in}
-use Rattle.shb_nearest.specs.Places.{ArePlaces, PlaceEntry, offered_all}
-use Rattle.shb_nearest.proofs.LateLemmas.{late_none}
-use Rattle.shb_nearest.proofs.PlaceLemmas.{placed, placed_known, since_known}
+use Rattle.shb_nearest.specs.Groups.{AreGroups, HasLocations, IsRun, IsSince}
+use Rattle.shb_nearest.specs.Late.{AreAccesses}
+use Rattle.shb_nearest.specs.Rivals.{IsNextAccess}
+use Rattle.shb_nearest.specs.declared.groups.Groups.{Groups}
+use Rattle.shb_nearest.specs.declared.log.Entry.{Entry}
+use Rattle.shb_nearest.specs.declared.log.Accesses.{Accesses}
+use Rattle.shb_nearest.specs.declared.log.Accesses.TheVariants.{Waiting}
+use Rattle.shb_nearest.proofs.TableLemmas.{beside_waiting, classes_later, places_later, screened_next, time_next, variables_grouped, variables_put, variables_space}
+use Rattle.shb_nearest.proofs.Members.{one_there}
 use Rattle.shb_nearest.proofs.RivalLemmas.{variable_is}
-use Rattle.shb_nearest.proofs.TableLemmas.{places_later, screened_next, time_next, variables_put, variables_space}
 use Rattle.shb_nearest.proofs.tables.Tables.take.Goals as goal
 
-pub returns-then-not-open : goal.returns-then-not-open
-returns-then-not-open c past e spots room next are =
+pub returns-in-Waiting : goal.returns-in-Waiting
+returns-in-Waiting c past e spots room next are =
     let trace = past ++ e ∷ [] in
     let x = c.args.variable in
     let access = c.args.access in
     let n = c.args.access.event in
+    let groups = c.args.self.now.opened.each.items in
     let mid = c.make_space.new.variables.items in
     let space = c.in_ok-make_space.ensures in
-    let all = variables_space trace spots n c.args.self.now.variables.items mid space.more are.variables in
+    let few : length c.args.self.now.log.entries.items ≤ 4294967295 = (let short = are.short.0 in let end = next.event_is in omega (arith, short, end, room)) in
+    let entries = c.make_room.new.self.entries.items in
+    let all = variables_space trace spots n entries groups c.make_room.new.variables.items mid space.more (c.in_ok-make_room.ensures.variables trace spots n groups few are.variables) in
     let at = slice_get_read mid (length mid) x c.index_mut-known.result.now refl space.wide c.index_mut-known.ensures.value in
     let was = all.each x c.index_mut-known.result.now at in
     let at_end = next.event_is in
     let time = time_next trace next.disciplined access.thread n c.below_next.result c.saturating_add-time.result next.own.thread_is (omega (arith, room, at_end))
     (subst (λ (m : ℕ). IsBelowPredCount (past ++ e ∷ []) c.args.access.thread m c.below_next.result) (sym next.event_is) (c.below_next.ensures past e next.thread_is next.disciplined next.streamed)) c.saturating_add-time.ensures in
     let screened = screened_next past e spots x c.args.clocks.now access next (record { time = c.saturating_add-time.result; thread = access.thread }) refl time c.index_mut-known.result.now.latest c.screen-known.result (c.screen-known.ensures past e x next.disciplined next.streamed) was.screened in
+    let long = c.in_ok-place.ensures.long in
+    let less = c.in_ok-make_room.ensures.long in
+    let short = are.short.0 in
+    let fits : length c.put_off.new.self.entries.items ≤ 4294967295 = omega (arith, long, less, short, at_end, room) in
+    let waiting = subst (λ (a : Accesses). AreAccesses (past ++ e ∷ []) spots c.args.variable c.args.access.event c.make_room.new.self.entries.items c.args.self.now.opened.each.items a) c.in-Waiting.is was.accesses in
     record {
-      classes = c.in_ok-put_off.ensures.classes trace spots (record { own = next.own; time_is = time }) are.classes;
-      variables = variables_put trace spots n x access refl next.own mid (record { accesses = c.put_off.new.self; run = c.after-known.result; latest = c.screen-known.result }) space.wide all (record {
-        accesses = c.in_ok-put_off.ensures.accesses trace spots was.accesses (record { own = next.own; time_is = time });
-        locations = c.in_ok-put_off.ensures.locations was.locations;
-        run = c.after-known.ensures trace spots x next.own was.run;
-        screened = screened;
-      });
+      classes = classes_later trace spots n c.args.self.now.opened.classes.newest.entries are.classes;
+      variables = variables_put trace spots n x access refl next.own mid (record { accesses = Waiting c.in_ok-place.place; run = c.after-known.result; latest = c.screen-known.result }) space.wide entries c.put_off.new.self.entries.items groups groups
+          (beside_waiting trace spots n x entries c.put_off.new.self.entries.items groups (c.in_ok-place.ensures.others trace spots x waiting fits)) all (record {
+            accesses = c.in_ok-place.ensures.own trace spots x waiting (record { own = next.own; time_is = time }) fits;
+            run = c.after-known.ensures trace spots x next.own was.run;
+            screened = screened;
+          });
+      short = (omega (arith, long, less, short), (let few = are.short.1 in omega (arith, few)));
       places = places_later trace spots n c.args.by_variable c.args.self.now.places.races.entries (λ i. (screened (sym c.may_race-open.ensures ∙ c.if-not-open.true)).free i n (omega arith) (variable_is trace spots x access next.own)) are.places;
     }
 
-pub returns-then-settled : goal.returns-then-settled
-returns-then-settled c past e spots room next are =
+pub returns-in_default-get : goal.returns-in_default-get
+returns-in_default-get c past e spots room next are =
     let trace = past ++ e ∷ [] in
     let x = c.args.variable in
     let access = c.args.access in
     let n = c.args.access.event in
+    let groups = c.args.self.now.opened.each.items in
     let mid = c.make_space.new.variables.items in
     let space = c.in_ok-make_space.ensures in
-    let all = variables_space trace spots n c.args.self.now.variables.items mid space.more are.variables in
+    let few : length c.args.self.now.log.entries.items ≤ 4294967295 = (let short = are.short.0 in let end = next.event_is in omega (arith, short, end, room)) in
+    let entries = c.make_room.new.self.entries.items in
+    let all = variables_space trace spots n entries groups c.make_room.new.variables.items mid space.more (c.in_ok-make_room.ensures.variables trace spots n groups few are.variables) in
     let at = slice_get_read mid (length mid) x c.index_mut-known.result.now refl space.wide c.index_mut-known.ensures.value in
     let was = all.each x c.index_mut-known.result.now at in
     let at_end = next.event_is in
     let time = time_next trace next.disciplined access.thread n c.below_next.result c.saturating_add-time.result next.own.thread_is (omega (arith, room, at_end))
     (subst (λ (m : ℕ). IsBelowPredCount (past ++ e ∷ []) c.args.access.thread m c.below_next.result) (sym next.event_is) (c.below_next.ensures past e next.thread_is next.disciplined next.streamed)) c.saturating_add-time.ensures in
     let screened = screened_next past e spots x c.args.clocks.now access next (record { time = c.saturating_add-time.result; thread = access.thread }) refl time c.index_mut-known.result.now.latest c.screen-known.result (c.screen-known.ensures past e x next.disciplined next.streamed) was.screened in
-    let since = c.in_ok-since.ensures.since trace spots was.accesses are.classes in
-    let taken = c.in_ok-since.ensures.all trace spots was.accesses (record { own = next.own; time_is = time }) in
-    record {
-      classes = taken.classes are.classes;
-      variables = variables_put trace spots n x access refl next.own mid (record { accesses = c.take.new.self; run = c.after-known.result; latest = c.screen-known.result }) space.wide all (record {
-        accesses = record { since = n + 1; groups = taken.groups; late = late_none trace spots x (n + 1) (late_in c.take.new.self) taken.none };
-        locations = c.in_ok-since.ensures.locations was.locations;
-        run = c.after-known.ensures trace spots x next.own was.run;
-        screened = screened;
-      });
-      places = placed_known c.args.by_variable trace next.disciplined spots x n access refl next.own c.args.self.now.places.races.entries are.places (each_in c.take.new.self) (locations_in c.take.new.self) taken.groups
-          (c.in_ok-since.ensures.locations was.locations (c.are_known-settled.ensures.few c.if-settled.true)) (c.are_known-settled.ensures.known c.if-settled.true);
-    }
+    let opened = c.in_ok-at.ensures.groups trace spots n was.accesses (let more = c.in_ok-at.ensures.long in let few = are.short.1 in omega (arith, more, few, at_end, room)) in
+    let classes = c.in_ok-at.ensures.classes trace spots n was.accesses are.classes in
+    let have = c.in_ok-since.ensures.groups trace spots opened (record { own = next.own; time_is = time }) in
+    let low = slice_get_within c.take.new.self.each.items c.in_ok-at.at have.groups have.there in
+    let high = c.in_default-get.ensures.lookup.3 in
+    let same = ap (λ (l : List Groups). length l) c.deref.ensures.value in
+    absurd (omega (arith, low, high, same))
 
 pub returns : goal.returns
 returns c past e spots room next are =
@@ -73,27 +80,35 @@ returns c past e spots room next are =
     let x = c.args.variable in
     let access = c.args.access in
     let n = c.args.access.event in
+    let groups = c.args.self.now.opened.each.items in
     let mid = c.make_space.new.variables.items in
     let space = c.in_ok-make_space.ensures in
-    let all = variables_space trace spots n c.args.self.now.variables.items mid space.more are.variables in
+    let few : length c.args.self.now.log.entries.items ≤ 4294967295 = (let short = are.short.0 in let end = next.event_is in omega (arith, short, end, room)) in
+    let entries = c.make_room.new.self.entries.items in
+    let all = variables_space trace spots n entries groups c.make_room.new.variables.items mid space.more (c.in_ok-make_room.ensures.variables trace spots n groups few are.variables) in
     let at = slice_get_read mid (length mid) x c.index_mut-known.result.now refl space.wide c.index_mut-known.ensures.value in
     let was = all.each x c.index_mut-known.result.now at in
     let at_end = next.event_is in
     let time = time_next trace next.disciplined access.thread n c.below_next.result c.saturating_add-time.result next.own.thread_is (omega (arith, room, at_end))
     (subst (λ (m : ℕ). IsBelowPredCount (past ++ e ∷ []) c.args.access.thread m c.below_next.result) (sym next.event_is) (c.below_next.ensures past e next.thread_is next.disciplined next.streamed)) c.saturating_add-time.ensures in
     let screened = screened_next past e spots x c.args.clocks.now access next (record { time = c.saturating_add-time.result; thread = access.thread }) refl time c.index_mut-known.result.now.latest c.screen-known.result (c.screen-known.ensures past e x next.disciplined next.streamed) was.screened in
-    let since = c.in_ok-since.ensures.since trace spots was.accesses are.classes in
-    let taken = c.in_ok-since.ensures.all trace spots was.accesses (record { own = next.own; time_is = time }) in
-    let rivals = c.in_ok-find.ensures past e spots x next (subst (λ (l : List Group). AreGroups (past ++ e ∷ []) spots c.args.variable (c.args.access.event + 1) (c.args.access.event + 1) l) (sym c.each-each.ensures) taken.groups) was.run in
+    let opened = c.in_ok-at.ensures.groups trace spots n was.accesses (let more = c.in_ok-at.ensures.long in let few = are.short.1 in omega (arith, more, few, at_end, room)) in
+    let classes = c.in_ok-at.ensures.classes trace spots n was.accesses are.classes in
+    let have = c.in_ok-since.ensures.groups trace spots opened (record { own = next.own; time_is = time }) in
+    let since = c.in_ok-since.ensures.since trace spots opened classes in
+    let found = subst (λ (l : List Groups). c.in-Some.groups.now ≡ slice_index_or l c.in_ok-at.at c.in-Some.groups.now) c.deref.ensures.value c.in-Some.ensures.lookup.1 in
+    let one = one_there c.take.new.self.each.items c.in_ok-at.at have.groups c.in-Some.groups.now have.there found in
     record {
-      classes = taken.classes are.classes;
-      variables = variables_put trace spots n x access refl next.own mid (record { accesses = c.take.new.self; run = c.after-known.result; latest = c.screen-known.result }) space.wide all (record {
-        accesses = record { since = n + 1; groups = taken.groups; late = late_none trace spots x (n + 1) (late_in c.take.new.self) taken.none };
-        locations = c.in_ok-since.ensures.locations was.locations;
-        run = c.after-known.ensures trace spots x next.own was.run;
-        screened = screened;
-      });
-      places = subst (λ (l : List PlaceEntry). ArePlaces c.args.by_variable (past ++ e ∷ []) spots (c.args.access.event + 1) l)
-          (sym (c.in_ok-offer_all.ensures ∙ ap (λ (l : List FoundAccess). offered_all c.args.by_variable c.args.variable c.args.access c.args.self.now.places.races.entries l) c.as_slice-rivals.ensures.value))
-          (placed c.args.by_variable trace next.disciplined spots x n access refl next.own c.in_ok-since.since c.args.self.now.places.races.entries are.places (since_known c.args.by_variable trace next.disciplined spots x n access refl next.own c.args.self.now.places.races.entries are.places c.in_ok-since.since since) c.find.new.self.found.items rivals);
+      classes = c.in_ok-since.ensures.classes trace spots opened (record { own = next.own; time_is = time }) classes;
+      variables = variables_grouped trace spots n x access refl next.own mid c.in_ok-at.at c.after-known.result c.screen-known.result space.wide entries c.open.new.log.entries.items c.in_ok-at.ensures.log
+          groups c.open.new.self.each.items c.take.new.self.each.items c.in_ok-at.ensures.others (c.in_ok-since.ensures.others trace spots opened) all have (c.after-known.ensures trace spots x next.own was.run)
+          screened;
+      short = ((let kept = ap (λ (l : List Entry). length l) c.in_ok-at.ensures.log in let less = c.in_ok-make_room.ensures.long in let short = are.short.0 in omega (arith, kept, less, short)), (let same = c.in_ok-since.ensures.long in let more = c.in_ok-at.ensures.long in let few = are.short.1 in omega (arith, same, more, few)));
+      places = c.in_ok-offer_races.ensures past e spots
+          (subst (λ (g : Groups). IsNextAccess past e spots g.variable c.args.clocks.now c.args.access) one (subst (λ (y : ℕ). IsNextAccess past e spots y c.args.clocks.now c.args.access) (sym have.own) next))
+          (subst (λ (g : Groups). AreGroups (past ++ e ∷ []) spots g.variable (c.args.access.event + 1) (c.args.access.event + 1) g.each.items) one (subst (λ (y : ℕ). AreGroups (past ++ e ∷ []) spots y (c.args.access.event + 1) (c.args.access.event + 1) have.groups.each.items) (sym have.own) have.are))
+          (subst (λ (g : Groups). HasLocations g) one have.locations)
+          (subst (λ (g : Groups). IsRun (past ++ e ∷ []) g.variable c.args.access.event c.index_mut-known.result.now.run) one (subst (λ (y : ℕ). IsRun (past ++ e ∷ []) y c.args.access.event c.index_mut-known.result.now.run) (sym have.own) was.run))
+          (subst (λ (g : Groups). IsSince (past ++ e ∷ []) spots g.variable c.args.access c.in_ok-since.since) one (subst (λ (y : ℕ). IsSince (past ++ e ∷ []) spots y c.args.access c.in_ok-since.since) (sym have.own) since))
+          are.places;
     }

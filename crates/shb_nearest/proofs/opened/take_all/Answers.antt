@@ -1,11 +1,7 @@
-use Rattle.std.proofs.Common.{◌<◌, false, arith, get_or, length}
+use Rattle.std.proofs.Common.{◌<◌, ◌∙◌, arith, get_or, length}
 use Rattle.std.proofs.lemmas.List.{get_or_default}
-use Rattle.shb_nearest.specs.declared.late.Late.{Late}
-use Rattle.shb_nearest.proofs.LateLemmas.{last_taken, late_first, late_taken}
-use Rattle.shb_nearest.proofs.late.take_all.Goals as goal
-
-abbrev none : Late
-none = record { event = 0; thread = 0; time = 0; location = 0; writes = false; barred = false }
+use Rattle.shb_nearest.proofs.LateLemmas.{no_access, last_taken, late_first, late_taken}
+use Rattle.shb_nearest.proofs.opened.take_all.Goals as goal
 
 pub loop-late-preserved : goal.loop-late-preserved
 loop-late-preserved c = (
@@ -14,13 +10,14 @@ loop-late-preserved c = (
       let index = c.loop-late.late-index in
       let more : index < length waiting = (let test = c.loop-late-test.true in omega (arith, test)) in
       let was = c.loop-late.invariant.0 trace spots n m groups late in
-      let a = get_or waiting index none in
-      let is = get_or_default waiting index none a more in
+      let a = get_or waiting index no_access in
+      let is = get_or_default waiting index no_access a more in
       let first = late_first trace spots c.args.variable n index waiting a c.loop-late.groups.each.items c.take.new.self.each.items more is was.0 in (
         late_taken trace spots c.args.variable n index waiting a c.loop-late.groups.each.items c.take.new.self.each.items more is was.0 (λ are. c.in_ok-take.ensures.groups trace spots n are first.0 first.1),
         λ are. c.in_ok-take.ensures.classes trace spots n first.0 first.1 (was.1 are),
       )),
   λ locations. c.in_ok-take.ensures.locations (c.loop-late.invariant.1 locations),
+  c.in_ok-take.ensures.own ∙ c.loop-late.invariant.2,
 )
 
 pub returns-clause-groups : goal.returns-clause-groups

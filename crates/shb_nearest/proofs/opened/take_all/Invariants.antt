@@ -1,14 +1,15 @@
 -- The groups and the table of classes have the accesses before the index.
-use Rattle.std.proofs.Common.{ℕ, List}
+use Rattle.std.proofs.Common.{◌≡◌, ℕ, List}
 use Rattle.shb_lines.specs.declared.event.Event.{Event}
 use Rattle.shb_nearest.specs.Classes.{AreClasses}
 use Rattle.shb_nearest.specs.Groups.{AreGroups, HasLocations}
 use Rattle.shb_nearest.specs.Late.{AreLate}
 use Rattle.shb_nearest.specs.declared.access.Spot.{Spot}
 use Rattle.shb_nearest.proofs.LateLemmas.{HasTaken}
-use Rattle.shb_nearest.proofs.late.take_all.Given as goal
+use Rattle.shb_nearest.proofs.opened.take_all.Given as goal
 
 abbrev pub invariant-loop-late : goal.invariant-loop-late
 invariant-loop-late l = ((trace : List Event) (spots : List Spot) (n m : ℕ) → AreGroups trace spots l.variable m n l.fn.groups.each.items → AreLate trace spots l.variable n m l.waiting
     → HasTaken trace spots l.variable n l.late-index l.waiting l.groups.each.items × (AreClasses trace spots n l.fn.classes.newest.entries → AreClasses trace spots n l.classes.newest.entries))
     × (HasLocations l.fn.groups → HasLocations l.groups)
+    × (l.groups.variable ≡ l.fn.groups.variable)

@@ -1,0 +1,45 @@
+use Rattle.std.proofs.Common.{◌≡◌, ◌∷◌, ◌++◌, [], List, Some, arith, length, subst, sym, ◌∙◌}
+use Rattle.std.specs.Prelude.{All, slice_get}
+use Rattle.std.proofs.lemmas.List.Elements.{All-nil}
+use Rattle.shb_nearest.specs.Groups.{AreAmong}
+use Rattle.shb_nearest.specs.Late.{AreAccesses, AreLate}
+use Rattle.shb_nearest.specs.declared.groups.Group.{Group}
+use Rattle.shb_nearest.specs.declared.groups.Groups.{Groups}
+use Rattle.shb_nearest.specs.declared.late.Late.{Late}
+use Rattle.shb_nearest.specs.declared.log.Accesses.{Accesses}
+use Rattle.shb_nearest.proofs.Chains.{get_before}
+use Rattle.shb_nearest.proofs.LateLemmas.{middle}
+use Rattle.shb_nearest.proofs.TableLemmas.{none_grouped}
+use Rattle.shb_nearest.proofs.opened.Opened.open.Goals as goal
+
+pub returns-clause-groups : goal.returns-clause-groups
+returns-clause-groups c trace spots n are few =
+    let x = c.args.variable in
+    let old = c.args.self.now.each.items in
+    let w = subst (λ (a : Accesses). AreAccesses trace spots x n c.args.log.now.entries.items old a) c.in-Waiting.is are in
+    let late = subst (λ (l : List Late). AreLate trace spots c.args.variable n 0 l) (sym c.as_slice-gathered.ensures.value) (c.in_ok-gather.ensures.gathered trace spots x n w) in
+    record {
+      groups = c.take_all.new.groups;
+      there = subst (λ (l : List Groups). slice_get l c.min-at.result ≡ Some c.take_all.new.groups) (sym pushed) (subst (λ k. slice_get (old ++ c.take_all.new.groups ∷ []) k ≡ Some c.take_all.new.groups) at_end (middle old c.take_all.new.groups []));
+      own = c.in_ok-take_all.ensures.own ∙ c.new-groups.ensures.own;
+      are = c.in_ok-take_all.ensures.groups trace spots n 0 (none_grouped trace spots n x c.new-groups.result.each.items c.new-groups.ensures.none) late;
+      locations = c.in_ok-take_all.ensures.locations (λ few. subst (λ (l : List Group). All (AreAmong c.new-groups.result.locations.items) l) (sym c.new-groups.ensures.none) (All-nil (AreAmong c.new-groups.result.locations.items)));
+    }
+  where
+    at_end : length c.args.self.now.each.items ≡ c.min-at.result
+    at_end = let long = c.len.ensures in let least = c.min-at.ensures in let same = c.args.self.now.each.ok in let whole = c.push.new.self.ok in let more = c.in_ok-push.ensures.len in omega (arith, long, least, same, whole, more, few)
+
+    pushed : c.push.new.self.items ≡ c.args.self.now.each.items ++ c.take_all.new.groups ∷ []
+    pushed = c.in_ok-push.ensures.items
+
+pub returns-clause-classes : goal.returns-clause-classes
+returns-clause-classes c trace spots n are classes =
+    let x = c.args.variable in
+    let old = c.args.self.now.each.items in
+    let w = subst (λ (a : Accesses). AreAccesses trace spots x n c.args.log.now.entries.items old a) c.in-Waiting.is are in
+    let late = subst (λ (l : List Late). AreLate trace spots c.args.variable n 0 l) (sym c.as_slice-gathered.ensures.value) (c.in_ok-gather.ensures.gathered trace spots x n w) in
+    c.in_ok-take_all.ensures.classes trace spots n 0 (none_grouped trace spots n x c.new-groups.result.each.items c.new-groups.ensures.none) late classes
+
+pub returns-clause-others : goal.returns-clause-others
+returns-clause-others c at groups other there =
+    subst (λ (l : List Groups). slice_get l at ≡ Some groups) (sym c.in_ok-push.ensures.items) (get_before c.args.self.now.each.items (c.take_all.new.groups ∷ []) at groups there)
