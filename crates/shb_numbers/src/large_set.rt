@@ -77,7 +77,7 @@ impl LargeSet {
     }
 
     /// Whether a number is in the set.
-    fn contains(&self, number: u32) -> bool
+    pub fn contains(&self, number: u32) -> bool
         ensures { result ≡ set.contains self.now number }
     {
         if self.near.contains(number) {
