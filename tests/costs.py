@@ -105,6 +105,7 @@ def costs():
         "a location for each access": shapes.a_location_for_each_access,
         "many locations against one": shapes.many_against_one,
         "locations without order": shapes.unordered_locations,
+        "turns at many locations": shapes.turns_at_many,
         "locations and learning": shapes.learning,
         "both kinds at one location": shapes.both_kinds,
         "turns at one location": shapes.turns_at_a_location,

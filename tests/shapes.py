@@ -66,6 +66,11 @@ def unordered_locations(n):
         yield f"A|w(x)|a{pick.randrange(100)}\nB|w(x)|b{pick.randrange(100)}\n"
 
 
+def turns_at_many(n):
+    """Two threads write a variable without order, each at 200 locations of its own in turn."""
+    yield from (f"A|w(x)|a{k % 200}\nB|w(x)|b{k % 200}\n" for k in range(n // 2))
+
+
 def learning(n):
     """The same, where each access comes after its thread has learned something else."""
     pick = random.Random(1)

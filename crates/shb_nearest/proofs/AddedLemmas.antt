@@ -9,39 +9,53 @@ use Rattle.std.proofs.lemmas.List.Elements.{Contains-append_cases, Contains-appe
 use Rattle.std.proofs.lemmas.Option.{get_or_from_slice_get, slice_get_within}
 use Rattle.shb_lines.proofs.events.Increasing.{contains_head, contains_none}
 use Rattle.shb_nearest.specs.declared.access.FoundAccess.{FoundAccess}
+use Rattle.shb_nearest.specs.declared.groups.Groups.{Groups}
 use Rattle.shb_nearest.specs.declared.groups.KeptAccess.{KeptAccess}
-use Rattle.shb_nearest.specs.Rivals.{HasAdded, IsCovered}
+use Rattle.shb_nearest.specs.Rivals.{HasAdded, HasAddedSome, IsCovered}
+use Rattle.shb_nearest.specs.Sites.{IsSettled}
 use Rattle.shb_nearest.proofs.Members.{member_at, member_set, stays_or_is}
 
-pub added_none : (xs : List FoundAccess) → HasAdded xs xs []
-added_none xs = record { stay = λ a h. h; from = λ a there. inl there; covers = λ a there. absurd (contains_none a there) }
+module _ (groups : Groups) (second : ℕ) where
+  pub added_none : (xs : List FoundAccess) → HasAddedSome groups second xs xs []
+  added_none xs = record { stay = λ a h. h; from = λ a there. inl there; covers = λ a there. absurd (contains_none a there) }
 
--- some, and then one more
-pub added_more : (old mid new done : List FoundAccess) (a : FoundAccess) → HasAdded old mid done → HasAdded mid new (a ∷ []) → HasAdded old new (done ++ a ∷ [])
-added_more old mid new done a first then = record {
-  stay = λ b h. then.stay b (first.stay b h);
-  from = λ b there. elim (then.from b there) [
-    | inl before ↦ elim (first.from b before) [
-      | inl was ↦ inl was
-      | inr one ↦ inr (Contains-append_left done (a ∷ []) b one)
-    ]
-    | inr one ↦ inr (Contains-append_right done (a ∷ []) b one)
-  ];
-  covers = λ b there. elim (Contains-append_cases done (a ∷ []) b there) [
-    | inl one ↦ then.stay b (first.covers b one)
-    | inr one ↦ then.covers b one
-  ];
-}
+  -- some, and then one more
+  added_more : (old mid new done : List FoundAccess) (a : FoundAccess) → HasAddedSome groups second old mid done → HasAddedSome groups second mid new (a ∷ []) → HasAddedSome groups second old new (done ++ a ∷ [])
+  added_more old mid new done a first then = record {
+    stay = λ b h. then.stay b (first.stay b h);
+    from = λ b there. elim (then.from b there) [
+      | inl before ↦ elim (first.from b before) [
+        | inl was ↦ inl was
+        | inr one ↦ inr (Contains-append_left done (a ∷ []) b one)
+      ]
+      | inr one ↦ inr (Contains-append_right done (a ∷ []) b one)
+    ];
+    covers = λ b there. elim (Contains-append_cases done (a ∷ []) b there) [
+      | inl one ↦ elim (first.covers b one) [ inl covered ↦ inl (then.stay b covered) | inr settled ↦ inr settled ]
+      | inr one ↦ then.covers b one
+    ];
+  }
 
--- the kept accesses before n, and then the one at n
-pub added_kept : (old mid new : List FoundAccess) (f : KeptAccess → FoundAccess) (kept : List KeptAccess) (n : ℕ) (item : KeptAccess) → slice_get kept n ≡ Some item → HasAdded old mid (map f (take n kept)) → HasAdded mid new (f item ∷ []) → HasAdded old new (map f (take (n + 1) kept))
-added_kept old mid new f kept n item at first then = subst (HasAdded old new) (sym more) (added_more old mid new (map f (take n kept)) (f item) first then)
-  where
-    longer : take (n + 1) kept ≡ take n kept ++ item ∷ []
-    longer = (let e : n + 1 ≡ suc n = omega arith in ap (λ (m : ℕ). take m kept) e) ∙ (take-suc kept n item (slice_get_within kept n item at) ∙ ap (λ (b : KeptAccess). take n kept ++ b ∷ []) (get_or_from_slice_get kept n item item at))
+  -- the kept accesses before n, and then the one at n
+  pub added_kept : (old mid new : List FoundAccess) (f : KeptAccess → FoundAccess) (kept : List KeptAccess) (n : ℕ) (item : KeptAccess) → slice_get kept n ≡ Some item → HasAddedSome groups second old mid (map f (take n kept)) → HasAddedSome groups second mid new (f item ∷ []) → HasAddedSome groups second old new (map f (take (n + 1) kept))
+  added_kept old mid new f kept n item at first then = subst (HasAddedSome groups second old new) (sym more) (added_more old mid new (map f (take n kept)) (f item) first then)
+    where
+      longer : take (n + 1) kept ≡ take n kept ++ item ∷ []
+      longer = (let e : n + 1 ≡ suc n = omega arith in ap (λ (m : ℕ). take m kept) e) ∙ (take-suc kept n item (slice_get_within kept n item at) ∙ ap (λ (b : KeptAccess). take n kept ++ b ∷ []) (get_or_from_slice_get kept n item item at))
 
-    more : map f (take (n + 1) kept) ≡ map f (take n kept) ++ f item ∷ []
-    more = ap (map f) longer ∙ map-append f (take n kept) (item ∷ [])
+      more : map f (take (n + 1) kept) ≡ map f (take n kept) ++ f item ∷ []
+      more = ap (map f) longer ∙ map-append f (take n kept) (item ∷ [])
+
+  -- one came, or its place is known
+  pub added_one : (old new : List FoundAccess) (a : FoundAccess) → HasAdded old new (a ∷ []) → HasAddedSome groups second old new (a ∷ [])
+  added_one old new a h = record { stay = h.stay; from = h.from; covers = λ b there. inl (h.covers b there) }
+
+  pub added_settled : (old : List FoundAccess) (a : FoundAccess) → IsSettled groups a.spot.location second → HasAddedSome groups second old old (a ∷ [])
+  added_settled old a settled = record {
+    stay = λ b h. h;
+    from = λ b there. inl there;
+    covers = λ b there. inr (elim (Contains-push_cases [] a b there) [ inl none ↦ absurd (contains_none b none) | inr same ↦ subst (λ (c : FoundAccess). IsSettled groups c.spot.location second) same settled ]);
+  }
 
 module _ (xs : List FoundAccess) (a : FoundAccess) where
   only : (b : FoundAccess) → Contains (a ∷ []) b → a ≡ b

@@ -102,7 +102,7 @@ module _ (past : List Event) (e : Event) (spots : List Spot) (s : Spot) (as_many
 
   accesses_longer : (x : ℕ) (entries : List Entry) (groups : List Groups) (accesses : Accesses) → AreAccesses past spots x (length past) entries groups accesses → AreAccesses (past ++ e ∷ []) (spots ++ s ∷ []) x (length past) entries groups accesses
   accesses_longer x entries groups (Waiting place) w = record { late = w.late; chain = w.chain; are = late_longer x 0 (reverse w.late) w.are }
-  accesses_longer x entries groups (Grouped at) h = record { groups = h.groups; there = h.there; own = h.own; are = groups_longer x (length past) h.groups.each.items (omega arith) h.are; locations = h.locations }
+  accesses_longer x entries groups (Grouped at) h = record { groups = h.groups; there = h.there; own = h.own; are = groups_longer x (length past) h.groups.each.items (omega arith) h.are }
 
   race_back : (i j : ℕ) → j < length past → Race (past ++ e ∷ []) i j → Race past i j
   race_back i j lt race = (race_longer past (e ∷ []) whole i j lt).0 race
@@ -144,4 +144,5 @@ module _ (past : List Event) (e : Event) (spots : List Spot) (s : Spot) (as_many
       each = λ p r at. nearest_longer by_variable p r (are.places.each p r at);
       known = λ p i j lt race at. (let own = race_back i j lt race in are.places.known p i j lt own (at_place_back by_variable p i j own.earlier lt at));
     };
+    sites = are.sites;
   }

@@ -3,9 +3,9 @@ use Rattle.std.proofs.Common.{◌≡◌, ◌≢◌, ◌⊎◌, ℕ, ◌+◌, ◌
 use Rattle.std.proofs.Math.ListN.{get_or}
 use Rattle.std.specs.Prelude.{Contains, reverse, slice_get}
 use Rattle.std.proofs.lemmas.Bool.{cases_lt}
-use Rattle.std.proofs.lemmas.List.{append-nil, append_assoc, get_or_append_left, length-append, reverse-append, reverse-reverse}
+use Rattle.std.proofs.lemmas.List.{append-nil, append_assoc, length-append, reverse-append, reverse-reverse}
 use Rattle.std.proofs.lemmas.List.Elements.{All-contains, Contains-append_left, Contains-append_right}
-use Rattle.std.proofs.lemmas.Option.{get_or_from_slice_get, slice_get-get_or, slice_get_within}
+use Rattle.std.proofs.lemmas.Option.{slice_get-get_or, slice_get_within}
 use Rattle.shb_lines.specs.declared.event.Event.{Event}
 use Rattle.shb_lines.specs.events.Race.{variable_at}
 use Rattle.shb_lines.proofs.events.Increasing.{contains_cases, contains_head, contains_none, contains_tail}
@@ -19,15 +19,9 @@ use Rattle.shb_nearest.specs.declared.tables.Variable.{Variable}
 use Rattle.shb_nearest.specs.Groups.{class_of}
 use Rattle.shb_nearest.specs.Searched.{IsVariable}
 use Rattle.shb_nearest.specs.Late.{AreAccesses, AreLate, AreWaiting, HasPut, HasWritten, IsAlike, IsAlikeOne, IsChain, IsEntryAt, IsLate, IsLateIn, StayWaiting, access_in}
-use Rattle.shb_nearest.proofs.LateLemmas.{late_push, late_without, middle}
+use Rattle.shb_nearest.proofs.LateLemmas.{late_push, late_without}
+use Rattle.shb_nearest.proofs.Members.{get_before, middle}
 use Rattle.shb_nearest.proofs.RivalLemmas.{variable_is}
-
--- an element stays before others
-pub get_before : {X : Type 0} (xs ys : List X) (i : ℕ) (x : X) → slice_get xs i ≡ Some x → slice_get (xs ++ ys) i ≡ Some x
-get_before {X = X} xs ys i x at =
-    let low = slice_get_within xs i x at in
-    let long = length-append xs ys in
-    slice_get-get_or (xs ++ ys) i x (omega (arith, low, long)) ∙ ap (λ (y : X). Some y) (get_or_append_left xs ys x i low ∙ get_or_from_slice_get xs i x x at)
 
 -- one entry is at a place
 pub entry_one : (entries : List Entry) (place : ℕ) (a b : Entry) → IsEntryAt entries place a → IsEntryAt entries place b → a ≡ b

@@ -1,5 +1,5 @@
 -- The groups of a variable, an access more.
-use Rattle.std.proofs.Common.{◌≡◌, ℕ, zero, suc, ◌+◌, ◌<◌, ◌≤◌, inl, inr, Bool, true, false, cond, ◌&&◌, List, [], ◌∷◌, ◌++◌, None, Option, Some, length, take, filter, get_or, arith, refl, sym, ap, subst, ◌∙◌}
+use Rattle.std.proofs.Common.{◌≡◌, ℕ, zero, suc, ◌+◌, ◌<◌, ◌≤◌, ◌⊎◌, inl, inr, Bool, true, false, cond, ◌&&◌, List, [], ◌∷◌, ◌++◌, None, Option, Some, length, take, filter, get_or, arith, refl, sym, ap, subst, ◌∙◌}
 use Rattle.std.specs.Bool.{beq}
 use Rattle.std.specs.Prelude.{All, AllPairs, Contains, nat_eq, slice_get}
 use Rattle.std.specs.List.{remove}
@@ -23,9 +23,9 @@ use Rattle.shb_nearest.specs.declared.groups.KeptAccess.{KeptAccess}
 use Rattle.shb_nearest.specs.declared.groups.Run.{Run}
 use Rattle.shb_nearest.specs.Classes.{HasLastOf, HasPut, IsNewestOf, IsOfClass, is_newest_in, newest_in, same_class}
 use Rattle.shb_nearest.specs.Found.{IsFoundAccess}
-use Rattle.shb_nearest.specs.Groups.{AreAmong, AreGroups, HasGroupAt, HasKept, HasLast, HasReplaced, HasLocation, IsAmong, IsEarlier, IsGroup, IsKept, IsOfGroup, IsRun, KeepsAccess, access_of, class_of, is_newest_kept}
+use Rattle.shb_nearest.specs.Groups.{AreGroups, HasGroupAt, HasKept, HasLast, HasReplaced, IsEarlier, IsGroup, IsKept, IsOfGroup, IsRun, KeepsAccess, access_of, class_of, is_newest_kept}
 use Rattle.shb_nearest.proofs.ClassLemmas.{class_own, newest_before, one_class_at}
-use Rattle.shb_nearest.proofs.Members.{all_remove, index_of, member_at, member_filter, member_remove, member_set, stays_or_is}
+use Rattle.shb_nearest.proofs.Members.{all_remove, index_of, longer_cases, member_at, member_filter, member_remove, member_set, stays_or_is}
 
 -- equal classes are the same
 same_kind_is : (a b : Bool) → beq a b ≡ true → a ≡ b
@@ -69,6 +69,12 @@ class_self a = and_both (nat_eq a.variable a.variable) _ (eq-eqb a.variable a.va
 -- the newest of a class is so by the test
 pub newest_passes : (newest : List (Class × ℕ)) (class : Class) (k event : ℕ) → newest_in newest class ≡ Some k → event ≡ k → is_newest_in newest class event ≡ true
 newest_passes newest class k event is same = ap (λ (o : Option ℕ). elim o [ Some m ↦ nat_eq m event | None ↦ false ]) is ∙ eq-eqb k event (sym same)
+
+-- a group was there, or keeps nothing
+pub group_from : (old new : List Group) (t : ℕ) (w : Bool) (at : ℕ) → HasGroupAt old new t w at → (g : Group) → Contains new g → Contains old g ⊎ (g.kept.items ≡ [])
+group_from old new t w at found g there =
+    let k = index_of new g there in
+    elim (found.from k.0 g k.1) [ inl was ↦ inl (member_at old k.0 g was) | inr none ↦ inr none ]
 
 module _ (trace : List Event) (spots : List Spot) (x n : ℕ) where
   kept_until : (m : ℕ) → n ≤ m → (t : ℕ) (w : Bool) (a : KeptAccess) → IsKept trace spots x n t w a → IsKept trace spots x m t w a
@@ -201,7 +207,7 @@ module _ (trace : List Event) (spots : List Spot) (x n : ℕ) where
         is_of = subst (λ (g : Group). IsOfGroup g access.thread access.writes) (let s : Some found.group ≡ Some old = sym found.there ∙ at_old in let e : found.group ≡ old = cc in e) found.own
 
         mid_group : (m : ℕ) → (g : Group) → Contains mid g → (Contains groups g → IsGroup trace spots x m g) → IsGroup trace spots x m g
-        mid_group m g there old_one = elim (found.from g there) [ inl stays ↦ old_one stays | inr none ↦ group_empty m g none ]
+        mid_group m g there old_one = elim (group_from groups mid access.thread access.writes at found g there) [ inl stays ↦ old_one stays | inr none ↦ group_empty m g none ]
 
         was : IsGroup trace spots x n old
         was = mid_group n old (member_at mid at old at_old) (λ there. All-contains (IsGroup trace spots x n) groups old are.each there)
@@ -308,7 +314,7 @@ module _ {A : Type 0} (event : A → ℕ) (class_at : A → Class) where
 
 -- a group that is there, and one that is made
 pub group_found : (groups : List Group) (t : ℕ) (w : Bool) (at : ℕ) (g : Group) → slice_get groups at ≡ Some g → IsOfGroup g t w → HasGroupAt groups groups t w at
-group_found groups t w at g there own = record { group = g; there = there; own = own; stay = λ h in_old. in_old; from = λ h in_new. inl in_new }
+group_found groups t w at g there own = record { group = g; there = there; own = own; stay = λ h in_old. in_old; from = λ k h in_new. inl in_new }
 
 pub group_made : (old new : List Group) (t : ℕ) (w : Bool) (at : ℕ) (g : Group) → at ≡ length old → new ≡ old ++ g ∷ [] → g.thread ≡ t → g.writes ≡ w → g.kept.items ≡ [] → HasGroupAt old new t w at
 group_made old new t w at g at_end more of_t of_w empty = record {
@@ -316,9 +322,9 @@ group_made old new t w at g at_end more of_t of_w empty = record {
   there = subst (λ (l : List Group). slice_get l at ≡ Some g) (sym more) (slice_get_read (old ++ g ∷ []) (length (old ++ g ∷ [])) at g refl (let long = length_push old g in omega (arith, long, at_end)) (sym (get_or_push old g g at (sym at_end))));
   own = record { thread_is = of_t; writes_is = of_w };
   stay = λ h in_old. subst (λ (l : List Group). Contains l h) (sym more) (Contains-append_left old (g ∷ []) h in_old);
-  from = λ h in_new. elim (Contains-push_cases old g h (subst (λ (l : List Group). Contains l h) more in_new)) [
+  from = λ k h in_new. elim (longer_cases old g k h (subst (λ (l : List Group). slice_get l k ≡ Some h) more in_new)) [
     | inl before ↦ inl before
-    | inr same ↦ inr (subst (λ (k : Group). k.kept.items ≡ []) same empty)
+    | inr same ↦ inr (subst (λ (k : Group). k.kept.items ≡ []) same.1 empty)
   ];
 }
 
@@ -367,30 +373,3 @@ last_replaced [] at access is = absurd (omega (arith, is))
 last_replaced (a ∷ []) zero access is = refl
 last_replaced (a ∷ (b ∷ old)) zero access is = absurd (omega (arith, is))
 last_replaced (a ∷ old) (suc at) access is = ap (λ (l : List KeptAccess). a ∷ l) (last_replaced old at access (omega (arith, is)))
-
--- the locations of the groups, an access more
-pub locations_taken : (x : ℕ) (access : KeptAccess) (locations more : List ℕ) (groups mid : List Group) (t : ℕ) (w : Bool) (at : ℕ) (was now : Group) → HasLocation locations more access.spot.location → HasGroupAt groups mid t w at → slice_get mid at ≡ Some was → HasKept x access was now
-    → (length locations ≤ 16 → All (AreAmong locations) groups) → length more ≤ 16 → All (AreAmong more) (set mid at now)
-locations_taken x access locations more groups mid t w at was now location_there found at_was h are few = All-set (AreAmong more) mid at now of_now in_mid
-  where
-    before : All (AreAmong more) groups
-    before = All-weaker (AreAmong locations) (AreAmong more) (λ g among. All-weaker (IsAmong locations) (IsAmong more) (λ a i. location_there.stay a.spot.location i) g.kept.items among) groups (are (let longer = location_there.longer in omega (arith, longer, few)))
-
-    in_mid : All (AreAmong more) mid
-    in_mid = λ k d lt. elim (found.from (get_or mid k d) (Contains-get_or mid k d lt)) [
-      | inl stays ↦ All-contains (AreAmong more) groups (get_or mid k d) before stays
-      | inr none ↦ subst (λ (l : List KeptAccess). All (IsAmong more) l) (sym none) (All-nil (IsAmong more))
-    ]
-
-    of_was : AreAmong more was
-    of_was = All-contains (AreAmong more) mid was in_mid (member_at mid at was at_was)
-
-    pushed : All (IsAmong more) (was.kept.items ++ access ∷ [])
-    pushed = All-push (IsAmong more) was.kept.items access of_was (location_there.there few)
-
-    of_now : AreAmong more now
-    of_now = elim h.items [
-      | inl all ↦ subst (λ (l : List KeptAccess). All (IsAmong more) l) (sym all) pushed
-      | inr (inl one) ↦ subst (λ (l : List KeptAccess). All (IsAmong more) l) (sym one.items) (All-push (IsAmong more) (remove was.kept.items one.at) access (all_remove (IsAmong more) was.kept.items one.at (slice_get_within was.kept.items one.at one.gone one.there) of_was) (location_there.there few))
-      | inr (inr some) ↦ subst (λ (l : List KeptAccess). All (IsAmong more) l) (sym some.items) (All-filter (is_newest_kept some.newest x was.thread was.writes) (IsAmong more) (was.kept.items ++ access ∷ []) pushed)
-    ]

@@ -19,17 +19,13 @@ use Rattle.shb_nearest.specs.Groups.{AreGroups, class_of}
 use Rattle.shb_nearest.specs.Late.{AreLate, IsAlike, IsBefore, IsLate, IsLateIn, access_in}
 use Rattle.shb_nearest.proofs.ClassLemmas.{class_own, class_variable, newest_before, one_class_at}
 use Rattle.shb_nearest.proofs.GroupLemmas.{groups_until}
-use Rattle.shb_nearest.proofs.Members.{all_remove, index_of, member_at, member_remove}
+use Rattle.shb_nearest.proofs.Members.{all_remove, index_of, member_at, member_remove, middle}
 
 abbrev pub no_access : Late
 no_access = record { event = 0; thread = 0; time = 0; location = 0; writes = false; barred = false }
 
 -- the element between two lists
 module _ {X : Type 0} where
-  pub middle : (p : List X) (a : X) (q : List X) → slice_get (p ++ a ∷ q) (length p) ≡ Some a
-  middle [] a q = refl
-  middle (b ∷ p) a q = middle p a q
-
   middle_before : (R : X → X → Type 0) (p : List X) (a : X) (q : List X) → AllPairs R (p ++ a ∷ q) → (b : X) → Contains q b → R a b
   middle_before R [] a q all b there = subst (λ (c : X). R a c) there.2 (let low = there.1 in all zero (suc there.0) b (omega arith) (omega (arith, low)))
   middle_before R (c ∷ p) a q all b there = middle_before R p a q (λ i j d lt within. all (suc i) (suc j) d (omega (arith, lt)) (omega (arith, within))) b there

@@ -10,5 +10,6 @@ pub mod NearestLaws
 pub mod PlaceLemmas
 pub mod PlaceTable
 pub mod RivalLemmas
+pub mod SiteLemmas
 pub mod StepLemmas
 pub mod TableLemmas

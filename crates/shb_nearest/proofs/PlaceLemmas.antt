@@ -1,28 +1,29 @@
 -- The places of the races so far, after an access more.
-use Rattle.std.proofs.Common.{◌≡◌, ℕ, ◌+◌, ◌<◌, ◌≤◌, ◌⊎◌, inl, inr, Bool, List, [], None, Some, arith, refl, sym, ap, subst, ◌∙◌}
+use Rattle.std.proofs.Common.{◌≡◌, ℕ, ◌+◌, ◌<◌, ◌≤◌, ◌⊎◌, inl, inr, Bool, List, None, Some, get_or, arith, refl, sym, ap, subst, ◌∙◌}
 use Rattle.std.specs.Prelude.{All, option_and_then}
+use Rattle.std.proofs.lemmas.List.Elements.{Contains-get_or}
 use Rattle.std.proofs.lemmas.Bool.{cases_lt}
-use Rattle.std.proofs.lemmas.List.Elements.{All-contains}
 use Rattle.shb_lines.specs.declared.event.Event.{Event}
 use Rattle.shb_lines.specs.events.Discipline.{IsDisciplined}
 use Rattle.shb_lines.specs.events.Events.{op_at, thread_at, variable_of}
 use Rattle.shb_lines.specs.events.Order.{BelowPred, ShbBelow, here, step}
 use Rattle.shb_lines.specs.events.Race.{Race, variable_at}
 use Rattle.shb_lines.proofs.events.Schedulable.{below_pred_closed, thread_below_pred}
-use Rattle.shb_lines.proofs.events.Increasing.{contains_none}
 use Rattle.shb_stamps.proofs.Sources.{strictly_below_below}
 use Rattle.shb_nearest.specs.declared.access.FoundAccess.{FoundAccess}
 use Rattle.shb_nearest.specs.declared.access.FoundRace.{FoundRace}
 use Rattle.shb_nearest.specs.declared.access.Spot.{Spot}
-use Rattle.shb_nearest.specs.declared.groups.Group.{Group}
+use Rattle.shb_nearest.specs.declared.groups.Groups.{Groups}
 use Rattle.shb_nearest.specs.declared.places.Place.{Place}
 use Rattle.shb_nearest.specs.Found.{IsFoundAccess, location_in}
-use Rattle.shb_nearest.specs.Groups.{AreAmong, AreGroups, IsSince}
-use Rattle.shb_nearest.specs.Places.{AreKnown, ArePlaces, IsAtPlace, IsKnown, IsNearestAt, PlaceEntry, offered_all, place_of, race_at, race_with, variable_part}
+use Rattle.shb_nearest.specs.Groups.{IsSince}
+use Rattle.shb_nearest.specs.Places.{ArePlaces, IsAtPlace, IsKnown, IsNearestAt, PlaceEntry, offered_all, place_of, race_at, race_with, variable_part}
 use Rattle.shb_nearest.specs.Rivals.{AreRivals}
 use Rattle.shb_nearest.proofs.ClassLemmas.{location_of_access}
 use Rattle.shb_nearest.proofs.PlaceTable.{AreOffered, IsCome, offered_are, place_with}
-use Rattle.shb_nearest.proofs.RivalLemmas.{location_among, variable_is}
+use Rattle.shb_nearest.proofs.RivalLemmas.{variable_is}
+use Rattle.shb_nearest.specs.Sites.{HaveSites, place_at}
+use Rattle.shb_nearest.proofs.SiteLemmas.{settled_known}
 
 below_pred_path : (trace : List Event) (a b e : ℕ) → ShbBelow trace a b → BelowPred trace b e → BelowPred trace a e
 below_pred_path trace a b e here below = below
@@ -69,7 +70,7 @@ module _ (by_variable : Bool) (trace : List Event) (disciplined : IsDisciplined 
 
 module _ (by_variable : Bool) (trace : List Event) (disciplined : IsDisciplined trace) (spots : List Spot) (x n : ℕ) (access : FoundAccess) (at_n : access.event ≡ n) (own : IsFoundAccess trace spots x access) (since : ℕ)
     (old : List PlaceEntry) (are : ArePlaces by_variable trace spots n old) (early_known : (i l : ℕ) → Race trace i access.event → location_in spots i ≡ Some l → i < since → IsKnown old (place_with l access.spot.location (variable_part by_variable x)))
-    (rivals : List FoundAccess) (rivals_are : AreRivals trace spots x access since rivals) where
+    (groups : Groups) (sites : HaveSites by_variable x old groups) (rivals : List FoundAccess) (rivals_are : AreRivals trace spots x groups access since rivals) where
   come : AreOffered by_variable old x access rivals (offered_all by_variable x access old rivals)
   come = offered_are by_variable old x access (λ p r at. (let past = (are.each p r at).past in omega (arith, past, at_n))) rivals
 
@@ -124,10 +125,10 @@ module _ (by_variable : Bool) (trace : List Event) (disciplined : IsDisciplined 
       last k race at_k = elim (cases_lt k since) [
         | inl low ↦ absurd (never (early_known k h.first.spot.location race at_k low))
         | inr high ↦ (
-            let a = rivals_are.each k h.first.spot.location race at_k high in
-            let le = h.greatest a.0 a.1 a.2 in
-            let more = a.3 in
-            omega (arith, le, more))
+            elim (rivals_are.each k h.first.spot.location race at_k high) [
+              | inl a ↦ (let le = h.greatest a.0 a.1 a.2 in let more = a.3 in omega (arith, le, more))
+              | inr settled ↦ absurd (never (settled_known by_variable x old groups h.first.spot.location access.spot.location sites settled))
+            ])
       ]
 
       nearest : (k l : ℕ) → l < n + 1 → Race trace k l → IsAtPlace by_variable trace spots (place_from h.first.spot.location) k l → (access.event < l) ⊎ ((access.event ≡ l) × (k ≤ h.first.event))
@@ -135,6 +136,13 @@ module _ (by_variable : Bool) (trace : List Event) (disciplined : IsDisciplined 
         | inl low ↦ absurd (never (are.known (place_from h.first.spot.location) k l low race at))
         | inr high ↦ (let same : access.event ≡ l = omega (arith, at_n, high, within) in inr (same, last k (subst (λ (m : ℕ). Race trace k m) (sym same) race) at.first_is))
       ]
+
+  -- what was known stays so, and the places of the rivals are known
+  pub placed_stay : (p : Place) → IsKnown old p → IsKnown (offered_all by_variable x access old rivals) p
+  placed_stay p h = (h.0, come.stay p h.0 h.1)
+
+  pub placed_rivals : All (λ (a : FoundAccess). IsKnown (offered_all by_variable x access old rivals) (place_at by_variable x a.spot.location access.spot.location)) rivals
+  placed_rivals k d lt = come.known (get_or rivals k d) (Contains-get_or rivals k d lt)
 
   pub placed : ArePlaces by_variable trace spots (n + 1) (offered_all by_variable x access old rivals)
   placed = record {
@@ -152,9 +160,10 @@ module _ (by_variable : Bool) (trace : List Event) (disciplined : IsDisciplined 
       here_known i l race at = elim (cases_lt i since) [
         | inl low ↦ stays (place_from l) (early_known i l race at low)
         | inr high ↦ (
-            let a = rivals_are.each i l race at high in
-            let k = come.known a.0 a.1 in
-            (k.0, subst (λ (m : ℕ). race_at (offered_all by_variable x access old rivals) (place_from m) ≡ Some k.0) a.2 k.1))
+            elim (rivals_are.each i l race at high) [
+              | inl a ↦ (let k = come.known a.0 a.1 in (k.0, subst (λ (m : ℕ). race_at (offered_all by_variable x access old rivals) (place_from m) ≡ Some k.0) a.2 k.1))
+              | inr settled ↦ stays (place_from l) (settled_known by_variable x old groups l access.spot.location sites settled)
+            ])
       ]
 
       known : (p : Place) (i j : ℕ) → j < n + 1 → Race trace i j → IsAtPlace by_variable trace spots p i j → (race : FoundRace) × (race_at (offered_all by_variable x access old rivals) p ≡ Some race)
@@ -166,19 +175,3 @@ module _ (by_variable : Bool) (trace : List Event) (disciplined : IsDisciplined 
             subst (λ (q : Place). (r : FoundRace) × (race_at (offered_all by_variable x access old rivals) q ≡ Some r)) (from_location p i here)
             (here_known i p.first (subst (λ (k : ℕ). Race trace i k) (sym same) race) here.first_is))
       ]
-
--- the places, where each race with the access is at a known one: those of locations that have all that the groups keep
-pub placed_known : (by_variable : Bool) (trace : List Event) → IsDisciplined trace → (spots : List Spot) (x n : ℕ) (access : FoundAccess) → access.event ≡ n → IsFoundAccess trace spots x access → (old : List PlaceEntry) → ArePlaces by_variable trace spots n old
-    → (groups : List Group) (locations : List ℕ) → AreGroups trace spots x (n + 1) (n + 1) groups → All (AreAmong locations) groups → AreKnown by_variable x access.spot.location old locations → ArePlaces by_variable trace spots (n + 1) old
-placed_known by_variable trace disciplined spots x n access at_n own old are groups locations groups_are among known = placed by_variable trace disciplined spots x n access at_n own n old are (λ i l race at lt. here_known i l race at) [] (record {
-  races = λ a there. absurd (contains_none a there);
-  each = λ i l race at from. absurd (let lt = race.earlier in omega (arith, lt, from, at_n));
-})
-  where
-    here_known : (i l : ℕ) → Race trace i access.event → location_in spots i ≡ Some l → IsKnown old (place_with l access.spot.location (variable_part by_variable x))
-    here_known i l race at =
-        let conflict = race.conflict in
-        let before = race.earlier in
-        let one : conflict.variable ≡ x = (let s : Some conflict.variable ≡ Some x = sym conflict.second_accesses ∙ variable_is trace spots x access own in cc) in
-        All-contains (λ (m : ℕ). IsKnown old (place_with m access.spot.location (variable_part by_variable x))) locations l known
-        (location_among trace spots x access own groups locations (n + 1) groups_are among i l (omega (arith, before, at_n)) (conflict.first_accesses ∙ ap (λ (y : ℕ). Some y) one) at)

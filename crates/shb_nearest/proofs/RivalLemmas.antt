@@ -1,8 +1,11 @@
 -- The accesses that race with the next one, from what the groups keep.
 use Rattle.std.proofs.Common.{◌≡◌, ◌≢◌, ℕ, suc, ◌+◌, ◌-◌, ◌<◌, ◌≤◌, ◌⊎◌, inl, inr, Bool, true, false, List, [], ◌∷◌, ◌++◌, Some, map, drop, take, get_or, arith, refl, sym, ap, subst, ◌∙◌}
-use Rattle.std.specs.Prelude.{All, Contains, option_and_then, slice_get}
+use Rattle.shb_numbers.specs.Numbers.{Numbers}
+use Rattle.std.specs.Global.{Global}
+use Rattle.shb_nearest.specs.declared.sites.Sites.{Sites}
+use Rattle.std.specs.Prelude.{Box, Contains, option_and_then, slice_get}
 use Rattle.std.proofs.Math.Seq.{take-suc}
-use Rattle.std.proofs.lemmas.Bool.{cases_eq, cases_lt}
+use Rattle.std.proofs.lemmas.Bool.{cases_Bool, cases_eq, cases_lt}
 use Rattle.std.proofs.lemmas.List.Elements.{All-contains, All-weaker, Contains-push_cases}
 use Rattle.std.proofs.lemmas.Option.{get_or_from_slice_get, slice_get-get_or, slice_get_within}
 use Rattle.shb_lines.specs.declared.event.Event.{Event}
@@ -20,10 +23,12 @@ use Rattle.shb_nearest.specs.declared.access.FoundAccess.{FoundAccess}
 use Rattle.shb_nearest.specs.declared.access.Spot.{Spot}
 use Rattle.shb_nearest.specs.declared.classes.Class.{Class}
 use Rattle.shb_nearest.specs.declared.groups.Group.{Group}
+use Rattle.shb_nearest.specs.declared.groups.Groups.{Groups}
 use Rattle.shb_nearest.specs.declared.groups.KeptAccess.{KeptAccess}
 use Rattle.shb_nearest.specs.declared.groups.Run.{Run}
 use Rattle.shb_nearest.specs.Found.{IsFoundAccess, access_op, location_in}
-use Rattle.shb_nearest.specs.Groups.{AreAmong, AreGroups, IsAmong, IsGroup, IsKept, IsRun, access_of}
+use Rattle.shb_nearest.specs.Groups.{AreGroups, IsGroup, IsKept, IsRun, access_of}
+use Rattle.shb_nearest.specs.Sites.{AreMarked, IsDone, IsIn, IsSettled, of_group, of_kind}
 use Rattle.shb_nearest.specs.Rivals.{AreMet, AreRivals, CanRace, HasMet, HasMetGroup, IsCovered, IsOver}
 use Rattle.shb_nearest.proofs.ClassLemmas.{kind_at, newest_after, newest_exists, op_variable}
 use Rattle.shb_nearest.proofs.Members.{index_of, member_drop, member_map, member_of_drop, member_of_map}
@@ -71,8 +76,8 @@ module _ (trace : List Event) (spots : List Spot) (x : ℕ) where
     }
 
     -- a group that has the access already: nothing is met where nothing can race
-    pub met_none : (group : Group) → IsGroup trace spots x (access.event + 1) group → (since : ℕ) (old : List FoundAccess) → (CanRace group access → ⊥) → HasMetGroup trace spots x access since group old old
-    met_none group kept since old cannot = record {
+    pub met_none : (group : Group) → IsGroup trace spots x (access.event + 1) group → (groups : Groups) (since : ℕ) (old : List FoundAccess) → (CanRace group access → ⊥) → HasMetGroup trace spots x groups access since group old old
+    met_none group kept groups since old cannot = record {
       stay = λ a there. there;
       from = λ a there. inl there;
       met = λ a there from race. absurd (cannot (can_where group (access_of group.thread group.writes a) (All-contains (IsKept trace spots x (access.event + 1) group.thread group.writes) group.kept.items a kept.each there).own refl refl race));
@@ -140,8 +145,8 @@ module _ (trace : List Event) (spots : List Spot) (x : ℕ) where
             ]
 
         -- what was looked at is what races
-        pub met_some : (since : ℕ) (old new : List FoundAccess) → CanRace group access → HasMet group below since old new → HasMetGroup trace spots x access since group old new
-        met_some since old new can h = record {
+        pub met_some : (groups : Groups) (since : ℕ) (old new : List FoundAccess) → CanRace group access → HasMet groups access.spot.location group below since old new → HasMetGroup trace spots x groups access since group old new
+        met_some groups since old new can h = record {
           stay = h.more.stay;
           from = λ a there. elim (h.more.from a there) [
             | inl before ↦ inl before
@@ -175,8 +180,8 @@ module _ (trace : List Event) (spots : List Spot) (x : ℕ) where
                 ]
 
     -- none where no other thread accessed the variable
-    pub no_rivals : (run : Run) (since : ℕ) → access.thread ≡ run.thread → run.start ≤ since → IsRun trace x access.event run → AreRivals trace spots x access since []
-    no_rivals run since same from is = record {
+    pub no_rivals : (run : Run) (groups : Groups) (since : ℕ) → access.thread ≡ run.thread → run.start ≤ since → IsRun trace x access.event run → AreRivals trace spots x groups access since []
+    no_rivals run groups since same from is = record {
       races = λ a there. absurd (contains_none a there);
       each = λ i l race at later. absurd (
           let c = race.conflict in
@@ -186,41 +191,59 @@ module _ (trace : List Event) (spots : List Spot) (x : ℕ) where
     }
 
     -- no group so far
-    pub met_start : (since : ℕ) → AreMet trace spots x access since [] []
-    met_start since = record {
+    pub met_start : (all : Groups) (since : ℕ) → AreMet trace spots x all access since [] []
+    met_start all since = record {
       races = λ a there. absurd (contains_none a there);
       met = λ g a there. absurd (contains_none g there);
     }
 
+    settled_by : (all : Groups) (sites : Box Sites Global) → all.sites ≡ Some sites → (numbers : Numbers) (since l e : ℕ) → IsDone sites.value.all.items numbers access.spot.location since → IsIn sites.value.all.items numbers l e → since ≤ e → IsSettled all l access.spot.location
+    settled_by all sites is numbers since l e done found from = record { sites = sites; sites_are = is; pair = done.pairs l e found from }
+
+    -- a group whose sites are done
+    pub met_done : (all : Groups) (at since : ℕ) (group : Group) (old : List FoundAccess) → AreMarked all → slice_get all.each.items at ≡ Some group → (sites : Box Sites Global) → all.sites ≡ Some sites → IsDone sites.value.all.items (of_group sites.value at) access.spot.location since → HasMetGroup trace spots x all access since group old old
+    met_done all at since group old marked there sites is done = record {
+      stay = λ a covered. covered;
+      from = λ a among. inl among;
+      met = λ a among from race. inr (settled_by all sites is (of_group sites.value at) since a.spot.location a.event done (marked sites is at group there done.few a among).group from);
+    }
+
+    -- all groups, where the sites of both kinds are done
+    pub met_all : (all : Groups) (since n m : ℕ) → AreMarked all → AreGroups trace spots x n m all.each.items → (sites : Box Sites Global) → all.sites ≡ Some sites → IsDone sites.value.all.items sites.value.writes access.spot.location since
+        → (access.writes ≡ true → (more : Box Sites Global) × (all.sites ≡ Some more) × IsDone more.value.all.items more.value.reads access.spot.location since) → AreMet trace spots x all access since all.each.items []
+    met_all all since n m marked are sites is writes reads = record {
+      races = λ a there. absurd (contains_none a there);
+      met = λ g a there among from race. inr (
+          let at = index_of all.each.items g there in
+          let own = (All-contains (IsKept trace spots x n g.thread g.writes) g.kept.items a (All-contains (IsGroup trace spots x n) all.each.items g are.each there).each among).own in
+          let can = can_where g (access_of g.thread g.writes a) own refl refl race in
+          elim (cases_Bool g.writes) [
+            | inl w ↦ settled_by all sites is sites.value.writes since a.spot.location a.event writes (subst (λ (b : Bool). IsIn sites.value.all.items (of_kind sites.value b) a.spot.location a.event) w (marked sites is at.0 g at.1 writes.few a among).kind) from
+            | inr r ↦ (
+                let is_writing : access.writes ≡ true = elim can.one_writes [ inl wrong ↦ absurd (let f : true ≡ false = sym wrong ∙ r in (let c : ⊥ = cc in c)) | inr of_access ↦ of_access ] in
+                let done = reads is_writing in
+                settled_by all done.0 done.1 done.0.value.reads since a.spot.location a.event done.2 (subst (λ (b : Bool). IsIn done.0.value.all.items (of_kind done.0.value b) a.spot.location a.event) r (marked done.0 done.1 at.0 g at.1 done.2.few a among).kind) from)
+          ]);
+    }
+
     -- a group more
-    pub met_more : (since n : ℕ) (groups : List Group) (group : Group) (old new : List FoundAccess) → slice_get groups n ≡ Some group → AreMet trace spots x access since (take n groups) old → HasMetGroup trace spots x access since group old new → AreMet trace spots x access since (take (n + 1) groups) new
-    met_more since n groups group old new at are h = record {
+    pub met_more : (all : Groups) (since n : ℕ) (groups : List Group) (group : Group) (old new : List FoundAccess) → slice_get groups n ≡ Some group → AreMet trace spots x all access since (take n groups) old → HasMetGroup trace spots x all access since group old new → AreMet trace spots x all access since (take (n + 1) groups) new
+    met_more all since n groups group old new at are h = record {
       races = λ a there. elim (h.from a there) [ inl before ↦ are.races a before | inr found ↦ found ];
       met = λ g a there in_group from race. elim (Contains-push_cases (take n groups) group g (subst (λ (l : List Group). Contains l g) more there)) [
-        | inl before ↦ h.stay (access_of g.thread g.writes a) (are.met g a before in_group from race)
-        | inr same ↦ subst (λ (b : Group). IsCovered new (access_of b.thread b.writes a)) same (h.met a (subst (λ (b : Group). Contains b.kept.items a) (sym same) in_group) from race)
+        | inl before ↦ elim (are.met g a before in_group from race) [ inl covered ↦ inl (h.stay (access_of g.thread g.writes a) covered) | inr settled ↦ inr settled ]
+        | inr same ↦ subst (λ (b : Group). IsCovered new (access_of b.thread b.writes a) ⊎ IsSettled all a.spot.location access.spot.location) same (h.met a (subst (λ (b : Group). Contains b.kept.items a) (sym same) in_group) from race)
       ];
     }
       where
         more : take (n + 1) groups ≡ take n groups ++ group ∷ []
         more = (let e : n + 1 ≡ suc n = omega arith in ap (λ (m : ℕ). take m groups) e) ∙ (take-suc groups n group (slice_get_within groups n group at) ∙ ap (λ (b : Group). take n groups ++ b ∷ []) (get_or_from_slice_get groups n group group at))
 
-    -- the location of an earlier access of the variable is one of what the groups keep
-    pub location_among : (groups : List Group) (locations : List ℕ) (n : ℕ) → AreGroups trace spots x n n groups → All (AreAmong locations) groups → (i l : ℕ) → i < n → variable_at trace i ≡ Some x → location_in spots i ≡ Some l → Contains locations l
-    location_among groups locations n are among i l lt accesses at =
-        let e = event_at_access trace i x accesses in
-        let of_i = thread_is trace i e.0 e.1 in
-        let kind = kind_at trace i x accesses in
-        let class : Class = record { variable = x; location = l; thread = e.0.thread; writes = kind.0 } in
-        let new = newest_exists trace spots n class i lt (record { thread_is = of_i; op_is = kind.1; location_is = at }) in
-        let keeps = are.covers class new.0 refl new.1 new.1.past in
-        subst (λ (m : ℕ). Contains locations m) keeps.location_is (All-contains (IsAmong locations) keeps.group.kept.items keeps.kept (All-contains (AreAmong locations) groups keeps.group among keeps.there) keeps.among)
-
     -- all groups: each access that races has a rival at its location that isn't before it
-    pub rivals_are : (since : ℕ) (groups : List Group) (rivals : List FoundAccess) → AreGroups trace spots x (access.event + 1) (access.event + 1) groups → AreMet trace spots x access since groups rivals → AreRivals trace spots x access since rivals
-    rivals_are since groups rivals are met = record { races = met.races; each = each }
+    pub rivals_are : (all : Groups) (since : ℕ) (rivals : List FoundAccess) → AreGroups trace spots x (access.event + 1) (access.event + 1) all.each.items → AreMet trace spots x all access since all.each.items rivals → AreRivals trace spots x all access since rivals
+    rivals_are all since rivals are met = record { races = met.races; each = each }
       where
-        each : (i l : ℕ) → Race trace i access.event → location_in spots i ≡ Some l → since ≤ i → (a : FoundAccess) × Contains rivals a × (a.spot.location ≡ l) × (i ≤ a.event)
+        each : (i l : ℕ) → Race trace i access.event → location_in spots i ≡ Some l → since ≤ i → ((a : FoundAccess) × Contains rivals a × (a.spot.location ≡ l) × (i ≤ a.event)) ⊎ IsSettled all l access.spot.location
         each i l race at from =
             let c = race.conflict in
             let one : c.variable ≡ x = (let s : Some c.variable ≡ Some x = sym c.second_accesses ∙ variable_is access own in cc) in
@@ -239,6 +262,7 @@ module _ (trace : List Event) (spots : List Spot) (x : ℕ) where
               | inr ne ↦ later_same_races trace i k access.event race (is.thread_is ∙ sym of_i) (is.op_is ∙ sym kind.1) (omega (arith, le, ne)) new.1.past
             ] in
             let at_k = keeps.event_is in
-            let covered = met.met keeps.group keeps.kept keeps.there keeps.among (omega (arith, from, le, at_k)) (subst (λ (m : ℕ). Race trace m access.event) (sym at_k) newer) in
-            let later : keeps.kept.event ≤ covered.rival.event = covered.not_before in
-            (covered.rival, covered.there, covered.location_is ∙ keeps.location_is, omega (arith, le, at_k, later))
+            elim (met.met keeps.group keeps.kept keeps.there keeps.among (omega (arith, from, le, at_k)) (subst (λ (m : ℕ). Race trace m access.event) (sym at_k) newer)) [
+              | inl covered ↦ inl (let later = covered.not_before in (covered.rival, covered.there, covered.location_is ∙ keeps.location_is, omega (arith, le, at_k, later)))
+              | inr settled ↦ inr (subst (λ (m : ℕ). IsSettled all m access.spot.location) keeps.location_is settled)
+            ]

@@ -43,7 +43,7 @@ use Rattle.shb_nearest.specs.Wide.{AreMoreVariables}
 use Rattle.shb_nearest.proofs.GroupLemmas.{class_self, group_empty, group_same, groups_next, groups_until, one_class}
 use Rattle.shb_nearest.proofs.ClassLemmas.{class_own, class_variable, class_with, op_variable}
 use Rattle.shb_nearest.proofs.LateLemmas.{late_none, late_skip}
-use Rattle.shb_nearest.proofs.Members.{member_at}
+use Rattle.shb_nearest.proofs.Members.{at_other, member_at}
 use Rattle.shb_nearest.proofs.RivalLemmas.{variable_is, writes_where}
 
 module _ (trace : List Event) (spots : List Spot) where
@@ -92,8 +92,8 @@ module _ (trace : List Event) (spots : List Spot) where
       | inr found ↦ (
           let same = group_same made.group group (sym made.there ∙ there) in
           let is_of : IsOfGroup group access.thread access.writes = subst (λ (g : Group). IsOfGroup g access.thread access.writes) same made.own in
-          let g : IsGroup trace spots x n group = elim (made.from group (member_at mid at group there)) [
-            | inl before ↦ All-contains (IsGroup trace spots x n) groups group are.each before
+          let g : IsGroup trace spots x n group = elim (made.from at group there) [
+            | inl before ↦ All-contains (IsGroup trace spots x n) groups group are.each (member_at groups at group before)
             | inr empty ↦ group_empty trace spots x n n group empty
           ] in
           let k = All-contains (IsKept trace spots x n group.thread group.writes) group.kept.items found.0 g.each found.1 in
@@ -129,7 +129,7 @@ module _ (trace : List Event) (spots : List Spot) where
     -- accesses without one more
     accesses_later : (x : ℕ) (entries : List Entry) (groups : List Groups) (accesses : Accesses) → (variable_at trace n ≡ Some x → ⊥) → AreAccesses trace spots x n entries groups accesses → AreAccesses trace spots x (n + 1) entries groups accesses
     accesses_later x entries groups (Waiting place) never w = record { late = w.late; chain = w.chain; are = late_skip trace spots x n 0 (reverse w.late) never w.are }
-    accesses_later x entries groups (Grouped at) never h = record { groups = h.groups; there = h.there; own = h.own; are = groups_skip x h.groups.each.items never h.are; locations = h.locations }
+    accesses_later x entries groups (Grouped at) never h = record { groups = h.groups; there = h.there; own = h.own; are = groups_skip x h.groups.each.items never h.are }
 
     -- accesses of a variable beside one that waits more, and beside one that comes to groups
     pub beside_waiting : (x : ℕ) (old new : List Entry) (groups : List Groups) → StayWaiting trace spots x old new → (y : ℕ) → y ≢ x → (accesses : Accesses) → AreAccesses trace spots y n old groups accesses → AreAccesses trace spots y n new groups accesses
@@ -138,7 +138,7 @@ module _ (trace : List Event) (spots : List Spot) where
 
     pub beside_groups : (x : ℕ) (entries : List Entry) (old new : List Groups) → StayGroups x old new → (y : ℕ) → y ≢ x → (accesses : Accesses) → AreAccesses trace spots y n entries old accesses → AreAccesses trace spots y n entries new accesses
     beside_groups x entries old new stay y other (Waiting place) w = w
-    beside_groups x entries old new stay y other (Grouped at) h = record { groups = h.groups; there = stay at h.groups (λ same. other (sym h.own ∙ same)) h.there; own = h.own; are = h.are; locations = h.locations }
+    beside_groups x entries old new stay y other (Grouped at) h = record { groups = h.groups; there = stay at h.groups (λ same. other (sym h.own ∙ same)) h.there; own = h.own; are = h.are }
 
     -- no groups, of no access
     pub none_grouped : (x : ℕ) (groups : List Group) → groups ≡ [] → AreGroups trace spots x 0 n groups
@@ -237,6 +237,7 @@ module _ (trace : List Event) (spots : List Spot) where
       };
       short = ((let low = are.short.0 in omega (arith, low)), (let low = are.short.1 in omega (arith, low)));
       places = places_later by_variable tables.places.races.entries (λ i race. no_race i n op is none race) are.places;
+      sites = are.sites;
     }
       where
         no_access : (x : ℕ) → variable_at trace n ≡ Some x → ⊥
@@ -267,3 +268,8 @@ time_next trace disciplined t j count time of_j few counted is =
     let most = count_by-le-length (is_of t) (take j trace) in
     let long = length-take j trace in
     omega (arith, own, same, is, most, long, few)
+
+-- the groups of a variable changed
+pub stay_groups : (trace : List Event) (spots : List Spot) (x n : ℕ) (each : List Groups) (at : ℕ) (new : Groups) → HaveGroups trace spots x n each at → StayGroups x each (set each at new)
+stay_groups trace spots x n each at new have k groups other there = at_other each at k new groups
+    (λ same. other (let s : Some groups ≡ Some have.groups = sym there ∙ (ap (slice_get each) same ∙ have.there) in subst (λ (g : Groups). g.variable ≡ x) (let e : have.groups ≡ groups = cc in e) have.own)) there

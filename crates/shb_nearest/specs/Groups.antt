@@ -1,6 +1,6 @@
 -- The accesses that are kept of a variable, by thread and kind.
 use Rattle.std.specs.List.{remove}
-use Rattle.std.specs.Prelude.{◌≡◌, ◌⊎◌, ◌<◌, ◌≤◌, ◌++◌, ◌∷◌, ℕ, Bool, List, [], Some, All, AllPairs, Contains, filter, length, slice_get}
+use Rattle.std.specs.Prelude.{◌≡◌, ◌⊎◌, ◌<◌, ◌≤◌, ◌++◌, ◌∷◌, ℕ, Bool, List, [], Some, All, AllPairs, Contains, filter, slice_get}
 use Rattle.shb_lines.specs.declared.event.Event.{Event}
 use Rattle.shb_lines.specs.events.Discipline.{local_time}
 use Rattle.shb_lines.specs.events.Events.{thread_at}
@@ -11,7 +11,6 @@ use Rattle.shb_nearest.specs.declared.access.FoundAccess.{FoundAccess}
 use Rattle.shb_nearest.specs.declared.access.Spot.{Spot}
 use Rattle.shb_nearest.specs.declared.classes.Class.{Class}
 use Rattle.shb_nearest.specs.declared.groups.Group.{Group}
-use Rattle.shb_nearest.specs.declared.groups.Groups.{Groups}
 use Rattle.shb_nearest.specs.declared.groups.KeptAccess.{KeptAccess}
 use Rattle.shb_nearest.specs.declared.groups.Run.{Run}
 
@@ -65,7 +64,7 @@ pub record HasGroupAt (old new : List Group) (thread : ℕ) (writes : Bool) (at 
   pub there : slice_get new at ≡ Some group
   pub own : IsOfGroup group thread writes
   pub stay : (g : Group) → Contains old g → Contains new g
-  pub from : (g : Group) → Contains new g → Contains old g ⊎ (g.kept.items ≡ [])
+  pub from : (k : ℕ) (g : Group) → slice_get new k ≡ Some g → (slice_get old k ≡ Some g) ⊎ (g.kept.items ≡ [])
 
 -- whether a kept access is the newest of its class
 abbrev pub is_newest_kept : List (Class × ℕ) → ℕ → ℕ → Bool → KeptAccess → Bool
@@ -93,27 +92,6 @@ pub record HasReplaced (access : KeptAccess) (old new : List KeptAccess) : Type 
 pub record HasKept (x : ℕ) (access : KeptAccess) (old new : Group) : Type 0 where
   pub own : IsOfGroup new old.thread old.writes
   pub items : (new.kept.items ≡ old.kept.items ++ access ∷ []) ⊎ (HasReplaced access old.kept.items new.kept.items ⊎ HasForgotten x old.thread old.writes (old.kept.items ++ access ∷ []) new.kept.items)
-
--- a location came to others, unless they are more than a few
-pub record HasLocation (old new : List ℕ) (location : ℕ) : Type 0 where
-  pub longer : length old ≤ length new
-  pub stay : (l : ℕ) → Contains old l → Contains new l
-  pub there : length new ≤ 16 → Contains new location
-
--- the location of a kept access is among some
-abbrev pub IsAmong : List ℕ → KeptAccess → Type 0
-IsAmong locations kept = Contains locations kept.spot.location
-
--- those of what a group keeps are
-abbrev pub AreAmong : List ℕ → Group → Type 0
-AreAmong locations group = All (IsAmong locations) group.kept.items
-
--- the locations have the locations of what the groups keep, if they are few
-abbrev pub AreLocations : List ℕ → List Group → Type 0
-AreLocations locations groups = length locations ≤ 16 → All (AreAmong locations) groups
-
-abbrev pub HasLocations : Groups → Type 0
-HasLocations groups = AreLocations groups.locations.items groups.each.items
 
 -- an access of the kept ones at a location, or 0
 abbrev pub IsAt : List KeptAccess → ℕ → ℕ → Type 0

@@ -4,7 +4,7 @@ use Rattle.shb_lines.specs.declared.event.Event.{Event}
 use Rattle.shb_lines.specs.events.Discipline.{local_time}
 use Rattle.shb_nearest.specs.Classes.{IsNewestOf}
 use Rattle.shb_nearest.specs.Found.{IsFoundAccess}
-use Rattle.shb_nearest.specs.Groups.{AreGroups, HasLocations, class_of}
+use Rattle.shb_nearest.specs.Groups.{AreGroups, class_of}
 use Rattle.shb_nearest.specs.declared.access.FoundAccess.{FoundAccess}
 use Rattle.shb_nearest.specs.declared.access.Spot.{Spot}
 use Rattle.shb_nearest.specs.declared.classes.Class.{Class}
@@ -85,7 +85,6 @@ pub record HaveGroups (trace : List Event) (spots : List Spot) (x n : ℕ) (each
   pub there : slice_get each at ≡ Some groups
   pub own : groups.variable ≡ x
   pub are : AreGroups trace spots x n n groups.each.items
-  pub locations : HasLocations groups
 
 -- the groups of other variables stay
 abbrev pub StayGroups : ℕ → List Groups → List Groups → Type 0

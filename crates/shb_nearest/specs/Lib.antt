@@ -5,6 +5,7 @@ pub mod Groups
 pub mod Late
 pub mod Rivals
 pub mod Places
+pub mod Sites
 pub mod Searched
 pub mod Wide
 pub mod Sorted

@@ -1,5 +1,5 @@
 -- The places that are found, with the nearest race of each.
-use Rattle.std.specs.Prelude.{All, ◌≡◌, ◌⊎◌, ◌==◌, ◌&&◌, ◌<◌, ◌≤◌, nat_eq, nat_lt, ℕ, Bool, true, cond, List, Option, None, Some, fold, if◌then◌else◌}
+use Rattle.std.specs.Prelude.{◌≡◌, ◌⊎◌, ◌==◌, ◌&&◌, ◌<◌, ◌≤◌, nat_eq, nat_lt, ℕ, Bool, true, cond, List, Option, None, Some, fold, if◌then◌else◌}
 use Rattle.std.specs.Map.{lookup}
 use Rattle.indexmap.specs.IndexMap.{insert_entry}
 use Rattle.shb_lines.specs.declared.event.Event.{Event}
@@ -35,10 +35,6 @@ is_nearer known race = elim known [ None ↦ true | Some old ↦ (old.second.eve
 -- at a place there is a race that is known
 abbrev pub IsKnown : List PlaceEntry → Place → Type 0
 IsKnown entries place = (race : FoundRace) × (race_at entries place ≡ Some race)
-
--- the places are known of accesses of a variable at some locations, each with a later one at a location
-abbrev pub AreKnown : Bool → ℕ → ℕ → List PlaceEntry → List ℕ → Type 0
-AreKnown by_variable x second entries locations = All (λ l. IsKnown entries (record { first = l; second = second; variable = variable_part by_variable x })) locations
 
 -- the places after a race is offered to its place
 abbrev pub offered : Bool → List PlaceEntry → FoundRace → List PlaceEntry

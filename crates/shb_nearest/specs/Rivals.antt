@@ -9,7 +9,9 @@ use Rattle.shb_nearest.specs.Found.{IsFoundAccess, location_in}
 use Rattle.shb_nearest.specs.Groups.{access_of}
 use Rattle.shb_nearest.specs.declared.access.FoundAccess.{FoundAccess}
 use Rattle.shb_nearest.specs.declared.access.Spot.{Spot}
+use Rattle.shb_nearest.specs.Sites.{IsSettled}
 use Rattle.shb_nearest.specs.declared.groups.Group.{Group}
+use Rattle.shb_nearest.specs.declared.groups.Groups.{Groups}
 use Rattle.shb_nearest.specs.declared.groups.KeptAccess.{KeptAccess}
 
 -- the kept access, and so each before it, needs no look: it is one of the first `below` events of its thread, or before `since`
@@ -39,11 +41,17 @@ pub record HasAdded (old new added : List FoundAccess) : Type 0 where
   pub from : (a : FoundAccess) → Contains new a → Contains old a ⊎ Contains added a
   pub covers : (a : FoundAccess) → Contains added a → IsCovered new a
 
+-- the same, where those may be left out too whose place with a later access at a location is known
+pub record HasAddedSome (groups : Groups) (second : ℕ) (old new added : List FoundAccess) : Type 0 where
+  pub stay : (a : FoundAccess) → IsCovered old a → IsCovered new a
+  pub from : (a : FoundAccess) → Contains new a → Contains old a ⊎ Contains added a
+  pub covers : (a : FoundAccess) → Contains added a → IsCovered new a ⊎ IsSettled groups a.spot.location second
+
 -- what a group keeps after the last one that needs no look came to the rivals
-pub record HasMet (group : Group) (below since : ℕ) (old new : List FoundAccess) : Type 0 where
+pub record HasMet (groups : Groups) (second : ℕ) (group : Group) (below since : ℕ) (old new : List FoundAccess) : Type 0 where
   pub from : ℕ
   pub from_is : IsFrom group.kept.items below since from
-  pub more : HasAdded old new (map (access_of group.thread group.writes) (drop from group.kept.items))
+  pub more : HasAddedSome groups second old new (map (access_of group.thread group.writes) (drop from group.kept.items))
 
 -- accesses of the group are of another thread than the access, and one of both writes
 pub record CanRace (group : Group) (access : FoundAccess) : Type 0 where
@@ -58,18 +66,18 @@ pub record IsNextAccess (past : List Event) (e : Event) (spots : List Spot) (x :
   pub thread_is : e.thread ≡ access.thread
   pub own : IsFoundAccess (past ++ e ∷ []) spots x access
 
--- what a group keeps from `since` on that races with the access came to the rivals, and nothing that doesn't race
-pub record HasMetGroup (trace : List Event) (spots : List Spot) (x : ℕ) (access : FoundAccess) (since : ℕ) (group : Group) (old new : List FoundAccess) : Type 0 where
+-- what a group keeps from `since` on that races with the access came to the rivals, or its place is known, and nothing that doesn't race
+pub record HasMetGroup (trace : List Event) (spots : List Spot) (x : ℕ) (groups : Groups) (access : FoundAccess) (since : ℕ) (group : Group) (old new : List FoundAccess) : Type 0 where
   pub stay : (a : FoundAccess) → IsCovered old a → IsCovered new a
   pub from : (a : FoundAccess) → Contains new a → Contains old a ⊎ (IsFoundAccess trace spots x a × Race trace a.event access.event)
-  pub met : (a : KeptAccess) → Contains group.kept.items a → since ≤ a.event → Race trace a.event access.event → IsCovered new (access_of group.thread group.writes a)
+  pub met : (a : KeptAccess) → Contains group.kept.items a → since ≤ a.event → Race trace a.event access.event → IsCovered new (access_of group.thread group.writes a) ⊎ IsSettled groups a.spot.location access.spot.location
 
 -- the same of several groups
-pub record AreMet (trace : List Event) (spots : List Spot) (x : ℕ) (access : FoundAccess) (since : ℕ) (groups : List Group) (rivals : List FoundAccess) : Type 0 where
+pub record AreMet (trace : List Event) (spots : List Spot) (x : ℕ) (all : Groups) (access : FoundAccess) (since : ℕ) (groups : List Group) (rivals : List FoundAccess) : Type 0 where
   pub races : (a : FoundAccess) → Contains rivals a → IsFoundAccess trace spots x a × Race trace a.event access.event
-  pub met : (g : Group) (a : KeptAccess) → Contains groups g → Contains g.kept.items a → since ≤ a.event → Race trace a.event access.event → IsCovered rivals (access_of g.thread g.writes a)
+  pub met : (g : Group) (a : KeptAccess) → Contains groups g → Contains g.kept.items a → since ≤ a.event → Race trace a.event access.event → IsCovered rivals (access_of g.thread g.writes a) ⊎ IsSettled all a.spot.location access.spot.location
 
--- accesses that race with an access: for each that does, from `since` on, one at its location that isn't before it
-pub record AreRivals (trace : List Event) (spots : List Spot) (x : ℕ) (access : FoundAccess) (since : ℕ) (rivals : List FoundAccess) : Type 0 where
+-- accesses that race with an access: for each that does, from `since` on, one at its location that isn't before it, or its place is known
+pub record AreRivals (trace : List Event) (spots : List Spot) (x : ℕ) (groups : Groups) (access : FoundAccess) (since : ℕ) (rivals : List FoundAccess) : Type 0 where
   pub races : (a : FoundAccess) → Contains rivals a → IsFoundAccess trace spots x a × Race trace a.event access.event
-  pub each : (i l : ℕ) → Race trace i access.event → location_in spots i ≡ Some l → since ≤ i → (a : FoundAccess) × Contains rivals a × (a.spot.location ≡ l) × (i ≤ a.event)
+  pub each : (i l : ℕ) → Race trace i access.event → location_in spots i ≡ Some l → since ≤ i → ((a : FoundAccess) × Contains rivals a × (a.spot.location ≡ l) × (i ≤ a.event)) ⊎ IsSettled groups l access.spot.location

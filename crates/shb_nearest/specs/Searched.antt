@@ -14,6 +14,7 @@ use Rattle.shb_nearest.specs.Groups.{IsRun}
 use Rattle.shb_nearest.specs.Late.{AreAccesses}
 use Rattle.shb_nearest.specs.Nearest.{AreNearest}
 use Rattle.shb_nearest.specs.Places.{ArePlaces}
+use Rattle.shb_nearest.specs.Sites.{HaveAllSites}
 use Rattle.shb_nearest.specs.declared.access.FoundAccess.{FoundAccess}
 use Rattle.shb_nearest.specs.declared.access.FoundRace.{FoundRace}
 use Rattle.shb_nearest.specs.declared.access.Spot.{Spot}
@@ -44,6 +45,7 @@ pub record AreTables (by_variable : Bool) (trace : List Event) (spots : List Spo
   pub variables : AreVariables trace spots n tables.log.entries.items tables.opened.each.items tables.variables.items
   pub short : (length tables.log.entries.items ≤ n) × (length tables.opened.each.items ≤ n)
   pub places : ArePlaces by_variable trace spots n tables.places.races.entries
+  pub sites : HaveAllSites by_variable tables.places.races.entries tables.opened.each.items
 
 -- the event is the next one of a stream, with its operation, and what is found of it if it is an access
 pub record IsNextEvent (past : List Event) (e : Event) (spots : List Spot) (clocks : StreamClocks) (op : Op) (access : FoundAccess) : Type 0 where

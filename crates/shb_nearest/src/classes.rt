@@ -57,6 +57,11 @@ impl Classes {
         }
     }
 
+    /// The keys of the table.
+    pub fn keys(&self) -> HashKeys {
+        self.keys
+    }
+
     /// Puts an access of a class, and answers the one that the table had of it, or 0 where it had none.
     ///
     /// # Errors

@@ -1,18 +1,23 @@
 //! The accesses that are kept of a variable, by thread and kind.
 
-ghost use Rattle.std.specs.Prelude.{AllPairs, Contains, ◌≡◌, ◌<◌, ◌≤◌, ◌+◌, ◌++◌, ◌∷◌, [], ℕ, true, List, IfOk, IfSome, OnOk, Some, filter, length, slice_get};
+ghost use Rattle.std.specs.Prelude.{All, AllPairs, ◌≡◌, ◌<◌, ◌≤◌, ◌+◌, ◌++◌, ◌∷◌, [], ℕ, Bool, true, List, Box, IfOk, IfSome, None, OnOk, Some, filter, length, slice_get};
 ghost use Rattle.shb_lines.specs.declared.event.Event.{Event};
 ghost use Rattle.shb_nearest.specs.Classes.{AreClasses};
 ghost use Rattle.shb_nearest.specs.Found.{IsFoundAccess};
-ghost use Rattle.shb_nearest.specs.Groups.{AreGroups, HasGroupAt, HasKept, HasLast, HasLocation, HasLocations, IsAt, IsEarlier, IsOfGroup, IsRun, IsSince, is_newest_kept};
+ghost use Rattle.shb_nearest.specs.Groups.{AreGroups, HasGroupAt, HasKept, HasLast, IsAt, IsEarlier, IsOfGroup, IsRun, IsSince, is_newest_kept};
 ghost use Rattle.shb_nearest.specs.Late.{IsLate, access_in};
+ghost use Rattle.std.specs.Global.{Global as GlobalData};
+ghost use Rattle.shb_nearest.specs.Places.{IsKnown, PlaceEntry};
+ghost use Rattle.shb_nearest.specs.Sites.{HasNoted, HaveSites, IsDone, IsSettled, of_group, place_at};
 ghost use Rattle.shb_nearest.specs.declared.access.Spot.{Spot as SpotData};
 ghost use Rattle.shb_nearest.specs.declared.groups.KeptAccess.{KeptAccess as KeptData};
+ghost use Rattle.shb_nearest.specs.declared.sites.Sites.{Sites as SitesData};
 
 use crate::access::{FoundAccess, Spot};
 use crate::classes::{Class, Classes};
 use crate::indices::Indices;
 use crate::late::Late;
+use crate::sites::Sites;
 use shb_io::NoMemory;
 use smallvec::SmallVec;
 use std::alloc::Global;
@@ -24,6 +29,8 @@ pub struct KeptAccess {
     /// How many events its thread had, with this one.
     pub time: u32,
     pub spot: Spot,
+    /// The site of its location, where the variable had sites. It is looked at.
+    pub site: u32,
 }
 
 /// Accesses of a variable by one thread, writes or reads, in the order of the stream. The newest one at each location
@@ -50,18 +57,20 @@ pub struct Run {
 pub struct Groups {
     pub variable: u32,
     pub each: Vec<Group>,
-    /// The locations of what they keep, if these are few; else more than a few locations.
-    pub locations: SmallVec<u32, 4>,
+    /// How many accesses were taken in, as long as they are few.
+    pub count: u32,
+    /// The locations of what they keep, from then on.
+    pub sites: Option<Box<Sites>>,
 }
 
 /// A group that keeps so many accesses, or fewer, keeps one for each location: the next one there replaces it.
 const FEW: usize = 64;
 
-/// The locations of what groups keep are noted while they are so few.
-const LOCATIONS: usize = 16;
+/// So many accesses come to the groups of a variable before it has sites.
+const UNSITED: u32 = 32;
 
-/// So many groups for each location are looked at no sooner than it is asked whether all their places are known.
-const MANY: usize = 16;
+/// So many groups are looked at no sooner than it is asked whether all their places are known.
+const MANY: usize = 8;
 
 /// Of some accesses by a thread, of a kind, the last one at each location.
 fn newest_of(
@@ -131,33 +140,6 @@ fn forget(
         };
         classes.is_newest(class, access.event)
     });
-}
-
-/// Whether a location is among some.
-fn is_among(locations: &[u32], location: u32) -> bool
-    ensures { result ≡ true → Contains locations.now location }
-{
-    for known in locations {
-        if *known == location {
-            return true;
-        }
-    }
-    false
-}
-
-/// Adds a location to others, unless they are more than a few.
-fn note_location(locations: &mut SmallVec<u32, 4>, location: u32) -> Result<(), NoMemory>
-    ensures { OnOk result (HasLocation locations.old.items locations.new.items location) }
-{
-    if locations.len() > LOCATIONS {
-        return Ok(());
-    }
-    let known = is_among(locations.as_slice(), location);
-    if known {
-        return Ok(());
-    }
-    locations.push(location)?;
-    Ok(())
 }
 
 impl Run {
@@ -281,23 +263,97 @@ impl Groups {
     pub fn new(alloc: Global, variable: u32) -> Groups
         ensures none { result.each.items ≡ [] }
         ensures own { result.variable ≡ variable }
+        ensures no_sites { result.sites ≡ None }
     {
         Groups {
             variable,
             each: Vec::new(alloc),
-            locations: SmallVec::new(alloc),
+            count: 0,
+            sites: None,
         }
     }
 
-    /// Whether these are many groups of accesses at a few locations.
-    pub fn are_crowded(&self) -> bool
-        ensures { result ≡ true → length self.now.locations.items ≤ 16 }
+    /// Whether each race with an access of what a group keeps from an event on has a known place.
+    pub fn is_done(&self, at: usize, second: u32, since: u32) -> bool
+        ensures { result ≡ true → (sites : Box SitesData GlobalData) × (self.now.sites ≡ Some sites) × IsDone sites.value.all.items (of_group sites.value at) second since }
     {
-        let locations = self.locations.len();
-        if locations > LOCATIONS {
+        match &self.sites {
+            Some(sites) => sites.group_is_done(at, second, since),
+            None => false,
+        }
+    }
+
+    /// Whether no group has to be looked at.
+    pub fn are_done(&self, writes: bool, second: u32, since: u32) -> bool
+        ensures writes { result ≡ true → (sites : Box SitesData GlobalData) × (self.now.sites ≡ Some sites) × IsDone sites.value.all.items sites.value.writes second since }
+        ensures reads { result ≡ true → writes ≡ true → (sites : Box SitesData GlobalData) × (self.now.sites ≡ Some sites) × IsDone sites.value.all.items sites.value.reads second since }
+    {
+        if self.each.len() < MANY {
             return false;
         }
-        self.each.len() / MANY >= locations
+        match &self.sites {
+            Some(sites) => sites.are_done(writes, second, since),
+            None => false,
+        }
+    }
+
+    /// Whether the place of an access with a later one at a location is known.
+    pub fn is_settled(&self, access: KeptAccess, second: u32) -> bool
+        ensures { result ≡ true → IsSettled self.now access.spot.location second }
+    {
+        match &self.sites {
+            Some(sites) => sites.are_paired(access.site, access.spot.location, second),
+            None => false,
+        }
+    }
+
+    /// Keeps in mind that places are known of some accesses with the one that was taken last, at this location.
+    ///
+    /// # Errors
+    ///
+    /// `NoMemory` where a growth was refused.
+    pub fn learn(&mut self, second: u32, rivals: &[FoundAccess]) -> Result<(), NoMemory>
+        ensures each { OnOk result (self.new.each.items ≡ self.old.each.items) }
+        ensures own { OnOk result (self.new.variable ≡ self.old.variable) }
+        ensures sites { (by_variable : Bool) (x : ℕ) (entries : List PlaceEntry) → All (λ a. IsKnown entries (place_at by_variable x a.spot.location second)) rivals.now → HaveSites by_variable x entries self.old → OnOk result (HaveSites by_variable x entries self.new) }
+    {
+        if let Some(sites) = &mut self.sites {
+            sites.learn(second, rivals)?;
+        }
+        Ok(())
+    }
+
+    /// Notes an access that the group at an index is to keep, and answers its site, or any number. When many came, sites are
+    /// made.
+    ///
+    /// # Errors
+    ///
+    /// `NoMemory` where a growth was refused.
+    fn note(
+        &mut self,
+        alloc: Global,
+        classes: &Classes,
+        at: usize,
+        late: Late,
+    ) -> Result<u32, NoMemory>
+        ensures each { OnOk result (self.new.each.items ≡ self.old.each.items) }
+        ensures own { OnOk result (self.new.variable ≡ self.old.variable) }
+        ensures sites { (by_variable : Bool) (x : ℕ) (entries : List PlaceEntry) → HaveSites by_variable x entries self.old → OnOk result (HaveSites by_variable x entries self.new) }
+        ensures noted { OnOk result (HasNoted self.new at late) }
+    {
+        if let Some(sites) = &mut self.sites {
+            let known = sites.note(alloc, at, late.writes, late.location, late.event)?;
+            return Ok(known);
+        }
+        if self.count < UNSITED {
+            self.count += 1;
+            return Ok(0);
+        }
+        let mut sites = Sites::new(alloc, classes.keys());
+        sites.note_all(alloc, self.each.as_slice())?;
+        let site = sites.note(alloc, at, late.writes, late.location, late.event)?;
+        self.sites = Some(Box::new(alloc, sites)?);
+        Ok(site)
     }
 
     /// The index of the group of a thread and a kind, which is made where its index isn't noted.
@@ -313,7 +369,7 @@ impl Groups {
         writes: bool,
     ) -> Result<usize, NoMemory>
         ensures group { IfOk result (HasGroupAt self.old.each.items self.new.each.items thread writes) }
-        ensures locations { OnOk result (self.new.locations.items ≡ self.old.locations.items) }
+        ensures sites { OnOk result (self.new.sites ≡ self.old.sites) }
         ensures own { OnOk result (self.new.variable ≡ self.old.variable) }
     {
         let noted = indices.index(thread, writes) as usize;
@@ -347,12 +403,12 @@ impl Groups {
             → AreClasses trace spots n classes.old.newest.entries → OnOk result (AreClasses trace spots n classes.new.newest.entries) }
         ensures groups { (trace : List Event) (spots : List SpotData) (n : ℕ) → AreGroups trace spots variable late.event n self.old.each.items
             → IsLate trace spots variable late → late.event < n → OnOk result (AreGroups trace spots variable (late.event + 1) n self.new.each.items) }
-        ensures locations { HasLocations self.old → OnOk result (HasLocations self.new) }
+        ensures sites { (by_variable : Bool) (entries : List PlaceEntry) → HaveSites by_variable variable entries self.old → OnOk result (HaveSites by_variable variable entries self.new) }
         ensures own { OnOk result (self.new.variable ≡ self.old.variable) }
     {
-        note_location(&mut self.locations, late.location)?;
         indices.note_all(variable, self.each.as_slice(), late.thread, late.writes)?;
         let at = self.group_at(alloc, indices, late.thread, late.writes)?;
+        let site = self.note(alloc, &*classes, at, late)?;
         let kept = KeptAccess {
             event: late.event,
             time: late.time,
@@ -360,6 +416,7 @@ impl Groups {
                 location: late.location,
                 barred: late.barred,
             },
+            site,
         };
         let Some(group) = self.each.get_mut(at) else {
             return Ok(0);

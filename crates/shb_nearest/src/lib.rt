@@ -28,14 +28,19 @@
 //! (`Rivals`) is offered to the table of places. The earlier access of its class is the last one, where the own group
 //! keeps a few, and it replaces that one; else `classes` has one.
 //!
-//! Where there are many groups and few locations, it is asked first whether the places are known at which the access can
-//! race, one for each location (`know_all`). Then it looks at no group, since a known place has its nearest race.
+//! A variable to whose groups many accesses came has *sites*, its locations (`sites`), and for each of them the set of the
+//! sites of earlier accesses whose place with it is known: they are *paired* with it. An access passes over a kept one
+//! whose site is paired with its own. Each group has the set of the sites of what it keeps: if more than a few of these
+//! accesses need a look, it is asked first whether each site of the set is paired or has no access since the earlier one
+//! of the class of this access. Then the group isn't looked at. If there are many groups, the same is asked of the sites
+//! of all writes and, for a write, of all reads, and then no group is looked at. After its rivals are offered, their
+//! sites are paired with that of the access, unless it was the first there.
 //!
-//! So such an access costs a step for each group of its variable, unless all its places are known, and one for each
-//! kept access that races with it and came after the earlier access of its own class that is found. That is the last
-//! one, but where its group now keeps few accesses and now more: then it can be an older one, or none. A group forgets
-//! those that aren't the last at their location when it keeps more than twice as many as were left the last time, and
-//! more than a few. Memory grows with names, groups, classes and places, and with no events.
+//! So such an access costs a step for each group of its variable, and a short one for each kept access that races with it
+//! and came after the earlier access of its own class that is found, unless all places of the group are known. That is
+//! the last one, but where its group now keeps few accesses and now more: then it can be an older one, or none. A group
+//! forgets those that aren't the last at their location when it keeps more than twice as many as were left the last time,
+//! and more than a few. Memory grows with names, groups, classes and places, and with no events.
 #![tactic(auto)]
 
 mod access;
@@ -49,6 +54,7 @@ mod opened;
 mod places;
 mod rivals;
 mod search;
+mod sites;
 mod tables;
 
 pub use access::{FoundAccess, FoundRace, Spot};

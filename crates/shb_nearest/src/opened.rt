@@ -1,10 +1,12 @@
 //! The groups of the variables of which an access may race.
 
-ghost use Rattle.std.specs.Prelude.{◌≡◌, ◌+◌, ◌≤◌, [], ℕ, List, IfOk, OnOk, length};
+ghost use Rattle.std.specs.Prelude.{◌≡◌, ◌+◌, ◌≤◌, [], ℕ, Bool, List, IfOk, OnOk, length};
 ghost use Rattle.shb_lines.specs.declared.event.Event.{Event};
 ghost use Rattle.shb_nearest.specs.Classes.{AreClasses};
-ghost use Rattle.shb_nearest.specs.Groups.{AreGroups, HasLocations, IsSince};
+ghost use Rattle.shb_nearest.specs.Groups.{AreGroups, IsSince};
 ghost use Rattle.shb_nearest.specs.Late.{AreAccesses, AreLate, HaveGroups, IsLate, StayGroups, access_in};
+ghost use Rattle.shb_nearest.specs.Places.{PlaceEntry};
+ghost use Rattle.shb_nearest.specs.Sites.{HaveAllSites, HaveSites};
 ghost use Rattle.shb_nearest.specs.declared.access.Spot.{Spot as SpotData};
 
 use crate::classes::Classes;
@@ -36,7 +38,7 @@ fn take_all(
         → OnOk result (AreGroups trace spots variable n n groups.new.each.items) }
     ensures classes { (trace : List Event) (spots : List SpotData) (n m : ℕ) → AreGroups trace spots variable m n groups.old.each.items → AreLate trace spots variable n m waiting.now
         → AreClasses trace spots n classes.old.newest.entries → OnOk result (AreClasses trace spots n classes.new.newest.entries) }
-    ensures locations { HasLocations groups.old → OnOk result (HasLocations groups.new) }
+    ensures sites { (by_variable : Bool) (entries : List PlaceEntry) → HaveSites by_variable variable entries groups.old → OnOk result (HaveSites by_variable variable entries groups.new) }
     ensures own { OnOk result (groups.new.variable ≡ groups.old.variable) }
 {
     for late in waiting {
@@ -75,6 +77,7 @@ impl Opened {
         ensures classes { (trace : List Event) (spots : List SpotData) (n : ℕ) → AreAccesses trace spots variable n log.old.entries.items self.old.each.items accesses
             → AreClasses trace spots n self.old.classes.newest.entries → OnOk result (AreClasses trace spots n self.new.classes.newest.entries) }
         ensures others { OnOk result (StayGroups variable self.old.each.items self.new.each.items) }
+        ensures sites { (by_variable : Bool) (entries : List PlaceEntry) → HaveAllSites by_variable entries self.old.each.items → OnOk result (HaveAllSites by_variable entries self.new.each.items) }
         ensures log { log.new.entries.items ≡ log.old.entries.items }
         ensures long { OnOk result (length self.new.each.items ≤ length self.old.each.items + 1) }
     {
@@ -112,6 +115,8 @@ impl Opened {
             → OnOk result (HaveGroups trace spots variable (late.event + 1) self.new.each.items at) }
         ensures others { (trace : List Event) (spots : List SpotData) → HaveGroups trace spots variable late.event self.old.each.items at
             → OnOk result (StayGroups variable self.old.each.items self.new.each.items) }
+        ensures sites { (trace : List Event) (spots : List SpotData) (by_variable : Bool) (entries : List PlaceEntry) → HaveGroups trace spots variable late.event self.old.each.items at
+            → HaveAllSites by_variable entries self.old.each.items → OnOk result (HaveAllSites by_variable entries self.new.each.items) }
         ensures long { OnOk result (length self.new.each.items ≡ length self.old.each.items) }
     {
         let Some(groups) = self.each.get_mut(at as usize) else {

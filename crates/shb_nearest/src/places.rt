@@ -1,9 +1,9 @@
 //! The places that are found, with the nearest race of each.
 
-ghost use Rattle.std.specs.Prelude.{◌≡◌, true, [], IfOk, OnOk, map};
+ghost use Rattle.std.specs.Prelude.{◌≡◌, [], IfOk, OnOk, map};
 ghost use Rattle.std.specs.List.{IsDistinct};
 ghost use Rattle.std.specs.Map.{keys_of, lookup};
-ghost use Rattle.shb_nearest.specs.Places.{AreKnown, IsKnown, is_nearer, offered, offered_all, place_of, same_place, variable_part};
+ghost use Rattle.shb_nearest.specs.Places.{is_nearer, offered, offered_all, place_of, same_place};
 
 use crate::access::{FoundAccess, FoundRace};
 use indexmap::IndexMap;
@@ -36,13 +36,6 @@ fn place_of(by_variable: bool, race: FoundRace) -> Place
         second: race.second.spot.location,
         variable: if by_variable { race.variable } else { 0 },
     }
-}
-
-/// What a place has of its variable.
-fn variable_part(by_variable: bool, variable: u32) -> u32
-    ensures { result ≡ variable_part by_variable variable }
-{
-    if by_variable { variable } else { 0 }
 }
 
 // By hand: a derived one stands in each function that drops it, with a step for each part of the table.
@@ -122,34 +115,6 @@ impl Places {
             )?;
         }
         Ok(())
-    }
-
-    /// Whether a race of a place is known.
-    fn is_known(&self, place: Place) -> bool
-        ensures { result ≡ true → IsKnown self.now.races.entries place }
-    {
-        match self.races.get(&place) {
-            Some(_) => true,
-            None => false,
-        }
-    }
-
-    /// Whether the places are known of accesses of a variable at some locations, each with a later one at a location.
-    pub fn know_all(&self, by_variable: bool, variable: u32, second: u32, locations: &[u32]) -> bool
-        ensures { result ≡ true → AreKnown by_variable variable second self.now.races.entries locations.now }
-    {
-        let part = variable_part(by_variable, variable);
-        for first in locations {
-            let known = self.is_known(Place {
-                first: *first,
-                second,
-                variable: part,
-            });
-            if !known {
-                return false;
-            }
-        }
-        true
     }
 
     /// No two races have one place.

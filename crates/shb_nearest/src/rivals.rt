@@ -1,13 +1,15 @@
 //! The accesses that race with the next access.
 
-ghost use Rattle.std.specs.Prelude.{◌≡◌, ◌+◌, ◌<◌, ◌≤◌, ◌++◌, ◌∷◌, [], ℕ, false, true, List, OnOk, map};
+ghost use Rattle.std.specs.Prelude.{◌≡◌, ◌+◌, ◌<◌, ◌≤◌, ◌++◌, ◌∷◌, [], ℕ, false, true, List, OnOk, Some, length, map, slice_get};
 ghost use Rattle.shb_lines.specs.declared.event.Event.{Event};
 ghost use Rattle.shb_nearest.specs.Groups.{AreGroups, IsGroup, IsRun, access_of};
-ghost use Rattle.shb_nearest.specs.Rivals.{AreRivals, CanRace, HasAdded, HasMet, HasMetGroup, IsFrom, IsNextAccess, IsOver};
+ghost use Rattle.shb_nearest.specs.Rivals.{AreRivals, CanRace, HasAdded, HasAddedSome, HasMet, HasMetGroup, IsFrom, IsNextAccess, IsOver};
+ghost use Rattle.shb_nearest.specs.Sites.{AreMarked};
 ghost use Rattle.shb_nearest.specs.declared.access.Spot.{Spot as SpotData};
+ghost use Rattle.shb_nearest.specs.declared.groups.Group.{Group as GroupData};
 
 use crate::access::FoundAccess;
-use crate::groups::{Group, KeptAccess, Run};
+use crate::groups::{Group, Groups, KeptAccess, Run};
 use shb_io::NoMemory;
 use shb_lines::{item_or, put};
 use shb_stamps::StreamClocks;
@@ -20,6 +22,9 @@ pub struct Rivals {
     /// For each location the index of its access, if one is found. Others mean nothing.
     indices: Vec<u32>,
 }
+
+/// So many accesses of a group are looked at no sooner than it is asked whether their places are known.
+const MANY: usize = 8;
 
 /// Whether a kept access, and so each one before it, needs no look: it is one of the first `below` events of its thread,
 /// or before the event `since`.
@@ -74,29 +79,63 @@ impl Rivals {
         Ok(())
     }
 
-    /// Takes kept accesses of a thread and a kind in.
-    fn add_all(&mut self, thread: u32, writes: bool, kept: &[KeptAccess]) -> Result<(), NoMemory>
-        ensures { OnOk result (HasAdded self.old.found.items self.new.found.items (map (access_of thread writes) kept.now)) }
+    /// Takes a kept access of a thread and a kind in, unless its place with a later one at this location is known.
+    fn add_unsettled(
+        &mut self,
+        groups: &Groups,
+        thread: u32,
+        writes: bool,
+        second: u32,
+        kept: KeptAccess,
+    ) -> Result<(), NoMemory>
+        ensures { OnOk result (HasAddedSome groups.now second self.old.found.items self.new.found.items (access_of thread writes kept ∷ [])) }
+    {
+        let settled = groups.is_settled(kept, second);
+        if settled {
+            return Ok(());
+        }
+        self.add(FoundAccess {
+            event: kept.event,
+            thread,
+            writes,
+            spot: kept.spot,
+        })?;
+        Ok(())
+    }
+
+    /// Takes kept accesses of a thread and a kind in, but for those whose place with a later one at this location is known.
+    fn add_all(
+        &mut self,
+        groups: &Groups,
+        thread: u32,
+        writes: bool,
+        second: u32,
+        kept: &[KeptAccess],
+    ) -> Result<(), NoMemory>
+        ensures { OnOk result (HasAddedSome groups.now second self.old.found.items self.new.found.items (map (access_of thread writes) kept.now)) }
     {
         for access in kept {
-            self.add(FoundAccess {
-                event: access.event,
-                thread,
-                writes,
-                spot: access.spot,
-            })?;
+            self.add_unsettled(groups, thread, writes, second, *access)?;
         }
         Ok(())
     }
 }
 
-/// Adds what a group keeps after the last access that needs no look.
-fn meet(rivals: &mut Rivals, group: &Group, below: u32, since: u32) -> Result<(), NoMemory>
-    ensures { OnOk result (HasMet group.now below since rivals.old.found.items rivals.new.found.items) }
+/// Adds what a group keeps after the last access that needs no look, but for those whose place with a later one at this
+/// location is known.
+fn meet(
+    rivals: &mut Rivals,
+    groups: &Groups,
+    group: &Group,
+    second: u32,
+    below: u32,
+    since: u32,
+) -> Result<(), NoMemory>
+    ensures { OnOk result (HasMet groups.now second group.now below since rivals.old.found.items rivals.new.found.items) }
 {
     let from = index_after(group.kept.as_slice(), below, since);
     let (_, later) = group.kept.as_slice().split_at(from);
-    rivals.add_all(group.thread, group.writes, later)?;
+    rivals.add_all(groups, group.thread, group.writes, second, later)?;
     Ok(())
 }
 
@@ -108,49 +147,71 @@ fn can_race(group: &Group, access: FoundAccess) -> bool
     group.thread != access.thread && (group.writes || access.writes)
 }
 
-/// Adds what a group keeps from the event `since` on that races with the next access.
+/// Whether more than a few of what a group keeps need a look.
+fn need_many(group: &Group, below: u32, since: u32) -> bool {
+    let kept = group.kept.as_slice();
+    if kept.len() < MANY {
+        return false;
+    }
+    let over = is_over(kept[kept.len() - MANY], below, since);
+    !over
+}
+
+/// Adds what the group at an index keeps from the event `since` on that races with the next access, but for those whose
+/// place is known.
 fn meet_group(
     rivals: &mut Rivals,
     clocks: &StreamClocks,
-    group: &Group,
+    groups: &Groups,
+    at: usize,
     access: FoundAccess,
     since: u32,
 ) -> Result<(), NoMemory>
-    ensures { (past : List Event) (e : Event) (spots : List SpotData) (x : ℕ) → IsNextAccess past e spots x clocks.now access
-        → IsGroup (past ++ e ∷ []) spots x (access.event + 1) group.now
-        → OnOk result (HasMetGroup (past ++ e ∷ []) spots x access since group.now rivals.old.found.items rivals.new.found.items) }
+    requires there { at < length groups.now.each.items }
+    ensures { (past : List Event) (e : Event) (spots : List SpotData) (x : ℕ) (group : GroupData) → IsNextAccess past e spots x clocks.now access
+        → AreMarked groups.now → slice_get groups.now.each.items at ≡ Some group → IsGroup (past ++ e ∷ []) spots x (access.event + 1) group
+        → OnOk result (HasMetGroup (past ++ e ∷ []) spots x groups.now access since group rivals.old.found.items rivals.new.found.items) }
 {
+    let group = &groups.each[at];
     let met = can_race(group, access);
     if !met {
         return Ok(());
     }
     let below = clocks.below_next(access.thread, group.thread);
-    meet(rivals, group, below, since)?;
+    let many = need_many(group, below, since);
+    if many {
+        let done = groups.is_done(at, access.spot.location, since);
+        if done {
+            return Ok(());
+        }
+    }
+    meet(rivals, groups, group, access.spot.location, below, since)?;
     Ok(())
 }
 
-/// Those that groups keep from the event `since` on.
+/// Those that groups keep from the event `since` on, but for those whose place is known.
 fn rivals_among(
     rivals: &mut Rivals,
     clocks: &StreamClocks,
-    groups: &[Group],
+    groups: &Groups,
     access: FoundAccess,
     since: u32,
 ) -> Result<(), NoMemory>
     requires none { rivals.old.found.items ≡ [] }
-    ensures { (past : List Event) (e : Event) (spots : List SpotData) (x : ℕ) → IsNextAccess past e spots x clocks.now access
-        → AreGroups (past ++ e ∷ []) spots x (access.event + 1) (access.event + 1) groups.now
-        → OnOk result (AreRivals (past ++ e ∷ []) spots x access since rivals.new.found.items) }
+    ensures { (past : List Event) (e : Event) (spots : List SpotData) (x : ℕ) → IsNextAccess past e spots x clocks.now access → AreMarked groups.now
+        → AreGroups (past ++ e ∷ []) spots x (access.event + 1) (access.event + 1) groups.now.each.items
+        → OnOk result (AreRivals (past ++ e ∷ []) spots x groups.now access since rivals.new.found.items) }
 {
-    for group in groups {
-        meet_group(rivals, clocks, group, access, since)?;
+    for at in 0..groups.each.len() {
+        meet_group(rivals, clocks, groups, at, access, since)?;
     }
     Ok(())
 }
 
 impl Rivals {
     /// Finds accesses that race with the next one: those that the groups of its variable, which have it already, keep from
-    /// the event `since` on. There are none where by the run before it its thread alone accessed the variable since then.
+    /// the event `since` on, but for those whose place is known. There are none where by the run before it its thread alone
+    /// accessed the variable since then.
     ///
     /// # Errors
     ///
@@ -159,17 +220,21 @@ impl Rivals {
         &mut self,
         clocks: &StreamClocks,
         run: Run,
-        groups: &[Group],
+        groups: &Groups,
         access: FoundAccess,
         since: u32,
     ) -> Result<(), NoMemory>
-        ensures { (past : List Event) (e : Event) (spots : List SpotData) (x : ℕ) → IsNextAccess past e spots x clocks.now access
-            → AreGroups (past ++ e ∷ []) spots x (access.event + 1) (access.event + 1) groups.now → IsRun (past ++ e ∷ []) x access.event run
-            → OnOk result (AreRivals (past ++ e ∷ []) spots x access since self.new.found.items) }
+        ensures { (past : List Event) (e : Event) (spots : List SpotData) (x : ℕ) → IsNextAccess past e spots x clocks.now access → AreMarked groups.now
+            → AreGroups (past ++ e ∷ []) spots x (access.event + 1) (access.event + 1) groups.now.each.items → IsRun (past ++ e ∷ []) x access.event run
+            → OnOk result (AreRivals (past ++ e ∷ []) spots x groups.now access since self.new.found.items) }
     {
         self.found.clear();
         let alone = run.is_alone(access.thread, since);
         if alone {
+            return Ok(());
+        }
+        let done = groups.are_done(access.writes, access.spot.location, since);
+        if done {
             return Ok(());
         }
         rivals_among(self, clocks, groups, access, since)

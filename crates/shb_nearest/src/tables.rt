@@ -1,11 +1,12 @@
 //! What is known of the accesses of a stream: classes, groups and places.
 
-ghost use Rattle.std.specs.Prelude.{◌≡◌, ◌≤◌, ◌+◌, ◌++◌, ◌∷◌, [], Bool, true, List, IfOk, OnOk, length};
+ghost use Rattle.std.specs.Prelude.{◌≡◌, ◌+◌, ◌++◌, ◌∷◌, [], Bool, List, IfOk, OnOk};
 ghost use Rattle.shb_lines.specs.declared.event.Event.{Event};
-ghost use Rattle.shb_nearest.specs.Groups.{AreGroups, HasLocations, IsRun, IsSince};
-ghost use Rattle.shb_nearest.specs.Places.{AreKnown, ArePlaces};
+ghost use Rattle.shb_nearest.specs.Groups.{AreGroups, IsRun, IsSince};
+ghost use Rattle.shb_nearest.specs.Places.{ArePlaces};
 ghost use Rattle.shb_nearest.specs.Rivals.{IsNextAccess};
 ghost use Rattle.shb_nearest.specs.Searched.{AreTables, HasRoom};
+ghost use Rattle.shb_nearest.specs.Sites.{HasOffered, HaveSites};
 ghost use Rattle.shb_nearest.specs.Wide.{HasSpace};
 ghost use Rattle.shb_nearest.specs.declared.access.Spot.{Spot as SpotData};
 
@@ -67,45 +68,28 @@ fn make_space(variables: &mut Vec<Variable>, variable: u32) -> Result<(), NoMemo
     Ok(())
 }
 
-/// Whether it is seen at once that each race of an access with what the groups of its variable keep has a known place.
-fn are_known(places: &Places, groups: &Groups, by_variable: bool, access: FoundAccess) -> bool
-    ensures few { result ≡ true → length groups.now.locations.items ≤ 16 }
-    ensures known { result ≡ true → AreKnown by_variable groups.now.variable access.spot.location places.now.races.entries groups.now.locations.items }
-{
-    let crowded = groups.are_crowded();
-    if !crowded {
-        return false;
-    }
-    places.know_all(
-        by_variable,
-        groups.variable,
-        access.spot.location,
-        groups.locations.as_slice(),
-    )
-}
-
-/// Offers the races of the next access with those that the groups of its variable keep. They have it already.
+/// Offers the races of the next access with those that the groups of its variable keep, and lets these know of the places.
+/// They have it already.
 fn offer_races(
     places: &mut Places,
     rivals: &mut Rivals,
     clocks: &StreamClocks,
     by_variable: bool,
-    groups: &Groups,
+    groups: &mut Groups,
     next: Next,
 ) -> Result<(), NoMemory>
-    ensures { (past : List Event) (e : Event) (spots : List SpotData) → IsNextAccess past e spots groups.now.variable clocks.now next.access
-        → AreGroups (past ++ e ∷ []) spots groups.now.variable (next.access.event + 1) (next.access.event + 1) groups.now.each.items → HasLocations groups.now
-        → IsRun (past ++ e ∷ []) groups.now.variable next.access.event next.run → IsSince (past ++ e ∷ []) spots groups.now.variable next.access next.since
-        → ArePlaces by_variable (past ++ e ∷ []) spots next.access.event places.old.races.entries → OnOk result (ArePlaces by_variable (past ++ e ∷ []) spots (next.access.event + 1) places.new.races.entries) }
+    ensures offered { (past : List Event) (e : Event) (spots : List SpotData) → IsNextAccess past e spots groups.old.variable clocks.now next.access
+        → AreGroups (past ++ e ∷ []) spots groups.old.variable (next.access.event + 1) (next.access.event + 1) groups.old.each.items
+        → IsRun (past ++ e ∷ []) groups.old.variable next.access.event next.run → IsSince (past ++ e ∷ []) spots groups.old.variable next.access next.since
+        → ArePlaces by_variable (past ++ e ∷ []) spots next.access.event places.old.races.entries → HaveSites by_variable groups.old.variable places.old.races.entries groups.old
+        → OnOk result (HasOffered by_variable (past ++ e ∷ []) spots (next.access.event + 1) places.old.races.entries places.new.races.entries groups.new) }
+    ensures each { OnOk result (groups.new.each.items ≡ groups.old.each.items) }
+    ensures own { OnOk result (groups.new.variable ≡ groups.old.variable) }
 {
-    let settled = are_known(&*places, groups, by_variable, next.access);
-    if settled {
-        return Ok(());
-    }
-    let each = groups.each.as_slice();
-    rivals.find(clocks, next.run, each, next.access, next.since)?;
+    rivals.find(clocks, next.run, &*groups, next.access, next.since)?;
     let found = rivals.found.as_slice();
     places.offer_all(by_variable, groups.variable, next.access, found)?;
+    groups.learn(next.access.spot.location, found)?;
     Ok(())
 }
 
@@ -179,7 +163,7 @@ impl Tables {
         let at = self.opened.open(alloc, log, variable, known.accesses)?;
         known.accesses = Accesses::Grouped(at);
         let since = self.opened.take(alloc, at, variable, late)?;
-        let Some(groups) = self.opened.each.get(at as usize) else {
+        let Some(groups) = self.opened.each.get_mut(at as usize) else {
             return Ok(());
         };
         let next = Next { access, run, since };

@@ -16,7 +16,7 @@ loop-late-preserved c = (
         late_taken trace spots c.args.variable n index waiting a c.loop-late.groups.each.items c.take.new.self.each.items more is was.0 (λ are. c.in_ok-take.ensures.groups trace spots n are first.0 first.1),
         λ are. c.in_ok-take.ensures.classes trace spots n first.0 first.1 (was.1 are),
       )),
-  λ locations. c.in_ok-take.ensures.locations (c.loop-late.invariant.1 locations),
+  λ by_variable entries are. c.in_ok-take.ensures.sites by_variable entries (c.loop-late.invariant.1 by_variable entries are),
   c.in_ok-take.ensures.own ∙ c.loop-late.invariant.2,
 )
 
@@ -28,5 +28,5 @@ returns-clause-groups c trace spots n m groups late =
 pub returns-clause-classes : goal.returns-clause-classes
 returns-clause-classes c trace spots n m groups late are = (c.loop-late.invariant.0 trace spots n m groups late).1 are
 
-pub returns-clause-locations : goal.returns-clause-locations
-returns-clause-locations c locations = c.loop-late.invariant.1 locations
+pub returns-clause-sites : goal.returns-clause-sites
+returns-clause-sites c = c.loop-late.invariant.1

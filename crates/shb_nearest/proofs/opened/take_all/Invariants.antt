@@ -1,9 +1,11 @@
 -- The groups and the table of classes have the accesses before the index.
-use Rattle.std.proofs.Common.{◌≡◌, ℕ, List}
+use Rattle.std.proofs.Common.{◌≡◌, ℕ, Bool, List}
 use Rattle.shb_lines.specs.declared.event.Event.{Event}
 use Rattle.shb_nearest.specs.Classes.{AreClasses}
-use Rattle.shb_nearest.specs.Groups.{AreGroups, HasLocations}
+use Rattle.shb_nearest.specs.Groups.{AreGroups}
 use Rattle.shb_nearest.specs.Late.{AreLate}
+use Rattle.shb_nearest.specs.Places.{PlaceEntry}
+use Rattle.shb_nearest.specs.Sites.{HaveSites}
 use Rattle.shb_nearest.specs.declared.access.Spot.{Spot}
 use Rattle.shb_nearest.proofs.LateLemmas.{HasTaken}
 use Rattle.shb_nearest.proofs.opened.take_all.Given as goal
@@ -11,5 +13,5 @@ use Rattle.shb_nearest.proofs.opened.take_all.Given as goal
 abbrev pub invariant-loop-late : goal.invariant-loop-late
 invariant-loop-late l = ((trace : List Event) (spots : List Spot) (n m : ℕ) → AreGroups trace spots l.variable m n l.fn.groups.each.items → AreLate trace spots l.variable n m l.waiting
     → HasTaken trace spots l.variable n l.late-index l.waiting l.groups.each.items × (AreClasses trace spots n l.fn.classes.newest.entries → AreClasses trace spots n l.classes.newest.entries))
-    × (HasLocations l.fn.groups → HasLocations l.groups)
+    × ((by_variable : Bool) (entries : List PlaceEntry) → HaveSites by_variable l.variable entries l.fn.groups → HaveSites by_variable l.variable entries l.groups)
     × (l.groups.variable ≡ l.fn.groups.variable)

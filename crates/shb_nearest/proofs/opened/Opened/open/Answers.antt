@@ -1,15 +1,13 @@
-use Rattle.std.proofs.Common.{◌≡◌, ◌∷◌, ◌++◌, [], List, Some, arith, length, subst, sym, ◌∙◌}
-use Rattle.std.specs.Prelude.{All, slice_get}
-use Rattle.std.proofs.lemmas.List.Elements.{All-nil}
-use Rattle.shb_nearest.specs.Groups.{AreAmong}
+use Rattle.std.proofs.Common.{◌≡◌, ℕ, ◌∷◌, ◌++◌, [], List, Some, arith, length, subst, sym, ◌∙◌}
+use Rattle.std.specs.Prelude.{slice_get}
 use Rattle.shb_nearest.specs.Late.{AreAccesses, AreLate}
-use Rattle.shb_nearest.specs.declared.groups.Group.{Group}
 use Rattle.shb_nearest.specs.declared.groups.Groups.{Groups}
 use Rattle.shb_nearest.specs.declared.late.Late.{Late}
 use Rattle.shb_nearest.specs.declared.log.Accesses.{Accesses}
-use Rattle.shb_nearest.proofs.Chains.{get_before}
-use Rattle.shb_nearest.proofs.LateLemmas.{middle}
+use Rattle.shb_nearest.proofs.Members.{get_before, middle}
+use Rattle.shb_nearest.proofs.SiteLemmas.{no_sites, sites_more}
 use Rattle.shb_nearest.proofs.TableLemmas.{none_grouped}
+use Rattle.shb_nearest.specs.Sites.{HaveAllSites, HaveSites}
 use Rattle.shb_nearest.proofs.opened.Opened.open.Goals as goal
 
 pub returns-clause-groups : goal.returns-clause-groups
@@ -23,7 +21,6 @@ returns-clause-groups c trace spots n are few =
       there = subst (λ (l : List Groups). slice_get l c.min-at.result ≡ Some c.take_all.new.groups) (sym pushed) (subst (λ k. slice_get (old ++ c.take_all.new.groups ∷ []) k ≡ Some c.take_all.new.groups) at_end (middle old c.take_all.new.groups []));
       own = c.in_ok-take_all.ensures.own ∙ c.new-groups.ensures.own;
       are = c.in_ok-take_all.ensures.groups trace spots n 0 (none_grouped trace spots n x c.new-groups.result.each.items c.new-groups.ensures.none) late;
-      locations = c.in_ok-take_all.ensures.locations (λ few. subst (λ (l : List Group). All (AreAmong c.new-groups.result.locations.items) l) (sym c.new-groups.ensures.none) (All-nil (AreAmong c.new-groups.result.locations.items)));
     }
   where
     at_end : length c.args.self.now.each.items ≡ c.min-at.result
@@ -43,3 +40,10 @@ returns-clause-classes c trace spots n are classes =
 pub returns-clause-others : goal.returns-clause-others
 returns-clause-others c at groups other there =
     subst (λ (l : List Groups). slice_get l at ≡ Some groups) (sym c.in_ok-push.ensures.items) (get_before c.args.self.now.each.items (c.take_all.new.groups ∷ []) at groups there)
+
+pub returns-clause-sites : goal.returns-clause-sites
+returns-clause-sites c by_variable entries are =
+    let own = c.in_ok-take_all.ensures.own ∙ c.new-groups.ensures.own in
+    let here = c.in_ok-take_all.ensures.sites by_variable entries (no_sites by_variable c.args.variable entries c.new-groups.result c.new-groups.ensures.no_sites) in
+    subst (λ (l : List Groups). HaveAllSites by_variable entries l) (sym c.in_ok-push.ensures.items)
+    (sites_more by_variable entries c.args.self.now.each.items c.take_all.new.groups are (subst (λ (y : ℕ). HaveSites by_variable y entries c.take_all.new.groups) (sym own) here))

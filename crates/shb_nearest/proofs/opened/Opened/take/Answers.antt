@@ -1,11 +1,12 @@
-use Rattle.std.proofs.Common.{◌≡◌, ◌+◌, Some, arith, refl, subst, sym, ◌∙◌}
-use Rattle.std.specs.Prelude.{slice_get}
+use Rattle.std.proofs.Common.{◌≡◌, ℕ, ◌+◌, arith, subst, sym, ◌∙◌}
 use Rattle.std.proofs.lemmas.Option.{slice_get_within}
-use Rattle.shb_nearest.specs.Groups.{AreGroups, HasLocations}
+use Rattle.shb_nearest.specs.Groups.{AreGroups}
 use Rattle.shb_nearest.specs.declared.groups.Groups.{Groups}
 use Rattle.shb_nearest.proofs.GroupLemmas.{groups_next}
-use Rattle.shb_nearest.proofs.Members.{get_set, get_set_other, one_there}
-use Rattle.shb_nearest.proofs.TableLemmas.{classes_later}
+use Rattle.shb_nearest.proofs.Members.{at_set, one_there}
+use Rattle.shb_nearest.proofs.SiteLemmas.{sites_written}
+use Rattle.shb_nearest.specs.Sites.{HaveSites}
+use Rattle.shb_nearest.proofs.TableLemmas.{classes_later, stay_groups}
 use Rattle.shb_nearest.proofs.opened.Opened.take.Goals as goal
 
 pub returns-clause-since : goal.returns-clause-since
@@ -21,12 +22,19 @@ returns-clause-groups c trace spots have late =
     let n = c.args.late.event in
     record {
       groups = c.take.new.self;
-      there = get_set c.args.self.now.each.items c.args.at c.take.new.self (slice_get_within c.args.self.now.each.items c.args.at have.groups have.there);
+      there = at_set c.args.self.now.each.items c.args.at c.take.new.self (slice_get_within c.args.self.now.each.items c.args.at have.groups have.there);
       own = c.in_ok-before.ensures.own ∙ subst (λ (g : Groups). g.variable ≡ c.args.variable) one have.own;
       are = c.in_ok-before.ensures.groups trace spots (n + 1) (groups_next trace spots c.args.variable n c.in-Some.groups.now.each.items n (omega arith) (subst (λ (g : Groups). AreGroups trace spots c.args.variable c.args.late.event c.args.late.event g.each.items) one have.are)) late (omega arith);
-      locations = c.in_ok-before.ensures.locations (subst (λ (g : Groups). HasLocations g) one have.locations);
     }
 
 pub returns-clause-others : goal.returns-clause-others
-returns-clause-others c trace spots have at groups other there = get_set_other c.args.self.now.each.items c.args.at at c.take.new.self groups
-    (λ same. other (let s : Some groups ≡ Some have.groups = sym there ∙ (subst (λ k. slice_get c.args.self.now.each.items at ≡ slice_get c.args.self.now.each.items k) same refl ∙ have.there) in subst (λ (g : Groups). g.variable ≡ c.args.variable) (let e : have.groups ≡ groups = cc in e) have.own)) there
+returns-clause-others c trace spots have = stay_groups trace spots c.args.variable c.args.late.event c.args.self.now.each.items c.args.at c.take.new.self have
+
+pub returns-clause-sites : goal.returns-clause-sites
+returns-clause-sites c trace spots by_variable entries have are =
+    let each = c.args.self.now.each.items in
+    let one = one_there each c.args.at have.groups c.in-Some.groups.now have.there c.in-Some.ensures.value in
+    let own = subst (λ (g : Groups). g.variable ≡ c.args.variable) one have.own in
+    let was = subst (λ (g : Groups). HaveSites by_variable g.variable entries g) one (are c.args.at have.groups have.there) in
+    let here = c.in_ok-before.ensures.sites by_variable entries (subst (λ (y : ℕ). HaveSites by_variable y entries c.in-Some.groups.now) own was) in
+    sites_written by_variable entries each c.args.at c.take.new.self (slice_get_within each c.args.at have.groups have.there) are (subst (λ (y : ℕ). HaveSites by_variable y entries c.take.new.self) (sym (c.in_ok-before.ensures.own ∙ own)) here)
