@@ -5,6 +5,7 @@ pub mod Pushes
 pub mod Noted
 pub mod Taking
 pub mod Places
+pub mod StoredEvents
 pub mod Endings
 pub mod Listed
 pub mod Outcomes

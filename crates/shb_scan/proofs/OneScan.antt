@@ -10,7 +10,7 @@ use Rattle.shb_lines.specs.text.TraceData.{IsTraceOf, TraceData, tables_in}
 use Rattle.shb_discipline.proofs.Numbering.{one_trace}
 use Rattle.shb_format.specs.Places.{location_at}
 use Rattle.shb_format.specs.Report.{IsReportOn}
-use Rattle.shb_format.proofs.Blocks.{IsReportOn-unique}
+use Rattle.shb_format.proofs.Blocks.{HasOneList, IsReportOn-unique}
 use Rattle.shb_nearest.proofs.NearestLaws.{listed_once, listed_races, place_listed, unique}
 use Rattle.shb_scan.specs.Outcomes.{HasScan, IsScan}
 use Rattle.shb_scan.specs.Sites.{AreAtOnePlace, site_at}
@@ -23,11 +23,14 @@ one_whole_trace lines a b of_a of_b =
     let tables : tables_in a ≡ tables_in b = of_a.tables_are ∙ sym of_b.tables_are in
     λ i. record { events = events i; lines = texts i; threads = (tables i).threads; locks = (tables i).locks; variables = (tables i).variables }
 
+-- a trace has one list of nearest races
+pub one_nearest_list : (by_variable : Bool) (trace : TraceData) → HasOneList (IsScan by_variable) trace
+one_nearest_list by_variable trace races more = unique trace.events (site_at by_variable trace) races more
+
 pub one_scan : (by_variable : Bool) (text bytes others : List ℕ) → HasScan by_variable text (λ scan. bytes ≡ scan) → HasScan by_variable text (λ scan. others ≡ scan) → bytes ≡ others
 one_scan by_variable text bytes others a b =
     let same : a.trace ≡ b.trace = one_whole_trace (lines_of text) a.trace b.trace a.trace_is b.trace_is in
-    let one_list = λ (races more : List (ℕ × ℕ)). unique b.trace.events (site_at by_variable b.trace) races more in
-    let bytes_same : a.bytes ≡ b.bytes = IsReportOn-unique (IsScan by_variable) false b.trace a.bytes b.bytes one_list (subst (λ t. IsReportOn (IsScan by_variable) false t a.bytes) same a.scan) b.scan in
+    let bytes_same : a.bytes ≡ b.bytes = IsReportOn-unique (IsScan by_variable) false b.trace a.bytes b.bytes (one_nearest_list by_variable b.trace) (subst (λ t. IsReportOn (IsScan by_variable) false t a.bytes) same a.scan) b.scan in
     a.holds ∙ bytes_same ∙ sym b.holds
 
 -- two locations can be told apart

@@ -10,17 +10,17 @@ use Rattle.shb_lines.specs.declared.owned_names.OwnedNames.{OwnedNames}
 use Rattle.shb_lines.specs.text.Numbering.{tables_of}
 use Rattle.shb_lines.specs.text.OwnedNames.{names_of}
 use Rattle.shb_lines.specs.text.Text.{lines_of}
-use Rattle.shb_lines.specs.text.TraceData.{TraceData, location_of}
+use Rattle.shb_lines.specs.text.TraceData.{TraceData}
 use Rattle.shb_lines.proofs.text.Numbers.{one_number}
 use Rattle.shb_format.specs.Keyed.{AreKeyed}
-use Rattle.shb_format.specs.Report.{line_of_event}
+use Rattle.shb_format.specs.Places.{location_at}
 use Rattle.shb_nearest.specs.Found.{ends_of, location_in, site_in}
 use Rattle.shb_nearest.specs.Nearest.{AreNearest, IsNearest}
 use Rattle.shb_nearest.specs.Searched.{AreNearestRaces, HasSearched}
 use Rattle.shb_nearest.specs.declared.access.Spot.{Spot}
 use Rattle.shb_scan.specs.declared.found.FoundScan.{FoundScan}
 use Rattle.shb_scan.specs.declared.reading.Scan.{Scan}
-use Rattle.shb_scan.specs.FoundNames.{AreSpots, IsRaceLocated, IsSpotOf}
+use Rattle.shb_scan.specs.FoundNames.{AreLocated, AreSpots, IsRaceLocated}
 use Rattle.shb_scan.specs.Scans.{HasEnded, IsFoundIn, places_in}
 use Rattle.shb_scan.specs.Sites.{site_at}
 use Rattle.shb_scan.proofs.FoundNames.{races_located}
@@ -45,8 +45,8 @@ module _ {A B : Type 0} (events : List Event) (f : ℕ → A) (g : ℕ → B) (a
   nearest_by races h = record { all = λ i j. (λ has. to_g i j ((h.all i j).0 has), λ is. (h.all i j).1 (to_f i j is)); in_order = h.in_order }
 
 -- accesses have one number exactly where they have one location
-module _ (trace : TraceData) (names : List (List ℕ)) (spots : List Spot) (distinct : IsDistinct bytes_eq names) (many : length spots ≡ length trace.events) (located : AreSpots trace names spots) where
-  spot_at : (k x : ℕ) → variable_at trace.events k ≡ Some x → (s : Spot) × (location_in spots k ≡ Some s.location) × IsSpotOf names (line_of_event trace k) s
+module _ (trace : TraceData) (names : List (List ℕ)) (spots : List Spot) (distinct : IsDistinct bytes_eq names) (many : length spots ≡ length trace.events) (located : AreLocated trace names spots) where
+  spot_at : (k x : ℕ) → variable_at trace.events k ≡ Some x → (s : Spot) × (location_in spots k ≡ Some s.location) × (slice_get names s.location ≡ Some (location_at trace k))
   spot_at k x var =
       let e = accessing trace.events k x var in
       let within : k < length spots = omega (arith, slice_get_within trace.events k e.0 e.1, many) in
@@ -54,17 +54,17 @@ module _ (trace : TraceData) (names : List (List ℕ)) (spots : List Spot) (dist
       let at : slice_get spots k ≡ Some s = slice_get-get_or spots k (record { location = 0; barred = false }) within in
       (s, ap (λ (o : Option Spot). option_and_then (λ (s : Spot). Some s.location) o) at, located k x s var at)
 
-  alike : (k i x y : ℕ) → variable_at trace.events k ≡ Some x → variable_at trace.events i ≡ Some y → (location_in spots k ≡ location_in spots i) ↔ (location_of (line_of_event trace k) ≡ location_of (line_of_event trace i))
+  alike : (k i x y : ℕ) → variable_at trace.events k ≡ Some x → variable_at trace.events i ≡ Some y → (location_in spots k ≡ location_in spots i) ↔ (location_at trace k ≡ location_at trace i)
   alike k i x y first second =
       let a = spot_at k x first in
       let b = spot_at i y second in (
         (λ same.
             let numbers : Some a.0.location ≡ Some b.0.location = sym a.1 ∙ same ∙ b.1 in
             let number : a.0.location ≡ b.0.location = cc in
-            let both : Some (location_of (line_of_event trace k)) ≡ Some (location_of (line_of_event trace i)) = sym a.2.location ∙ ap (slice_get names) number ∙ b.2.location in
+            let both : Some (location_at trace k) ≡ Some (location_at trace i) = sym a.2 ∙ ap (slice_get names) number ∙ b.2 in
             cc),
         (λ same.
-            let number : a.0.location ≡ b.0.location = one_number names (location_of (line_of_event trace i)) a.0.location b.0.location distinct (a.2.location ∙ ap (λ (l : List ℕ). Some l) same) b.2.location in
+            let number : a.0.location ≡ b.0.location = one_number names (location_at trace i) a.0.location b.0.location distinct (a.2 ∙ ap (λ (l : List ℕ). Some l) same) b.2 in
             a.1 ∙ ap (λ (n : ℕ). Some n) number ∙ sym b.1),
       )
 
@@ -94,7 +94,7 @@ found_in text left scan found h reader locations form races places =
       count_is = ap (λ r. r.numbering.events) reader ∙ s.taken.numbered.count_is ∙ sym (events_count (lines_of text) s.trace s.trace_is);
       spots = s.spots;
       located = located;
-      nearest = nearest_by s.trace.events (site_in found.by_variable s.trace.events s.spots) (site_at found.by_variable s.trace) (sites_alike s.trace (names_of scan.locations) s.spots s.noted.distinct s.noted.searched.as_many s.noted.located found.by_variable) (map ends_of found.races.items) are.nearest;
+      nearest = nearest_by s.trace.events (site_in found.by_variable s.trace.events s.spots) (site_at found.by_variable s.trace) (sites_alike s.trace (names_of scan.locations) s.spots s.noted.distinct s.noted.searched.as_many (λ k x spot accesses at. (s.noted.located k x spot accesses at).location) found.by_variable) (map ends_of found.races.items) are.nearest;
       accesses = are.accesses;
       few = omega (arith, ap (λ (l : OwnedNames). length (names_of l)) locations, s.noted.few, count, s.within.few);
       places = places s.trace (names_of found.locations) (subst (λ (l : OwnedNames). IsDistinct bytes_eq (names_of l)) (sym locations) s.noted.distinct) (races_located s.trace (names_of found.locations) s.spots located found.races.items are.accesses);

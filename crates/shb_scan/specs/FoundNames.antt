@@ -40,6 +40,10 @@ pub record IsSpotOf (locations : List (List ℕ)) (line : List ℕ) (spot : Spot
 abbrev pub AreSpots : TraceData → List (List ℕ) → List Spot → Type 0
 AreSpots trace locations spots = (k x : ℕ) (spot : Spot) → variable_at trace.events k ≡ Some x → slice_get spots k ≡ Some spot → IsSpotOf locations (line_of_event trace k) spot
 
+-- the spots of the accesses of a trace have the numbers of their locations
+abbrev pub AreLocated : TraceData → List (List ℕ) → List Spot → Type 0
+AreLocated trace locations spots = (k x : ℕ) (spot : Spot) → variable_at trace.events k ≡ Some x → slice_get spots k ≡ Some spot → slice_get locations spot.location ≡ Some (location_at trace k)
+
 -- what is said of an access, of both of a race
 pub record HasRaceNames (names : ScanNames) (race : FoundRace) : Type 0 where
   pub first : HasNames names race.variable race.first

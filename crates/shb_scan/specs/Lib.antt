@@ -6,4 +6,5 @@ pub mod Listing
 pub mod Reads
 pub mod Scans
 pub mod Words
+pub mod Stored
 pub mod Outcomes

@@ -4,7 +4,7 @@
 //! (`State` of `shb_discipline`) and searched for races (`NearestRaces` of `shb_nearest`), and then forgotten. What is
 //! left is a `FoundScan`: the nearest races, of each place or of each place and variable, with their places, and the
 //! names behind their numbers. [`write_found`] writes their list report. [`run_scan`] does both, and has the theorem as
-//! its contract.
+//! its contract. [`nearest_races`] finds the same races in a trace whose events are kept.
 #![tactic(auto)]
 
 mod counting;
@@ -15,6 +15,7 @@ mod limits;
 mod reading;
 mod scan;
 mod statuses;
+mod stored;
 mod writing;
 
 pub use errors::ScanError;
@@ -22,3 +23,4 @@ pub use found::write_found;
 pub use reading::read_scan;
 pub use scan::run_scan;
 pub use statuses::{scan_line, scan_message, status_of_scan};
+pub use stored::nearest_races;

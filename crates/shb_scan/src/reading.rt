@@ -52,7 +52,7 @@ impl Drop for Scan {
 }
 
 /// Whether the operation accesses a variable.
-fn is_access(op: Op) -> bool
+pub(crate) fn is_access(op: Op) -> bool
     ensures { result ≡ is_some (variable_of op) }
 {
     match op {

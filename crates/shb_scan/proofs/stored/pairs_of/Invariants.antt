@@ -1,0 +1,7 @@
+use Rattle.std.proofs.Common.{◌≡◌, map, take}
+use Rattle.shb_lines.specs.events.Race.{ends}
+use Rattle.shb_nearest.specs.Found.{ends_of}
+use Rattle.shb_scan.proofs.stored.pairs_of.Given as goal
+
+abbrev pub invariant-loop-race : goal.invariant-loop-race
+invariant-loop-race l = map ends l.pairs.items ≡ map ends_of (take l.race-index l.races)

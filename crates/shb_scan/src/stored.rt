@@ -1,0 +1,102 @@
+//! The nearest races of a trace whose events are kept.
+
+ghost use Rattle.std.specs.Prelude.{◌≡◌, ◌+◌, ◌<◌, ◌≤◌, IfOk, OnOk, length, map};
+ghost use Rattle.shb_lines.specs.events.Race.{ends};
+ghost use Rattle.shb_nearest.specs.Found.{ends_of};
+ghost use Rattle.shb_scan.specs.Outcomes.{IsScan};
+ghost use Rattle.shb_scan.specs.Stored.{HasTakenTo, IsSpotIn};
+
+use crate::reading::is_access;
+use shb_discipline::Disciplined;
+use shb_format::Locations;
+use shb_io::NoMemory;
+use shb_lines::{Op, Pair, Step};
+use shb_nearest::{FoundRace, NearestRaces, Spot};
+use std::alloc::Global;
+use std::random::RandomSource;
+
+/// Where an event of a trace stands, of which so many were taken before it. Of one that is no access the spot says nothing.
+fn spot_at<'t>(
+    disciplined: &Disciplined<'t>,
+    locations: &mut Locations<'t>,
+    op: Op,
+    e: u32,
+) -> Result<Spot, NoMemory>
+    requires in_range { e < length disciplined.now.events.now }
+    requires few { length locations.old ≤ e }
+    ensures { IfOk result (IsSpotIn disciplined.now.trace.now op e locations.old locations.new) }
+{
+    if is_access(op) {
+        let number = locations.number_of(disciplined.trace.location(e))?;
+        return Ok(Spot {
+            location: number as u32,
+            barred: false,
+        });
+    }
+    Ok(Spot {
+        location: 0,
+        barred: false,
+    })
+}
+
+/// Takes the next event of a trace.
+fn take_next<'t>(
+    alloc: Global,
+    disciplined: &Disciplined<'t>,
+    locations: &mut Locations<'t>,
+    nearest: &mut NearestRaces,
+    e: u32,
+) -> Result<(), NoMemory>
+    requires in_range { e < length disciplined.now.events.now }
+    requires few { length locations.old ≤ e }
+    ensures form { nearest.new.by_variable ≡ nearest.old.by_variable }
+    ensures taken { HasTakenTo disciplined.now.trace.now e locations.old nearest.old
+        → OnOk result (HasTakenTo disciplined.now.trace.now (e + 1) locations.new nearest.new) }
+{
+    let op = disciplined.events.op(e);
+    let spot = spot_at(disciplined, &mut *locations, op, e)?;
+    let step = Step {
+        thread: disciplined.events.thread(e),
+        op,
+    };
+    nearest.take(alloc, step, spot)
+}
+
+/// Races by the numbers of their events.
+fn pairs_of(alloc: Global, races: &[FoundRace]) -> Result<Vec<Pair>, NoMemory>
+    ensures { IfOk result (λ pairs. map ends pairs.items ≡ map ends_of races.now) }
+{
+    let mut pairs = Vec::with_capacity(alloc, races.len())?;
+    for race in races {
+        pairs.push(Pair {
+            first: race.first.event,
+            second: race.second.event,
+        })?;
+    }
+    Ok(pairs)
+}
+
+/// The nearest races of a trace, one of each place; with `by_variable`, one of each place and variable. They are those
+/// that a scan of its text lists.
+///
+/// # Errors
+///
+/// `NoMemory` where memory was refused, or where there were no random numbers for a table.
+pub fn nearest_races<R: RandomSource>(
+    rt: &R,
+    alloc: Global,
+    disciplined: &Disciplined<'_>,
+    by_variable: bool,
+) -> Result<Vec<Pair>, NoMemory>
+    ensures { IfOk result (λ races. IsScan by_variable disciplined.now.trace.now (map ends races.items)) }
+{
+    let mut locations = Locations::new(rt, alloc)?;
+    let mut nearest = NearestRaces::new(rt, alloc, by_variable)?;
+    for e in 0..disciplined.events.len() as u32 {
+        take_next(alloc, disciplined, &mut locations, &mut nearest, e)?;
+    }
+    locations.are_different();
+    let races = nearest.races(alloc)?;
+    let pairs = pairs_of(alloc, races.as_slice())?;
+    Ok(pairs)
+}
