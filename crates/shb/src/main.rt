@@ -57,6 +57,17 @@ fn settings(workers: Workers, list: bool) -> Settings {
     }
 }
 
+/// What is asked of `places`: a list is made while the trace is read.
+fn places_task(workers: Workers, list: bool, by_variable: bool) -> Task {
+    if list {
+        return Task::Scan { by_variable };
+    }
+    Task::Places {
+        settings: settings(workers, list),
+        by_variable,
+    }
+}
+
 /// Does what the words ask for.
 fn follow<R: Print + Eprint + Input + AllocGlobal + Files + RandomSource + Threads + Wait + Sync>(
     rt: &R,
@@ -75,12 +86,15 @@ fn follow<R: Print + Eprint + Input + AllocGlobal + Files + RandomSource + Threa
             Plan::Places {
                 workers,
                 list,
+                by_variable,
                 trace,
             },
-        ) => follow_trace(rt, terminals, trace, Task::Places(settings(workers, list))),
-        Ok(Plan::Scan { by_variable, trace }) => {
-            follow_trace(rt, terminals, trace, Task::Scan { by_variable })
-        }
+        ) => follow_trace(
+            rt,
+            terminals,
+            trace,
+            places_task(workers, list, by_variable),
+        ),
         Ok(Plan::Check { trace }) => {
             tell_waiting(
                 rt,

@@ -1,4 +1,4 @@
-//! `shb races`, `shb places` and `shb scan`: what is found in a trace goes to standard output.
+//! `shb races` and `shb places`: what is found in a trace goes to standard output.
 ghost use Rattle.std.specs.Prelude.{◌≡◌};
 
 use crate::beginning::Begun;
@@ -22,9 +22,12 @@ const BUFFER: usize = 1 << 16;
 pub(crate) enum Task {
     /// The report of all its races.
     Races(Settings),
-    /// The report of one race of each place.
-    Places(Settings),
-    /// One race of each place, or of each place and variable, of a trace that is read once.
+    /// The report of one race of each place, or of each place and variable.
+    Places {
+        settings: Settings,
+        by_variable: bool,
+    },
+    /// The same without schedules, of a trace that is read once.
     Scan { by_variable: bool },
 }
 
@@ -53,8 +56,11 @@ fn do_task<R: Print + Eprint + AllocGlobal + RandomSource + Threads + Wait + Syn
             let answer = run(rt, rt.alloc(), source, &mut sink, settings);
             end_report(rt, flushed(answer, sink, RunError::Sink))
         }
-        Task::Places(settings) => {
-            let answer = run_places(rt, rt.alloc(), source, &mut sink, settings);
+        Task::Places {
+            settings,
+            by_variable,
+        } => {
+            let answer = run_places(rt, rt.alloc(), by_variable, source, &mut sink, settings);
             end_report(rt, flushed(answer, sink, RunError::Sink))
         }
         Task::Scan { by_variable } => {

@@ -11,13 +11,14 @@ use Rattle.shb_lines.proofs.events.Schedulable.{printed_is_schedule}
 use Rattle.shb_lines.proofs.events.Unschedulable.{race_of_schedule}
 use Rattle.shb_lines.specs.text.Limits.{standard_limits}
 use Rattle.shb_discipline.proofs.FirstFault.{accepted}
-use Rattle.shb_format.specs.Report.{LeadingRaces, counts_of}
+use Rattle.shb_format.specs.Report.{counts_of}
 use Rattle.shb_format.specs.Value.{AreShown, IsShown}
-use Rattle.shb_format.proofs.LeadingReports.{leading_are_races, race_led_once}
+use Rattle.shb_scan.specs.Outcomes.{IsScan}
+use Rattle.shb_scan.proofs.OneScan.{once_listed, places_listed, races_listed}
 use Rattle.shb_write.specs.declared.errors.WriteError.{WriteError}
 use Rattle.shb_write.specs.declared.errors.WriteError.TheVariants as writing
 use Rattle.shb_run.specs.declared.settings.Choice.{Choice}
-use Rattle.shb_run.specs.declared.settings.Choice.TheVariants.{All, Leading}
+use Rattle.shb_run.specs.declared.settings.Choice.TheVariants.{All, Nearest}
 use Rattle.shb_run.specs.declared.settings.Summary.{Summary}
 use Rattle.shb_check.specs.Errors.{IsAccepted}
 use Rattle.shb_check.specs.Outcomes.{Grows}
@@ -40,18 +41,19 @@ schedulable_of events races disciplined are = record {
       ];
 }
 
-places_of : (trace : TraceData) (races : List (ℕ × ℕ)) → IsDisciplined trace.events → LeadingRaces trace races → ListsPlaces trace races
-places_of trace races disciplined lists = record {
-  race = leading_are_races trace races lists;
+places_of : (by_variable : Bool) (trace : TraceData) (races : List (ℕ × ℕ)) → IsDisciplined trace.events → IsScan by_variable trace races → ListsPlaces by_variable trace races
+places_of by_variable trace races disciplined lists = record {
+  race = races_listed by_variable trace races lists;
   listed = λ i j is.
       let printed = printed_exists trace.events disciplined i j in
-      (printed.0, printed.1, printed_is_schedule trace.events printed.0 i j disciplined (leading_are_races trace races lists i j is) printed.1);
-  once = race_led_once trace races lists;
+      (printed.0, printed.1, printed_is_schedule trace.events printed.0 i j disciplined (races_listed by_variable trace races lists i j is) printed.1);
+  each = places_listed by_variable trace races lists;
+  once = once_listed by_variable trace races lists;
 }
 
 races_of : (choice : Choice) (trace : TraceData) (races : List (ℕ × ℕ)) → IsDisciplined trace.events → ListedBy choice trace races → ListsRaces choice trace races
 races_of All trace races = schedulable_of trace.events races
-races_of Leading trace races = places_of trace races
+races_of (Nearest by_variable) trace races = places_of by_variable trace races
 
 pub reported_of : (choice : Choice) (ws : Bool) (text : List ℕ) (read : TraceData) (stop : Option LineFault) (events : List Event) (trace : TraceData) (summary : Summary) (old new : Option (List ℕ))
     → IsDisciplined events → events ≡ trace.events → IsAccepted read stop trace → ReportsTrace (ListedBy choice) ws trace summary old new → AreShown (counts_of trace) × IsShown summary.races → IsReadingOf standard_limits text read stop

@@ -4,14 +4,15 @@ use Rattle.shb_lines.specs.text.Text.{lines_of}
 use Rattle.shb_lines.specs.text.TraceData.{TraceData}
 use Rattle.shb_format.specs.Report.{IsReportOn, IsReportOnText}
 use Rattle.shb_check.proofs.OneTrace.{one_whole_trace}
-use Rattle.shb_format.proofs.Blocks.{HasOneList, IsReportOn-unique, one_leading_list, one_race_list}
+use Rattle.shb_format.proofs.Blocks.{HasOneList, IsReportOn-unique, one_race_list}
+use Rattle.shb_scan.proofs.OneScan.{one_nearest_list}
 use Rattle.shb_run.specs.declared.settings.Choice.{Choice}
-use Rattle.shb_run.specs.declared.settings.Choice.TheVariants.{All, Leading}
+use Rattle.shb_run.specs.declared.settings.Choice.TheVariants.{All, Nearest}
 use Rattle.shb_run.specs.Runs.{ListedBy}
 
 one_list : (choice : Choice) (trace : TraceData) → HasOneList (ListedBy choice) trace
 one_list All = one_race_list
-one_list Leading = one_leading_list
+one_list (Nearest by_variable) = one_nearest_list by_variable
 
 pub one_report : (choice : Choice) (with_schedules : Bool) (text bytes others : List ℕ)
     → IsReportOnText (ListedBy choice) with_schedules text bytes → IsReportOnText (ListedBy choice) with_schedules text others → bytes ≡ others

@@ -7,7 +7,7 @@ use Rattle.shb_lines.specs.declared.event.Pair.{Pair}
 use Rattle.shb_lines.specs.events.Race.{Race, ends}
 use Rattle.shb_lines.specs.text.TraceData.{TraceData}
 use Rattle.shb_format.specs.Report.{IsReportOn}
-use Rattle.shb_format.proofs.LeadingReports.{leading_are_races}
+use Rattle.shb_scan.proofs.OneScan.{races_listed as nearest_are_races}
 use Rattle.shb_judging.proofs.WrittenGood.{all_are_races}
 use Rattle.shb_run.specs.declared.settings.Choice.{Choice}
 use Rattle.shb_run.specs.declared.settings.Choice.TheVariants as choices
@@ -17,7 +17,7 @@ use Rattle.shb_run.specs.Runs.{ListedBy}
 -- each pair that a report of this choice lists is a race
 pub listed_are_races : (choice : Choice) (trace : TraceData) (races : List (ℕ × ℕ)) → ListedBy choice trace races → (i j : ℕ) → Contains races (i, j) → Race trace.events i j
 listed_are_races choices.All trace races lists = all_are_races trace races lists
-listed_are_races choices.Leading trace races lists = leading_are_races trace races lists
+listed_are_races (choices.Nearest by_variable) trace races lists = nearest_are_races by_variable trace races lists
 
 -- the events of the trace may have another name
 pub races_listed : (choice : Choice) (trace : TraceData) (events : List Event) (races : List Pair) → events ≡ trace.events → ListedBy choice trace (map ends races)

@@ -1,5 +1,5 @@
 -- What a run says of the trace of the text that it read, and what it leaves in the sink.
-use Rattle.std.specs.Prelude.{◌≡◌, ℕ, ◌<◌, Bool, List, length, map, Contains, Option}
+use Rattle.std.specs.Prelude.{◌≡◌, ℕ, ◌<◌, Bool, List, length, Contains, Option}
 use Rattle.std.specs.Io.KnownBytes.{Appends}
 use Rattle.shb_lines.specs.declared.event.Event.{Event}
 use Rattle.shb_lines.specs.events.Discipline.{IsDisciplined}
@@ -10,17 +10,18 @@ use Rattle.shb_lines.specs.events.Race.{Conflict, Race}
 use Rattle.shb_lines.specs.events.Schedule.{IsPrintedSchedule, IsSchedule}
 use Rattle.shb_lines.specs.text.Limits.{standard_limits}
 use Rattle.shb_discipline.specs.FirstFault.{HasNoFault}
-use Rattle.shb_format.specs.Leading.{HasOnce, place_at}
-use Rattle.shb_format.specs.Report.{AllRaces, IsReportOn, IsReportOnText, LeadingRaces, counts_of, pair_of}
+use Rattle.shb_format.specs.Report.{AllRaces, IsReportOn, IsReportOnText, counts_of}
 use Rattle.shb_format.specs.Value.{AreShown, IsShown}
+use Rattle.shb_scan.specs.Outcomes.{IsScan}
+use Rattle.shb_scan.specs.Sites.{AreAtOnePlace}
 use Rattle.shb_run.specs.declared.settings.Choice.{Choice}
-use Rattle.shb_run.specs.declared.settings.Choice.TheVariants.{All, Leading}
+use Rattle.shb_run.specs.declared.settings.Choice.TheVariants.{All, Nearest}
 use Rattle.shb_run.specs.declared.settings.Summary.{Summary}
 
 -- the races that a report of this choice lists
 abbrev pub ListedBy : Choice → TraceData → List (ℕ × ℕ) → Type 0
 ListedBy All = AllRaces
-ListedBy Leading = LeadingRaces
+ListedBy (Nearest by_variable) = IsScan by_variable
 
 -- what a run says of a trace with so many races
 abbrev pub summary_of : TraceData → ℕ → Summary
@@ -45,16 +46,17 @@ pub record ListsSchedulable (events : List Event) (races : List (ℕ × ℕ)) : 
   pub unlisted : (i j : ℕ) → i < j → Conflict events i j → ¬ Contains races (i, j) → (s : List ℕ) → ¬ IsSchedule events s i j
   pub ordered : (i j : ℕ) → i < j → Conflict events i j → ¬ Contains races (i, j) → BelowPred events i j
 
--- each listed pair is a race and has a printed schedule, which is a schedule of it; each race of the trace has the place of exactly one listed pair
-pub record ListsPlaces (trace : TraceData) (races : List (ℕ × ℕ)) : Type 0 where
+-- each listed pair is a race and has a printed schedule, which is a schedule of it; each race of the trace has the place of a listed pair, and no two have one place
+pub record ListsPlaces (by_variable : Bool) (trace : TraceData) (races : List (ℕ × ℕ)) : Type 0 where
   pub race : (i j : ℕ) → Contains races (i, j) → Race trace.events i j
   pub listed : (i j : ℕ) → Contains races (i, j) → (s : List ℕ) × IsPrintedSchedule trace.events s i j × IsSchedule trace.events s i j
-  pub once : (i j : ℕ) → Race trace.events i j → HasOnce trace (map pair_of races) (place_at trace i j)
+  pub each : (k l : ℕ) → Race trace.events k l → (i : ℕ) × (j : ℕ) × Contains races (i, j) × AreAtOnePlace by_variable trace i j k l
+  pub once : (i j k l : ℕ) → Contains races (i, j) → Contains races (k, l) → AreAtOnePlace by_variable trace i j k l → (i ≡ k) × (j ≡ l)
 
 -- what holds of the races that a report of this choice lists
 abbrev pub ListsRaces : Choice → TraceData → List (ℕ × ℕ) → Type 0
 ListsRaces All trace races = ListsSchedulable trace.events races
-ListsRaces Leading trace races = ListsPlaces trace races
+ListsRaces (Nearest by_variable) trace races = ListsPlaces by_variable trace races
 
 -- the text has no fault, its report of this choice was written and nothing else, the trace of the report is disciplined, and the summary is that of the report, with numbers of 64 bits
 pub record IsReported (choice : Choice) (with_schedules : Bool) (text : List ℕ) (summary : Summary) (old new : Option (List ℕ)) : Type 0 where

@@ -74,7 +74,7 @@ pub(crate) fn report_all<
     let races = pairs_in_pieces(rt, alloc, &kept, gates.pair, settings.workers)?;
     if settings.schedules {
         let plan = settings.plan(gates.witness);
-        return write_known(rt, alloc, sink, &settled, &races, &plan);
+        return write_known(rt, alloc, sink, disciplined, &links, &races, &plan);
     }
     let places = places_of(rt, alloc, disciplined.trace, &races)?;
     list_known(sink, disciplined, &races, &places)

@@ -14,8 +14,7 @@ use shb_fan::Gate;
 use shb_format::Places;
 use shb_io::Sink;
 use shb_lines::Pair;
-use shb_links::Linked;
-use shb_lists::Settled;
+use shb_links::{Linked, Links};
 use shb_stamps::Ordered;
 use shb_witness::order_of_races;
 use shb_write::{BlockPlan, WriteError, write_list, write_report};
@@ -47,18 +46,20 @@ pub(crate) fn write_known<R: Threads + Wait + Sync + RandomSource, K: Sink, G: G
     rt: &R,
     alloc: Global,
     sink: &mut K,
-    settled: &Settled<'_>,
+    disciplined: &Disciplined<'_>,
+    links: &Links<'_>,
     races: &[Pair],
     plan: &BlockPlan<'_, G>,
 ) -> Result<Summary, WriteError>
     requires countable { K.failure_count sink.old < 2 ^ 64 - 1 }
-    requires races { AreRaces settled.now.disciplined.now.events.now races.now }
-    ensures { (choice : Choice) → ListedBy choice settled.now.disciplined.now.trace.now (map ends races.now)
-        → HasSummed choice true settled.now.disciplined.now.trace.now K.taken K.failure_count sink.old sink.new result }
+    requires of_trace { links.now ≡ disciplined.now.events.now }
+    requires races { AreRaces disciplined.now.events.now races.now }
+    ensures { (choice : Choice) → ListedBy choice disciplined.now.trace.now (map ends races.now)
+        → HasSummed choice true disciplined.now.trace.now K.taken K.failure_count sink.old sink.new result }
 {
-    let linked = Linked::new(settled.disciplined, settled.links);
+    let linked = Linked::new(&*disciplined, &*links);
     let order = order_of_races(alloc, linked, races)?;
-    let ordered = Ordered::new(&order, settled.disciplined, settled.links);
+    let ordered = Ordered::new(&order, &*disciplined, &*links);
     write_report(rt, alloc, sink, &ordered, races, plan)?;
-    Ok(summary_of(settled.disciplined.trace, races.len() as u64))
+    Ok(summary_of(disciplined.trace, races.len() as u64))
 }

@@ -16,7 +16,7 @@ pub use shb_check::laws::{
     good_texts_are_called_good, trace_of_lines_is_unique, verdict_of_texts_is_one,
 };
 
-/// A text has at most one report of all races in each form, and one of its leading races: its lines have one
+/// A text has at most one report of all races in each form, and one of its nearest races: its lines have one
 /// trace, and a trace has one report of each.
 pub fn report_of_text_is_unique()
     ensures { (choice : Choice) (with_schedules : Bool) (text bytes others : List ℕ)
@@ -24,7 +24,7 @@ pub fn report_of_text_is_unique()
         → bytes ≡ others }
 {}
 
-/// A check of what a run wrote with schedules, of all races or of the leading ones, says that it is good. `value`: the bytes are the text of a
+/// A check of what a run wrote with schedules, of all races or of the nearest ones, says that it is good. `value`: the bytes are the text of a
 /// report in the grammar, whose verdict against the trace is `Good` with the number of races of the
 /// summary. `checked`: so no other verdict is that of these two texts, where the report isn't longer than
 /// the 1,073,741,824 bytes that a check reads; a longer one has a bad line there.

@@ -7,7 +7,7 @@ ghost use Rattle.shb_format.specs.Value.{AreShown, IsShown};
 ghost use Rattle.shb_run.specs.Runs.{summary_of};
 
 use crate::all::report_all;
-use crate::leading::report_leading;
+use crate::nearest::report_nearest;
 use crate::settings::{Choice, Gates, Settings, Summary, Task};
 use shb_check::{RunError, judge, read_trace};
 use shb_discipline::Disciplined;
@@ -48,9 +48,10 @@ fn report_asked<R: Threads + Wait + Sync + RandomSource, K: Sink, P: Gate + Sync
 {
     match task.choice {
         Choice::All => report_all(rt, alloc, sink, disciplined, task.settings, gates),
-        Choice::Leading => report_leading(
+        Choice::Nearest { by_variable } => report_nearest(
             rt,
             alloc,
+            by_variable,
             sink,
             disciplined,
             task.settings,

@@ -32,8 +32,8 @@ impl Settings {
 pub(crate) enum Choice {
     /// All of them.
     All,
-    /// Of each place the first race that has it.
-    Leading,
+    /// Of each place the nearest one, or of each place and variable.
+    Nearest { by_variable: bool },
 }
 
 /// A report that is asked for.

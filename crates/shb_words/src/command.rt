@@ -1,5 +1,5 @@
 //! The command line that is read.
-use crate::help::{ABOUT_CHECKS, ABOUT_PLACES, ABOUT_SCANS, ABOUT_THE_PROGRAM, ABOUT_TRACES};
+use crate::help::{ABOUT_CHECKS, ABOUT_PLACES, ABOUT_THE_PROGRAM, ABOUT_TRACES};
 use clap::{Arg, ArgAction, Command, value_parser};
 use shb_io::NoMemory;
 use std::alloc::Global;
@@ -52,16 +52,6 @@ fn report_command<'a>(
     Ok(command)
 }
 
-/// `scan [--variables] [TRACE]`
-fn scan_command<'a>(alloc: Global) -> Result<Command<'a>, NoMemory> {
-    let command = Command::new(alloc, "scan")
-        .about("Writes one race of each place of a long trace")
-        .after_help(ABOUT_SCANS)
-        .arg(variables_argument(alloc))?
-        .arg(trace_argument(alloc))?;
-    Ok(command)
-}
-
 /// `check TRACE`
 fn check_command<'a>(alloc: Global) -> Result<Command<'a>, NoMemory> {
     let trace = Arg::new(alloc, "trace")
@@ -103,12 +93,11 @@ fn with_places<'a>(alloc: Global, line: Command<'a>) -> Result<Command<'a>, NoMe
         "Writes the report of one race of each place of a trace",
         ABOUT_PLACES,
     )?;
-    Ok(line.subcommand(places)?)
+    Ok(line.subcommand(places.arg(variables_argument(alloc))?)?)
 }
 
 /// The whole command line.
 pub fn command<'a>(alloc: Global) -> Result<Command<'a>, NoMemory> {
     let reports = with_places(alloc, with_races(alloc, program(alloc))?)?;
-    let scans = reports.subcommand(scan_command(alloc)?)?;
-    Ok(scans.subcommand(check_command(alloc)?)?)
+    Ok(reports.subcommand(check_command(alloc)?)?)
 }

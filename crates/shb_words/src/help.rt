@@ -2,8 +2,8 @@
 
 /// Under the list of commands: what to begin with, and the statuses.
 pub const ABOUT_THE_PROGRAM: &str =
-    "No arguments mean 'shb races --list'. Begin with 'shb places --list', or with
-'shb scan' for a long trace. Without --list each race has a schedule.
+    "No arguments mean 'shb races --list'. Begin with 'shb places --list', which
+reads a trace of any length. Without --list each race has a schedule.
 
   $ printf 'T1|w(y)|1\\nT2|r(y)|2\\n' | shb places --list
 
@@ -72,18 +72,29 @@ Example:
 
 /// Under the options of `places`: which races it lists, and what that costs.
 pub const ABOUT_PLACES: &str =
-    "A place is a pair of locations: that of the first access of a race, and that of
-the second. Two locations in either order are two places. The first race of each
-place is listed, in the order of 'shb races', so each race that there is has the
-place of one that is listed. The trace and the form of the report are those of
-'shb help races'; the races are numbered from 1, and each place has a count of
-1. 'shb check' judges such a report as any other, and other tools read it as any
-other.
+    "A place is the locations of two accesses, in their order. One race is listed per
+place that has one anywhere in the trace: the one whose second event comes
+first, and if this event has several there, the one whose first event comes
+last. With --variables one race of each place and variable is listed, in the
+same way. Each race that there is has the place of one that is listed. 'shb
+check' judges such a report as any other.
+
+The report:
+  The trace and the form of the report are those of 'shb help races'. Races are
+  in the order of their second events, then of their first ones, and places in
+  the order of their first race. With --variables the count of a place is that
+  of the variables that race there.
+
+With --list the trace is read once, from front to end, and neither its text nor
+its events are kept: it may come from a pipe, and may have 4294967294 events,
+65535 threads, lines of 4096 bytes and any number of bytes. Nothing is written
+before it was read to its end and judged.
 
 Costs:
-  One race of each place is looked for, and no list of all races is made: time
-  and memory grow with the trace and with the places, not with the races. A
-  schedule is made for those races alone that are listed; --list leaves it out.
+  Time and memory grow with the trace and with the places, not with the races.
+  With --list memory grows with the names of the trace, with what its threads
+  know of each other and with the races that are listed, not with its length. A
+  place where each element of an array races has as many with --variables.
   'shb races --list' prints how many races a place has.
 
 Exit status:
@@ -105,54 +116,6 @@ Example:
   first T1|w(y)|1
   second T2|r(y)|2
   schedule 0:
-  end
-";
-
-/// Under the options of `scan`: what it reads and writes, and what that costs.
-pub const ABOUT_SCANS: &str =
-    "The trace is read once, from front to end, and neither its text nor its events
-are kept: it may come from a pipe. It is as in 'shb help races', and may have
-4294967294 events, 65535 threads, lines of 4096 bytes and any number of bytes.
-
-A place is the locations of two accesses, in their order. One race is listed per
-place that has one anywhere in the trace: the one whose second event comes
-first, and if this event has several there, the one whose first event comes
-last. They are the places of 'shb places --list', mostly with other races.
-With --variables one race of each place and variable is listed, in the same way.
-
-The scan:
-  It has the form that 'shb places --list' writes. Races are in the order of
-  their second events, then of their first ones, and places in the order of
-  their first race. With --variables the count of a place is that of the
-  variables that race there. There are no schedules, so 'shb check' calls a scan
-  with races incomplete.
-  Nothing is written before the trace was read to its end and judged.
-
-Costs:
-  Memory grows with the names of the trace, with what its threads know of each
-  other and with the races that are listed, not with its length. A place where
-  each element of an array races has as many with --variables. The time is that
-  of one pass; where hundreds of threads access one variable each access looks
-  at all of them.
-
-Exit status:
-  0  the scan was written, or the help that was asked for
-  2  the trace is refused; 'line N: REASON' is on standard error
-  3  wrong command line
-  4  a file, a device or the memory failed
-
-Example:
-  $ printf 'T1|w(y)|1\\nT2|r(y)|2\\nT3|r(y)|2\\n' | shb scan
-  shb-report 2
-  events 3 threads 3 locks 0 variables 1
-  races 1
-  places 1
-  place 1: 1
-  at 1
-  and 2
-  race 1: 1 2
-  first T1|w(y)|1
-  second T2|r(y)|2
   end
 ";
 

@@ -27,15 +27,11 @@ pub enum Plan {
     Help {
         text: String,
     },
-    /// Write the report of one race of each place, otherwise as `Races` does.
+    /// Write the report of one race of each place, or with `by_variable` of each place and variable, otherwise as `Races`
+    /// does.
     Places {
         workers: Workers,
         list: bool,
-        trace: Option<String>,
-    },
-    /// Write the scan of a trace, of standard input where `trace` is `None`; with `by_variable`, of
-    /// each place and variable.
-    Scan {
         by_variable: bool,
         trace: Option<String>,
     },
@@ -117,13 +113,6 @@ fn places_plan(alloc: Global, matches: &ArgMatches<'_>) -> Result<Plan, WordsFau
     Ok(Plan::Places {
         workers: workers_in(matches),
         list: matches.get_flag("list"),
-        trace: trace_in(alloc, matches)?,
-    })
-}
-
-/// The plan of the words after `scan`.
-fn scan_plan(alloc: Global, matches: &ArgMatches<'_>) -> Result<Plan, WordsFault> {
-    Ok(Plan::Scan {
         by_variable: matches.get_flag("variables"),
         trace: trace_in(alloc, matches)?,
     })
@@ -168,7 +157,6 @@ fn plan_in(alloc: Global, matches: &ArgMatches<'_>) -> Result<Plan, WordsFault> 
     match matches.subcommand() {
         Some(("races", inner)) => races_plan(alloc, inner),
         Some(("places", inner)) => places_plan(alloc, inner),
-        Some(("scan", inner)) => scan_plan(alloc, inner),
         Some(("check", inner)) => check_plan(alloc, inner),
         _ => refused(alloc, "error: no command was given\n"),
     }
@@ -185,8 +173,8 @@ fn line_of(alloc: Global, words: &[String]) -> Result<Vec<&str>, NoMemory> {
 }
 
 /// The plan that the words of a command line ask for, the program's own name left out:
-/// `races` or `places`, each with `[--workers N] [--list] [TRACE]` and N from 1 to 64,
-/// `scan [--variables] [TRACE]`, `check TRACE`, or help. No words at all are `races --list`, with 4 workers.
+/// `races` or `places`, each with `[--workers N] [--list] [TRACE]` and N from 1 to 64, `places` with `[--variables]` too,
+/// `check TRACE`, or help. No words at all are `races --list`, with 4 workers.
 ///
 /// # Errors
 ///

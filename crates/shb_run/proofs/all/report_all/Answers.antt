@@ -16,15 +16,14 @@ write_known-requires-clause-races g c κs alive =
     let kept = rw c.in-Some.is at c.in_ok-kept.ensures.races in
     let pairs = c.deref-then-settings.result.now in
     let lists = kept_listed trace.trace.now trace.events.now c.in-Some.kept.items c.deref-3.result.now c.in_ok-races.races.items pairs trace.of_trace kept c.deref-3.ensures.value c.in_ok-races.ensures c.deref-then-settings.ensures.value in
-    rw c.new-settled.ensures (races_listed choices.All trace.trace.now trace.events.now pairs trace.of_trace lists)
+    races_listed choices.All trace.trace.now trace.events.now pairs trace.of_trace lists
 
 pub returns-then-settings : goal.returns-then-settings
 returns-then-settings g c =
     let trace = c.args.disciplined.now in
     let kept = rw c.in-Some.is at c.in_ok-kept.ensures.races in
     let lists = kept_listed trace.trace.now trace.events.now c.in-Some.kept.items c.deref-3.result.now c.in_ok-races.races.items c.deref-then-settings.result.now trace.of_trace kept c.deref-3.ensures.value c.in_ok-races.ensures c.deref-then-settings.ensures.value in
-    let written = rw c.new-settled.ensures at c.write_known.ensures in
-    rw c.if-settings.true (written choices.All lists)
+    rw c.if-settings.true (c.write_known.ensures choices.All lists)
 
 pub places_of-requires : goal.places_of-requires
 places_of-requires g c =
