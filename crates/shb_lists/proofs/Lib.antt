@@ -11,6 +11,13 @@ pub mod HistoryLemmas
 pub mod RacingCountsLemmas
 pub mod ListedLemmas
 pub mod BatchLemmas
+pub mod Lists
+pub mod PlaceRacesLemmas
+pub mod RacesByNumber
+pub mod LeadMembers
+pub mod SortedEntries
+pub mod CoveredLeading
+pub mod NearestLead
 pub mod PieceLemmas
 pub mod NumberLemmas
 pub mod CountsByPlace

@@ -4,15 +4,17 @@ ghost use Rattle.std.specs.Prelude.{◌≡◌, ℕ, [], IfOk, List, OnOk, length
 ghost use Rattle.shb_lines.specs.declared.event.Pair.{Pair};
 ghost use Rattle.shb_lines.specs.events.Race.{IsRaceList, ends};
 ghost use Rattle.shb_format.specs.Places.{counts_in, places_of_pairs};
-ghost use Rattle.shb_format.specs.Report.{LeadingRaces, pair_of};
+ghost use Rattle.shb_format.specs.Report.{pair_of};
 ghost use Rattle.shb_lists.specs.Counted.{HasCounted};
 ghost use Rattle.shb_lists.specs.Listed.{races_before};
+ghost use Rattle.shb_lists.specs.PlaceRaces.{HaveNearest};
 ghost use Rattle.shb_lists.specs.Planned.{IsPlan};
 ghost use Rattle.shb_lists.specs.RacingCounts.{AreBelow};
 
 use crate::counter::RaceCounter;
 use crate::counting::Counting;
 use crate::history::AccessHistory;
+use crate::leading::leading_races;
 use crate::numbering::location_numbers;
 use crate::plan::BatchPlan;
 use crate::settled::Settled;
@@ -69,9 +71,9 @@ fn count_events(
     Ok(BatchPlan { most, races })
 }
 
-/// How many races a trace has, their places, and batches of not more than `most`. The places are those of the leading
-/// races, of each place the first race of the race list, in the order of that list; so the races can be counted in any
-/// order.
+/// How many races a trace has, their places, and batches of not more than `most`. `nearest` has of each place and variable
+/// the nearest race. The places are those of the leading races, of each place the first race of the race list, in the
+/// order of that list; so the races can be counted in any order.
 ///
 /// One sweep counts them by variable and by place. A variable that has tables costs an access a step for each thread, and
 /// where it races with as many others as there are locations one for each location; each other race is a step. Memory: 4
@@ -85,10 +87,10 @@ pub fn counted_races<R: RandomSource>(
     rt: &R,
     alloc: Global,
     settled: &Settled<'_>,
-    leading: &[Pair],
+    nearest: &[Pair],
     most: u64,
 ) -> Result<RaceCount, NoMemory>
-    requires leading { LeadingRaces settled.now.disciplined.now.trace.now (map ends leading.now) }
+    requires nearest { HaveNearest settled.now.disciplined.now.trace.now (map ends nearest.now) }
     ensures races { (listed : List (ℕ × ℕ)) → IsRaceList settled.now.disciplined.now.events.now listed → IfOk result (λ c. c.races ≡ length listed) }
     ensures places { (listed : List (ℕ × ℕ)) → IsRaceList settled.now.disciplined.now.events.now listed
         → IfOk result (λ c. c.places ≡ counts_in (places_of_pairs settled.now.disciplined.now.trace.now (map pair_of listed))) }
@@ -96,8 +98,9 @@ pub fn counted_races<R: RandomSource>(
     ensures most { IfOk result (λ c. c.batches.most ≡ most) }
 {
     let located = location_numbers(rt, alloc, settled.disciplined, settled.flags)?;
+    let leading = leading_races(rt, alloc, settled, &located, nearest)?;
     let numbers = located.numbers.as_slice();
-    let mut counter = RaceCounter::new(rt, alloc, numbers, leading)?;
+    let mut counter = RaceCounter::new(rt, alloc, numbers, &leading)?;
     located.locations.are_different();
     let classes = located.locations.len().max(1);
     let batches = count_events(alloc, settled, &mut counter, numbers, classes, most)?;

@@ -129,6 +129,27 @@ impl AccessHistory {
         Ok(())
     }
 
+    /// Takes the next event in, and looks for none of its races.
+    ///
+    /// # Errors
+    ///
+    /// `NoMemory` where a growth was refused; nothing is known of the accesses then.
+    pub fn enter<O: Order>(
+        &mut self,
+        ordered: &Ordered<'_, O>,
+        flags: &[bool],
+        e: u32,
+    ) -> Result<(), NoMemory>
+        requires in_range { e < length ordered.now.disciplined.now.events.now }
+        requires history { IsHistory ordered.now.disciplined.now.events.now flags.now e ordered.now.disciplined.now.sizes.variables self.old }
+        ensures { OnOk result (IsHistory ordered.now.disciplined.now.events.now flags.now (e + 1) ordered.now.disciplined.now.sizes.variables self.new) }
+    {
+        match access_at(ordered, flags, e) {
+            Some(access) => self.note(ordered, access),
+            None => self.skip(),
+        }
+    }
+
     /// The earlier events that race with the next event, rising, if it accesses an open variable; else none. Takes the
     /// event in.
     ///

@@ -29,7 +29,7 @@ fn has_room(most: Option<u64>, kept: usize, more: usize) -> bool
 }
 
 /// The variable that an event accesses, or 0.
-fn variable_of(events: &Events, e: u32) -> u32
+pub(crate) fn variable_of(events: &Events, e: u32) -> u32
     requires { e < length events.now }
     ensures { (x : ℕ) → variable_at events.now e ≡ Some x → result ≡ x }
 {

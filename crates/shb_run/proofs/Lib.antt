@@ -4,3 +4,4 @@ pub mod Reports
 pub mod Endings
 pub mod Outcomes
 pub mod Lists
+pub mod NearestLists

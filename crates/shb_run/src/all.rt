@@ -13,7 +13,7 @@ use shb_io::Sink;
 use shb_links::links_of;
 use shb_lists::{Settled, kept_races, pairs_in_pieces};
 use shb_pairs::open_variables;
-use shb_search::leading_races;
+use shb_scan::nearest_races;
 use shb_write::{BlockPlan, WriteError, kept_at_once, write_search};
 use std::alloc::Global;
 use std::random::RandomSource;
@@ -31,8 +31,8 @@ fn report_many<R: Threads + Wait + Sync + RandomSource, K: Sink, G: Gate + Sync>
     requires countable { K.failure_count sink.old < 2 ^ 64 - 1 }
     ensures { HasSummed All plan.now.schedules settled.now.disciplined.now.trace.now K.taken K.failure_count sink.old sink.new result }
 {
-    let leading = leading_races(rt, alloc, settled.disciplined, settled.links, settled.flags)?;
-    let races = write_search(rt, alloc, sink, settled, &leading, plan)?;
+    let nearest = nearest_races(rt, alloc, settled.disciplined, true)?;
+    let races = write_search(rt, alloc, sink, settled, &nearest, plan)?;
     Ok(summary_of(settled.disciplined.trace, races))
 }
 

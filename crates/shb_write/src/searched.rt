@@ -1,7 +1,7 @@
 //! The report of a trace that lists all its races, without keeping them.
 ghost use Rattle.std.specs.Prelude.{◌≡◌, ◌-◌, ◌^◌, ◌<◌, ℕ, IfOk, List, length, map};
 ghost use Rattle.shb_lines.specs.events.Race.{IsRaceList, ends};
-ghost use Rattle.shb_format.specs.Report.{LeadingRaces};
+ghost use Rattle.shb_lists.specs.PlaceRaces.{HaveNearest};
 ghost use Rattle.shb_write.specs.Written.{HasReported, These};
 
 use crate::errors::WriteError;
@@ -18,8 +18,8 @@ use std::random::RandomSource;
 use std::sync::Wait;
 use std::thread::Threads;
 
-/// Writes the report of a trace that lists all its races. Says how many there are. `leading` has of
-/// each place the first race.
+/// Writes the report of a trace that lists all its races. Says how many there are. `nearest` has of
+/// each place and variable the nearest race.
 ///
 /// The races are searched for twice, to count them by variable and by place, and to write the blocks in batches of not
 /// more races than are kept at once, so the memory that is taken doesn't grow with the races. The places are made before
@@ -37,18 +37,18 @@ pub fn write_search<R: Threads + Wait + Sync + RandomSource, K: Sink, G: Gate + 
     alloc: Global,
     sink: &mut K,
     settled: &Settled<'_>,
-    leading: &[Pair],
+    nearest: &[Pair],
     plan: &BlockPlan<'_, G>,
 ) -> Result<u64, WriteError>
     requires countable { K.failure_count sink.old < 2 ^ 64 - 1 }
-    requires leading { LeadingRaces settled.now.disciplined.now.trace.now (map ends leading.now) }
+    requires nearest { HaveNearest settled.now.disciplined.now.trace.now (map ends nearest.now) }
     ensures count { (listed : List (ℕ × ℕ)) → IsRaceList settled.now.disciplined.now.events.now listed
         → IfOk result (λ count. count ≡ length listed) }
     ensures written { (listed : List (ℕ × ℕ)) → IsRaceList settled.now.disciplined.now.events.now listed
         → HasReported (These listed) plan.now.schedules settled.now.disciplined.now.trace.now K.taken K.failure_count sink.old sink.new result }
 {
     let trace = settled.disciplined.trace;
-    let counted = counted_races(rt, alloc, settled, leading, kept_at_once(trace.len()))?;
+    let counted = counted_races(rt, alloc, settled, nearest, kept_at_once(trace.len()))?;
     write_front(sink, trace, counted.races, &counted.places)?;
     write_all(rt, alloc, sink, settled, &counted.batches, plan)?;
     tail(sink)?;

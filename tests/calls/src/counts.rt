@@ -7,7 +7,7 @@ use shb_lines::Pair;
 use shb_links::Links;
 use shb_lists::{Settled, counted_races};
 use shb_pairs::open_variables;
-use shb_search::leading_races;
+use shb_scan::nearest_races;
 use std::test::Fail;
 
 /// The races of a text.
@@ -23,8 +23,8 @@ impl Asks for CountsAre<'_> {
         let alloc = rt.alloc();
         let flags = open_variables(alloc, trace, links)?;
         let settled = Settled::new(trace, links, &flags);
-        let leading = leading_races(rt, alloc, trace, links, &flags)?;
-        let counted = counted_races(rt, alloc, &settled, leading.as_slice(), MOST)?;
+        let nearest = nearest_races(rt, alloc, trace, true)?;
+        let counted = counted_races(rt, alloc, &settled, nearest.as_slice(), MOST)?;
         let mut wanted = Vec::new(alloc);
         for (first, second, count) in self.places {
             let pair = Pair {
