@@ -15,6 +15,7 @@ pub mod Lists
 pub mod PlaceRacesLemmas
 pub mod RacesByNumber
 pub mod LeadMembers
+pub mod LeadSteps
 pub mod SortedEntries
 pub mod CoveredLeading
 pub mod NearestLead
