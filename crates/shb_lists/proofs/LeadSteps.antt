@@ -1,12 +1,12 @@
 -- A race, or the races of an event, come to those that are found.
-use Rattle.std.proofs.Common.{◌≡◌, inl, inr, ◌+◌, ◌<◌, ℕ, Bool, true, false, cond, List, [], ◌∷◌, All, length, get_or, Some, slice_get, refl, sym, ap, subst, ◌∙◌, arith}
+use Rattle.std.proofs.Common.{◌≡◌, inl, inr, ◌+◌, ◌<◌, ℕ, Bool, true, false, cond, List, [], ◌∷◌, All, length, map, get_or, Some, slice_get, refl, sym, ap, subst, ◌∙◌, arith}
 use Rattle.std.specs.Prelude.{Contains}
 use Rattle.std.proofs.lemmas.Bool.{cases_Bool, cases_lt}
 use Rattle.std.proofs.lemmas.List.Elements.{Contains-get_or}
 use Rattle.std.proofs.lemmas.Option.{get_or_from_slice_get}
 use Rattle.shb_lines.specs.declared.event.Event.{Event}
 use Rattle.shb_lines.specs.declared.event.Pair.{Pair}
-use Rattle.shb_lines.specs.events.Race.{Race, variable_at}
+use Rattle.shb_lines.specs.events.Race.{Race, ends, variable_at}
 use Rattle.shb_lines.specs.events.Reach.{is_race, numbers_where}
 use Rattle.shb_lines.specs.text.TraceData.{TraceData}
 use Rattle.shb_lines.proofs.events.Increasing.{contains_cases, contains_none}
@@ -14,8 +14,10 @@ use Rattle.shb_lines.proofs.events.Reach.{numbers_listed, reflect_race}
 use Rattle.shb_stamps.specs.Open.{accesses_open, is_open}
 use Rattle.shb_pairs.specs.Open.{AreOpen}
 use Rattle.shb_pairs.specs.Listed.{race_of}
+use Rattle.shb_pairs.specs.declared.listed.ListedRace.{ListedRace}
+use Rattle.shb_pairs.proofs.FlatMaps.{map_contains, map_parts}
 use Rattle.shb_lists.specs.Counted.{AreNumbered}
-use Rattle.shb_lists.specs.PlaceRaces.{AreFound, AreOffered, FoundRace, HasAsked, HasGained, HasOffered, IsCovered, IsFound}
+use Rattle.shb_lists.specs.PlaceRaces.{AreFound, AreOffered, AreRaces, FoundRace, HasAsked, HasGained, HasOffered, HaveNearest, IsCovered, IsFound}
 use Rattle.shb_lists.specs.RacingCounts.{number_in}
 use Rattle.shb_lists.proofs.BatchLemmas.{accessed_within}
 use Rattle.shb_lists.proofs.ListedLemmas.{open_access}
@@ -58,6 +60,21 @@ found_within trace flags e n firsts is long k d low =
     let race = found_race trace flags e firsts is (get_or firsts k d) (Contains-get_or firsts k d low) in
     let within = (race_within trace (get_or firsts k d) e race).0 in
     omega (arith, within, long)
+
+-- the nearest ones are races
+pub nearest_races : (trace : TraceData) (events : List Event) (nearest : List Pair) → events ≡ trace.events → HaveNearest trace (map ends nearest) → AreRaces events nearest
+nearest_races trace events nearest same have k d low =
+    let p : Pair = get_or nearest k d in
+    subst (λ (es : List Event). Race es p.first p.second) (sym same) (have.races p.first p.second (map_contains ends nearest p (Contains-get_or nearest k d low)))
+
+-- the later events of what is found are events of the trace
+pub lead_within : (trace : TraceData) (locations : List (List ℕ)) (found : List FoundRace) (races : List ListedRace) (n : ℕ) → AreFound trace locations found → races ≡ map (λ (e : FoundRace). e.1) found → length trace.events ≡ n → All (λ (race : ListedRace). race.second < n) races
+lead_within trace locations found races n are same long k d low =
+    let race : ListedRace = get_or races k d in
+    let there = map_parts (λ (e : FoundRace). e.1) found race (subst (λ (rs : List ListedRace). Contains rs race) same (Contains-get_or races k d low)) in
+    let within = (race_within trace.events there.0.1.first there.0.1.second (are there.0 there.1).is_race).1 in
+    let same_second : there.0.1.second ≡ race.second = ap (λ (r : ListedRace). r.second) there.2 in
+    omega (arith, within, same_second, long)
 
 -- ---- what is found of a trace whose locations have numbers
 

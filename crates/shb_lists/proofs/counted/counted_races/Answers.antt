@@ -1,8 +1,10 @@
 -- The race list is counted, and its places are those of the leading races.
-use Rattle.std.proofs.Common.{◌∙◌, ℕ, List, ap, length, subst, sym}
+use Rattle.std.proofs.Common.{◌∙◌, ℕ, List, ap, length, map, subst, sym}
 use Rattle.std.specs.Prelude.{max}
 use Rattle.shb_lines.specs.declared.event.Event.{Event}
-use Rattle.shb_lines.specs.events.Race.{IsRaceList}
+use Rattle.shb_lines.specs.declared.event.Pair.{Pair}
+use Rattle.shb_lines.specs.events.Race.{IsRaceList, ends}
+use Rattle.shb_format.specs.Report.{LeadingRaces}
 use Rattle.shb_pairs.specs.Open.{AreOpen}
 use Rattle.shb_lists.specs.Counted.{AreNumbered, HasCounted}
 use Rattle.shb_lists.proofs.EventSums.{counted_below}
@@ -12,7 +14,7 @@ use Rattle.shb_lists.proofs.counted.counted_races.Goals as goal
 
 pub new-requires : goal.new-requires
 new-requires g c =
-    leading_within c.args.settled.now.disciplined.now.trace.now (length c.as_slice-numbers.result.now) c.args.leading.now (ap length c.as_slice-numbers.ensures.value ∙ c.in_ok-located.ensures.as_many ∙ ap length c.args.settled.now.disciplined.now.of_trace) c.requires.leading
+    leading_within c.args.settled.now.disciplined.now.trace.now (length c.as_slice-numbers.result.now) c.deref.result.now (ap length c.as_slice-numbers.ensures.value ∙ c.in_ok-located.ensures.as_many ∙ ap length c.args.settled.now.disciplined.now.of_trace) (subst (λ (ls : List Pair). LeadingRaces c.args.settled.now.disciplined.now.trace.now (map ends ls)) (sym c.deref.ensures.value) c.in_ok-leading.ensures)
 
 pub count_events-requires-clause-numbers : goal.count_events-requires-clause-numbers
 count_events-requires-clause-numbers g c =
@@ -24,7 +26,7 @@ pub returns-clause-races : goal.returns-clause-races
 returns-clause-races g c listed lists =
     let trace = c.args.settled.now.disciplined.now in
     let numbers = c.as_slice-numbers.result.now in
-    let leading = c.args.leading.now in
+    let leading = c.deref.result.now in
     let has = counted_below trace.events.now trace.sizes c.args.settled.now.flags.now trace.within c.args.settled.now.settled numbers leading c.count_events.new.counter (c.in_ok-batches.ensures.counted leading c.in_ok-counter.ensures) in
     has.count ∙ ap length (sym (list_is_below trace.events.now trace.sizes listed trace.within trace.numbered lists))
 
@@ -32,7 +34,7 @@ pub returns-clause-places : goal.returns-clause-places
 returns-clause-places g c listed lists =
     let trace = c.args.settled.now.disciplined.now in
     let numbers = c.as_slice-numbers.result.now in
-    let leading = c.args.leading.now in
+    let leading = c.deref.result.now in
     let same = sym (list_is_below trace.events.now trace.sizes listed trace.within trace.numbered lists) in
     let has = subst (λ (l : List (ℕ × ℕ)). HasCounted numbers leading l c.count_events.new.counter) same
     (counted_below trace.events.now trace.sizes c.args.settled.now.flags.now trace.within c.args.settled.now.settled numbers leading c.count_events.new.counter (c.in_ok-batches.ensures.counted leading c.in_ok-counter.ensures)) in
@@ -40,4 +42,4 @@ returns-clause-places g c listed lists =
     (subst (λ (l : List ℕ). AreNumbered trace.trace.now c.args.settled.now.flags.now (length trace.trace.now.events) l c.in_ok-located.located.locations) (sym c.as_slice-numbers.ensures.value)
     (subst (λ (es : List Event). AreNumbered trace.trace.now c.args.settled.now.flags.now (length es) c.in_ok-located.located.numbers.items c.in_ok-located.located.locations) trace.of_trace c.in_ok-located.ensures))
     (subst (λ (es : List Event). AreOpen es c.args.settled.now.flags.now) trace.of_trace c.args.settled.now.settled)
-    (subst (λ e. IsRaceList e listed) trace.of_trace lists) c.requires.leading has c.in_ok-places.ensures
+    (subst (λ e. IsRaceList e listed) trace.of_trace lists) (subst (λ (ls : List Pair). LeadingRaces trace.trace.now (map ends ls)) (sym c.deref.ensures.value) c.in_ok-leading.ensures) has c.in_ok-places.ensures
