@@ -1,6 +1,6 @@
 -- The races that are found, one more at a time.
 use Rattle.std.proofs.lemmas.Grind.{common_steps}
-use Rattle.std.proofs.Common.{◌≡◌, ℕ, ◌+◌, ◌<◌, ◌≤◌, ◌⊎◌, inl, inr, Bool, true, false, cond, List, [], ◌∷◌, Some, arith, refl, subst, ap, sym, ◌∙◌}
+use Rattle.std.proofs.Common.{◌≡◌, ℕ, ◌⊎◌, inl, inr, Bool, true, false, cond, List, [], ◌∷◌, Some, arith, refl, subst, ap, sym, ◌∙◌}
 use Rattle.std.specs.Prelude.{Contains, slice_get}
 use Rattle.std.specs.Map.{lookup}
 use Rattle.std.proofs.lemmas.Bool.Decides.{Decides-and, Decides-eqb}
@@ -11,7 +11,7 @@ use Rattle.shb_lines.proofs.events.Increasing.{contains_cases, contains_head, co
 use Rattle.shb_format.specs.Leading.{place_at}
 use Rattle.shb_format.specs.Places.{location_at}
 use Rattle.shb_pairs.specs.declared.listed.ListedRace.{ListedRace}
-use Rattle.shb_pairs.specs.Listed.{NotAfter, race_of}
+use Rattle.shb_pairs.specs.Listed.{NotAfter}
 use Rattle.shb_lists.specs.PlaceRaces.{AreFound, FoundRace, Improves, IsCovered, IsFound, IsOffered, same_key}
 use Rattle.shb_pairs.proofs.KeyOrder.{race_then}
 
