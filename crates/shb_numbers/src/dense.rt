@@ -4,8 +4,7 @@ ghost use Rattle.std.specs.Prelude.{◌≡◌, ◌^◌, [], ℕ, ◌<◌, ◌≤
 ghost use Rattle.std.specs.FinSet as set;
 ghost use Rattle.shb_numbers.specs.Numbers.{HasNone, IsLeast, marked};
 
-use crate::bits::{lowest_only_in, with_bit, without_bit};
-use crate::without::Without;
+use crate::bits::{lowest_only_in, with_bit};
 use crate::words::{Words, word_at};
 use shb_io::NoMemory;
 use std::alloc::Global;
@@ -60,19 +59,6 @@ impl Dense {
         Ok(())
     }
 
-    /// Takes a number out of the set, if it is there.
-    #[inline(always)]
-    pub fn remove(&mut self, number: u32)
-        ensures { self.new ≡ set.remove self.old number }
-    {
-        let (at, bit) = ((number / 64) as usize, number % 64);
-        if at == 0 {
-            self.first = without_bit(self.first, bit);
-        } else if at <= self.more.len() {
-            self.more[at - 1] = without_bit(self.more[at - 1], bit);
-        }
-    }
-
     /// Whether a number is in the set.
     #[inline(always)]
     pub fn contains(&self, number: u32) -> bool
@@ -97,14 +83,6 @@ impl Dense {
             (IsLeast (set.difference self.now other.now) from end) }
     {
         first_of_words(self.words(), other.words(), from, end)
-    }
-
-    /// The numbers of this set that aren't in the other, one by one.
-    #[inline(always)]
-    pub fn without<'s>(&'s self, other: &'s Dense) -> Without<'s>
-        ensures { result ≡ set.difference self.now other.now }
-    {
-        Without::new(self.words(), other.words())
     }
 
     #[inline(always)]

@@ -64,18 +64,6 @@ impl LargeSet {
         insert_past(&mut self.near, &mut self.far, number)
     }
 
-    /// Takes a number out of the set, if it is there.
-    #[inline(always)]
-    pub fn remove(&mut self, number: u32)
-        ensures { self.new ≡ set.remove self.old number }
-    {
-        self.near.remove(number);
-        if self.far.is_empty() {
-            return;
-        }
-        self.far.remove(&number);
-    }
-
     /// Whether a number is in the set.
     pub fn contains(&self, number: u32) -> bool
         ensures { result ≡ set.contains self.now number }
@@ -121,17 +109,6 @@ impl LargeSet {
         }
     }
 
-    /// Whether this set has a number that the other hasn't. It may say so where all such numbers are far in the other.
-    #[inline(always)]
-    pub fn has_more(&self, other: &LargeSet) -> bool
-        ensures { result ≡ false → (k : ℕ) → set.contains self.now k ≡ true → set.contains other.now k ≡ true }
-    {
-        let mut left = self.near.without(&other.near);
-        match left.next() {
-            Some(_) => true,
-            None => has_far(&self.far, other),
-        }
-    }
 }
 
 /// Puts a number past the near ones into the set.
@@ -228,23 +205,3 @@ fn far_not_in(far: &BTreeSet<u32, Global>, other: &LargeSet, from: u32, end: u32
     None
 }
 
-/// Whether there is a far number that isn't in a set. It may say so of one that no index has.
-#[inline(always)]
-fn has_far(far: &BTreeSet<u32, Global>, other: &LargeSet) -> bool
-    ensures { result ≡ false → (k : ℕ) → has_key far.now.keys k ≡ true → set.contains other.now k ≡ true }
-{
-    if far.is_empty() {
-        return false;
-    }
-    let mut at = 0;
-    while at < u32::MAX {
-        let Some(k) = first_from(far, at) else {
-            return false;
-        };
-        if !other.contains(k) {
-            return true;
-        }
-        at = k.saturating_add(1);
-    }
-    true
-}
