@@ -143,6 +143,7 @@ def costs():
     yield Cost("numbers that are far apart", PLACES, shapes.far_numbers, 50_000, unit=MEMORY)
     yield Cost("5,000 threads forked and joined", SCAN, shapes.forked_and_joined, 15_000, unit=MEMORY)
     yield Cost("a lock handed on by 4,000 threads", SCAN, shapes.handed_on, 8_000, unit=MEMORY)
+    yield Cost("variables that 200 threads write under a lock", SCAN, shapes.variables_under_a_lock, 1_500_000, unit=MEMORY)
     for path in sorted(RECORDED.glob("*.std.xz")):
         yield Cost(path.name, PLACES, recorded(path), 0, grows=False)
         yield Cost(path.name, RACES, recorded(path), 0, grows=False)

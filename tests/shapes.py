@@ -192,6 +192,12 @@ def forked_and_joined(n):
     yield from (f"main|fork(T{k})|f\nT{k}|w(x)|a\nmain|join(T{k})|j\n" for k in range(n // 3))
 
 
+def variables_under_a_lock(n):
+    """200 threads in turn write 30 of 20,010 variables each under a lock: in the end each thread has written each variable."""
+    for k in range(n // 32):
+        yield f"T{k % 200}|acq(l)|a\n" + "".join(f"T{k % 200}|w(v{(30 * k + i) % 20010})|b\n" for i in range(30)) + f"T{k % 200}|rel(l)|c\n"
+
+
 def handed_on(n):
     """A lock goes from thread to thread: each knows all threads before it."""
     yield from (f"T{k}|acq(l)|a\nT{k}|rel(l)|r\n" for k in range(n // 2))

@@ -6,7 +6,7 @@ use Rattle.shb_lines.specs.declared.event.Event.{Event}
 use Rattle.shb_lines.specs.events.Discipline.{IsDisciplined}
 use Rattle.shb_lines.specs.events.Events.{op_at, thread_at, variable_of}
 use Rattle.shb_lines.specs.events.Race.{Race, variable_at}
-use Rattle.shb_lines.proofs.events.Longer.{op_longer, race_longer, thread_longer, time_longer}
+use Rattle.shb_lines.proofs.events.Longer.{below_pred_longer, op_longer, race_longer, thread_longer, time_longer}
 use Rattle.shb_stamps.proofs.Screening.{screened_longer}
 use Rattle.shb_nearest.specs.declared.access.FoundAccess.{FoundAccess}
 use Rattle.shb_nearest.specs.declared.access.FoundRace.{FoundRace}
@@ -21,7 +21,7 @@ use Rattle.shb_nearest.specs.declared.log.Accesses.TheVariants.{Grouped, Waiting
 use Rattle.shb_nearest.specs.declared.log.Entry.{Entry}
 use Rattle.shb_nearest.specs.declared.places.Place.{Place}
 use Rattle.shb_nearest.specs.declared.tables.Tables.{Tables}
-use Rattle.shb_nearest.specs.Classes.{IsNewestOf, IsOfClass}
+use Rattle.shb_nearest.specs.Classes.{IsLastOf, IsNewestOf, IsOfClass}
 use Rattle.shb_nearest.specs.Found.{IsFoundAccess, location_in}
 use Rattle.shb_nearest.specs.Groups.{AreGroups, IsGroup, IsKept, access_of}
 use Rattle.shb_nearest.specs.Late.{AreAccesses, AreLate, IsLateIn, access_in}
@@ -73,10 +73,16 @@ module _ (past : List Event) (e : Event) (spots : List Spot) (s : Spot) (as_many
   newest_back : (c : Class) (k : ℕ) → IsNewestOf (past ++ e ∷ []) (spots ++ s ∷ []) (length past) c k → IsNewestOf past spots (length past) c k
   newest_back c k is = record { own = class_back c k is.past is.own; past = is.past; last = λ i lt own. is.last i lt (class_longer c i lt own) }
 
+  last_back : (c : Class) (k : ℕ) → IsLastOf (past ++ e ∷ []) (spots ++ s ∷ []) (length past) c k → IsLastOf past spots (length past) c k
+  last_back c k is = record {
+    newest = newest_back c k is.newest;
+    none_after = λ i low lt op at below. is.none_after i low lt (same_op_at i lt ∙ op) (same_place i lt ∙ at) ((below_pred_longer past (e ∷ []) whole k i lt).1 below);
+  }
+
   groups_longer : (x n : ℕ) (groups : List Group) → n ≤ length past → AreGroups past spots x n (length past) groups → AreGroups (past ++ e ∷ []) (spots ++ s ∷ []) x n (length past) groups
   groups_longer x n groups within h = record {
     each = All-weaker (IsGroup past spots x n) (IsGroup (past ++ e ∷ []) (spots ++ s ∷ []) x n) (group_longer x n within) groups h.each;
-    covers = λ c k of_x is. h.covers c k of_x (newest_back c k is);
+    covers = λ c k of_x is. h.covers c k of_x (last_back c k is);
   }
 
   same_variable_at : (k : ℕ) → k < length past → variable_at (past ++ e ∷ []) k ≡ variable_at past k
@@ -87,6 +93,7 @@ module _ (past : List Event) (e : Event) (spots : List Spot) (s : Spot) (as_many
     own = record {
       own = access_longer x (access_in a) h.past h.own.own;
       time_is = h.own.time_is ∙ sym (time_longer past (e ∷ []) a.thread a.event h.past);
+      after = λ all k lt of_k. (let before = h.past in (below_pred_longer past (e ∷ []) whole k a.event before).1 (h.own.after all k lt (sym (same_variable_at k (omega (arith, lt, before))) ∙ of_k)));
     };
     from = h.from;
     past = h.past;
@@ -97,7 +104,7 @@ module _ (past : List Event) (e : Event) (spots : List Spot) (s : Spot) (as_many
     within = h.within;
     each = All-weaker (IsLateIn past spots x m (length past)) (IsLateIn (past ++ e ∷ []) (spots ++ s ∷ []) x m (length past)) (late_in_longer x m) late h.each;
     rising = h.rising;
-    covers = λ c k of_x is. h.covers c k of_x (newest_back c k is);
+    covers = λ c k of_x is. h.covers c k of_x (last_back c k is);
   }
 
   accesses_longer : (x : ℕ) (entries : List Entry) (groups : List Groups) (accesses : Accesses) → AreAccesses past spots x (length past) entries groups accesses → AreAccesses (past ++ e ∷ []) (spots ++ s ∷ []) x (length past) entries groups accesses

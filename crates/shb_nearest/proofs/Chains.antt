@@ -16,9 +16,8 @@ use Rattle.shb_nearest.specs.declared.log.Accesses.{Accesses}
 use Rattle.shb_nearest.specs.declared.log.Accesses.TheVariants.{Grouped, Waiting}
 use Rattle.shb_nearest.specs.declared.log.Entry.{Entry}
 use Rattle.shb_nearest.specs.declared.tables.Variable.{Variable}
-use Rattle.shb_nearest.specs.Groups.{class_of}
 use Rattle.shb_nearest.specs.Searched.{IsVariable}
-use Rattle.shb_nearest.specs.Late.{AreAccesses, AreLate, AreWaiting, HasPut, HasWritten, IsAlike, IsAlikeOne, IsChain, IsEntryAt, IsLate, IsLateIn, StayWaiting, access_in}
+use Rattle.shb_nearest.specs.Late.{AreAccesses, AreLate, AreWaiting, HasPut, HasWritten, IsChain, IsEntryAt, IsInstead, IsInsteadOne, IsLate, IsLateIn, StayWaiting, access_in}
 use Rattle.shb_nearest.proofs.LateLemmas.{late_push, late_without}
 use Rattle.shb_nearest.proofs.Members.{get_before, middle}
 use Rattle.shb_nearest.proofs.RivalLemmas.{variable_is}
@@ -86,10 +85,10 @@ module _ (trace : List Event) (spots : List Spot) (x : ℕ) where
   pub late_newer : (n m : ℕ) (late : List Late) (a : Late) → a.event ≡ n → IsLate trace spots x a → AreLate trace spots x n m (reverse late) → AreLate trace spots x (n + 1) m (reverse (a ∷ late))
   late_newer n m late a at_n own are = subst (λ (l : List Late). AreLate trace spots x (n + 1) m l) (sym (reverse-append (a ∷ []) late)) (late_push trace spots x n m (reverse late) a at_n own are)
 
-  -- without one that has a later one of its class
-  pub late_again : (n m : ℕ) (newer : List Late) (a : Late) (older : List Late) → IsAlikeOne newer a → AreLate trace spots x n m (reverse (newer ++ a ∷ older)) → AreLate trace spots x n m (reverse (newer ++ older))
-  late_again n m newer a older alike are = subst (λ (l : List Late). AreLate trace spots x n m l) (sym (reverse-append newer older))
-      (late_without trace spots x n m (reverse older) (reverse newer) a alike.0 (subst (λ (l : List Late). AreLate trace spots x n m l) turned are) (member_reverse newer alike.0 alike.1) alike.2)
+  -- without one instead of which a later one is enough
+  pub late_again : (n m : ℕ) (newer : List Late) (a : Late) (older : List Late) → IsInsteadOne newer a → AreLate trace spots x n m (reverse (newer ++ a ∷ older)) → AreLate trace spots x n m (reverse (newer ++ older))
+  late_again n m newer a older instead are = subst (λ (l : List Late). AreLate trace spots x n m l) (sym (reverse-append newer older))
+      (late_without trace spots x n m (reverse older) (reverse newer) a instead.0 (subst (λ (l : List Late). AreLate trace spots x n m l) turned are) (member_reverse newer instead.0 instead.1) instead.2)
     where
       turned : reverse (newer ++ a ∷ older) ≡ reverse older ++ a ∷ reverse newer
       turned = reverse-append newer (a ∷ older) ∙ (ap (λ (l : List Late). l ++ reverse newer) (reverse-append (a ∷ []) older) ∙ append_assoc (reverse older) (a ∷ []) (reverse newer))
@@ -116,10 +115,10 @@ module _ (trace : List Event) (spots : List Spot) (x : ℕ) where
       in_chain y n entries place w a there = (All-contains (IsLateIn trace spots y 0 n) (reverse w.late) a w.are.each (member_reverse w.late a there)).own
 
   -- the newest access was replaced
-  pub newest_replaced : (n : ℕ) (old new : List Entry) (place : ℕ) (a : Late) (last : Entry) → a.event ≡ n → IsLate trace spots x a → IsEntryAt old place last → IsAlike last.late a
+  pub newest_replaced : (n : ℕ) (old new : List Entry) (place : ℕ) (a : Late) (last : Entry) → a.event ≡ n → IsLate trace spots x a → IsEntryAt old place last → IsInstead a last.late
       → HasWritten old new place (record { late = a; before = last.before }) → (late : List Late) → IsChain old place late → AreLate trace spots x n 0 (reverse late) → AreWaiting trace spots x (n + 1) new place
-  newest_replaced n old new place a last at_n own is alike written [] chain are = absurd (let at = is.place_is in omega (arith, at, chain))
-  newest_replaced n old new place a last at_n own is alike written (g ∷ late) chain are =
+  newest_replaced n old new place a last at_n own is instead written [] chain are = absurd (let at = is.place_is in omega (arith, at, chain))
+  newest_replaced n old new place a last at_n own is instead written (g ∷ late) chain are =
       let one = entry_one old place last (record { late = g; before = chain.0 }) is chain.1 in
       record {
         late = a ∷ late;
@@ -129,19 +128,19 @@ module _ (trace : List Event) (spots : List Spot) (x : ℕ) where
           chain.2,
           chain_below old new place (record { late = a; before = last.before }) written chain.0 late chain.2 chain.3,
         );
-        are = late_again (n + 1) 0 (a ∷ []) g late (a, contains_head a [], λ y. sym (subst (λ (e : Entry). class_of y (access_in e.late) ≡ class_of y (access_in a)) one (alike y)))
+        are = late_again (n + 1) 0 (a ∷ []) g late (a, contains_head a [], subst (λ (e : Entry). IsInstead a e.late) one instead)
             (late_newer n 0 (g ∷ late) a at_n own are);
       }
 
   -- the one before the newest was replaced
-  pub second_replaced : (n : ℕ) (old mid new : List Entry) (place : ℕ) (a : Late) (last second : Entry) → a.event ≡ n → IsLate trace spots x a → IsEntryAt old place last → IsEntryAt old last.before second → IsAlike second.late a
+  pub second_replaced : (n : ℕ) (old mid new : List Entry) (place : ℕ) (a : Late) (last second : Entry) → a.event ≡ n → IsLate trace spots x a → IsEntryAt old place last → IsEntryAt old last.before second → IsInstead a second.late
       → HasWritten old mid last.before (record { late = last.late; before = second.before }) → HasWritten mid new place (record { late = a; before = last.before })
       → (late : List Late) → IsChain old place late → AreLate trace spots x n 0 (reverse late) → AreWaiting trace spots x (n + 1) new place
-  second_replaced n old mid new place a last second at_n own is before alike first then [] chain are = absurd (let at = is.place_is in omega (arith, at, chain))
-  second_replaced n old mid new place a last second at_n own is before alike first then (g ∷ []) chain are = absurd (
+  second_replaced n old mid new place a last second at_n own is before instead first then [] chain are = absurd (let at = is.place_is in omega (arith, at, chain))
+  second_replaced n old mid new place a last second at_n own is before instead first then (g ∷ []) chain are = absurd (
       let one = ap (λ (e : Entry). e.before) (entry_one old place last (record { late = g; before = chain.0 }) is chain.1) in
       let at = before.place_is in let none = chain.3 in omega (arith, one, at, none))
-  second_replaced n old mid new place a last second at_n own is before alike first then (g ∷ h ∷ late) chain are =
+  second_replaced n old mid new place a last second at_n own is before instead first then (g ∷ h ∷ late) chain are =
       let one = entry_one old place last (record { late = g; before = chain.0 }) is chain.1 in
       let to = ap (λ (e : Entry). e.before) one in
       let rest = chain.3 in
@@ -165,7 +164,7 @@ module _ (trace : List Event) (spots : List Spot) (x : ℕ) where
                 (chain_below old mid last.before (record { late = last.late; before = second.before }) first rest.0 late (omega (arith, lowest, to)) rest.3),
           ),
         );
-        are = late_again (n + 1) 0 (a ∷ g ∷ []) h late (a, contains_head a (g ∷ []), λ y. sym (subst (λ (e : Entry). class_of y (access_in e.late) ≡ class_of y (access_in a)) two (alike y)))
+        are = late_again (n + 1) 0 (a ∷ g ∷ []) h late (a, contains_head a (g ∷ []), subst (λ (e : Entry). IsInstead a e.late) two instead)
             (late_newer n 0 (g ∷ h ∷ late) a at_n own are);
       }
 
@@ -202,7 +201,7 @@ module _ (trace : List Event) (spots : List Spot) (x : ℕ) where
     pub are : AreLate trace spots x n 0 (reverse (kept ++ rest))
 
   pub gathered_more : (n : ℕ) (entries : List Entry) (place to : ℕ) (kept new : List Late) (e : Entry) → IsEntryAt entries place e → (e.before < place → to ≡ e.before)
-      → (new ≡ kept ++ e.late ∷ []) ⊎ ((new ≡ kept) × IsAlikeOne kept e.late) → AreGathered n entries place kept → AreGathered n entries to new
+      → (new ≡ kept ++ e.late ∷ []) ⊎ ((new ≡ kept) × IsInsteadOne kept e.late) → AreGathered n entries place kept → AreGathered n entries to new
   gathered_more n entries place to kept new e is next came h = go h.rest h.chain h.are
     where
       go : (rest : List Late) → IsChain entries place rest → AreLate trace spots x n 0 (reverse (kept ++ rest)) → AreGathered n entries to new
@@ -217,7 +216,7 @@ module _ (trace : List Event) (spots : List Spot) (x : ℕ) where
             chain = subst (λ (p : ℕ). IsChain entries p rest) (sym (next (omega (arith, back, lower)) ∙ back)) chain.3;
             are = elim came [
               | inl more ↦ subst (λ (l : List Late). AreLate trace spots x n 0 (reverse l)) (sym (ap (λ (l : List Late). l ++ rest) (more ∙ ap (λ (b : Late). kept ++ b ∷ []) late) ∙ append_assoc kept (a ∷ []) rest)) are
-              | inr again ↦ subst (λ (l : List Late). AreLate trace spots x n 0 (reverse (l ++ rest))) (sym again.0) (late_again n 0 kept a rest (subst (λ (b : Late). IsAlikeOne kept b) late again.1) are)
+              | inr again ↦ subst (λ (l : List Late). AreLate trace spots x n 0 (reverse (l ++ rest))) (sym again.0) (late_again n 0 kept a rest (subst (λ (b : Late). IsInsteadOne kept b) late again.1) are)
             ];
           }
 

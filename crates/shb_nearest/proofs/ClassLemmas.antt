@@ -1,17 +1,24 @@
 -- Classes: of each access one, and of each the newest access before an event.
 use Rattle.std.proofs.Common.{◌≡◌, ◌≢◌, ℕ, ◌+◌, ◌<◌, ◌≤◌, ◌⊎◌, inl, inr, Bool, true, false, List, None, Option, Some, arith, refl, sym, ap, subst, ◌∙◌}
 use Rattle.std.specs.Prelude.{option_and_then}
-use Rattle.std.proofs.lemmas.Bool.{cases_eq}
+use Rattle.std.proofs.lemmas.Bool.{cases_Bool, cases_eq, cases_lt}
 use Rattle.shb_lines.specs.declared.event.Event.{Event}
 use Rattle.shb_lines.specs.declared.event.Op.{Op}
 use Rattle.shb_lines.specs.declared.event.Op.TheVariants.{Read, Write}
 use Rattle.shb_lines.specs.events.Events.{op_at, thread_at, variable_of}
-use Rattle.shb_lines.specs.events.Race.{variable_at}
+use Rattle.shb_lines.specs.events.Discipline.{IsDisciplined}
+use Rattle.shb_lines.specs.events.Order.{BelowPred}
+use Rattle.shb_lines.specs.events.Race.{Conflict, Race, variable_at}
+use Rattle.shb_lines.specs.events.Reach.{is_race}
+use Rattle.shb_lines.proofs.events.Events.{thread_is}
+use Rattle.shb_lines.proofs.events.Reach.{event_at_access, reflect_race}
+use Rattle.shb_lines.proofs.events.Schedulable.{thread_below_pred}
+use Rattle.shb_stamps.proofs.Sources.{path_append, strictly_below_below}
 use Rattle.shb_lines.proofs.events.Listed.{Decided}
 use Rattle.shb_nearest.specs.declared.access.FoundAccess.{FoundAccess}
 use Rattle.shb_nearest.specs.declared.access.Spot.{Spot}
 use Rattle.shb_nearest.specs.declared.classes.Class.{Class}
-use Rattle.shb_nearest.specs.Classes.{IsNewestOf, IsOfClass}
+use Rattle.shb_nearest.specs.Classes.{IsLastOf, IsNewestOf, IsOfClass}
 use Rattle.shb_nearest.specs.Found.{IsFoundAccess, access_op, location_in}
 use Rattle.shb_nearest.specs.Groups.{class_of}
 use Rattle.shb_nearest.proofs.NearestLaws.{greatest}
@@ -108,13 +115,79 @@ module _ (trace : List Event) (spots : List Spot) where
     last = λ i lt h. is.last i (omega (arith, lt)) h;
   }
 
-  -- and the other way round, where n isn't of the class
-  pub newest_after : (n : ℕ) (c : Class) (k : ℕ) → (IsOfClass trace spots c n → ⊥) → IsNewestOf trace spots n c k → IsNewestOf trace spots (n + 1) c k
-  newest_after n c k never is = record {
-    own = is.own;
-    past = (let lt = is.past in omega (arith, lt));
-    last = λ i lt h. elim (cases_eq i n) [
-      | inl here ↦ absurd (never (subst (λ (m : ℕ). IsOfClass trace spots c m) here h))
-      | inr other ↦ is.last i (omega (arith, lt, other)) h
-    ];
-  }
+  pub last_before : (n : ℕ) (c : Class) (k : ℕ) → IsLastOf trace spots (n + 1) c k → (k ≡ n → ⊥) → IsLastOf trace spots n c k
+  last_before n c k is other = record { newest = newest_before n c k is.newest other; none_after = λ i low lt. is.none_after i low (omega (arith, lt)) }
+
+  -- a race with n has one at its location and of its kind, no earlier one, instead of which no later access is enough
+  module _ (disciplined : IsDisciplined trace) (n x l : ℕ) (writes : Bool) where
+    record IsRival (k : ℕ) : Type 0 where
+      race : Race trace k n
+      op_is : op_at trace k ≡ Some (access_op writes x)
+      location_is : location_in spots k ≡ Some l
+
+    rival_or_not : (k : ℕ) → Decided (IsRival k)
+    rival_or_not k = go (cases_Bool (is_race trace k n)) (op_or_not k x writes) (number_or_not (location_in spots k) l)
+      where
+        go : (is_race trace k n ≡ true) ⊎ (is_race trace k n ≡ false) → Decided (op_at trace k ≡ Some (access_op writes x)) → Decided (location_in spots k ≡ Some l) → Decided (IsRival k)
+        go (inl passes) (inl b) (inl d) = inl (record { race = (reflect_race trace k n).0 passes; op_is = b; location_is = d })
+        go (inl passes) (inl b) (inr f) = inr (λ h. f h.location_is)
+        go (inl passes) (inr f) d = inr (λ h. f h.op_is)
+        go (inr fails) b d = inr (λ h. let t = (reflect_race trace k n).1 h.race in (let f : ⊥ = cc in f))
+
+    below_through : (a b : ℕ) → BelowPred trace a b → BelowPred trace b n → BelowPred trace a n
+    below_through a b first then = (then.0, then.1, path_append trace a b then.0 (strictly_below_below trace disciplined a b (inl first)) then.2)
+
+    -- what is after a rival is one
+    rival_after : (k i : ℕ) → IsRival k → i < n → op_at trace i ≡ Some (access_op writes x) → location_in spots i ≡ Some l → BelowPred trace k i → IsRival i
+    rival_after k i h lt op at below = record {
+      race = record {
+        conflict = record {
+          variable = c.variable;
+          first_accesses = ap (option_and_then variable_of) same ∙ c.first_accesses;
+          second_accesses = c.second_accesses;
+          one_writes = elim c.one_writes [ inl w ↦ inl (same ∙ w) | inr w ↦ inr w ];
+          other_thread = λ of_n. (let e = event_at_access trace i c.variable (ap (option_and_then variable_of) same ∙ c.first_accesses) in let t = thread_is trace i e.0 e.1 in
+              h.race.unordered (below_through k i below (thread_below_pred trace e.0.thread i n lt t (sym of_n ∙ t))));
+        };
+        earlier = lt;
+        unordered = λ after. h.race.unordered (below_through k i below after);
+      };
+      op_is = op;
+      location_is = at;
+    }
+      where
+        c : Conflict trace k n
+        c = h.race.conflict
+
+        same : op_at trace i ≡ op_at trace k
+        same = op ∙ sym h.op_is
+
+    pub last_rival : (i : ℕ) → IsRival i → (k : ℕ) × (t : ℕ) × IsRival k × (i ≤ k) × IsLastOf trace spots (n + 1) (class_with x l t writes) k
+    last_rival i h = go (greatest IsRival rival_or_not n)
+      where
+        go : ((m : ℕ) × (m < n) × IsRival m × ((k : ℕ) → k < n → IsRival k → k ≤ m)) ⊎ ((k : ℕ) → k < n → IsRival k → ⊥) → (k : ℕ) × (t : ℕ) × IsRival k × (i ≤ k) × IsLastOf trace spots (n + 1) (class_with x l t writes) k
+        go (inr none) = absurd (none i h.race.earlier h)
+        go (inl found) =
+            let k = found.0 in
+            let own = found.2 in
+            let c = own.race.conflict in
+            let e = event_at_access trace k c.variable c.first_accesses in
+            let t = thread_is trace k e.0 e.1 in
+            let past = found.1 in
+            (k, e.0.thread, own, found.3 i h.race.earlier h, record {
+              newest = record {
+                own = record { thread_is = t; op_is = own.op_is; location_is = own.location_is };
+                past = omega (arith, past);
+                last = λ j lt of_c. elim (cases_eq j n) [
+                  | inl here ↦ absurd (c.other_thread (t ∙ (sym of_c.thread_is ∙ ap (thread_at trace) here)))
+                  | inr other ↦ elim (cases_lt k j) [
+                    | inl later ↦ found.3 j (omega (arith, lt, other)) (rival_after k j own (omega (arith, lt, other)) of_c.op_is of_c.location_is (thread_below_pred trace e.0.thread k j later t of_c.thread_is))
+                    | inr before ↦ before
+                  ]
+                ];
+              };
+              none_after = λ j low lt op at below. elim (cases_eq j n) [
+                | inl here ↦ own.race.unordered (subst (λ (m : ℕ). BelowPred trace k m) here below)
+                | inr other ↦ (let le = found.3 j (omega (arith, lt, other)) (rival_after k j own (omega (arith, lt, other)) op at below) in omega (arith, le, low))
+              ];
+            })

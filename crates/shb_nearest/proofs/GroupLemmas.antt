@@ -21,10 +21,10 @@ use Rattle.shb_nearest.specs.declared.classes.Class.{Class}
 use Rattle.shb_nearest.specs.declared.groups.Group.{Group}
 use Rattle.shb_nearest.specs.declared.groups.KeptAccess.{KeptAccess}
 use Rattle.shb_nearest.specs.declared.groups.Run.{Run}
-use Rattle.shb_nearest.specs.Classes.{HasLastOf, HasPut, IsNewestOf, IsOfClass, is_newest_in, newest_in, same_class}
+use Rattle.shb_nearest.specs.Classes.{HasLastOf, HasPut, IsLastOf, IsNewestOf, IsOfClass, is_newest_in, newest_in, same_class}
 use Rattle.shb_nearest.specs.Found.{IsFoundAccess}
 use Rattle.shb_nearest.specs.Groups.{AreGroups, HasGroupAt, HasKept, HasLast, HasReplaced, IsEarlier, IsGroup, IsKept, IsOfGroup, IsRun, KeepsAccess, access_of, class_of, is_newest_kept}
-use Rattle.shb_nearest.proofs.ClassLemmas.{class_own, newest_before, one_class_at}
+use Rattle.shb_nearest.proofs.ClassLemmas.{class_own, last_before, one_class_at}
 use Rattle.shb_nearest.proofs.Members.{all_remove, index_of, longer_cases, member_at, member_filter, member_remove, member_set, stays_or_is}
 
 -- equal classes are the same
@@ -95,8 +95,8 @@ module _ (trace : List Event) (spots : List Spot) (x n : ℕ) where
     rising = subst (λ (l : List KeptAccess). AllPairs IsEarlier l) (sym none) (λ i j d lt within. absurd (omega (arith, lt, within)));
   }
 
-  -- before m come none that are the newest of their class before `last`
-  pub groups_until : (groups : List Group) (m last : ℕ) → n ≤ m → ((c : Class) (k : ℕ) → c.variable ≡ x → IsNewestOf trace spots last c k → n ≤ k → k < m → ⊥) → AreGroups trace spots x n last groups → AreGroups trace spots x m last groups
+  -- before m come none instead of which no later one before `last` is enough
+  pub groups_until : (groups : List Group) (m last : ℕ) → n ≤ m → ((c : Class) (k : ℕ) → c.variable ≡ x → IsLastOf trace spots last c k → n ≤ k → k < m → ⊥) → AreGroups trace spots x n last groups → AreGroups trace spots x m last groups
   groups_until groups m last le none are = record {
     each = All-weaker (IsGroup trace spots x n) (IsGroup trace spots x m) (group_until m le) groups are.each;
     covers = λ c k of_x is lt. elim (cases_lt k n) [
@@ -109,7 +109,7 @@ module _ (trace : List Event) (spots : List Spot) (x n : ℕ) where
   pub groups_next : (groups : List Group) (m : ℕ) → n ≤ m → AreGroups trace spots x n m groups → AreGroups trace spots x n (m + 1) groups
   groups_next groups m le are = record {
     each = are.each;
-    covers = λ c k of_x is lt. are.covers c k of_x (newest_before trace spots m c k is (λ same. omega (arith, same, lt, le))) lt;
+    covers = λ c k of_x is lt. are.covers c k of_x (last_before trace spots m c k is (λ same. omega (arith, same, lt, le))) lt;
   }
 
   module _ (access : FoundAccess) (here : access.event ≡ n) (own : IsFoundAccess trace spots x access) (kept : KeptAccess) (at_event : kept.event ≡ access.event) (at_spot : kept.spot ≡ access.spot) (time_is : kept.time ≡ local_time trace access.thread access.event) where
@@ -272,10 +272,10 @@ module _ (trace : List Event) (spots : List Spot) (x n : ℕ) where
               })
         ]
 
-        covers : (c : Class) (k : ℕ) → c.variable ≡ x → IsNewestOf trace spots last c k → k < n + 1 → KeepsAccess (set mid at new) c k
+        covers : (c : Class) (k : ℕ) → c.variable ≡ x → IsLastOf trace spots last c k → k < n + 1 → KeepsAccess (set mid at new) c k
         covers c k of_x is lt = elim (cases_eq k n) [
-          | inl same ↦ own_class c k is same of_x
-          | inr other ↦ other_class c k is of_x (are.covers c k of_x is (omega (arith, lt, other)))
+          | inl same ↦ own_class c k is.newest same of_x
+          | inr other ↦ other_class c k is.newest of_x (are.covers c k of_x is (omega (arith, lt, other)))
         ]
 
 -- a table of the last access of each class of some, by the event and the class of each, and one more

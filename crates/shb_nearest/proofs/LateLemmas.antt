@@ -1,5 +1,5 @@
 -- Accesses that wait to be taken into the groups of their variable.
-use Rattle.std.proofs.Common.{◌≡◌, ℕ, zero, suc, ◌+◌, ◌<◌, ◌≤◌, inl, inr, false, List, [], ◌∷◌, ◌++◌, Some, length, drop, get_or, arith, refl, sym, ap, subst, ◌∙◌}
+use Rattle.std.proofs.Common.{◌≡◌, ℕ, zero, suc, ◌+◌, ◌<◌, ◌≤◌, inl, inr, Bool, false, List, [], ◌∷◌, ◌++◌, Some, length, drop, get_or, arith, refl, sym, ap, subst, ◌∙◌}
 use Rattle.std.specs.Prelude.{AllPairs, Contains, slice_get}
 use Rattle.std.proofs.lemmas.Bool.{cases_eq}
 use Rattle.std.proofs.lemmas.List.{drop_all, drop_more}
@@ -8,21 +8,23 @@ use Rattle.std.proofs.lemmas.List.Quantifiers.{all_pairs_push, all_pairs_remove}
 use Rattle.std.proofs.lemmas.Option.{slice_get_within}
 use Rattle.std.specs.List.{remove}
 use Rattle.shb_lines.specs.declared.event.Event.{Event}
+use Rattle.shb_lines.specs.events.Order.{BelowPred}
 use Rattle.shb_lines.specs.events.Race.{variable_at}
 use Rattle.shb_lines.proofs.events.Increasing.{contains_cases, contains_none, contains_tail}
 use Rattle.shb_nearest.specs.declared.access.Spot.{Spot}
 use Rattle.shb_nearest.specs.declared.classes.Class.{Class}
 use Rattle.shb_nearest.specs.declared.groups.Group.{Group}
 use Rattle.shb_nearest.specs.declared.late.Late.{Late}
-use Rattle.shb_nearest.specs.Classes.{IsNewestOf, IsOfClass}
+use Rattle.shb_nearest.specs.Classes.{IsLastOf, IsOfClass}
+use Rattle.shb_nearest.specs.Found.{access_op}
 use Rattle.shb_nearest.specs.Groups.{AreGroups, class_of}
-use Rattle.shb_nearest.specs.Late.{AreLate, IsAlike, IsBefore, IsLate, IsLateIn, access_in}
-use Rattle.shb_nearest.proofs.ClassLemmas.{class_own, class_variable, newest_before, one_class_at}
+use Rattle.shb_nearest.specs.Late.{AreLate, IsBefore, IsInstead, IsLate, IsLateIn, access_in}
+use Rattle.shb_nearest.proofs.ClassLemmas.{class_own, class_variable, class_with, last_before, one_class_at}
 use Rattle.shb_nearest.proofs.GroupLemmas.{groups_until}
 use Rattle.shb_nearest.proofs.Members.{all_remove, index_of, member_at, member_remove, middle}
 
 abbrev pub no_access : Late
-no_access = record { event = 0; thread = 0; time = 0; location = 0; writes = false; barred = false }
+no_access = record { event = 0; thread = 0; time = 0; location = 0; writes = false; barred = false; after_all = false }
 
 -- the element between two lists
 module _ {X : Type 0} where
@@ -41,7 +43,7 @@ module _ (trace : List Event) (spots : List Spot) (x : ℕ) where
     within = omega arith;
     each = All-nil (IsLateIn trace spots x 0 n);
     rising = λ i j d lt within. absurd (omega (arith, lt, within));
-    covers = λ c k of_x is from. absurd (never k is.past (class_variable trace spots c k is.own ∙ ap (λ (y : ℕ). Some y) of_x));
+    covers = λ c k of_x is from. absurd (never k is.newest.past (class_variable trace spots c k is.newest.own ∙ ap (λ (y : ℕ). Some y) of_x));
   }
 
   -- groups up to m, and no access since
@@ -92,12 +94,12 @@ module _ (trace : List Event) (spots : List Spot) (x : ℕ) where
     rising = all_pairs_push IsBefore late a h.rising (λ k d lt. let past = (h.each k d lt).past in omega (arith, past, at_n));
     covers = λ c k of_x is from. elim (cases_eq k n) [
       | inl same ↦ (a, Contains-push late a, at_n ∙ sym same)
-      | inr other ↦ (let found = h.covers c k of_x (newest_before trace spots n c k is other) from in (found.0, Contains-append_left late (a ∷ []) found.0 found.1, found.2))
+      | inr other ↦ (let found = h.covers c k of_x (last_before trace spots n c k is other) from in (found.0, Contains-append_left late (a ∷ []) found.0 found.1, found.2))
     ];
   }
 
-  -- without one that has a later one of its class
-  module _ (n m : ℕ) (p q : List Late) (a b : Late) (h : AreLate trace spots x n m (p ++ a ∷ q)) (later : Contains q b) (alike : IsAlike b a) where
+  -- without one instead of which a later one is enough
+  module _ (n m : ℕ) (p q : List Late) (a b : Late) (h : AreLate trace spots x n m (p ++ a ∷ q)) (later : Contains q b) (instead : IsInstead b a) where
     there : slice_get (p ++ a ∷ q) (length p) ≡ Some a
     there = middle p a q
 
@@ -107,18 +109,27 @@ module _ (trace : List Event) (spots : List Spot) (x : ℕ) where
     member : (d : Late) → Contains (p ++ a ∷ q) d → IsLateIn trace spots x m n d
     member d is = All-contains (IsLateIn trace spots x m n) (p ++ a ∷ q) d h.each is
 
-    -- it isn't the newest of its class
-    stays : (c : Class) (k : ℕ) → IsNewestOf trace spots n c k → (d : Late) → slice_get (p ++ a ∷ q) (length p) ≡ Some d → d.event ≡ k → ⊥
+    -- a later one is enough instead of it
+    stays : (c : Class) (k : ℕ) → IsLastOf trace spots n c k → (d : Late) → slice_get (p ++ a ∷ q) (length p) ≡ Some d → d.event ≡ k → ⊥
     stays c k is d here at_k =
         let same : d ≡ a = (let s : Some d ≡ Some a = sym here ∙ there in cc) in
         let event : a.event ≡ k = ap (λ (l : Late). l.event) (sym same) ∙ at_k in
         let kept = member a (member_at (p ++ a ∷ q) (length p) a there) in
         let last = member b (Contains-append_right p (a ∷ q) b (contains_tail a b q later)) in
-        let of_c : class_of x (access_in a) ≡ c = one_class_at trace spots (class_of x (access_in a)) c a.event (class_own trace spots x (access_in a) kept.own.own) (subst (λ (i : ℕ). IsOfClass trace spots c i) (sym event) is.own) in
+        let of_c : class_of x (access_in a) ≡ c = one_class_at trace spots (class_of x (access_in a)) c a.event (class_own trace spots x (access_in a) kept.own.own) (subst (λ (i : ℕ). IsOfClass trace spots c i) (sym event) is.newest.own) in
         let past = last.past in
-        let le = is.last b.event past (subst (λ (d : Class). IsOfClass trace spots d b.event) (alike x ∙ of_c) (class_own trace spots x (access_in b) last.own.own)) in
         let rise = middle_before IsBefore p a q h.rising b later in
-        omega (arith, le, rise, event)
+        let own = class_own trace spots x (access_in b) last.own.own in
+        elim instead.after [
+          | inl all ↦ is.none_after b.event (omega (arith, rise, event)) past
+              (own.op_is ∙ (ap (λ (w : Bool). Some (access_op w x)) instead.writes_is ∙ ap (λ (d : Class). Some (access_op d.writes d.variable)) of_c))
+              (own.location_is ∙ (ap (λ (l : ℕ). Some l) instead.location_is ∙ ap (λ (d : Class). Some d.location) of_c))
+              (subst (λ (i : ℕ). BelowPred trace i b.event) event (last.own.after all a.event rise (class_variable trace spots (class_of x (access_in a)) a.event (class_own trace spots x (access_in a) kept.own.own))))
+          | inr same ↦ (
+              let of_one : class_of x (access_in b) ≡ class_of x (access_in a) = λ i. class_with x (instead.location_is i) (same i) (instead.writes_is i) in
+              let le = is.newest.last b.event past (subst (λ (d : Class). IsOfClass trace spots d b.event) (of_one ∙ of_c) own) in
+              omega (arith, le, rise, event))
+        ]
 
     pub late_without : AreLate trace spots x n m (p ++ q)
     late_without = subst (λ (l : List Late). AreLate trace spots x n m l) (without_middle p a q) (record {
@@ -137,7 +148,7 @@ module _ (trace : List Event) (spots : List Spot) (x : ℕ) where
     within = (let within = h.within in omega (arith, within));
     each = All-weaker (IsLateIn trace spots x m n) (IsLateIn trace spots x m (n + 1)) (later_in m n) late h.each;
     rising = h.rising;
-    covers = λ c k of_x is from. h.covers c k of_x (newest_before trace spots n c k is (λ same. never (subst (λ (i : ℕ). variable_at trace i ≡ Some x) same (class_variable trace spots c k is.own ∙ ap (λ (y : ℕ). Some y) of_x)))) from;
+    covers = λ c k of_x is from. h.covers c k of_x (last_before trace spots n c k is (λ same. never (subst (λ (i : ℕ). variable_at trace i ≡ Some x) same (class_variable trace spots c k is.newest.own ∙ ap (λ (y : ℕ). Some y) of_x)))) from;
   }
 
   -- groups up to some event, and the accesses since from an index on

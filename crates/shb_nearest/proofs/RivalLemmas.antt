@@ -10,13 +10,13 @@ use Rattle.std.proofs.lemmas.List.Elements.{All-contains, All-weaker, Contains-p
 use Rattle.std.proofs.lemmas.Option.{get_or_from_slice_get, slice_get-get_or, slice_get_within}
 use Rattle.shb_lines.specs.declared.event.Event.{Event}
 use Rattle.shb_lines.specs.declared.event.Op.TheVariants.{Write}
+use Rattle.shb_lines.specs.events.Discipline.{IsDisciplined}
 use Rattle.shb_lines.specs.events.Events.{op_at, thread_at, variable_of}
 use Rattle.shb_lines.specs.events.Order.{BelowPred, IsBelowPredCount, happens_before, same_thread}
 use Rattle.shb_lines.specs.events.Race.{Race, variable_at}
 use Rattle.shb_lines.proofs.events.Events.{thread_is}
 use Rattle.shb_lines.proofs.events.Increasing.{contains_none}
 use Rattle.shb_lines.proofs.events.Reach.{event_at_access}
-use Rattle.shb_lines.proofs.events.Longer.{later_same_races}
 use Rattle.shb_lines.proofs.events.Prefix.{below_from_local, local_from_below}
 use Rattle.shb_lines.proofs.events.Schedulable.{below_pred_closed}
 use Rattle.shb_nearest.specs.declared.access.FoundAccess.{FoundAccess}
@@ -30,7 +30,7 @@ use Rattle.shb_nearest.specs.Found.{IsFoundAccess, access_op, location_in}
 use Rattle.shb_nearest.specs.Groups.{AreGroups, IsGroup, IsKept, IsRun, access_of}
 use Rattle.shb_nearest.specs.Sites.{AreMarked, IsDone, IsIn, IsSettled, of_group, of_kind}
 use Rattle.shb_nearest.specs.Rivals.{AreMet, AreRivals, CanRace, HasMet, HasMetGroup, IsCovered, IsOver}
-use Rattle.shb_nearest.proofs.ClassLemmas.{kind_at, newest_after, newest_exists, op_variable}
+use Rattle.shb_nearest.proofs.ClassLemmas.{class_with, kind_at, last_rival, op_variable}
 use Rattle.shb_nearest.proofs.Members.{index_of, member_drop, member_map, member_of_drop, member_of_map}
 
 write_is : (writes : Bool) (x y : ℕ) → access_op writes x ≡ Write y → writes ≡ true
@@ -240,29 +240,21 @@ module _ (trace : List Event) (spots : List Spot) (x : ℕ) where
         more = (let e : n + 1 ≡ suc n = omega arith in ap (λ (m : ℕ). take m groups) e) ∙ (take-suc groups n group (slice_get_within groups n group at) ∙ ap (λ (b : Group). take n groups ++ b ∷ []) (get_or_from_slice_get groups n group group at))
 
     -- all groups: each access that races has a rival at its location that isn't before it
-    pub rivals_are : (all : Groups) (since : ℕ) (rivals : List FoundAccess) → AreGroups trace spots x (access.event + 1) (access.event + 1) all.each.items → AreMet trace spots x all access since all.each.items rivals → AreRivals trace spots x all access since rivals
-    rivals_are all since rivals are met = record { races = met.races; each = each }
+    pub rivals_are : IsDisciplined trace → (all : Groups) (since : ℕ) (rivals : List FoundAccess) → AreGroups trace spots x (access.event + 1) (access.event + 1) all.each.items → AreMet trace spots x all access since all.each.items rivals → AreRivals trace spots x all access since rivals
+    rivals_are disciplined all since rivals are met = record { races = met.races; each = each }
       where
         each : (i l : ℕ) → Race trace i access.event → location_in spots i ≡ Some l → since ≤ i → ((a : FoundAccess) × Contains rivals a × (a.spot.location ≡ l) × (i ≤ a.event)) ⊎ IsSettled all l access.spot.location
         each i l race at from =
             let c = race.conflict in
             let one : c.variable ≡ x = (let s : Some c.variable ≡ Some x = sym c.second_accesses ∙ variable_is access own in cc) in
-            let e = event_at_access trace i c.variable c.first_accesses in
-            let of_i = thread_is trace i e.0 e.1 in
             let kind = kind_at trace i x (c.first_accesses ∙ ap (λ (y : ℕ). Some y) one) in
-            let class : Class = record { variable = x; location = l; thread = e.0.thread; writes = kind.0 } in
-            let new = newest_exists trace spots access.event class i race.earlier (record { thread_is = of_i; op_is = kind.1; location_is = at }) in
-            let k = new.0 in
-            let is = new.1.own in
-            let before = new.1.past in
-            let keeps = are.covers class k refl (newest_after trace spots access.event class k (λ h. c.other_thread (of_i ∙ sym h.thread_is)) new.1) (omega (arith, before)) in
-            let le = new.1.last i race.earlier (record { thread_is = of_i; op_is = kind.1; location_is = at }) in
-            let newer : Race trace k access.event = elim (cases_eq k i) [
-              | inl same ↦ subst (λ (m : ℕ). Race trace m access.event) (sym same) race
-              | inr ne ↦ later_same_races trace i k access.event race (is.thread_is ∙ sym of_i) (is.op_is ∙ sym kind.1) (omega (arith, le, ne)) new.1.past
-            ] in
+            let last = last_rival trace spots disciplined access.event x l kind.0 i (record { race = race; op_is = kind.1; location_is = at }) in
+            let k = last.0 in
+            let before = last.2.race.earlier in
+            let keeps = are.covers (class_with x l last.1 kind.0) k refl last.4 (omega (arith, before)) in
+            let le = last.3 in
             let at_k = keeps.event_is in
-            elim (met.met keeps.group keeps.kept keeps.there keeps.among (omega (arith, from, le, at_k)) (subst (λ (m : ℕ). Race trace m access.event) (sym at_k) newer)) [
+            elim (met.met keeps.group keeps.kept keeps.there keeps.among (omega (arith, from, le, at_k)) (subst (λ (m : ℕ). Race trace m access.event) (sym at_k) last.2.race)) [
               | inl covered ↦ inl (let later = covered.not_before in (covered.rival, covered.there, covered.location_is ∙ keeps.location_is, omega (arith, le, at_k, later)))
               | inr settled ↦ inr (subst (λ (m : ℕ). IsSettled all m access.spot.location) keeps.location_is settled)
             ]

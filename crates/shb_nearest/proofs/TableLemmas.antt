@@ -243,12 +243,12 @@ module _ (trace : List Event) (spots : List Spot) where
         no_access : (x : ℕ) → variable_at trace n ≡ Some x → ⊥
         no_access x at = let v = sym at ∙ (ap (option_and_then variable_of) is ∙ none) in (let f : ⊥ = cc in f)
 
--- what is kept of a variable after its next access
-pub screened_next : (past : List Event) (e : Event) (spots : List Spot) (x : ℕ) (clocks : StreamClocks) (access : FoundAccess) → IsNextAccess past e spots x clocks access → (own : Epoch) → own.thread ≡ access.thread → own.time ≡ local_time (past ++ e ∷ []) access.thread access.event → (old new : Latest)
-    → (IsAccess (past ++ e ∷ []) (length past) x own access.writes → IsScreened (past ++ e ∷ []) x (length past) old → IsScreened (past ++ e ∷ []) x (length past + 1) new) → IsScreened (past ++ e ∷ []) x access.event old → IsScreened (past ++ e ∷ []) x (access.event + 1) new
-screened_next past e spots x clocks access next own same time old new taken =
+-- what follows from what is kept of a variable for its next access
+pub taken_next : (past : List Event) (e : Event) (spots : List Spot) (x : ℕ) (clocks : StreamClocks) (access : FoundAccess) → IsNextAccess past e spots x clocks access → (own : Epoch) → own.thread ≡ access.thread → own.time ≡ local_time (past ++ e ∷ []) access.thread access.event → (old : Latest) (P : ℕ → Type 0)
+    → (IsAccess (past ++ e ∷ []) (length past) x own access.writes → IsScreened (past ++ e ∷ []) x (length past) old → P (length past)) → IsScreened (past ++ e ∷ []) x access.event old → P access.event
+taken_next past e spots x clocks access next own same time old P taken =
     let trace = past ++ e ∷ [] in
-    subst (λ (n : ℕ). IsAccess trace n x own access.writes → IsScreened trace x n old → IsScreened trace x (n + 1) new) (sym next.event_is) taken (record {
+    subst (λ (n : ℕ). IsAccess trace n x own access.writes → IsScreened trace x n old → P n) (sym next.event_is) taken (record {
       own_is = record { thread_is = next.own.thread_is ∙ ap (λ (t : ℕ). Some t) (sym same); time_is = time ∙ ap (λ (t : ℕ). local_time trace t access.event) (sym same) };
       accesses = variable_is trace spots x access next.own;
       reads = λ reads writes. (let w = sym (writes_where trace access.event x x access.writes next.own.op_is writes) ∙ reads in let f : ⊥ = cc in f);

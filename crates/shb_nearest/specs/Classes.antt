@@ -4,6 +4,7 @@ use Rattle.std.specs.Bool.{beq}
 use Rattle.std.specs.Map.{lookup}
 use Rattle.shb_lines.specs.declared.event.Event.{Event}
 use Rattle.shb_lines.specs.events.Events.{thread_at, op_at}
+use Rattle.shb_lines.specs.events.Order.{BelowPred}
 use Rattle.shb_nearest.specs.Found.{access_op, location_in}
 use Rattle.shb_nearest.specs.declared.access.Spot.{Spot}
 use Rattle.shb_nearest.specs.declared.classes.Class.{Class}
@@ -38,6 +39,11 @@ pub record IsNewestOf (trace : List Event) (spots : List Spot) (n : ℕ) (class 
   pub own : IsOfClass trace spots class k
   pub past : k < n
   pub last : (i : ℕ) → i < n → IsOfClass trace spots class i → i ≤ k
+
+-- k is the newest access of the class before n, and no later one before n by another thread, of its variable, location and kind, is after it
+pub record IsLastOf (trace : List Event) (spots : List Spot) (n : ℕ) (class : Class) (k : ℕ) : Type 0 where
+  pub newest : IsNewestOf trace spots n class k
+  pub none_after : (i : ℕ) → k < i → i < n → op_at trace i ≡ Some (access_op class.writes class.variable) → location_in spots i ≡ Some class.location → BelowPred trace k i → ⊥
 
 -- what the table has of a class is an access of it before n
 pub record AreClasses (trace : List Event) (spots : List Spot) (n : ℕ) (entries : List (Class × ℕ)) : Type 0 where

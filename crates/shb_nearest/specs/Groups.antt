@@ -5,7 +5,7 @@ use Rattle.shb_lines.specs.declared.event.Event.{Event}
 use Rattle.shb_lines.specs.events.Discipline.{local_time}
 use Rattle.shb_lines.specs.events.Events.{thread_at}
 use Rattle.shb_lines.specs.events.Race.{variable_at}
-use Rattle.shb_nearest.specs.Classes.{HasLastOf, IsNewestOf, IsOfClass, is_newest_in}
+use Rattle.shb_nearest.specs.Classes.{HasLastOf, IsLastOf, IsOfClass, is_newest_in}
 use Rattle.shb_nearest.specs.Found.{IsFoundAccess}
 use Rattle.shb_nearest.specs.declared.access.FoundAccess.{FoundAccess}
 use Rattle.shb_nearest.specs.declared.access.Spot.{Spot}
@@ -48,10 +48,10 @@ pub record KeepsAccess (groups : List Group) (class : Class) (k : ℕ) : Type 0 
   pub event_is : kept.event ≡ k
   pub location_is : kept.spot.location ≡ class.location
 
--- the groups of a variable, which keep those of its accesses before n that are the newest of their class before m
+-- the groups of a variable, which keep those of its accesses before n instead of which no later one before m is enough
 pub record AreGroups (trace : List Event) (spots : List Spot) (x n m : ℕ) (groups : List Group) : Type 0 where
   pub each : All (IsGroup trace spots x n) groups
-  pub covers : (c : Class) (k : ℕ) → c.variable ≡ x → IsNewestOf trace spots m c k → k < n → KeepsAccess groups c k
+  pub covers : (c : Class) (k : ℕ) → c.variable ≡ x → IsLastOf trace spots m c k → k < n → KeepsAccess groups c k
 
 -- the group has the accesses by a thread of a kind
 pub record IsOfGroup (group : Group) (thread : ℕ) (writes : Bool) : Type 0 where

@@ -1,8 +1,10 @@
 -- The accesses of a variable: those that wait in the log, or its groups.
-use Rattle.std.specs.Prelude.{◌≡◌, ◌≢◌, ◌+◌, ◌<◌, ◌≤◌, ◌∷◌, ℕ, List, [], Some, All, AllPairs, Contains, reverse, slice_get}
+use Rattle.std.specs.Prelude.{◌≡◌, ◌≢◌, ◌⊎◌, ◌+◌, ◌<◌, ◌≤◌, ◌∷◌, ℕ, true, List, [], Some, All, AllPairs, Contains, reverse, slice_get}
 use Rattle.shb_lines.specs.declared.event.Event.{Event}
 use Rattle.shb_lines.specs.events.Discipline.{local_time}
-use Rattle.shb_nearest.specs.Classes.{IsNewestOf}
+use Rattle.shb_lines.specs.events.Order.{BelowPred}
+use Rattle.shb_lines.specs.events.Race.{variable_at}
+use Rattle.shb_nearest.specs.Classes.{IsLastOf}
 use Rattle.shb_nearest.specs.Found.{IsFoundAccess}
 use Rattle.shb_nearest.specs.Groups.{AreGroups, class_of}
 use Rattle.shb_nearest.specs.declared.access.FoundAccess.{FoundAccess}
@@ -18,18 +20,21 @@ use Rattle.shb_nearest.specs.declared.log.Entry.{Entry}
 abbrev pub access_in : Late → FoundAccess
 access_in late = record { event = late.event; thread = late.thread; writes = late.writes; spot = record { location = late.location; barred = late.barred } }
 
--- accesses of a variable are of one class
-abbrev pub IsAlike : Late → Late → Type 0
-IsAlike a b = (x : ℕ) → class_of x (access_in a) ≡ class_of x (access_in b)
+-- the access is of the location and the kind of an earlier one, and of its thread or after all
+pub record IsInstead (late earlier : Late) : Type 0 where
+  pub location_is : late.location ≡ earlier.location
+  pub writes_is : late.writes ≡ earlier.writes
+  pub after : (late.after_all ≡ true) ⊎ (late.thread ≡ earlier.thread)
 
--- one of some accesses is of the class of an access
-abbrev pub IsAlikeOne : List Late → Late → Type 0
-IsAlikeOne late a = (b : Late) × Contains late b × IsAlike b a
+-- one of some accesses is so instead of an earlier one
+abbrev pub IsInsteadOne : List Late → Late → Type 0
+IsInsteadOne late a = (b : Late) × Contains late b × IsInstead b a
 
--- the access is one of the variable, with its local time
+-- the access is one of the variable, with its local time, and below its predecessor are all before it if it is said to be after all
 pub record IsLate (trace : List Event) (spots : List Spot) (x : ℕ) (late : Late) : Type 0 where
   pub own : IsFoundAccess trace spots x (access_in late)
   pub time_is : late.time ≡ local_time trace late.thread late.event
+  pub after : late.after_all ≡ true → (k : ℕ) → k < late.event → variable_at trace k ≡ Some x → BelowPred trace k late.event
 
 -- and one from m on before n
 pub record IsLateIn (trace : List Event) (spots : List Spot) (x m n : ℕ) (late : Late) : Type 0 where
@@ -41,12 +46,12 @@ pub record IsLateIn (trace : List Event) (spots : List Spot) (x m n : ℕ) (late
 abbrev pub IsBefore : Late → Late → Type 0
 IsBefore a b = a.event < b.event
 
--- accesses of the variable from m on before n, in their order: those are among them that are the newest of their class before n
+-- accesses of the variable from m on before n, in their order: those are among them instead of which no later one before n is enough
 pub record AreLate (trace : List Event) (spots : List Spot) (x n m : ℕ) (late : List Late) : Type 0 where
   pub within : m ≤ n
   pub each : All (IsLateIn trace spots x m n) late
   pub rising : AllPairs IsBefore late
-  pub covers : (c : Class) (k : ℕ) → c.variable ≡ x → IsNewestOf trace spots n c k → m ≤ k → (a : Late) × Contains late a × (a.event ≡ k)
+  pub covers : (c : Class) (k : ℕ) → c.variable ≡ x → IsLastOf trace spots n c k → m ≤ k → (a : Late) × Contains late a × (a.event ≡ k)
 
 -- the entry at a place of the log; places count from 1
 pub record IsEntryAt (entries : List Entry) (place : ℕ) (entry : Entry) : Type 0 where

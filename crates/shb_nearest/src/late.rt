@@ -2,7 +2,7 @@
 
 ghost use Rattle.std.specs.Prelude.{◌≡◌, ℕ, true, Contains, IfOk};
 ghost use Rattle.shb_nearest.specs.Groups.{class_of};
-ghost use Rattle.shb_nearest.specs.Late.{IsAlike, IsAlikeOne, access_in};
+ghost use Rattle.shb_nearest.specs.Late.{IsInstead, IsInsteadOne, access_in};
 ghost use Rattle.shb_nearest.specs.declared.late.Late.{Late as LateData};
 
 use crate::classes::{Class, Classes};
@@ -19,6 +19,8 @@ pub struct Late {
     pub writes: bool,
     /// Whether its line has a second bar.
     pub barred: bool,
+    /// Whether it is known to be after all accesses of its variable before it.
+    pub after_all: bool,
 }
 
 /// With so many accesses an access is compared; a table has the others.
@@ -38,35 +40,62 @@ impl Late {
     }
 }
 
-/// Whether accesses of a variable are of one class.
+/// Whether an access is enough instead of an earlier one of its variable: what races with that one races with this one at
+/// the same place.
 #[inline(always)]
-pub fn are_alike(one: Late, other: Late) -> bool
-    ensures { result ≡ true → IsAlike one other }
+pub fn is_instead(late: Late, earlier: Late) -> bool
+    ensures { result ≡ true → IsInstead late earlier }
 {
-    one.location == other.location && one.thread == other.thread && one.writes == other.writes
+    if late.location != earlier.location || late.writes != earlier.writes {
+        return false;
+    }
+    late.after_all || late.thread == earlier.thread
 }
 
-/// Whether one of these accesses is of the class of an access.
+/// Whether one of these accesses is enough instead of an earlier one.
 fn is_among(accesses: &[Late], late: Late) -> bool
-    ensures { result ≡ true → IsAlikeOne accesses.now late }
+    ensures { result ≡ true → IsInsteadOne accesses.now late }
 {
     for one in accesses {
-        let alike = are_alike(*one, late);
-        if alike {
+        let instead = is_instead(*one, late);
+        if instead {
             return true;
         }
     }
     false
 }
 
-/// Whether one of these accesses of a variable is of the class of an access, which comes next to them if none is. The table
-/// has the indices of those that came here and aren't among the first few.
+/// Whether the access that a table has of a class is enough instead of an earlier one, which else comes next to these
+/// accesses and to the table.
+fn is_in(
+    accesses: &[Late],
+    indices: &mut Classes,
+    class: Class,
+    late: Late,
+) -> Result<bool, NoMemory>
+    ensures { IfOk result (λ again. again ≡ true → IsInsteadOne accesses.now late) }
+{
+    let next = accesses.len().min(u32::MAX as usize) as u32;
+    let at = indices.put(class, next)?;
+    let Some(one) = accesses.get(at as usize) else {
+        return Ok(false);
+    };
+    let again = is_instead(*one, late);
+    if again {
+        indices.put(class, at)?;
+    }
+    Ok(again)
+}
+
+/// Whether one of these accesses of a variable is enough instead of an earlier one, which comes next to them if none is. The
+/// table has the indices of those that came here and aren't among the first few, by location and kind, with the thread and
+/// without.
 ///
 /// # Errors
 ///
 /// `NoMemory` where a growth was refused.
 pub fn is_again(accesses: &[Late], indices: &mut Classes, late: Late) -> Result<bool, NoMemory>
-    ensures { IfOk result (λ again. again ≡ true → IsAlikeOne accesses.now late) }
+    ensures { IfOk result (λ again. again ≡ true → IsInsteadOne accesses.now late) }
 {
     let count = accesses.len();
     if count <= FEW {
@@ -78,14 +107,15 @@ pub fn is_again(accesses: &[Late], indices: &mut Classes, late: Late) -> Result<
     if again {
         return Ok(true);
     }
-    let class = late.class(0);
-    let at = indices.put(class, count.min(u32::MAX as usize) as u32)?;
-    let Some(one) = accesses.get(at as usize) else {
-        return Ok(false);
+    let of_all = Class {
+        variable: 1,
+        location: late.location,
+        thread: 0,
+        writes: late.writes,
     };
-    let again = are_alike(*one, late);
+    let again = is_in(accesses, indices, of_all, late)?;
     if again {
-        indices.put(class, at)?;
+        return Ok(true);
     }
-    Ok(again)
+    is_in(accesses, indices, late.class(0), late)
 }

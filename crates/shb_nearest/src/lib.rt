@@ -11,11 +11,15 @@
 //! the newest read since is too (`StreamClocks::screen`). Such an access waits: it comes to the end of one log of all variables (`log`),
 //! with the place of the access of its variable that came before it. So a variable that never races has no group, and most
 //! accesses find what is kept of their variable in a line of the cache or two, and write to the end of the log. Where the
-//! same thread had the last access of the variable too, the last two are looked at first: one of the same class is replaced.
+//! same thread had the last access of the variable too, the last two are looked at first: one of the same class is replaced,
+//! or one instead of which this one is enough.
 //!
-//! When the log has grown to its limit, it is written anew, variable by variable, without those that aren't the newest of
-//! their class. Four times as many as are left may wait the next time, and as many as there are variables, and at least a
-//! million: where all classes differ, this is seldom done in vain.
+//! When the log has grown to its limit, it is written anew, variable by variable, without those instead of which a later one
+//! is enough: one at the same location and of the same kind, by the same thread, or by any thread if it is after all accesses
+//! of the variable before it (`Latest::is_after_all`). What races with the earlier one races with the later one then. So a
+//! variable whose accesses are ordered by a lock has one for each location and kind, however many threads there are. Four
+//! times as many as are left may wait the next time, and as many as there are variables, and at least a million: where all
+//! differ, this is seldom done in vain.
 //!
 //! The first access for which this isn't known takes those that wait into their groups (`opened`), which are found by thread
 //! and kind (`indices`), and nothing is known of later ones: each is taken into its group at once, and none waits any more.

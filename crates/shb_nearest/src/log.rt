@@ -10,7 +10,7 @@ ghost use Rattle.shb_nearest.specs.declared.late.Late.{Late as LateData};
 ghost use Rattle.shb_nearest.specs.declared.log.Entry.{Entry as EntryData};
 
 use crate::classes::Classes;
-use crate::late::{Late, are_alike, is_again};
+use crate::late::{Late, is_again, is_instead};
 use crate::tables::Variable;
 use shb_io::NoMemory;
 use std::alloc::Global;
@@ -23,11 +23,12 @@ pub struct Entry {
     pub before: u32,
 }
 
-/// The accesses that wait, each behind those of its variable that came before it; the newest of each class among them.
+/// The accesses that wait, each behind those of its variable that came before it; those among them instead of which no
+/// later one is enough.
 #[derive(Drop)]
 pub struct Log {
     pub entries: Vec<Entry>,
-    /// With so many, those go that aren't the newest of their class.
+    /// With so many, those go instead of which a later one is enough.
     most: usize,
     /// Those of one variable, where they were gathered.
     pub gathered: Vec<Late>,
@@ -47,7 +48,7 @@ pub enum Accesses {
 /// So many accesses may wait whatever their classes are.
 const FEW: usize = 1 << 20;
 
-/// When those went that weren't the newest of their class, so many times as many as are left may wait.
+/// When some went, so many times as many as are left may wait.
 const MORE: usize = 4;
 
 /// The entry at a place.
@@ -73,8 +74,8 @@ fn write(entries: &mut Vec<Entry>, place: u32, entry: Entry)
     }
 }
 
-/// Puts an access in place of the newest of its variable, which is at this place, or of the one before it, if that is of its
-/// class.
+/// Puts an access in place of the newest of its variable, which is at this place, or of the one before it, if it is enough
+/// instead.
 fn replace(entries: &mut Vec<Entry>, newest: u32, late: Late) -> bool
     ensures own { (trace : List Event) (spots : List SpotData) (x : ℕ) → AreWaiting trace spots x late.event entries.old.items newest → IsLate trace spots x late
         → result ≡ true → AreWaiting trace spots x (late.event + 1) entries.new.items newest }
@@ -86,7 +87,7 @@ fn replace(entries: &mut Vec<Entry>, newest: u32, late: Late) -> bool
     let Some(last) = entry_at(entries.as_slice(), newest) else {
         return false;
     };
-    let again = are_alike(last.late, late);
+    let again = is_instead(late, last.late);
     if again {
         let before = last.before;
         write(entries, newest, Entry { late, before });
@@ -96,7 +97,7 @@ fn replace(entries: &mut Vec<Entry>, newest: u32, late: Late) -> bool
     let Some(second) = entry_at(entries.as_slice(), place) else {
         return false;
     };
-    let again = are_alike(second.late, late);
+    let again = is_instead(late, second.late);
     if again {
         let moved = Entry {
             late: last.late,
@@ -133,8 +134,8 @@ fn put_all(entries: &mut Vec<Entry>, accesses: &[Late]) -> Result<u32, NoMemory>
     Ok(newest)
 }
 
-/// The accesses of a variable, from the newest one back, which is at this place, without those that aren't the newest of
-/// their class.
+/// The accesses of a variable, from the newest one back, which is at this place, without those instead of which a later one
+/// is enough.
 fn gather_back(
     entries: &[Entry],
     accesses: &mut Vec<Late>,
@@ -210,7 +211,7 @@ impl Log {
         Ok(())
     }
 
-    /// Forgets accesses that aren't the newest of their class, if there are many.
+    /// Forgets accesses instead of which a later one is enough, if there are many.
     ///
     /// # Errors
     ///

@@ -137,14 +137,6 @@ impl Tables {
         let time = clocks
             .below_next(access.thread, access.thread)
             .saturating_add(1);
-        let late = Late {
-            event: access.event,
-            thread: access.thread,
-            time,
-            location: access.spot.location,
-            writes: access.writes,
-            barred: access.spot.barred,
-        };
         let own = Epoch {
             time,
             thread: access.thread,
@@ -152,6 +144,15 @@ impl Tables {
         known.run = run.after(access);
         known.latest = clocks.screen(known.latest, own, access.writes);
         let open = known.latest.may_race();
+        let late = Late {
+            event: access.event,
+            thread: access.thread,
+            time,
+            location: access.spot.location,
+            writes: access.writes,
+            barred: access.spot.barred,
+            after_all: known.latest.is_after_all(),
+        };
         if !open {
             if let Accesses::Waiting(newest) = known.accesses {
                 let place = self.log.put_off(newest, run.thread, late)?;

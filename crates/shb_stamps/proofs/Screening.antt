@@ -75,7 +75,7 @@ module _ (trace : List Event) (x n : ℕ) where
     was : HasLatest trace x n latest
     was = h past.0
 
-    access_below : IsPast trace n latest.read → (k : ℕ) → k < n → variable_at trace k ≡ Some x → BelowPred trace k n
+    pub access_below : IsPast trace n latest.read → (k : ℕ) → k < n → variable_at trace k ≡ Some x → BelowPred trace k n
     access_below also k lt of_k = elim (was.accesses also.0 k lt of_k) [ inl w ↦ past.1 k w | inr r ↦ also.1 k r ]
 
     -- the access stands for all

@@ -39,6 +39,10 @@ IsScreened trace x n latest = is_unknown latest.write ≡ false → HasLatest tr
 abbrev pub IsPast : List Event → ℕ → Epoch → Type 0
 IsPast trace n epoch = (is_unknown epoch ≡ false) × ((k : ℕ) → IsMarked trace n epoch k → BelowPred trace k n)
 
+-- where write and read are known, each access of x before n is SHB-below the predecessor of n
+abbrev pub IsAfterAll : List Event → ℕ → ℕ → Latest → Type 0
+IsAfterAll trace x n latest = is_unknown latest.write ≡ false → is_unknown latest.read ≡ false → (k : ℕ) → k < n → variable_at trace k ≡ Some x → BelowPred trace k n
+
 -- event n accesses x, is that of this epoch, and writes if it is said to, else reads
 pub record IsAccess (trace : List Event) (n x : ℕ) (own : Epoch) (writes : Bool) : Type 0 where
   pub own_is : IsEpoch trace n own

@@ -8,7 +8,7 @@ ghost use Rattle.shb_lines.specs.declared.event.Event.{Event};
 ghost use Rattle.shb_lines.specs.events.Discipline.{IsDisciplined};
 ghost use Rattle.shb_lines.specs.events.Events.{thread_at};
 ghost use Rattle.shb_stamps.specs.Clocks.{IsBefore};
-ghost use Rattle.shb_stamps.specs.Screen.{IsAccess, IsPast, IsScreened, is_unknown as is_unknown_epoch};
+ghost use Rattle.shb_stamps.specs.Screen.{IsAccess, IsAfterAll, IsPast, IsScreened, is_unknown as is_unknown_epoch};
 
 use crate::clocks::Clocks;
 
@@ -47,6 +47,17 @@ impl Latest {
         ensures { result ≡ is_unknown_epoch self.write }
     {
         is_unknown(self.write)
+    }
+
+    /// Whether the newest access is known to be after all before it.
+    pub fn is_after_all(self) -> bool
+        ensures write { result ≡ true → is_unknown_epoch self.write ≡ false }
+        ensures read { result ≡ true → is_unknown_epoch self.read ≡ false }
+    {
+        if self.may_race() {
+            return false;
+        }
+        !is_unknown(self.read)
     }
 }
 
@@ -101,8 +112,10 @@ fn is_past(clocks: &Clocks, epoch: Epoch, thread: u32) -> bool
 /// What is kept of a variable after the next event, an access of it.
 #[inline(always)]
 pub fn after_access(clocks: &Clocks, latest: Latest, own: Epoch, writes: bool) -> Latest
-    ensures { (trace : List Event) (n x : ℕ) (all : Bool) → IsDisciplined trace → IsBefore trace n all clocks.now
+    ensures screened { (trace : List Event) (n x : ℕ) (all : Bool) → IsDisciplined trace → IsBefore trace n all clocks.now
         → IsAccess trace n x own writes → IsScreened trace x n latest → IsScreened trace x (n + 1) result }
+    ensures after { (trace : List Event) (n x : ℕ) (all : Bool) → IsDisciplined trace → IsBefore trace n all clocks.now
+        → IsAccess trace n x own writes → IsScreened trace x n latest → IsAfterAll trace x n result }
 {
     let read = nothing();
     let past = is_past(clocks, latest.write, own.thread);

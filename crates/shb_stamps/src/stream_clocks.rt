@@ -6,7 +6,7 @@ ghost use Rattle.shb_lines.specs.declared.event.Op.TheVariants.{Join, Write};
 ghost use Rattle.shb_lines.specs.events.Discipline.{IsDisciplined};
 ghost use Rattle.shb_lines.specs.events.Order.{IsBelowPredCount};
 ghost use Rattle.shb_stamps.specs.Clocks.{IsBefore, IsNext};
-ghost use Rattle.shb_stamps.specs.Screen.{IsAccess, IsScreened};
+ghost use Rattle.shb_stamps.specs.Screen.{IsAccess, IsAfterAll, IsScreened};
 ghost use Rattle.shb_stamps.specs.StreamClocks.{IsStreamed};
 
 use crate::clocks::Clocks;
@@ -61,9 +61,12 @@ impl StreamClocks {
     /// What is kept of a variable after the next event, which accesses it: it is that of an epoch, and writes or reads.
     #[inline(always)]
     pub fn screen(&self, latest: Latest, own: Epoch, writes: bool) -> Latest
-        ensures { (past : List Event) (e : Event) (x : ℕ) → IsDisciplined (past ++ e ∷ []) → IsStreamed past self.now
+        ensures screened { (past : List Event) (e : Event) (x : ℕ) → IsDisciplined (past ++ e ∷ []) → IsStreamed past self.now
             → IsAccess (past ++ e ∷ []) (length past) x own writes → IsScreened (past ++ e ∷ []) x (length past) latest
             → IsScreened (past ++ e ∷ []) x (length past + 1) result }
+        ensures after { (past : List Event) (e : Event) (x : ℕ) → IsDisciplined (past ++ e ∷ []) → IsStreamed past self.now
+            → IsAccess (past ++ e ∷ []) (length past) x own writes → IsScreened (past ++ e ∷ []) x (length past) latest
+            → IsAfterAll (past ++ e ∷ []) x (length past) result }
     {
         after_access(&self.clocks, latest, own, writes)
     }

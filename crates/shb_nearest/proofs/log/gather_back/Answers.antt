@@ -1,5 +1,5 @@
 use Rattle.std.proofs.Common.{inl, inr, Global, List, Vec, arith, ap, subst, ◌∙◌}
-use Rattle.shb_nearest.specs.Late.{IsAlikeOne}
+use Rattle.shb_nearest.specs.Late.{IsInsteadOne}
 use Rattle.shb_nearest.specs.declared.late.Late.{Late}
 use Rattle.shb_nearest.proofs.Chains.{gathered_all, gathered_more}
 use Rattle.shb_nearest.proofs.log.gather_back.Goals as goal
@@ -10,7 +10,7 @@ loop-entry-preserved c trace spots x n w = gathered_more trace spots x n c.args.
     (λ low. let back = c.min-place.ensures in omega (arith, back, low))
     (elim c.if-not-again.branch [
       | then-not-again+in_ok-push b ↦ inl (ap (λ (v : Vec Late Global). v.items) b.accesses-is ∙ b.in_ok-push.ensures.items)
-      | else-not-again b ↦ inr (ap (λ (v : Vec Late Global). v.items) b.accesses-is, subst (λ (l : List Late). IsAlikeOne l c.in-Some.entry.late) c.as_slice.ensures.value (c.in_ok-again.ensures b.if-not-again.false))
+      | else-not-again b ↦ inr (ap (λ (v : Vec Late Global). v.items) b.accesses-is, subst (λ (l : List Late). IsInsteadOne l c.in-Some.entry.late) c.as_slice.ensures.value (c.in_ok-again.ensures b.if-not-again.false))
     ])
     (c.loop-entry.invariant trace spots x n w)
 

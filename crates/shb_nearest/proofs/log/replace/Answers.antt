@@ -9,7 +9,7 @@ returns-then-again-clause-own c trace spots x w own again =
     let old = c.args.entries.now.items in
     let last = c.in-Some.last in
     let is = subst (λ (l : List Entry). IsEntryAt l c.args.newest last) c.as_slice.ensures.value c.in-Some.ensures in
-    newest_replaced trace spots x c.args.late.event old c.write.new.entries.items c.args.newest c.args.late last refl own is (c.are_alike-again.ensures c.if-again.true) c.write.ensures.written w.late w.chain w.are
+    newest_replaced trace spots x c.args.late.event old c.write.new.entries.items c.args.newest c.args.late last refl own is (c.is_instead-again.ensures c.if-again.true) c.write.ensures.written w.late w.chain w.are
 
 pub returns-then-again-clause-others : goal.returns-then-again-clause-others
 returns-then-again-clause-others c trace spots x w again =
@@ -25,7 +25,7 @@ returns-then-again-2-clause-own c trace spots x w own again =
     let second = c.in-Some-entry_at.second in
     let is = subst (λ (l : List Entry). IsEntryAt l c.args.newest last) c.as_slice.ensures.value c.in-Some.ensures in
     let before = subst (λ (l : List Entry). IsEntryAt l last.before second) c.as_slice-2.ensures.value c.in-Some-entry_at.ensures in
-    second_replaced trace spots x c.args.late.event old c.write-then-again-2.new.entries.items c.write-then-again-2-2.new.entries.items c.args.newest c.args.late last second refl own is before (c.are_alike-again-2.ensures again)
+    second_replaced trace spots x c.args.late.event old c.write-then-again-2.new.entries.items c.write-then-again-2-2.new.entries.items c.args.newest c.args.late last second refl own is before (c.is_instead-again-2.ensures again)
     c.write-then-again-2.ensures.written c.write-then-again-2-2.ensures.written w.late w.chain w.are
 
 pub returns-then-again-2-clause-others : goal.returns-then-again-2-clause-others

@@ -25,5 +25,5 @@ returns c past e spots x next marked are =
     let done = c.loop-at-test.false in
     let len = c.len-at-end.ensures in
     let long = c.args.groups.now.each.ok.0 in
-    rivals_are (past ++ e ∷ []) spots x c.args.access next.own c.args.groups.now c.args.since c.loop-at.rivals.found.items are
+    rivals_are (past ++ e ∷ []) spots x c.args.access next.own next.disciplined c.args.groups.now c.args.since c.loop-at.rivals.found.items are
     (subst (λ (l : List Group). AreMet (past ++ e ∷ []) spots x c.args.groups.now c.args.access c.args.since l c.loop-at.rivals.found.items) (take_all c.loop-at.at groups (omega (arith, done, len, long))) (c.loop-at.invariant past e spots x next marked are))

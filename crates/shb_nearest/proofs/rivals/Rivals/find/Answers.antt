@@ -14,5 +14,5 @@ returns-then-done c past e spots x next marked groups is_run =
     let all = c.args.groups.now in
     let done = c.are_done-done.ensures.writes c.if-done.true in
     subst (λ (l : List FoundAccess). AreRivals (past ++ e ∷ []) spots x c.args.groups.now c.args.access c.args.since l) (sym c.clear.ensures.items)
-    (rivals_are (past ++ e ∷ []) spots x c.args.access next.own all c.args.since [] groups
+    (rivals_are (past ++ e ∷ []) spots x c.args.access next.own next.disciplined all c.args.since [] groups
     (met_all (past ++ e ∷ []) spots x c.args.access next.own all c.args.since _ _ marked groups done.0 done.1 done.2 (c.are_done-done.ensures.reads c.if-done.true)))

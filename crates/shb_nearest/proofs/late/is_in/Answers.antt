@@ -1,7 +1,7 @@
 use Rattle.std.proofs.Common.{length, refl}
 use Rattle.std.proofs.lemmas.Option.{slice_get_read}
 use Rattle.shb_nearest.proofs.Members.{member_at}
-use Rattle.shb_nearest.proofs.late.is_again.Goals as goal
+use Rattle.shb_nearest.proofs.late.is_in.Goals as goal
 
 pub returns-in_ok-put : goal.returns-in_ok-put
 returns-in_ok-put c again =
@@ -9,4 +9,4 @@ returns-in_ok-put c again =
     let at = c.in_ok-at.at in
     let one = c.in-Some.one.now in
     let found = c.in-Some.ensures.lookup in
-    (one, member_at accesses at one (slice_get_read accesses (length accesses) at one refl found.3.0 found.1), λ x. c.are_alike-again.ensures again x)
+    (one, member_at accesses at one (slice_get_read accesses (length accesses) at one refl found.3.0 found.1), c.is_instead-again.ensures again)
