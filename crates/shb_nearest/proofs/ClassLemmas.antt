@@ -120,10 +120,10 @@ module _ (trace : List Event) (spots : List Spot) where
 
   -- a race with n has one at its location and of its kind, no earlier one, instead of which no later access is enough
   module _ (disciplined : IsDisciplined trace) (n x l : ℕ) (writes : Bool) where
-    record IsRival (k : ℕ) : Type 0 where
-      race : Race trace k n
-      op_is : op_at trace k ≡ Some (access_op writes x)
-      location_is : location_in spots k ≡ Some l
+    pub record IsRival (k : ℕ) : Type 0 where
+      pub race : Race trace k n
+      pub op_is : op_at trace k ≡ Some (access_op writes x)
+      pub location_is : location_in spots k ≡ Some l
 
     rival_or_not : (k : ℕ) → Decided (IsRival k)
     rival_or_not k = go (cases_Bool (is_race trace k n)) (op_or_not k x writes) (number_or_not (location_in spots k) l)

@@ -123,7 +123,7 @@ module _ (trace : List Event) (spots : List Spot) where
     -- groups without an access more
     groups_skip : (x : ℕ) (groups : List Group) → (variable_at trace n ≡ Some x → ⊥) → AreGroups trace spots x n n groups → AreGroups trace spots x (n + 1) (n + 1) groups
     groups_skip x groups never are = groups_until trace spots x n groups (n + 1) (n + 1) (omega arith)
-        (λ c k of_x is from lt. let same : k ≡ n = omega (arith, from, lt) in never (subst (λ (i : ℕ). variable_at trace i ≡ Some x) same (class_variable trace spots c k is.own ∙ ap (λ (y : ℕ). Some y) of_x)))
+        (λ c k of_x is from lt. let same : k ≡ n = omega (arith, from, lt) in never (subst (λ (i : ℕ). variable_at trace i ≡ Some x) same (class_variable trace spots c k is.newest.own ∙ ap (λ (y : ℕ). Some y) of_x)))
         (groups_next trace spots x n groups n (omega arith) are)
 
     -- accesses without one more

@@ -3,7 +3,7 @@ use Rattle.std.proofs.lemmas.Option.{slice_get_read, slice_get_within}
 use Rattle.shb_lines.specs.events.Order.{IsBelowPredCount}
 use Rattle.shb_stamps.specs.Screen.{IsAfterAll, IsScreened}
 use Rattle.shb_nearest.specs.Groups.{AreGroups, IsRun, IsSince}
-use Rattle.shb_nearest.specs.Late.{AreAccesses, IsLate}
+use Rattle.shb_nearest.specs.Late.{AreAccesses}
 use Rattle.shb_nearest.specs.Rivals.{IsNextAccess}
 use Rattle.shb_nearest.specs.declared.groups.Groups.{Groups}
 use Rattle.shb_nearest.specs.declared.log.Entry.{Entry}
@@ -37,7 +37,6 @@ returns-in-Waiting c past e spots room next are =
     (subst (λ (m : ℕ). IsBelowPredCount (past ++ e ∷ []) c.args.access.thread m c.below_next.result) (sym next.event_is) (c.below_next.ensures past e next.thread_is next.disciplined next.streamed)) c.saturating_add-time.ensures in
     let screened = taken_next past e spots x c.args.clocks.now access next (record { time = c.saturating_add-time.result; thread = access.thread }) refl time c.index_mut-known.result.now.latest (λ k. IsScreened (past ++ e ∷ []) c.args.variable (k + 1) c.screen-known.result) (c.screen-known.ensures.screened past e x next.disciplined next.streamed) was.screened in
     let after = taken_next past e spots x c.args.clocks.now access next (record { time = c.saturating_add-time.result; thread = access.thread }) refl time c.index_mut-known.result.now.latest (λ k. IsAfterAll (past ++ e ∷ []) c.args.variable k c.screen-known.result) (c.screen-known.ensures.after past e x next.disciplined next.streamed) was.screened in
-    let late : IsLate (past ++ e ∷ []) spots c.args.variable c.late = record { own = next.own; time_is = time; after = λ all. after (c.is_after_all.ensures.write all) (c.is_after_all.ensures.read all) } in
     let long = c.in_ok-place.ensures.long in
     let less = c.in_ok-make_room.ensures.long in
     let short = are.short.0 in
@@ -47,7 +46,7 @@ returns-in-Waiting c past e spots room next are =
       classes = classes_later trace spots n c.args.self.now.opened.classes.newest.entries are.classes;
       variables = variables_put trace spots n x access refl next.own mid (record { accesses = Waiting c.in_ok-place.place; run = c.after-known.result; latest = c.screen-known.result }) space.wide entries c.put_off.new.self.entries.items groups groups
           (beside_waiting trace spots n x entries c.put_off.new.self.entries.items groups (c.in_ok-place.ensures.others trace spots x waiting fits)) all (record {
-            accesses = c.in_ok-place.ensures.own trace spots x waiting late fits;
+            accesses = c.in_ok-place.ensures.own trace spots x waiting (record { own = next.own; time_is = time; after = λ all. after (c.is_after_all.ensures.write all) (c.is_after_all.ensures.read all) }) fits;
             run = c.after-known.ensures trace spots x next.own was.run;
             screened = screened;
           });
@@ -74,9 +73,8 @@ returns-in_default-get_mut c past e spots room next are =
     let time = time_next trace next.disciplined access.thread n c.below_next.result c.saturating_add-time.result next.own.thread_is (omega (arith, room, at_end))
     (subst (λ (m : ℕ). IsBelowPredCount (past ++ e ∷ []) c.args.access.thread m c.below_next.result) (sym next.event_is) (c.below_next.ensures past e next.thread_is next.disciplined next.streamed)) c.saturating_add-time.ensures in
     let after = taken_next past e spots x c.args.clocks.now access next (record { time = c.saturating_add-time.result; thread = access.thread }) refl time c.index_mut-known.result.now.latest (λ k. IsAfterAll (past ++ e ∷ []) c.args.variable k c.screen-known.result) (c.screen-known.ensures.after past e x next.disciplined next.streamed) was.screened in
-    let late : IsLate (past ++ e ∷ []) spots c.args.variable c.late = record { own = next.own; time_is = time; after = λ all. after (c.is_after_all.ensures.write all) (c.is_after_all.ensures.read all) } in
     let opened = c.in_ok-at.ensures.groups trace spots n was.accesses (let more = c.in_ok-at.ensures.long in let few = are.short.1 in omega (arith, more, few, at_end, room)) in
-    let have = c.in_ok-since.ensures.groups trace spots opened late in
+    let have = c.in_ok-since.ensures.groups trace spots opened (record { own = next.own; time_is = time; after = λ all. after (c.is_after_all.ensures.write all) (c.is_after_all.ensures.read all) }) in
     let low = slice_get_within c.take.new.self.each.items c.in_ok-at.at have.groups have.there in
     let high = c.in_default-get_mut.ensures in
     absurd (omega (arith, low, high))
@@ -100,10 +98,9 @@ returns c past e spots room next are =
     (subst (λ (m : ℕ). IsBelowPredCount (past ++ e ∷ []) c.args.access.thread m c.below_next.result) (sym next.event_is) (c.below_next.ensures past e next.thread_is next.disciplined next.streamed)) c.saturating_add-time.ensures in
     let screened = taken_next past e spots x c.args.clocks.now access next (record { time = c.saturating_add-time.result; thread = access.thread }) refl time c.index_mut-known.result.now.latest (λ k. IsScreened (past ++ e ∷ []) c.args.variable (k + 1) c.screen-known.result) (c.screen-known.ensures.screened past e x next.disciplined next.streamed) was.screened in
     let after = taken_next past e spots x c.args.clocks.now access next (record { time = c.saturating_add-time.result; thread = access.thread }) refl time c.index_mut-known.result.now.latest (λ k. IsAfterAll (past ++ e ∷ []) c.args.variable k c.screen-known.result) (c.screen-known.ensures.after past e x next.disciplined next.streamed) was.screened in
-    let late : IsLate (past ++ e ∷ []) spots c.args.variable c.late = record { own = next.own; time_is = time; after = λ all. after (c.is_after_all.ensures.write all) (c.is_after_all.ensures.read all) } in
     let opened = c.in_ok-at.ensures.groups trace spots n was.accesses (let more = c.in_ok-at.ensures.long in let few = are.short.1 in omega (arith, more, few, at_end, room)) in
     let classes = c.in_ok-at.ensures.classes trace spots n was.accesses are.classes in
-    let have = c.in_ok-since.ensures.groups trace spots opened late in
+    let have = c.in_ok-since.ensures.groups trace spots opened (record { own = next.own; time_is = time; after = λ all. after (c.is_after_all.ensures.write all) (c.is_after_all.ensures.read all) }) in
     let since = c.in_ok-since.ensures.since trace spots opened classes in
     let each = c.take.new.self.each.items in
     let one = one_there each c.in_ok-at.at have.groups c.in-Some.groups.now have.there c.in-Some.ensures.value in
@@ -120,7 +117,7 @@ returns c past e spots room next are =
     are.places
     (subst (λ (g : Groups). HaveSites c.args.by_variable g.variable c.args.self.now.places.races.entries g) one (sites c.in_ok-at.at have.groups have.there)) in
     record {
-      classes = c.in_ok-since.ensures.classes trace spots opened late classes;
+      classes = c.in_ok-since.ensures.classes trace spots opened (record { own = next.own; time_is = time; after = λ all. after (c.is_after_all.ensures.write all) (c.is_after_all.ensures.read all) }) classes;
       variables = variables_grouped trace spots n x access refl next.own mid c.in_ok-at.at c.after-known.result c.screen-known.result space.wide entries c.open.new.log.entries.items c.in_ok-at.ensures.log
           groups c.open.new.self.each.items (set each c.in_ok-at.at c.offer_races.new.groups) c.in_ok-at.ensures.others (λ at g other there. stay_groups trace spots x (n + 1) each c.in_ok-at.at c.offer_races.new.groups have at g other (c.in_ok-since.ensures.others trace spots opened at g other there)) all
           (record {
