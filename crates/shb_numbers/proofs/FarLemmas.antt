@@ -11,7 +11,7 @@ use Rattle.std.specs.FinSet as fin
 use Rattle.std.specs.Cmp.{nat_cmp_total, ranks, unsigned_tied}
 use Rattle.shb_numbers.specs.Far.{HasNoKey, IsLeastKey, both, has_key}
 use Rattle.shb_numbers.specs.Numbers.{HasNone, IsLeast, Numbers}
-use Rattle.shb_numbers.proofs.SetLemmas.{eqb_other, less, more, same_numbers}
+use Rattle.shb_numbers.proofs.SetLemmas.{eqb_other, more, same_numbers}
 
 pub contains_both : (near : Numbers) (far : List ℕ) (q : ℕ) → fin.contains (both near far) q ≡ (fin.contains near q || has_key far q)
 unfolding both
@@ -28,12 +28,6 @@ inserted s k = fin.contains-insert nat_cmp_total s k k ∙ ap (λ b. b || fin.co
 
 inserted_other : (s : Numbers) (k q : ℕ) → q ≢ k → fin.contains (fin.insert s k) q ≡ fin.contains s q
 inserted_other s k q other = fin.contains-insert nat_cmp_total s k q ∙ ap (λ b. b || fin.contains s q) (untied q k other)
-
-removed : (s : Numbers) (k : ℕ) → fin.contains (fin.remove s k) k ≡ false
-removed s k = fin.contains-remove nat_cmp_total s k k ∙ ap (λ b. not b && fin.contains s k) (tied k)
-
-removed_other : (s : Numbers) (k q : ℕ) → q ≢ k → fin.contains (fin.remove s k) q ≡ fin.contains s q
-removed_other s k q other = fin.contains-remove nat_cmp_total s k q ∙ ap (λ b. not b && fin.contains s q) (untied q k other)
 
 or_true : (a b : Bool) → b ≡ true → (a || b) ≡ true
 or_true true b is = refl
@@ -57,16 +51,6 @@ far_more near far new number there others =
     more (both near far) (both near new) number
     (contains_both near new number ∙ or_true (fin.contains near number) _ there)
     (λ k other. contains_both near new k ∙ ap (λ b. fin.contains near k || b) (others k (untied number k (λ is. other (sym is)))) ∙ sym (contains_both near far k))
-
--- one number less among both
-pub both_less : (near new : Numbers) (far rest : List ℕ) (number : ℕ) → new ≡ fin.remove near number → has_key rest number ≡ false
-    → ((q : ℕ) → eq_by_cmp nat_cmp number q ≡ false → has_key rest q ≡ has_key far q) → both new rest ≡ fin.remove (both near far) number
-both_less near new far rest number is gone others =
-    less (both near far) (both new rest) number
-    (contains_both new rest number ∙ or_parts _ _ (ap (λ s. fin.contains s number) is ∙ removed near number) gone)
-    (λ k other. contains_both new rest k
-    ∙ ap (λ b. b || has_key rest k) (ap (λ s. fin.contains s k) is ∙ removed_other near number k other)
-    ∙ ap (λ b. fin.contains near k || b) (others k (untied number k (λ is. other (sym is)))) ∙ sym (contains_both near far k))
 
 -- a far number becomes a near one
 pub brought : (near new : Numbers) (far rest : List ℕ) (last : ℕ) → new ≡ fin.insert near last → has_key far last ≡ true
@@ -237,19 +221,6 @@ sure false b is one = absurd_false b one where
   absurd_false true bad = refl
   absurd_false false bad = bad
 
-pub all_there : (near t_near : Numbers) (t_far : List ℕ) → fin.difference near t_near ≡ fin.empty → (k : ℕ) → fin.contains near k ≡ true → fin.contains (both t_near t_far) k ≡ true
-all_there near t_near t_far none k is =
-    contains_both t_near t_far k
-    ∙ ap (λ b. b || has_key t_far k)
-    (sure (fin.contains near k) (fin.contains t_near k) (sym (differs near t_near k) ∙ ap (λ s. fin.contains s k) none ∙ fin.contains-empty nat_cmp k) is)
-
--- a number of both is in a set where those of each are
-pub both_there : (near : Numbers) (far : List ℕ) (k : ℕ) (b : Bool) → (fin.contains near k ≡ true → b ≡ true) → (has_key far k ≡ true → b ≡ true) → fin.contains (both near far) k ≡ true → b ≡ true
-both_there near far k b first second is = either (fin.contains near k) (has_key far k) first second (sym (contains_both near far k) ∙ is) where
-  either : (x y : Bool) → (x ≡ true → b ≡ true) → (y ≡ true → b ≡ true) → (x || y) ≡ true → b ≡ true
-  either true y first second is = first refl
-  either false y first second is = second is
-
 -- an order of numbers
 not_above : (x y : ℕ) → is_gt (nat_cmp x y) ≡ false → x ≤ y
 not_above x y is = by (nat_cmp x y) (ranks x y) is where
@@ -293,27 +264,6 @@ module _ (keys rest : List ℕ) (from : ℕ) (are : IsKeyRangeOf nat_cmp (Includ
             absent (has_key keys q)
             (λ has. let low = not_above key q (subst (λ o. IfSome o (λ k. IsLeBy nat_cmp k q)) first (are.2 q (above from q above_it, tt) has)) in omega (arith, low, below));
       }
-
--- the numbers up to a key are passed
-pub passed_key : (keys : List ℕ) (at key : ℕ) (t : Numbers) → ((q : ℕ) → q < at → has_key keys q ≡ true → fin.contains t q ≡ true) → IsLeastKey keys at key → fin.contains t key ≡ true
-    → (q : ℕ) → q < key + 1 → has_key keys q ≡ true → fin.contains t q ≡ true
-passed_key keys at key t before least there q below is =
-    elim (cases_lt q at) [
-      | inl low ↦ before q low is
-      | inr high ↦
-          elim (cases_lt q key) [
-            | inl under ↦ absurd (true≢false (sym is ∙ least.least q high under))
-            | inr over ↦ let same : q ≡ key = omega arith in ap (fin.contains t) same ∙ there
-          ]
-    ]
-
-pub passed_all : (keys : List ℕ) (at : ℕ) (t : Numbers) → ((q : ℕ) → q < at → has_key keys q ≡ true → fin.contains t q ≡ true) → HasNoKey keys at
-    → (q : ℕ) → has_key keys q ≡ true → fin.contains t q ≡ true
-passed_all keys at t before none q is =
-    elim (cases_lt q at) [
-      | inl low ↦ before q low is
-      | inr high ↦ absurd (true≢false (sym is ∙ none q high))
-    ]
 
 -- where none is far
 pub only_near : (near : Numbers) (far : List ℕ) → length far ≡ 0 → both near far ≡ near

@@ -1,5 +1,5 @@
 -- Sets whose numbers are all below 64, or that are large.
-use Rattle.std.proofs.Common.{◌≡◌, ◌≢◌, ℕ, ◌%◌, ◌<◌, ◌≤◌, List, [], ◌∷◌, ◌∙◌, Bool, true, false, Option, None, Some, MatchOption, ap, arith, refl, subst, sym}
+use Rattle.std.proofs.Common.{◌≡◌, ◌≢◌, ℕ, ◌%◌, ◌<◌, List, [], ◌∷◌, ◌∙◌, Option, None, Some, MatchOption, ap, arith, refl, subst, sym}
 use Rattle.std.specs.FinSet as fin
 use Rattle.std.specs.Global.{Global}
 use Rattle.std.specs.Int.{bit_at}
@@ -8,8 +8,7 @@ use Rattle.shb_numbers.specs.Few.{numbers_of}
 use Rattle.shb_numbers.specs.declared.number_set.Kept.{Kept}
 use Rattle.shb_numbers.specs.declared.number_set.Kept.TheVariants.{Few, Many}
 use Rattle.shb_numbers.specs.Numbers.{HasNone, IsLeast, Numbers, marked}
-use Rattle.shb_numbers.proofs.FarLemmas.{all_there, only_near}
-use Rattle.shb_numbers.proofs.SetLemmas.{first_inserted, first_removed, none_less}
+use Rattle.shb_numbers.proofs.SetLemmas.{first_inserted}
 
 -- the numbers of a set with no large one, and of one that is large
 pub few_is : (few : ℕ) → numbers_of (Few few) ≡ marked (few ∷ [])
@@ -38,16 +37,6 @@ module _ (few : ℕ) (kept : Kept) (s : Numbers) (number : ℕ) (none : kept ≡
       ∙ first_inserted few word [] number (omega (arith, low)) (λ k small other. others k (λ same. other (same ∙ sym own))) (ap (bit_at word) own ∙ one)
       ∙ ap (λ (t : Numbers). fin.insert t number) was
 
-  pub few_removed : (word : ℕ) → number < 64 → bit_at word number ≡ 0 → ((k : ℕ) → k < 64 → k ≢ number → bit_at word k ≡ bit_at few k) → numbers_of (Few word) ≡ fin.remove s number
-  few_removed word low zero others =
-      let own : number % 64 ≡ number = omega (arith, low) in
-      few_is word
-      ∙ first_removed few word [] number (omega (arith, low)) (λ k small other. others k small (λ same. other (same ∙ sym own))) (ap (bit_at word) own ∙ zero)
-      ∙ ap (λ (t : Numbers). fin.remove t number) was
-
-  pub few_past : 64 ≤ number → numbers_of (Few few) ≡ fin.remove s number
-  few_past high = few_is few ∙ none_less (few ∷ []) number (omega (arith, high)) ∙ ap (λ (t : Numbers). fin.remove t number) was
-
 -- the same sets under other names
 pub same_first : (r : Option ℕ) (h t here there : Numbers) (from end : ℕ) → h ≡ here → t ≡ there
     → MatchOption r (HasNone (fin.difference h t) from end) (IsLeast (fin.difference h t) from end)
@@ -55,12 +44,6 @@ pub same_first : (r : Option ℕ) (h t here there : Numbers) (from end : ℕ) �
 same_first r h t here there from end h_is t_is first =
     subst (λ (s : Numbers). MatchOption r (HasNone (fin.difference here s) from end) (IsLeast (fin.difference here s) from end)) t_is
     (subst (λ (s : Numbers). MatchOption r (HasNone (fin.difference s t) from end) (IsLeast (fin.difference s t) from end)) h_is first)
-
-pub same_more : (r : Bool) (h t here there : Numbers) → h ≡ here → t ≡ there
-    → (r ≡ false → (k : ℕ) → fin.contains h k ≡ true → fin.contains t k ≡ true)
-    → r ≡ false → (k : ℕ) → fin.contains here k ≡ true → fin.contains there k ≡ true
-same_more r h t here there h_is t_is more less k is =
-    subst (λ (s : Numbers). fin.contains s k ≡ true) t_is (more less k (subst (λ (s : Numbers). fin.contains s k ≡ true) (sym h_is) is))
 
 -- words that stand for few numbers
 pub words_are : (first few : ℕ) (more : List ℕ) → first ≡ few → more ≡ [] → marked (first ∷ more) ≡ marked (few ∷ [])
@@ -70,6 +53,3 @@ pub first_of : (r : Option ℕ) (h t : Numbers) (from end : ℕ) → IfNone r (H
     → MatchOption r (HasNone (fin.difference h t) from end) (IsLeast (fin.difference h t) from end)
 first_of None h t from end none some = none
 first_of (Some n) h t from end none some = some
-
-pub all_in : (here there : Numbers) → fin.difference here there ≡ fin.empty → (k : ℕ) → fin.contains here k ≡ true → fin.contains there k ≡ true
-all_in here there none k is = subst (λ (s : Numbers). fin.contains s k ≡ true) (only_near there [] refl) (all_there here there [] none k is)

@@ -108,7 +108,6 @@ impl LargeSet {
             },
         }
     }
-
 }
 
 /// Puts a number past the near ones into the set.
@@ -204,4 +203,3 @@ fn far_not_in(far: &BTreeSet<u32, Global>, other: &LargeSet, from: u32, end: u32
     }
     None
 }
-
