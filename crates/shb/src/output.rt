@@ -4,7 +4,7 @@ ghost use Rattle.std.specs.Prelude.{◌≡◌, Ok, Err, IfOk, IfErr, ◌⊎◌};
 use shb_io::ToWrite;
 use std::io::Write;
 
-/// Flushes what a run, a scan or a check has written, where it went well. A flush that fails is a sink that failed,
+/// Flushes what a run or a check has written, where it went well. A flush that fails is a sink that failed,
 /// with the error that is given for that.
 pub(crate) fn flushed<T: Drop, E: Drop, W: Write + Drop>(
     answer: Result<T, E>,

@@ -84,7 +84,7 @@ impl Ending {
         )
     }
 
-    /// That of a scan.
+    /// That of a stream whose nearest races were listed.
     pub(crate) fn of_scan<R: Eprint + AllocGlobal>(rt: &R, answer: &Result<(), ScanError>) -> Ending
         ensures { result.status ≡ scan_status_of answer.now }
     {

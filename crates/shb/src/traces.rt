@@ -28,7 +28,9 @@ pub(crate) enum Task {
         by_variable: bool,
     },
     /// The same without schedules, of a trace that is read once.
-    Scan { by_variable: bool },
+    Scan {
+        by_variable: bool,
+    },
 }
 
 /// How a report ended, which standard error says where it wasn't written.

@@ -173,21 +173,26 @@ module _ (trace : List Event) (spots : List Spot) where
             let c = own.race.conflict in
             let e = event_at_access trace k c.variable c.first_accesses in
             let t = thread_is trace k e.0 e.1 in
-            let past = found.1 in
-            (k, e.0.thread, own, found.3 i h.race.earlier h, record {
-              newest = record {
-                own = record { thread_is = t; op_is = own.op_is; location_is = own.location_is };
-                past = omega (arith, past);
-                last = λ j lt of_c. elim (cases_eq j n) [
-                  | inl here ↦ absurd (c.other_thread (t ∙ (sym of_c.thread_is ∙ ap (thread_at trace) here)))
-                  | inr other ↦ elim (cases_lt k j) [
-                    | inl later ↦ found.3 j (omega (arith, lt, other)) (rival_after k j own (omega (arith, lt, other)) of_c.op_is of_c.location_is (thread_below_pred trace e.0.thread k j later t of_c.thread_is))
-                    | inr before ↦ before
-                  ]
+            let past = found.1 in (
+              k,
+              e.0.thread,
+              own,
+              found.3 i h.race.earlier h,
+              record {
+                newest = record {
+                  own = record { thread_is = t; op_is = own.op_is; location_is = own.location_is };
+                  past = omega (arith, past);
+                  last = λ j lt of_c. elim (cases_eq j n) [
+                    | inl here ↦ absurd (c.other_thread (t ∙ (sym of_c.thread_is ∙ ap (thread_at trace) here)))
+                    | inr other ↦ elim (cases_lt k j) [
+                      | inl later ↦ found.3 j (omega (arith, lt, other)) (rival_after k j own (omega (arith, lt, other)) of_c.op_is of_c.location_is (thread_below_pred trace e.0.thread k j later t of_c.thread_is))
+                      | inr before ↦ before
+                    ]
+                  ];
+                };
+                none_after = λ j low lt op at below. elim (cases_eq j n) [
+                  | inl here ↦ own.race.unordered (subst (λ (m : ℕ). BelowPred trace k m) here below)
+                  | inr other ↦ (let le = found.3 j (omega (arith, lt, other)) (rival_after k j own (omega (arith, lt, other)) op at below) in omega (arith, le, low))
                 ];
-              };
-              none_after = λ j low lt op at below. elim (cases_eq j n) [
-                | inl here ↦ own.race.unordered (subst (λ (m : ℕ). BelowPred trace k m) here below)
-                | inr other ↦ (let le = found.3 j (omega (arith, lt, other)) (rival_after k j own (omega (arith, lt, other)) op at below) in omega (arith, le, low))
-              ];
-            })
+              },
+            )

@@ -1,4 +1,4 @@
-//! A scan of a trace: one pass over a stream, and its list report.
+//! The nearest race of each place of a trace, from one pass over its events, and their list report.
 //!
 //! [`read_scan`] reads a source once: a line at a time is taken (`EventReader` of `shb_lines`), its event is judged
 //! (`State` of `shb_discipline`) and searched for races (`NearestRaces` of `shb_nearest`), and then forgotten. What is

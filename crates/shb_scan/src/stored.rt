@@ -77,7 +77,7 @@ fn pairs_of(alloc: Global, races: &[FoundRace]) -> Result<Vec<Pair>, NoMemory>
 }
 
 /// The nearest races of a trace, one of each place; with `by_variable`, one of each place and variable. They are those
-/// that a scan of its text lists.
+/// that [`run_scan`](crate::run_scan) lists of its text.
 ///
 /// # Errors
 ///
