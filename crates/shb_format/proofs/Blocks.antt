@@ -3,16 +3,15 @@ use Rattle.std.proofs.Common.{◌≡◌, ℕ, ◌+◌, ◌≤◌, Bool, true, fa
 use Rattle.std.specs.Prelude.{All}
 use Rattle.std.proofs.lemmas.List.Elements.{All-nil, All-cons, All-head, All-tail}
 use Rattle.shb_lines.specs.declared.event.Event.{Event}
+use Rattle.shb_lines.specs.declared.event.Pair.{Pair}
 use Rattle.shb_lines.specs.events.Discipline.{IsDisciplined}
-use Rattle.shb_lines.specs.events.Race.{IsRaceList}
+use Rattle.shb_lines.specs.events.Race.{IsRaceList, ends}
 use Rattle.shb_lines.specs.events.Schedule.{IsPrintedSchedule}
 use Rattle.shb_lines.specs.text.TraceData.{TraceData}
 use Rattle.shb_lines.proofs.events.Decide.{printed_exists}
 use Rattle.shb_lines.proofs.events.RaceLists.{race_list_unique}
 use Rattle.shb_lines.proofs.events.Increasing.{increasing_equal}
-use Rattle.shb_format.specs.Leading.{AreLeading}
-use Rattle.shb_format.specs.Report.{AllRaces, AreBlocks, HasSchedule, IsReportOn, LeadingRaces, ShownRace, block_bytes, blocks_from, front_bytes, pair_of, tail_bytes}
-use Rattle.shb_format.proofs.LeadingLemmas.{leading_unique}
+use Rattle.shb_format.specs.Report.{AllRaces, AreBlocks, HasSchedule, IsReportOn, ShownRace, block_bytes, blocks_from, front_bytes, pair_of, tail_bytes}
 
 -- the pairs of some races that are shown
 abbrev pairs_of : List ShownRace → List (ℕ × ℕ)
@@ -68,6 +67,11 @@ AreBlocks-unique with_schedules trace races blocks others h g =
     let lengths = ap length after.1 in
     same_if_long others blocks before.0 before.1 (omega (arith, length-append blocks after.0))
 
+-- pairs are those of their two events
+pub pairs_back : (races : List Pair) → map pair_of (map ends races) ≡ races
+pairs_back [] = refl
+pairs_back (race ∷ races) = ap (λ l. race ∷ l) (pairs_back races)
+
 -- a trace has one list of such races
 abbrev pub HasOneList : (TraceData → List (ℕ × ℕ) → Type 0) → TraceData → Type 0
 HasOneList Lists trace = (races more : List (ℕ × ℕ)) → Lists trace races → Lists trace more → races ≡ more
@@ -85,22 +89,6 @@ IsReportOn-unique Lists with_schedules trace bytes others one_list h g =
 
 pub one_race_list : (trace : TraceData) → HasOneList AllRaces trace
 one_race_list trace = race_list_unique trace.events
-
-pub one_leading_list : (trace : TraceData) → HasOneList LeadingRaces trace
-one_leading_list trace leading more h g =
-    let same : h.races ≡ g.races = race_list_unique trace.events h.races g.races h.races_are g.races_are in
-    pairs_same leading more (leading_unique trace (map pair_of g.races) (map pair_of leading) (map pair_of more)
-    (subst (λ (l : List (ℕ × ℕ)). AreLeading trace (map pair_of l) (map pair_of leading)) same h.leading_are) g.leading_are)
-  where
-    pairs_same : (xs ys : List (ℕ × ℕ)) → map pair_of xs ≡ map pair_of ys → xs ≡ ys
-    pairs_same [] [] e = refl
-    pairs_same [] (y ∷ ys) e = absurd (let lengths = ap length e in omega arith)
-    pairs_same (x ∷ xs) [] e = absurd (let lengths = ap length e in omega arith)
-    pairs_same (x ∷ xs) (y ∷ ys) e =
-        let heads : pair_of x ≡ pair_of y = cc in
-        let tails : map pair_of xs ≡ map pair_of ys = cc in
-        let rest = pairs_same xs ys tails in
-        λ k. (((heads k).first, (heads k).second) ∷ rest k)
 
 -- some pairs, each with its printed schedule or with none
 shown_of : (with_schedules : Bool) (trace : TraceData) → IsDisciplined trace.events → (races : List (ℕ × ℕ)) → (shown : List ShownRace) × (pairs_of shown ≡ races) × All (HasSchedule with_schedules trace) shown

@@ -4,6 +4,4 @@ pub mod Blocks
 pub mod Numbered
 pub mod KeyedLemmas
 pub mod PlaceLemmas
-pub mod LeadingLemmas
-pub mod LeadingReports
 pub mod WrittenText

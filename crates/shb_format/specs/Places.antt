@@ -16,6 +16,10 @@ pub record PlaceOf : Type 0 where
 abbrev pub location_at : TraceData → ℕ → List ℕ
 location_at trace event = location_of (unwrap_or (slice_get trace.lines event) [])
 
+-- the place of two events: their locations, the first one's first
+abbrev pub place_at : TraceData → ℕ → ℕ → List ℕ × List ℕ
+place_at trace first second = (location_at trace first, location_at trace second)
+
 -- what is counted of a place with one pair more; a pair of new locations is the first of its place
 abbrev pub with_one_more : Option PlaceCount → Pair → PlaceCount
 with_one_more None pair = record { pair = pair; count = 1 }

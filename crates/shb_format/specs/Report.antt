@@ -6,7 +6,6 @@ use Rattle.shb_lines.specs.events.Schedule.{IsPrintedSchedule}
 use Rattle.shb_lines.specs.text.Text.{lines_of}
 use Rattle.shb_lines.specs.text.TraceData.{IsTraceOf, TraceData}
 use Rattle.shb_format.specs.declared.counts.Counts.{Counts}
-use Rattle.shb_format.specs.Leading.{AreLeading}
 use Rattle.shb_format.specs.Places.{counts_in, places_of_pairs, section_bytes}
 use Rattle.shb_format.specs.Value.{counts_line, lines_text, numbers_line, race_numbers_line, races_line}
 
@@ -70,14 +69,9 @@ pair_of race = record { first = race.0; second = race.1 }
 abbrev pub front_bytes : TraceData → List (ℕ × ℕ) → List ℕ
 front_bytes trace races = head_bytes (counts_of trace) (length races) ++ section_bytes trace (counts_in (places_of_pairs trace (map pair_of races)))
 
--- what a report may list: the race list of a trace; or its leading races, of each place the first race
+-- what a report lists: the race list of a trace
 abbrev pub AllRaces : TraceData → List (ℕ × ℕ) → Type 0
 AllRaces trace races = IsRaceList trace.events races
-
-pub record LeadingRaces (trace : TraceData) (leading : List (ℕ × ℕ)) : Type 0 where
-  pub races : List (ℕ × ℕ)
-  pub races_are : IsRaceList trace.events races
-  pub leading_are : AreLeading trace (map pair_of races) (map pair_of leading)
 
 -- the bytes are the report of a trace that lists such races: the head, their places, a block for each of them in order, and the tail
 pub record IsReportOn (Lists : TraceData → List (ℕ × ℕ) → Type 0) (with_schedules : Bool) (trace : TraceData) (bytes : List ℕ) : Type 0 where

@@ -1,11 +1,9 @@
 //! The laws of reports, over the definitions alone. Each function does nothing: its contract is the
 //! law.
-ghost use Rattle.std.specs.Prelude.{◌≡◌, ℕ, All, Bool, Contains, List, map, true};
-ghost use Rattle.shb_lines.specs.declared.event.Pair.{Pair};
+ghost use Rattle.std.specs.Prelude.{◌≡◌, ℕ, All, Bool, List, map, true};
 ghost use Rattle.shb_lines.specs.events.Discipline.{IsDisciplined};
 ghost use Rattle.shb_lines.specs.events.Race.{IsRaceList};
 ghost use Rattle.shb_lines.specs.text.TraceData.{TraceData};
-ghost use Rattle.shb_format.specs.Leading.{AreLeading, HasOnce, place_at};
 ghost use Rattle.shb_format.specs.Report.{AllRaces, HasSchedule, IsReportOn, ShownRace};
 ghost use Rattle.shb_format.specs.Writing.{written_report};
 ghost use Rattle.shb_format.specs.Value.{report_text};
@@ -30,19 +28,4 @@ pub fn written_report_is_a_text()
     ensures { (trace : TraceData) (bytes : List ℕ) → IsReportOn AllRaces true trace bytes → (shown : List ShownRace)
         × IsRaceList trace.events (map (λ race. race.pair) shown) × All (HasSchedule true trace) shown
         × (bytes ≡ report_text (written_report trace shown)) }
-{}
-
-/// A list has at most one list of leading races.
-pub fn leading_races_are_one()
-    ensures { (trace : TraceData) (races leading others : List Pair)
-        → AreLeading trace races leading → AreLeading trace races others → leading ≡ others }
-{}
-
-/// Each leading race is a race of the list, and each race of the list has the place of exactly one leading
-/// race. So a list of leading races leaves out no place, and shows none twice.
-pub fn each_place_has_one_leading_race()
-    ensures listed { (trace : TraceData) (races leading : List Pair) → AreLeading trace races leading
-        → (lead : Pair) → Contains leading lead → Contains races lead }
-    ensures once { (trace : TraceData) (races leading : List Pair) → AreLeading trace races leading
-        → (race : Pair) → Contains races race → HasOnce trace leading (place_at trace race.first race.second) }
 {}

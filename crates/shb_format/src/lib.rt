@@ -1,4 +1,4 @@
-//! What a report is, and its text: this project's report format, its counts, places and leading races.
+//! What a report is, and its text: this project's report format, its counts and places.
 //!
 //! A report is the head, the places, a block for each race of the race list in order, and the tail.
 //! Places are the pairs of locations of the races: [`places_of`] finds them. Each of the four parts

@@ -1,9 +1,7 @@
 //! The places of races: pairs of locations.
 ghost use Rattle.std.specs.Prelude.{◌≡◌, ◌+◌, ◌-◌, ◌<◌, ◌^◌, [], All, None, Some, length, map, option_map, slice_get, IfOk, IfSome, OnOk};
 ghost use Rattle.std.specs.Option.{is_some, option_copied};
-ghost use Rattle.shb_lines.specs.events.Race.{ends};
 ghost use Rattle.shb_lines.specs.text.TraceData.{TraceData};
-ghost use Rattle.shb_format.specs.Report.{LeadingRaces};
 ghost use Rattle.shb_format.specs.Keyed.{AreKeyed, counted_of, with_keyed, with_more, with_new};
 ghost use Rattle.shb_format.specs.Places.{IsPairOf, IsPlaceOf, counts_in, places_of_pairs, with_one_more};
 
@@ -48,17 +46,6 @@ fn place_counts(alloc: Global, table: &Table) -> Result<Vec<PlaceCount>, NoMemor
     let mut counts = Vec::with_capacity(alloc, table.len())?;
     for counted in table.values() {
         counts.push(*counted)?;
-    }
-    Ok(counts)
-}
-
-/// Each pair as the only one of its place.
-fn counted_once(alloc: Global, pairs: &[Pair]) -> Result<Vec<PlaceCount>, NoMemory>
-    ensures { IfOk result (λ counts. counts.items ≡ map (with_one_more None) pairs.now) }
-{
-    let mut counts = Vec::with_capacity(alloc, pairs.len())?;
-    for pair in pairs {
-        counts.push(counted_with(None, *pair))?;
     }
     Ok(counts)
 }
@@ -219,16 +206,6 @@ pub fn places_of<R: RandomSource>(
 }
 
 impl Places {
-    /// The places of the leading races of a trace, of which no two have one place: each counts its one race.
-    /// `NoMemory` where memory was refused.
-    pub fn of_leading(alloc: Global, races: &[Pair]) -> Result<Places, NoMemory>
-        ensures { IfOk result (λ places. (trace : TraceData) → LeadingRaces trace (map ends races.now)
-            → places ≡ counts_in (places_of_pairs trace races.now)) }
-    {
-        let counts = counted_once(alloc, races)?;
-        Ok(Places { counts })
-    }
-
     /// How many places there are.
     pub fn len(&self) -> u64
         ensures { result ≡ length self.now }

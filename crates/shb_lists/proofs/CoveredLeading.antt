@@ -15,10 +15,10 @@ use Rattle.shb_lines.specs.events.Race.{Race, ends, variable_at}
 use Rattle.shb_lines.specs.events.Sizes.{IsNumberedByAccess}
 use Rattle.shb_lines.specs.text.TraceData.{TraceData}
 use Rattle.shb_lines.proofs.events.Increasing.{same_in_order}
-use Rattle.shb_format.specs.Leading.{AreLeading, Leads, place_at}
-use Rattle.shb_format.specs.Places.{places_of_pairs}
-use Rattle.shb_format.specs.Report.{LeadingRaces}
-use Rattle.shb_format.proofs.LeadingLemmas.{firsts, firsts_lead, led_once, pairs_back}
+use Rattle.shb_format.specs.Places.{place_at, places_of_pairs}
+use Rattle.shb_lists.specs.Leading.{AreLeading, LeadingRaces, Leads}
+use Rattle.shb_format.proofs.Blocks.{pairs_back}
+use Rattle.shb_lists.proofs.LeadingLemmas.{firsts, firsts_lead, led_once}
 use Rattle.shb_pairs.proofs.FlatMaps.{map_contains, map_parts}
 use Rattle.shb_pairs.proofs.Listing.{all_is_race_list, all_races}
 use Rattle.shb_pairs.specs.declared.listed.ListedRace.{ListedRace}

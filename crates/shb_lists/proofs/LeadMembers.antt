@@ -6,7 +6,8 @@ use Rattle.std.proofs.lemmas.List.Kept.{AllPairs-from_increasing}
 use Rattle.std.proofs.lemmas.Option.{get_or_from_slice_get, slice_get-get_or, slice_get-map, slice_get_within}
 use Rattle.shb_lines.specs.declared.event.Pair.{Pair}
 use Rattle.shb_lines.specs.text.TraceData.{TraceData}
-use Rattle.shb_format.specs.Leading.{AreLeading, Leads, place_at}
+use Rattle.shb_format.specs.Places.{place_at}
+use Rattle.shb_lists.specs.Leading.{AreLeading, Leads}
 
 pub contained_at : (pairs : List Pair) (k : ℕ) (p : Pair) → slice_get pairs k ≡ Some p → Contains pairs p
 contained_at pairs k p there = (k, slice_get_within pairs k p there, get_or_from_slice_get pairs k p p there)

@@ -11,7 +11,7 @@ use Rattle.shb_lines.specs.events.Reach.{is_race, numbers_where}
 use Rattle.shb_lines.specs.text.TraceData.{TraceData}
 use Rattle.shb_lines.proofs.events.Increasing.{contains_cases, contains_none}
 use Rattle.shb_lines.proofs.events.Reach.{numbers_listed, reflect_race}
-use Rattle.shb_stamps.specs.Open.{accesses_open, is_open}
+use Rattle.shb_stamps.specs.Open.{accesses_open}
 use Rattle.shb_pairs.specs.Open.{AreOpen}
 use Rattle.shb_pairs.specs.Listed.{race_of}
 use Rattle.shb_pairs.specs.declared.listed.ListedRace.{ListedRace}
@@ -22,7 +22,7 @@ use Rattle.shb_lists.specs.RacingCounts.{number_in}
 use Rattle.shb_lists.proofs.BatchLemmas.{accessed_within}
 use Rattle.shb_lists.proofs.ListedLemmas.{open_access}
 use Rattle.shb_lists.proofs.Lists.{contains_get, same_entry}
-use Rattle.shb_lists.proofs.NearestLead.{improves_then, race_found}
+use Rattle.shb_lists.proofs.NearestLead.{improves_then, open_of, race_found}
 use Rattle.shb_lists.proofs.PlaceRacesLemmas.{covered_then, improves_self}
 
 -- both events of a race are events of the trace
@@ -31,6 +31,13 @@ race_within trace i j race =
     let within = accessed_within trace race.conflict.variable j race.conflict.second_accesses in
     let low = race.earlier in
     (omega (arith, low, within), within)
+
+-- those of one of these races
+pub pair_within : (events : List Event) (races : List Pair) (k : ℕ) (d : Pair) (n : ℕ) → AreRaces events races → k < length races → length events ≡ n → ((get_or races k d).first < n) × ((get_or races k d).second < n)
+pair_within events races k d n are low long =
+    let race = get_or races k d in
+    let within = race_within events race.first race.second (are k d low) in
+    (omega (arith, within.0, long), omega (arith, within.1, long))
 
 -- the events that are found for an event race with it
 pub found_race : (trace : List Event) (flags : List Bool) (e : ℕ) (firsts : List ℕ) → firsts ≡ cond (accesses_open flags trace e) (numbers_where (λ i. is_race trace i e) e) [] → (i : ℕ) → Contains firsts i → Race trace i e
@@ -45,15 +52,9 @@ found_race trace flags e firsts is i there = elim (cases_Bool (accesses_open fla
 
 pub race_in_found : (trace : List Event) (flags : List Bool) (e : ℕ) (firsts : List ℕ) → firsts ≡ cond (accesses_open flags trace e) (numbers_where (λ i. is_race trace i e) e) [] → AreOpen trace flags → (i : ℕ) → Race trace i e → Contains firsts i
 race_in_found trace flags e firsts is settled i race =
-    let passing = open_access trace flags e race.conflict.variable race.conflict.second_accesses (open_of_events trace flags settled i e race) in
+    let passing = open_access trace flags e race.conflict.variable race.conflict.second_accesses (open_of trace flags settled i e race) in
     let are : firsts ≡ numbers_where (λ i. is_race trace i e) e = is ∙ ap (λ (b : Bool). cond b (numbers_where (λ i. is_race trace i e) e) []) passing in
     subst (λ (ks : List ℕ). Contains ks i) (sym are) (((numbers_listed (λ i. is_race trace i e) e).members i).1 (race.earlier, (reflect_race trace i e).1 race))
-  where
-    open_of_events : (trace : List Event) (flags : List Bool) → AreOpen trace flags → (i j : ℕ) (race : Race trace i j) → is_open flags race.conflict.variable ≡ true
-    open_of_events trace flags settled i j race = elim (cases_Bool (is_open flags race.conflict.variable)) [
-      | inl yes_ ↦ yes_
-      | inr no_ ↦ absurd (settled race.conflict.variable no_ i j race.conflict.second_accesses race)
-    ]
 
 pub found_within : (trace : List Event) (flags : List Bool) (e n : ℕ) (firsts : List ℕ) → firsts ≡ cond (accesses_open flags trace e) (numbers_where (λ i. is_race trace i e) e) [] → length trace ≡ n → All (λ i. i < n) firsts
 found_within trace flags e n firsts is long k d low =
@@ -79,9 +80,6 @@ lead_within trace locations found races n are same long k d low =
 -- ---- what is found of a trace whose locations have numbers
 
 module _ (trace : TraceData) (events : List Event) (flags : List Bool) (numbers seen : List ℕ) (locations : List (List ℕ)) (same : events ≡ trace.events) (are : AreNumbered trace flags (length events) numbers locations) (settled : AreOpen events flags) (read : seen ≡ numbers) where
-  pub seen_long : length events ≡ length seen
-  seen_long = sym (ap length read ∙ are.as_many)
-
   offered_race : (i j x : ℕ) → Race events i j → ((y : ℕ) → variable_at events j ≡ Some y → x ≡ y) → IsFound trace locations ((number_in seen i, number_in seen j), race_of x j i)
   offered_race i j x race is =
       let of_j : variable_at events j ≡ Some x = race.conflict.second_accesses ∙ ap (λ (y : ℕ). Some y) (sym (is race.conflict.variable race.conflict.second_accesses)) in

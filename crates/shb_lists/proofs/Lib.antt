@@ -14,6 +14,7 @@ pub mod BatchLemmas
 pub mod Lists
 pub mod PlaceRacesLemmas
 pub mod RacesByNumber
+pub mod LeadingLemmas
 pub mod LeadMembers
 pub mod LeadSteps
 pub mod SortedEntries

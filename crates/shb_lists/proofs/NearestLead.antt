@@ -6,37 +6,33 @@ use Rattle.std.specs.Str.{bytes_eq}
 use Rattle.std.proofs.lemmas.Bool.{cases_Bool, cases_lt, cases_order}
 use Rattle.std.proofs.lemmas.Map.Keys.{apart_from_distinct}
 use Rattle.std.proofs.lemmas.Option.{get_or_from_slice_get, slice_get-map, slice_get_within}
+use Rattle.shb_lines.specs.declared.event.Event.{Event}
 use Rattle.shb_lines.specs.declared.event.Pair.{Pair}
 use Rattle.shb_lines.specs.events.Race.{Race, ends, variable_at}
 use Rattle.shb_lines.specs.text.TraceData.{TraceData}
 use Rattle.shb_lines.proofs.text.Numbers.{one_number}
-use Rattle.shb_format.specs.Leading.{place_at}
-use Rattle.shb_format.specs.Places.{location_at}
+use Rattle.shb_format.specs.Places.{location_at, place_at}
 use Rattle.shb_stamps.specs.Open.{is_open}
 use Rattle.shb_pairs.specs.Open.{AreOpen}
 use Rattle.shb_pairs.proofs.FlatMaps.{map_contains, map_parts}
 use Rattle.shb_pairs.specs.Listed.{NotAfter, race_of}
-use Rattle.shb_lists.specs.PlaceRaces.{AreFound, AreTold, Covers, FoundRace, HasAsked, HasGained, HasOffered, HaveNearest, Improves, IsCovered, IsFound, IsOffered, same_key}
+use Rattle.shb_lists.specs.PlaceRaces.{AreTold, Covers, FoundRace, HasAsked, HasGained, HasOffered, HaveNearest, Improves, IsCovered, IsFound, IsOffered, same_key}
 use Rattle.shb_lists.specs.RacingCounts.{number_in}
 use Rattle.shb_lists.specs.Counted.{AreNumbered}
 use Rattle.shb_lists.proofs.BatchLemmas.{accessed_within}
 use Rattle.shb_lists.proofs.ListedLemmas.{open_access}
 use Rattle.shb_lists.proofs.Lists.{contains_get, get_contains, same_entry}
-use Rattle.shb_lists.proofs.PlaceRacesLemmas.{covered_then, improves_self, key_same}
+use Rattle.shb_lists.proofs.PlaceRacesLemmas.{covered_then, key_same}
 
 -- the variable of a race is open
-pub open_of : (trace : TraceData) (flags : List Bool) → AreOpen trace.events flags → (i j : ℕ) (race : Race trace.events i j) → is_open flags race.conflict.variable ≡ true
-open_of trace flags settled i j race = elim (cases_Bool (is_open flags race.conflict.variable)) [
+pub open_of : (events : List Event) (flags : List Bool) → AreOpen events flags → (i j : ℕ) (race : Race events i j) → is_open flags race.conflict.variable ≡ true
+open_of events flags settled i j race = elim (cases_Bool (is_open flags race.conflict.variable)) [
   | inl yes_ ↦ yes_
   | inr no_ ↦ absurd (settled race.conflict.variable no_ i j race.conflict.second_accesses race)
 ]
 
 pub improves_then : (trace : TraceData) (old mid new : List FoundRace) → Improves trace old mid → Improves trace mid new → Improves trace old new
 improves_then trace old mid new first second e there = covered_then trace mid new e.1 second (first e there)
-
--- nothing was offered yet
-pub gained_none : (trace : TraceData) (locations : List (List ℕ)) (x j : ℕ) (firsts : List ℕ) (old : List FoundRace) → AreFound trace locations old → HasGained trace locations x j firsts 0 old old
-gained_none trace locations x j firsts old found = record { found = found; improves = improves_self trace old; covered = λ k i low. absurd (omega (arith, low)) }
 
 -- one race more
 pub gained_more : (trace : TraceData) (locations : List (List ℕ)) (x j : ℕ) (firsts : List ℕ) (n i : ℕ) (old mid new : List FoundRace) → HasGained trace locations x j firsts n old mid → slice_get firsts n ≡ Some i → IsOffered trace locations mid new (race_of x j i)
@@ -60,7 +56,7 @@ race_found trace flags numbers locations i j x are settled race of_j =
     let y = race.conflict.variable in
     let within = accessed_within trace.events y j race.conflict.second_accesses in
     let low = race.earlier in
-    let is = open_of trace flags settled i j race in
+    let is = open_of trace.events flags settled i j race in
     record {
       is_race = race;
       variable_is = of_j;

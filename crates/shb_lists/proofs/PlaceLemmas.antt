@@ -11,11 +11,12 @@ use Rattle.shb_lines.specs.events.Race.{IsRaceList, ends}
 use Rattle.shb_lines.specs.text.TraceData.{TraceData}
 use Rattle.shb_lines.proofs.events.RaceLists.{race_list_unique}
 use Rattle.shb_format.specs.Keyed.{Keyed}
-use Rattle.shb_format.specs.Leading.{AreLeading}
 use Rattle.shb_format.specs.Places.{IsPairOf, counts_in, places_of_pairs}
-use Rattle.shb_format.specs.Report.{LeadingRaces, pair_of}
+use Rattle.shb_format.specs.Report.{pair_of}
+use Rattle.shb_lists.specs.Leading.{AreLeading, LeadingRaces}
 use Rattle.shb_format.specs.declared.places.PlaceCount.{PlaceCount}
-use Rattle.shb_format.proofs.LeadingLemmas.{leading_listed, pairs_back}
+use Rattle.shb_format.proofs.Blocks.{pairs_back}
+use Rattle.shb_lists.proofs.LeadingLemmas.{leading_listed}
 use Rattle.shb_stamps.specs.Open.{is_open}
 use Rattle.shb_pairs.specs.Open.{AreOpen}
 use Rattle.shb_lists.specs.Counted.{AreNumbered, HasCounted, IsLocated}

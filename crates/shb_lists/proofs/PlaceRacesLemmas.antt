@@ -8,8 +8,7 @@ use Rattle.std.proofs.lemmas.Map.Views.{Contains-from_lookup}
 use Rattle.indexmap.specs.IndexMap.{insert_entry}
 use Rattle.shb_lines.specs.text.TraceData.{TraceData}
 use Rattle.shb_lines.proofs.events.Increasing.{contains_cases, contains_head, contains_none, contains_tail}
-use Rattle.shb_format.specs.Leading.{place_at}
-use Rattle.shb_format.specs.Places.{location_at}
+use Rattle.shb_format.specs.Places.{location_at, place_at}
 use Rattle.shb_pairs.specs.declared.listed.ListedRace.{ListedRace}
 use Rattle.shb_pairs.specs.Listed.{NotAfter}
 use Rattle.shb_lists.specs.PlaceRaces.{AreFound, FoundRace, Improves, IsCovered, IsFound, IsOffered, same_key}
@@ -36,15 +35,6 @@ covered_then trace old new race improves cover =
       same_place = more.same_place ∙ cover.same_place;
       not_after = race_then more.known cover.known race more.not_after cover.not_after;
     }
-
-pub covered_later : (trace : TraceData) (found : List FoundRace) (race later : ListedRace) → place_at trace race.first race.second ≡ place_at trace later.first later.second → NotAfter race later → IsCovered trace found race → IsCovered trace found later
-covered_later trace found race later same low cover = record {
-  place = cover.place;
-  known = cover.known;
-  there = cover.there;
-  same_place = cover.same_place ∙ same;
-  not_after = race_then cover.known race later cover.not_after low;
-}
 
 pub improves_self : (trace : TraceData) (found : List FoundRace) → Improves trace found found
 improves_self trace found e there = covered_self trace found e there

@@ -14,7 +14,7 @@ use Rattle.shb_lists.specs.Occurs.{occurs}
 use Rattle.shb_lists.proofs.OccursLemmas.{occurs_append, occurs_filter, occurs_none}
 use Rattle.shb_pairs.proofs.Times.{rival_races, times_rise}
 use Rattle.shb_lists.specs.History.{AreChained, IsAccess, racing_by}
-use Rattle.shb_lists.specs.Rivals.{IsNewest, is_met, newest_for, newest_where}
+use Rattle.shb_lists.specs.Rivals.{is_met, newest_for, newest_where}
 use Rattle.shb_lists.specs.declared.rivals.Newest.{Newest}
 use Rattle.shb_lists.specs.declared.search.Access.{Access}
 use Rattle.shb_lists.proofs.MetLemmas.{IsMet, met_from_test, write_from_test}
@@ -55,9 +55,6 @@ module _ (trace : List Event) (access : Access) (t : ℕ) where
 
   races : ℕ → Bool
   races i = is_race trace i access.event
-
-  pub walk_starts : (old : List ℕ) (newest : Newest) → IsNewest trace access.variable t access.event newest → IsWalked trace access t old old (newest_for access.writes newest) access.event
-  walk_starts old newest h = record { within = omega arith; next_is = h.each access.writes; counts = λ v. refl }
 
   -- the walk is at its end
   pub walk_ends : (old found : List ℕ) (m : ℕ) → IsWalked trace access t old found 0 m → (v : ℕ) → occurs v found ≡ occurs v old + occurs v (racing_by trace access t)

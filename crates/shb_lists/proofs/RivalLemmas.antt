@@ -73,10 +73,6 @@ at_most_one : (b : Bool) → cond b 1 0 ≤ 1
 at_most_one true = omega arith
 at_most_one false = omega arith
 
-one_is : (b : Bool) → 1 ≤ cond b 1 0 → b ≡ true
-one_is true h = refl
-one_is false h = absurd (omega arith)
-
 none_is : (b : Bool) → cond b 1 (zero) ≡ 0 → b ≡ false
 none_is true h = absurd (omega (arith, h))
 none_is false h = refl

@@ -1,5 +1,5 @@
 -- What races with the accesses of each variable, by location.
-use Rattle.std.proofs.Common.{◌≡◌, ◌≢◌, ℕ, ◌+◌, ◌<◌, ◌++◌, inl, inr, Bool, true, false, List, [], ◌∷◌, Option, None, Some, IfSome, length, slice_get, arith, subst, sym, ◌∙◌}
+use Rattle.std.proofs.Common.{◌≡◌, ◌≢◌, ℕ, ◌+◌, ◌<◌, inl, inr, Bool, true, false, List, [], Option, None, Some, IfSome, length, slice_get, arith, subst, sym, ◌∙◌}
 use Rattle.std.proofs.Math.ListN.{set}
 use Rattle.std.proofs.lemmas.Bool.{cases_Bool}
 use Rattle.std.proofs.lemmas.List.{length-set}
@@ -20,7 +20,6 @@ use Rattle.shb_lists.specs.declared.racing_counts.Side.{Side}
 use Rattle.shb_lists.specs.declared.racing_counts.RacingCounts.{RacingCounts}
 use Rattle.shb_lists.proofs.MetLemmas.{met_from_test, met_other_variable, met_own}
 use Rattle.shb_lists.proofs.HistoryLemmas.{shut_event}
-use Rattle.shb_lists.proofs.RivalLemmas.{get_cases}
 use Rattle.shb_lists.proofs.RacingCountsLemmas.{unknown_other_event}
 
 pub side_there : (racing_counts : RacingCounts) (s threads : ℕ) → length racing_counts.sides.items ≡ threads → s < threads → (side : Side) × (slice_get racing_counts.sides.items s ≡ Some side)
@@ -98,11 +97,3 @@ tables_skipped trace sizes flags numbers classes e tables shut h = record {
 -- an access of x is none of another variable
 pub other_racing : (trace : List Event) (numbers : List ℕ) (classes threads e x y : ℕ) (racing : Racing) → variable_at trace e ≡ Some x → y ≢ x → AreRacing trace y numbers classes threads e racing → AreRacing trace y numbers classes threads (e + 1) racing
 other_racing trace numbers classes threads e x y racing access ne h = racing_skipped trace y numbers classes threads e racing (λ also. ne (let s : Some y ≡ Some x = sym also ∙ access in cc)) h
-
--- one table more
-pub tables_more : (trace : List Event) (numbers : List ℕ) (classes threads : ℕ) (old new : List Table) (table : Table) → ((x : ℕ) (t : Table) → slice_get old x ≡ Some t → IfSome t.racing (AreRacing trace x numbers classes threads 0))
-    → ((x : ℕ) → IfSome table.racing (AreRacing trace x numbers classes threads 0)) → new ≡ old ++ table ∷ [] → (x : ℕ) (t : Table) → slice_get new x ≡ Some t → IfSome t.racing (AreRacing trace x numbers classes threads 0)
-tables_more trace numbers classes threads old new table h last more x t at = elim (get_cases old table x t (rw (← more) at)) [
-  | inl there ↦ h x t there
-  | inr is ↦ subst (λ (q : Table). IfSome q.racing (AreRacing trace x numbers classes threads 0)) is.1 (last x)
-]

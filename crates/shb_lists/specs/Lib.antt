@@ -1,5 +1,6 @@
 pub mod Batches
 pub mod Counted
+pub mod Leading
 pub mod PlaceRaces
 pub mod Listed
 pub mod Occurs

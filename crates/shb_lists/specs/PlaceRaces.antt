@@ -5,8 +5,7 @@ use Rattle.shb_lines.specs.declared.event.Event.{Event}
 use Rattle.shb_lines.specs.declared.event.Pair.{Pair}
 use Rattle.shb_lines.specs.events.Race.{Race, variable_at}
 use Rattle.shb_lines.specs.text.TraceData.{TraceData}
-use Rattle.shb_format.specs.Leading.{place_at}
-use Rattle.shb_format.specs.Places.{location_at}
+use Rattle.shb_format.specs.Places.{location_at, place_at}
 use Rattle.shb_lists.specs.RacingCounts.{number_in}
 use Rattle.shb_pairs.specs.Listed.{NotAfter, race_of}
 use Rattle.shb_pairs.specs.declared.listed.ListedRace.{ListedRace}

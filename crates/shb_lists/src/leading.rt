@@ -7,7 +7,7 @@ ghost use Rattle.shb_lines.specs.declared.event.Event.{Event};
 ghost use Rattle.shb_lines.specs.events.Race.{ends};
 ghost use Rattle.shb_lines.specs.events.Sizes.{IsNumberedByAccess};
 ghost use Rattle.shb_lines.specs.text.TraceData.{TraceData};
-ghost use Rattle.shb_format.specs.Report.{LeadingRaces};
+ghost use Rattle.shb_lists.specs.Leading.{LeadingRaces};
 ghost use Rattle.shb_pairs.specs.Listed.{race_in};
 ghost use Rattle.shb_lists.specs.Counted.{AreNumbered};
 ghost use Rattle.shb_lists.specs.PlaceRaces.{AreFound, AreOffered, AreRaces, AreTold, Covers, HasAsked, HasGained, HasOffered, HasVariable, HaveNearest, IsInListOrder};

@@ -11,7 +11,7 @@
 //! pieces ([`pairs_in_pieces`]). Where there are too many, [`counted_races`] counts those of each place and variable in one
 //! sweep, many of them by the numbers of their locations, without a step for each (`racing_counts`). The [`BatchPlan`] that it
 //! gives finds those of as many variables as have few enough races, and [`RaceParts`] those of one variable a part at a
-//! time.
+//! time. The order of the places comes from the nearest races of the trace, which the caller gives (`leading`).
 #![tactic(auto)]
 
 mod batches;

@@ -2,8 +2,7 @@
 use Rattle.std.specs.Prelude.{◌≡◌, ℕ, Bool, true, List, Option, None, if◌then◌else◌}
 use Rattle.shb_lines.specs.events.Race.{variable_at}
 use Rattle.shb_lines.specs.text.TraceData.{TraceData}
-use Rattle.shb_format.specs.Leading.{place_at}
-use Rattle.shb_format.specs.Places.{location_at}
+use Rattle.shb_format.specs.Places.{location_at, place_at}
 
 -- the location of an event, and where it is asked for its variable
 abbrev pub site_at : Bool → TraceData → ℕ → List ℕ × Option ℕ

@@ -16,7 +16,7 @@ use Rattle.shb_write.specs.declared.errors.WriteError.TheVariants.{Sink, Memory}
 use Rattle.shb_write.specs.Blocks.{blocks_of}
 use Rattle.shb_write.specs.Written.{AppendsFront, CutsBlocksOn, CutsReportOn, HasReported, These, WritesReport, write_failed}
 use Rattle.shb_write.proofs.Blocks.{are_blocks, front_lacks}
-use Rattle.shb_format.proofs.LeadingLemmas.{pairs_back}
+use Rattle.shb_format.proofs.Blocks.{pairs_back}
 
 -- the head and the places
 pub front_is : (trace : TraceData) (races : List (ℕ × ℕ)) (count : ℕ) (places : List PlaceCount) → count ≡ length races → places ≡ counts_in (places_of_pairs trace (map pair_of races))

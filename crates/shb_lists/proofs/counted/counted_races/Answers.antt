@@ -4,7 +4,7 @@ use Rattle.std.specs.Prelude.{max}
 use Rattle.shb_lines.specs.declared.event.Event.{Event}
 use Rattle.shb_lines.specs.declared.event.Pair.{Pair}
 use Rattle.shb_lines.specs.events.Race.{IsRaceList, ends}
-use Rattle.shb_format.specs.Report.{LeadingRaces}
+use Rattle.shb_lists.specs.Leading.{LeadingRaces}
 use Rattle.shb_pairs.specs.Open.{AreOpen}
 use Rattle.shb_lists.specs.Counted.{AreNumbered, HasCounted}
 use Rattle.shb_lists.proofs.EventSums.{counted_below}

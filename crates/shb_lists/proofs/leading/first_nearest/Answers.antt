@@ -1,27 +1,23 @@
-use Rattle.std.proofs.Common.{◌∙◌, ℕ, zero, suc, arith, ap, length, slice_index_or, sym}
+use Rattle.std.proofs.Common.{◌∙◌, ℕ, zero, suc, arith, ap, length, refl, slice_index_or, sym}
 use Rattle.std.proofs.lemmas.Option.{slice_get-get_or}
 use Rattle.shb_lines.specs.declared.event.Pair.{Pair}
-use Rattle.shb_lists.proofs.LeadSteps.{offered_more, offered_one, race_within}
+use Rattle.shb_lists.proofs.LeadSteps.{offered_more, offered_one, pair_within}
 use Rattle.shb_lists.proofs.leading.first_nearest.Goals as goal
 
 pub variable_of-variable-requires : goal.variable_of-variable-requires
 variable_of-variable-requires g c =
-    let p : Pair = slice_index_or c.args.nearest.now c.loop-pair.pair-index (record { first = 0; second = 0 }) in
-    (race_within c.args.settled.now.disciplined.now.events.now p.first p.second (c.requires.races c.loop-pair.pair-index (record { first = 0; second = 0 }) c.loop-pair-test.true)).1
+    let events = c.args.settled.now.disciplined.now.events.now in
+    (pair_within events c.args.nearest.now c.loop-pair.pair-index (record { first = 0; second = 0 }) (length events) c.requires.races c.loop-pair-test.true refl).1
 
 pub offer_races-requires-clause-second : goal.offer_races-requires-clause-second
 offer_races-requires-clause-second g c =
-    let p : Pair = slice_index_or c.args.nearest.now c.loop-pair.pair-index (record { first = 0; second = 0 }) in
-    let within = (race_within c.args.settled.now.disciplined.now.events.now p.first p.second (c.requires.races c.loop-pair.pair-index (record { first = 0; second = 0 }) c.loop-pair-test.true)).1 in
-    let long = sym (ap length c.as_slice-numbers.ensures.value ∙ c.requires.numbered.as_many) in
-    omega (arith, within, long)
+    (pair_within c.args.settled.now.disciplined.now.events.now c.args.nearest.now c.loop-pair.pair-index (record { first = 0; second = 0 }) (length c.as_slice-numbers.result.now)
+    c.requires.races c.loop-pair-test.true (sym (ap length c.as_slice-numbers.ensures.value ∙ c.requires.numbered.as_many))).1
 
 pub offer_races-requires-clause-firsts : goal.offer_races-requires-clause-firsts
 offer_races-requires-clause-firsts g c zero d low =
-    let p : Pair = slice_index_or c.args.nearest.now c.loop-pair.pair-index (record { first = 0; second = 0 }) in
-    let within = (race_within c.args.settled.now.disciplined.now.events.now p.first p.second (c.requires.races c.loop-pair.pair-index (record { first = 0; second = 0 }) c.loop-pair-test.true)).0 in
-    let long = sym (ap length c.as_slice-numbers.ensures.value ∙ c.requires.numbered.as_many) in
-    omega (arith, within, long)
+    (pair_within c.args.settled.now.disciplined.now.events.now c.args.nearest.now c.loop-pair.pair-index (record { first = 0; second = 0 }) (length c.as_slice-numbers.result.now)
+    c.requires.races c.loop-pair-test.true (sym (ap length c.as_slice-numbers.ensures.value ∙ c.requires.numbered.as_many))).0
 offer_races-requires-clause-firsts g c (suc k) d low = absurd (omega (arith, low))
 
 pub loop-pair-preserved : goal.loop-pair-preserved

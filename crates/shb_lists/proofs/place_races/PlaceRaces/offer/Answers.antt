@@ -13,4 +13,3 @@ returns c trace locations found own =
     let entries = c.args.self.now.races.entries in
     subst (λ (new : List FoundRace). IsOffered trace locations entries new c.args.race) (sym c.in_ok-insert.ensures.entries)
     (offered_put c.args.place c.args.race trace locations entries found own (c.stands_first.ensures.earlier c.if-not-stands_first.false))
-

@@ -1,5 +1,5 @@
 -- The first pairs of the places of a list of pairs are its leading races.
-use Rattle.std.proofs.Common.{◌≡◌, ◌⊎◌, inl, inr, ℕ, zero, suc, ◌+◌, ◌<◌, ◌&&◌, Bool, true, false, cond, List, [], ◌∷◌, ◌++◌, length, map, fold, Option, None, Some, refl, sym, ap, subst, ◌∙◌, append_assoc, append-nil, arith}
+use Rattle.std.proofs.Common.{◌≡◌, ◌⊎◌, inl, inr, ℕ, suc, ◌+◌, ◌<◌, ◌&&◌, Bool, true, false, cond, List, [], ◌∷◌, ◌++◌, length, map, fold, Option, None, Some, refl, sym, ap, subst, ◌∙◌, append_assoc, append-nil, arith}
 use Rattle.std.specs.Prelude.{slice_get, Contains}
 use Rattle.std.specs.List.{AllByRecursion}
 use Rattle.std.specs.Bool.{Decides}
@@ -15,10 +15,8 @@ use Rattle.shb_lines.specs.declared.event.Pair.{Pair}
 use Rattle.shb_lines.specs.text.TraceData.{TraceData}
 use Rattle.shb_lines.proofs.events.Listed.{IsListed, listed_more_no, listed_more_yes, listed_none}
 use Rattle.shb_lines.proofs.events.Increasing.{increasing_equal}
-use Rattle.shb_format.specs.Leading.{AreLeading, HasOnce, Leads, place_at}
-use Rattle.shb_lines.specs.events.Race.{ends}
-use Rattle.shb_format.specs.Report.{LeadingRaces, pair_of}
-use Rattle.shb_format.specs.Places.{PlaceOf, counts_in, location_at, places_of_pairs, with_one_more, with_pair}
+use Rattle.shb_format.specs.Places.{PlaceOf, location_at, place_at, places_of_pairs, with_one_more, with_pair}
+use Rattle.shb_lists.specs.Leading.{AreLeading, Leads}
 use Rattle.shb_format.proofs.EachLemmas.{each-weaker, each_at}
 
 -- the first pairs of places
@@ -286,68 +284,13 @@ one_place_each trace races leading are j k lead later at_j at_k same low =
     let is : later ≡ race = cc in
     leads.alone first.0 lead (omega (arith, rising, first_is, second_is)) first.2 (same ∙ ap (λ (p : Pair). place_at trace p.first p.second) is)
 
--- ---- the places of pairs of which no two have one place
-
--- no two of the pairs have one place
-abbrev AreApart : TraceData → List Pair → Type 0
-AreApart trace pairs = (j k : ℕ) (lead later : Pair) → slice_get pairs j ≡ Some lead → slice_get pairs k ≡ Some later → place_at trace lead.first lead.second ≡ place_at trace later.first later.second → j < k → ⊥
-
--- a pair as the only one of its place
-abbrev only_one : TraceData → Pair → PlaceOf
-only_one trace pair = new_place (location_at trace pair.first) (location_at trace pair.second) pair
-
--- a place among those of such pairs is that of one of them
-only_at : (trace : TraceData) (pairs : List Pair) (a b : List ℕ) → Covers (map (only_one trace) pairs) a b
-    → (n : ℕ) × (pair : Pair) × (slice_get pairs n ≡ Some pair) × (a ≡ location_at trace pair.first) × (b ≡ location_at trace pair.second)
-only_at trace [] a b c = absurd c
-only_at trace (pair ∷ pairs) a b (inl here) = (0, pair, refl, here.0, here.1)
-only_at trace (pair ∷ pairs) a b (inr there) = let later = only_at trace pairs a b there in (suc later.0, later.1, later.2, later.3, later.4)
-
--- a pair of new locations stands last
-stands_last : (a b : List ℕ) (pair : Pair) (places : List PlaceOf) → (Covers places a b → ⊥) → with_pair places a b pair ≡ places ++ new_place a b pair ∷ []
-stands_last a b pair [] new = refl
-stands_last a b pair (place ∷ places) new =
-    by (bytes_eq a place.first && bytes_eq b place.second) (same_place place a b) (stands_last a b pair places (λ c. new (inr c)))
-  where
-    by : (is : Bool) → Decides is ((a ≡ place.first) × (b ≡ place.second)) → with_pair places a b pair ≡ places ++ new_place a b pair ∷ []
-        → cond is (counted_more place pair ∷ places) (place ∷ with_pair places a b pair) ≡ place ∷ (places ++ new_place a b pair ∷ [])
-    by true decided rest = absurd (new (inl (decided.0 refl)))
-    by false decided rest = ap (λ l. place ∷ l) rest
-
--- pair after pair
-each_once : (trace : TraceData) (past rest : List Pair) → AreApart trace (past ++ rest)
-    → fold (λ places pair. with_pair places (location_at trace pair.first) (location_at trace pair.second) pair) (map (only_one trace) past) rest ≡ map (only_one trace) (past ++ rest)
-each_once trace past [] apart = ap (map (only_one trace)) (sym (append-nil past))
-each_once trace past (pair ∷ rest) apart =
-    let split : past ++ pair ∷ rest ≡ (past ++ pair ∷ []) ++ rest = sym (append_assoc past (pair ∷ []) rest) in
-    let new : Covers (map (only_one trace) past) (location_at trace pair.first) (location_at trace pair.second) → ⊥ = λ c.
-    let known = only_at trace past _ _ c in
-    let low = slice_get_within past known.0 known.1 known.2 in
-    apart known.0 (length past) known.1 pair (in_front past (pair ∷ rest) known.0 known.1 known.2) (at_seam past pair rest) (λ k. (sym known.3 k, sym known.4 k)) low in
-    let next : with_pair (map (only_one trace) past) (location_at trace pair.first) (location_at trace pair.second) pair ≡ map (only_one trace) (past ++ pair ∷ []) =
-    stands_last _ _ pair (map (only_one trace) past) new ∙ sym (map_push (only_one trace) past pair) in
-    ap (λ (places : List PlaceOf). fold (λ places pair. with_pair places (location_at trace pair.first) (location_at trace pair.second) pair) places rest) next
-    ∙ each_once trace (past ++ pair ∷ []) rest (subst (AreApart trace) split apart)
-    ∙ ap (map (only_one trace)) (sym split)
-  where
-    in_front : (xs ys : List Pair) (n : ℕ) (x : Pair) → slice_get xs n ≡ Some x → slice_get (xs ++ ys) n ≡ Some x
-    in_front [] ys n x is = absurd (let f : ⊥ = cc in f)
-    in_front (y ∷ xs) ys zero x is = is
-    in_front (y ∷ xs) ys (suc n) x is = in_front xs ys n x is
-
-counts_once : (trace : TraceData) (pairs : List Pair) → counts_in (map (only_one trace) pairs) ≡ map (with_one_more None) pairs
-counts_once trace [] = refl
-counts_once trace (pair ∷ pairs) = ap (λ l. with_one_more None pair ∷ l) (counts_once trace pairs)
-
-pub pairs_back : (races : List Pair) → map pair_of (map ends races) ≡ races
-pairs_back [] = refl
-pairs_back (race ∷ races) = ap (λ l. race ∷ l) (pairs_back races)
-
--- each leading race is the only one of its place
-pub leading_once : (trace : TraceData) (leading : List Pair) → LeadingRaces trace (map ends leading) → map (with_one_more None) leading ≡ counts_in (places_of_pairs trace leading)
-leading_once trace leading lists =
-    let are : AreLeading trace (map pair_of lists.races) leading = subst (AreLeading trace (map pair_of lists.races)) (pairs_back leading) lists.leading_are in
-    sym (counts_once trace leading) ∙ ap counts_in (sym (each_once trace [] leading (one_place_each trace (map pair_of lists.races) leading are)))
+-- exactly one race of the list has the place
+pub record HasOnce (trace : TraceData) (races : List Pair) (place : List ℕ × List ℕ) : Type 0 where
+  pub number : ℕ
+  pub race : Pair
+  pub there : slice_get races number ≡ Some race
+  pub place_is : place_at trace race.first race.second ≡ place
+  pub only : (k : ℕ) (other : Pair) → slice_get races k ≡ Some other → place_at trace other.first other.second ≡ place → k ≡ number
 
 -- each race of the list has the place of exactly one leading race
 pub led_once : (trace : TraceData) (races leading : List Pair) → AreLeading trace races leading → (race : Pair) → Contains races race → HasOnce trace leading (place_at trace race.first race.second)

@@ -2,12 +2,10 @@
 use Rattle.std.specs.Prelude.{◌≡◌, ◌≢◌, ℕ, ◌<◌, ◌↔◌, List, Some, Contains, map, slice_get}
 use Rattle.std.specs.List.Sorted.{IsStrictlyIncreasing}
 use Rattle.shb_lines.specs.declared.event.Pair.{Pair}
+use Rattle.shb_lines.specs.events.Race.{IsRaceList}
 use Rattle.shb_lines.specs.text.TraceData.{TraceData}
-use Rattle.shb_format.specs.Places.{location_at}
-
--- the place of two events: their locations, the first one's first
-abbrev pub place_at : TraceData → ℕ → ℕ → List ℕ × List ℕ
-place_at trace first second = (location_at trace first, location_at trace second)
+use Rattle.shb_format.specs.Places.{place_at}
+use Rattle.shb_format.specs.Report.{pair_of}
 
 -- race k of the list leads: no earlier race of the list has its place
 pub record Leads (trace : TraceData) (races : List Pair) (k : ℕ) : Type 0 where
@@ -22,10 +20,8 @@ pub record AreLeading (trace : TraceData) (races leading : List Pair) : Type 0 w
   pub members : (k : ℕ) → Contains numbers k ↔ Leads trace races k
   pub races_are : map (slice_get races) numbers ≡ map Some leading
 
--- exactly one race of the list has the place
-pub record HasOnce (trace : TraceData) (races : List Pair) (place : List ℕ × List ℕ) : Type 0 where
-  pub number : ℕ
-  pub race : Pair
-  pub there : slice_get races number ≡ Some race
-  pub place_is : place_at trace race.first race.second ≡ place
-  pub only : (k : ℕ) (other : Pair) → slice_get races k ≡ Some other → place_at trace other.first other.second ≡ place → k ≡ number
+-- those of the race list of a trace
+pub record LeadingRaces (trace : TraceData) (leading : List (ℕ × ℕ)) : Type 0 where
+  pub races : List (ℕ × ℕ)
+  pub races_are : IsRaceList trace.events races
+  pub leading_are : AreLeading trace (map pair_of races) (map pair_of leading)
