@@ -75,6 +75,11 @@ impl Classes {
         Ok(before.unwrap_or(0))
     }
 
+    /// The access of a class that was put last, or 0 where there is none.
+    pub fn last(&self, class: Class) -> u32 {
+        self.newest.get(&class).copied().unwrap_or(0)
+    }
+
     /// Whether this access of its class was put last.
     pub fn is_newest(&self, class: Class, event: u32) -> bool
         ensures { result ≡ is_newest_in self.now.newest.entries class event }

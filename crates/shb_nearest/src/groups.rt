@@ -15,7 +15,6 @@ ghost use Rattle.shb_nearest.specs.declared.sites.Sites.{Sites as SitesData};
 
 use crate::access::{FoundAccess, Spot};
 use crate::classes::{Class, Classes};
-use crate::indices::Indices;
 use crate::late::Late;
 use crate::sites::Sites;
 use shb_io::NoMemory;
@@ -69,7 +68,7 @@ const FEW: usize = 64;
 /// So many accesses come to the groups of a variable before it has sites.
 const UNSITED: u32 = 32;
 
-/// So many groups are looked at no sooner than it is asked whether all their places are known.
+/// So many groups have no table of their indices, and aren't looked at before it is asked whether all their places are known.
 const MANY: usize = 8;
 
 /// Of some accesses by a thread, of a kind, the last one at each location.
@@ -119,6 +118,19 @@ pub fn is_at(groups: &[Group], at: usize, thread: u32, writes: bool) -> bool
         Some(group) => group.is_of(thread, writes),
         None => false,
     }
+}
+
+/// The index of the group of a thread and a kind, if it is among the first few.
+fn index_among(groups: &[Group], thread: u32, writes: bool) -> Option<usize>
+    ensures { IfSome result (λ at. (group : Group) × (slice_get groups.now at ≡ Some group) × IsOfGroup group thread writes) }
+{
+    for at in 0..groups.len().min(MANY) {
+        let found = is_at(groups, at, thread, writes);
+        if found {
+            return Some(at);
+        }
+    }
+    None
 }
 
 /// Forgets those that a table doesn't have.
@@ -356,7 +368,8 @@ impl Groups {
         Ok(site)
     }
 
-    /// The index of the group of a thread and a kind, which is made where its index isn't noted.
+    /// The index of the group of a thread and a kind, which is made if there is none. `indices` has those of groups that aren't
+    /// among the first few, by class without a location.
     ///
     /// # Errors
     ///
@@ -364,7 +377,7 @@ impl Groups {
     fn group_at(
         &mut self,
         alloc: Global,
-        indices: &mut Indices,
+        indices: &mut Classes,
         thread: u32,
         writes: bool,
     ) -> Result<usize, NoMemory>
@@ -372,13 +385,24 @@ impl Groups {
         ensures sites { OnOk result (self.new.sites ≡ self.old.sites) }
         ensures own { OnOk result (self.new.variable ≡ self.old.variable) }
     {
-        let noted = indices.index(thread, writes) as usize;
+        if let Some(at) = index_among(self.each.as_slice(), thread, writes) {
+            return Ok(at);
+        }
+        let class = Class {
+            variable: self.variable,
+            location: 0,
+            thread,
+            writes,
+        };
+        let noted = indices.last(class) as usize;
         let found = is_at(self.each.as_slice(), noted, thread, writes);
         if found {
             return Ok(noted);
         }
         let at = self.each.len();
-        indices.note(thread, writes, at)?;
+        if at >= MANY {
+            indices.put(class, at.min(u32::MAX as usize) as u32)?;
+        }
         self.each.push(Group::new(alloc, thread, writes))?;
         Ok(at)
     }
@@ -393,7 +417,7 @@ impl Groups {
         &mut self,
         alloc: Global,
         classes: &mut Classes,
-        indices: &mut Indices,
+        indices: &mut Classes,
         variable: u32,
         late: Late,
     ) -> Result<u32, NoMemory>
@@ -406,7 +430,6 @@ impl Groups {
         ensures sites { (by_variable : Bool) (entries : List PlaceEntry) → HaveSites by_variable variable entries self.old → OnOk result (HaveSites by_variable variable entries self.new) }
         ensures own { OnOk result (self.new.variable ≡ self.old.variable) }
     {
-        indices.note_all(variable, self.each.as_slice(), late.thread, late.writes)?;
         let at = self.group_at(alloc, indices, late.thread, late.writes)?;
         let site = self.note(alloc, &*classes, at, late)?;
         let kept = KeptAccess {

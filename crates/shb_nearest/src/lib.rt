@@ -21,8 +21,9 @@
 //! times as many as are left may wait the next time, and as many as there are variables, and at least a million: where all
 //! differ, this is seldom done in vain.
 //!
-//! The first access for which this isn't known takes those that wait into their groups (`opened`), which are found by thread
-//! and kind (`indices`), and nothing is known of later ones: each is taken into its group at once, and none waits any more.
+//! The first access for which this isn't known takes those that wait into their groups (`opened`), by thread and kind, and
+//! nothing is known of later ones: each is taken into its group at once, and none waits any more. The first few groups of a
+//! variable are looked at, and a table has the indices of the others.
 //!
 //! Then such an access looks at the groups of its variable by other threads, and at the accesses that a group keeps
 //! from the newest one back. It stops at the first that is below its predecessor, since those behind it are too, and at
@@ -50,7 +51,6 @@
 mod access;
 mod classes;
 mod groups;
-mod indices;
 mod late;
 pub mod laws;
 mod log;

@@ -11,7 +11,6 @@ ghost use Rattle.shb_nearest.specs.declared.access.Spot.{Spot as SpotData};
 
 use crate::classes::Classes;
 use crate::groups::Groups;
-use crate::indices::Indices;
 use crate::late::Late;
 use crate::log::{Accesses, Log};
 use shb_io::NoMemory;
@@ -21,7 +20,8 @@ use std::alloc::Global;
 #[derive(Drop)]
 pub struct Opened {
     pub classes: Classes,
-    pub indices: Indices,
+    /// Where groups are that aren't among the first few of their variable.
+    pub indices: Classes,
     pub each: Vec<Groups>,
 }
 
@@ -30,7 +30,7 @@ fn take_all(
     groups: &mut Groups,
     alloc: Global,
     classes: &mut Classes,
-    indices: &mut Indices,
+    indices: &mut Classes,
     variable: u32,
     waiting: &[Late],
 ) -> Result<(), NoMemory>
@@ -53,9 +53,10 @@ impl Opened {
         ensures none { result.each.items ≡ [] }
         ensures classes { result.classes.newest.entries ≡ classes.newest.entries }
     {
+        let indices = classes.emptied(alloc);
         Opened {
             classes,
-            indices: Indices::new(alloc),
+            indices,
             each: Vec::new(alloc),
         }
     }
