@@ -31,7 +31,7 @@ fn report_many<R: Threads + Wait + Sync + RandomSource, K: Sink, G: Gate + Sync>
     requires countable { K.failure_count sink.old < 2 ^ 64 - 1 }
     ensures { HasSummed All plan.now.schedules settled.now.disciplined.now.trace.now K.taken K.failure_count sink.old sink.new result }
 {
-    let nearest = nearest_races(rt, alloc, settled.disciplined, true)?;
+    let nearest = nearest_races(rt, alloc, settled.disciplined, settled.flags, true)?;
     let races = write_search(rt, alloc, sink, settled, &nearest, plan)?;
     Ok(summary_of(settled.disciplined.trace, races))
 }

@@ -10,6 +10,7 @@ use shb_fan::Gate;
 use shb_format::places_of;
 use shb_io::Sink;
 use shb_links::links_of;
+use shb_pairs::open_variables;
 use shb_scan::nearest_races;
 use shb_write::WriteError;
 use std::alloc::Global;
@@ -31,9 +32,10 @@ pub(crate) fn report_nearest<R: Threads + Wait + Sync + RandomSource, K: Sink, W
     requires countable { K.failure_count sink.old < 2 ^ 64 - 1 }
     ensures { HasSummed (Nearest by_variable) settings.schedules disciplined.now.trace.now K.taken K.failure_count sink.old sink.new result }
 {
-    let races = nearest_races(rt, alloc, disciplined, by_variable)?;
+    let links = links_of(alloc, &*disciplined)?;
+    let flags = open_variables(alloc, &*disciplined, &links)?;
+    let races = nearest_races(rt, alloc, disciplined, &flags, by_variable)?;
     if settings.schedules {
-        let links = links_of(alloc, &*disciplined)?;
         let plan = settings.plan(gate);
         return write_known(rt, alloc, sink, disciplined, &links, &races, &plan);
     }

@@ -1,7 +1,9 @@
 -- What is known of a trace whose events are kept, with an event more, and at its end.
-use Rattle.std.proofs.Common.{◌≡◌, ◌⊎◌, inl, inr, ◌+◌, ◌<◌, ◌≤◌, ℕ, Bool, true, zero, suc, List, [], ◌∷◌, ◌++◌, length, map, take, option_and_then, OnOk, Option, Result, Some, slice_get, is_some, refl, sym, ap, subst, ◌∙◌, arith}
+use Rattle.std.proofs.Common.{◌≡◌, ◌⊎◌, inl, inr, ◌+◌, ◌<◌, ◌≤◌, ℕ, Bool, false, true, zero, suc, List, [], ◌∷◌, ◌++◌, length, map, take, option_and_then, OnOk, Option, Result, Some, slice_get, refl, sym, ap, subst, ◌∙◌, arith}
 use Rattle.std.specs.List.{IsDistinct}
+use Rattle.std.specs.Option.{option_map_or}
 use Rattle.std.specs.Str.{bytes_eq}
+use Rattle.std.proofs.lemmas.Bool.{cases_Bool}
 use Rattle.std.proofs.lemmas.List.{length-take-le, take-take, take_all}
 use Rattle.std.proofs.lemmas.Option.{get_or_from_slice_get, slice_get_within}
 use Rattle.std.proofs.Math.Seq.{take-suc}
@@ -10,11 +12,13 @@ use Rattle.shb_lines.specs.declared.event.Op.{Op}
 use Rattle.shb_lines.specs.declared.event.Pair.{Pair}
 use Rattle.shb_lines.specs.events.Discipline.{IsDisciplined, MayCome}
 use Rattle.shb_lines.specs.events.Events.{op_at, thread_at, variable_of}
-use Rattle.shb_lines.specs.events.Race.{ends, variable_at}
+use Rattle.shb_lines.specs.events.Race.{Race, ends, variable_at}
 use Rattle.shb_lines.specs.text.Limits.{most_events}
 use Rattle.shb_lines.specs.text.TraceData.{TraceData}
 use Rattle.shb_lines.proofs.events.Events.{event_of_thread, same_op}
 use Rattle.shb_format.specs.Places.{location_at}
+use Rattle.shb_stamps.specs.Open.{is_open}
+use Rattle.shb_pairs.specs.Open.{AreOpen}
 use Rattle.shb_nearest.specs.Found.{ends_of, site_in}
 use Rattle.shb_nearest.specs.Searched.{AreNearestRaces, HasRoom, HasSearched}
 use Rattle.shb_nearest.specs.declared.access.FoundRace.{FoundRace}
@@ -47,8 +51,8 @@ disciplined_front events n all k e at =
     let low = at_front events n k e at in
     subst (λ (past : List Event). MayCome past e) (sym (take-take k n events (omega (arith, low.0)))) (all k e low.1)
 
-module _ (trace : TraceData) (es : List Event) (same : es ≡ trace.events) (n : ℕ) (old new : List (List ℕ)) (nearest next : NearestRaces) (t : ℕ) (op : Op) (spot : Spot) (within : n < length es)
-    (is_thread : thread_at es n ≡ Some t) (is_op : op_at es n ≡ Some op) (here : IsSpotIn trace op n old new spot) (h : HasTakenTo trace n old nearest) where
+module _ (trace : TraceData) (es : List Event) (same : es ≡ trace.events) (flags : List Bool) (n : ℕ) (old new : List (List ℕ)) (nearest next : NearestRaces) (t : ℕ) (op : Op) (spot : Spot) (within : n < length es)
+    (is_thread : thread_at es n ≡ Some t) (is_op : op_at es n ≡ Some op) (here : IsSpotIn trace flags op n old new spot) (h : HasTakenTo trace flags n old nearest) where
   low : n < length trace.events
   low = subst (λ (l : List Event). n < length l) same within
 
@@ -64,20 +68,20 @@ module _ (trace : TraceData) (es : List Event) (same : es ≡ trace.events) (n :
   abbrev spots : List Spot
   spots = h.spots ++ spot ∷ []
 
-  located_more : AreLocated trace new spots
-  located_more k x s var at = elim (at_push h.spots spot k s at) [
-    | inl before ↦ here.stay s.location (location_at trace k) (h.located k x s var before.1)
+  located_more : AreLocated (λ x. is_open flags x ≡ true) trace new spots
+  located_more k x s var is_asked at = elim (at_push h.spots spot k s at) [
+    | inl before ↦ here.stay s.location (location_at trace k) (h.located k x s var is_asked before.1)
     | inr last ↦ (
         let is : k ≡ n = last.0 ∙ (h.searched.as_many ∙ front_long) in
         let own : variable_at trace.events n ≡ Some x = subst (λ (m : ℕ). variable_at trace.events m ≡ Some x) is var in
-        let accesses : is_some (variable_of op) ≡ true = ap is_some (sym (ap (option_and_then variable_of) of_op) ∙ own) in
+        let accesses : option_map_or (is_open flags) (variable_of op) false ≡ true = ap (λ (o : Option ℕ). option_map_or (is_open flags) o false) (sym (ap (option_and_then variable_of) of_op) ∙ own) ∙ is_asked in
         subst (λ (m : ℕ). slice_get new s.location ≡ Some (location_at trace m)) (sym is)
         (subst (λ (s : Spot). slice_get new s.location ≡ Some (location_at trace n)) last.1 (here.access accesses)))
   ]
 
   pub taken_next : {T E : Type 0} (answer : Result T E) → IsDisciplined es → length es ≤ most_events
       → ((past : List Event) (spots : List Spot) (e : Event) → e.thread ≡ t → e.op ≡ op → HasRoom past → IsDisciplined (past ++ e ∷ []) → HasSearched past spots nearest → OnOk answer (HasSearched (past ++ e ∷ []) (spots ++ spot ∷ []) next))
-      → OnOk answer (HasTakenTo trace (n + 1) new next)
+      → OnOk answer (HasTakenTo trace flags (n + 1) new next)
   taken_next answer disciplined few taken =
       let found = event_of_thread trace.events n t of_thread in
       let e : Event = found.0 in
@@ -88,15 +92,23 @@ module _ (trace : TraceData) (es : List Event) (same : es ≡ trace.events) (n :
       (λ searched. record { spots = spots; searched = subst (λ (l : List Event). HasSearched l spots next) (sym is) searched; located = located_more; few = omega (arith, here.few, h.few) })
       (taken (take n trace.events) h.spots e found.2 (same_op trace.events n op e found.1 of_op) (omega (arith, front_long, within, few)) meets h.searched)
 
+-- the variable of a race is open
+open_of : (events : List Event) (flags : List Bool) → AreOpen events flags → (i j : ℕ) (race : Race events i j) → is_open flags race.conflict.variable ≡ true
+open_of events flags settled i j race = elim (cases_Bool (is_open flags race.conflict.variable)) [
+  | inl yes_ ↦ yes_
+  | inr no_ ↦ absurd (settled race.conflict.variable no_ i j race.conflict.second_accesses race)
+]
+
 -- after all events
-pub stored_races : (by_variable : Bool) (trace : TraceData) (n : ℕ) (locations : List (List ℕ)) (nearest : NearestRaces) (found : List FoundRace) (pairs : List Pair) → length trace.events ≤ n → HasTakenTo trace n locations nearest → IsDistinct bytes_eq locations
+pub stored_races : (by_variable : Bool) (trace : TraceData) (es : List Event) (flags : List Bool) (n : ℕ) (locations : List (List ℕ)) (nearest : NearestRaces) (found : List FoundRace) (pairs : List Pair) → es ≡ trace.events → AreOpen es flags → length trace.events ≤ n → HasTakenTo trace flags n locations nearest → IsDistinct bytes_eq locations
     → nearest.by_variable ≡ by_variable → ((past : List Event) (spots : List Spot) → HasSearched past spots nearest → AreNearestRaces nearest.by_variable past spots found) → map ends pairs ≡ map ends_of found
     → IsScan by_variable trace (map ends pairs)
-stored_races by_variable trace n locations nearest found pairs long h distinct form races same =
+stored_races by_variable trace es flags n locations nearest found pairs of_trace settled long h distinct form races same =
     let searched : HasSearched trace.events h.spots nearest = subst (λ (es : List Event). HasSearched es h.spots nearest) (take_all n trace.events long) h.searched in
     let are : AreNearestRaces by_variable trace.events h.spots found = subst (λ (b : Bool). AreNearestRaces b trace.events h.spots found) form (races trace.events h.spots searched) in
     subst (IsScan by_variable trace) (sym same)
-    (nearest_by trace.events (site_in by_variable trace.events h.spots) (site_at by_variable trace) (sites_alike trace locations h.spots distinct searched.as_many h.located by_variable) (map ends_of found) are.nearest)
+    (nearest_by trace.events (site_in by_variable trace.events h.spots) (site_at by_variable trace) (λ x. is_open flags x ≡ true) (open_of trace.events flags (subst (λ (l : List Event). AreOpen l flags) of_trace settled))
+    (sites_alike (λ x. is_open flags x ≡ true) trace locations h.spots distinct searched.as_many h.located by_variable) (map ends_of found) are.nearest)
 
 abbrev no_spots : List Spot
 no_spots = []
@@ -110,10 +122,10 @@ front_none [] = refl
 front_none (e ∷ events) = refl
 
 -- before the first event
-pub taken_none : (trace : TraceData) (locations : List (List ℕ)) (nearest : NearestRaces) → locations ≡ [] → HasSearched [] [] nearest → HasTakenTo trace 0 locations nearest
-taken_none trace locations nearest none searched = record {
+pub taken_none : (trace : TraceData) (flags : List Bool) (locations : List (List ℕ)) (nearest : NearestRaces) → locations ≡ [] → HasSearched [] [] nearest → HasTakenTo trace flags 0 locations nearest
+taken_none trace flags locations nearest none searched = record {
   spots = [];
   searched = subst (λ (es : List Event). HasSearched es [] nearest) (sym (front_none trace.events)) searched;
-  located = λ k x spot var at. absurd (no_spot k spot at);
+  located = λ k x spot var is_asked at. absurd (no_spot k spot at);
   few = omega (arith, ap length none);
 }

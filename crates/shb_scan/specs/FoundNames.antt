@@ -40,9 +40,9 @@ pub record IsSpotOf (locations : List (List ℕ)) (line : List ℕ) (spot : Spot
 abbrev pub AreSpots : TraceData → List (List ℕ) → List Spot → Type 0
 AreSpots trace locations spots = (k x : ℕ) (spot : Spot) → variable_at trace.events k ≡ Some x → slice_get spots k ≡ Some spot → IsSpotOf locations (line_of_event trace k) spot
 
--- the spots of the accesses of a trace have the numbers of their locations
-abbrev pub AreLocated : TraceData → List (List ℕ) → List Spot → Type 0
-AreLocated trace locations spots = (k x : ℕ) (spot : Spot) → variable_at trace.events k ≡ Some x → slice_get spots k ≡ Some spot → slice_get locations spot.location ≡ Some (location_at trace k)
+-- the spots of the accesses of these variables of a trace have the numbers of their locations
+abbrev pub AreLocated : (ℕ → Type 0) → TraceData → List (List ℕ) → List Spot → Type 0
+AreLocated IsAsked trace locations spots = (k x : ℕ) (spot : Spot) → variable_at trace.events k ≡ Some x → IsAsked x → slice_get spots k ≡ Some spot → slice_get locations spot.location ≡ Some (location_at trace k)
 
 -- what is said of an access, of both of a race
 pub record HasRaceNames (names : ScanNames) (race : FoundRace) : Type 0 where

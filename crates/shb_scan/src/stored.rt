@@ -1,32 +1,48 @@
 //! The nearest races of a trace whose events are kept.
 
-ghost use Rattle.std.specs.Prelude.{◌≡◌, ◌+◌, ◌<◌, ◌≤◌, IfOk, OnOk, length, map};
+ghost use Rattle.std.specs.Prelude.{◌≡◌, ◌+◌, ◌<◌, ◌≤◌, false, IfOk, OnOk, length, map};
+ghost use Rattle.std.specs.Option.{option_map_or};
+ghost use Rattle.shb_lines.specs.events.Events.{variable_of};
 ghost use Rattle.shb_lines.specs.events.Race.{ends};
+ghost use Rattle.shb_stamps.specs.Open.{is_open as is_open_in};
+ghost use Rattle.shb_pairs.specs.Open.{AreOpen};
 ghost use Rattle.shb_nearest.specs.Found.{ends_of};
 ghost use Rattle.shb_scan.specs.Outcomes.{IsScan};
 ghost use Rattle.shb_scan.specs.Stored.{HasTakenTo, IsSpotIn};
 
-use crate::reading::is_access;
 use shb_discipline::Disciplined;
 use shb_format::Locations;
 use shb_io::NoMemory;
 use shb_lines::{Op, Pair, Step};
 use shb_nearest::{FoundRace, NearestRaces, Spot};
+use shb_stamps::is_open;
 use std::alloc::Global;
 use std::random::RandomSource;
 
-/// Where an event of a trace stands, of which so many were taken before it. Of one that is no access the spot says nothing.
+/// Whether an operation accesses an open variable.
+fn is_asked(flags: &[bool], op: Op) -> bool
+    ensures { result ≡ option_map_or (is_open_in flags.now) (variable_of op) false }
+{
+    match op.variable() {
+        Some(x) => is_open(flags, x),
+        None => false,
+    }
+}
+
+/// Where an event of a trace stands, of which so many were taken before it. Of one that accesses no open variable the
+/// spot says nothing.
 fn spot_at<'t>(
     disciplined: &Disciplined<'t>,
+    flags: &[bool],
     locations: &mut Locations<'t>,
     op: Op,
     e: u32,
 ) -> Result<Spot, NoMemory>
     requires in_range { e < length disciplined.now.events.now }
     requires few { length locations.old ≤ e }
-    ensures { IfOk result (IsSpotIn disciplined.now.trace.now op e locations.old locations.new) }
+    ensures { IfOk result (IsSpotIn disciplined.now.trace.now flags.now op e locations.old locations.new) }
 {
-    if is_access(op) {
+    if is_asked(flags, op) {
         let number = locations.number_of(disciplined.trace.location(e))?;
         return Ok(Spot {
             location: number as u32,
@@ -43,6 +59,7 @@ fn spot_at<'t>(
 fn take_next<'t>(
     alloc: Global,
     disciplined: &Disciplined<'t>,
+    flags: &[bool],
     locations: &mut Locations<'t>,
     nearest: &mut NearestRaces,
     e: u32,
@@ -50,11 +67,11 @@ fn take_next<'t>(
     requires in_range { e < length disciplined.now.events.now }
     requires few { length locations.old ≤ e }
     ensures form { nearest.new.by_variable ≡ nearest.old.by_variable }
-    ensures taken { HasTakenTo disciplined.now.trace.now e locations.old nearest.old
-        → OnOk result (HasTakenTo disciplined.now.trace.now (e + 1) locations.new nearest.new) }
+    ensures taken { HasTakenTo disciplined.now.trace.now flags.now e locations.old nearest.old
+        → OnOk result (HasTakenTo disciplined.now.trace.now flags.now (e + 1) locations.new nearest.new) }
 {
     let op = disciplined.events.op(e);
-    let spot = spot_at(disciplined, &mut *locations, op, e)?;
+    let spot = spot_at(disciplined, flags, &mut *locations, op, e)?;
     let step = Step {
         thread: disciplined.events.thread(e),
         op,
@@ -77,7 +94,8 @@ fn pairs_of(alloc: Global, races: &[FoundRace]) -> Result<Vec<Pair>, NoMemory>
 }
 
 /// The nearest races of a trace, one of each place; with `by_variable`, one of each place and variable. They are those
-/// that [`run_scan`](crate::run_scan) lists of its text.
+/// that [`run_scan`](crate::run_scan) lists of its text. A variable whose flag is false has no race: the locations of its
+/// accesses aren't looked for.
 ///
 /// # Errors
 ///
@@ -86,14 +104,16 @@ pub fn nearest_races<R: RandomSource>(
     rt: &R,
     alloc: Global,
     disciplined: &Disciplined<'_>,
+    flags: &[bool],
     by_variable: bool,
 ) -> Result<Vec<Pair>, NoMemory>
+    requires settled { AreOpen disciplined.now.events.now flags.now }
     ensures { IfOk result (λ races. IsScan by_variable disciplined.now.trace.now (map ends races.items)) }
 {
     let mut locations = Locations::new(rt, alloc)?;
     let mut nearest = NearestRaces::new(rt, alloc, by_variable)?;
     for e in 0..disciplined.events.len() as u32 {
-        take_next(alloc, disciplined, &mut locations, &mut nearest, e)?;
+        take_next(alloc, disciplined, flags, &mut locations, &mut nearest, e)?;
     }
     locations.are_different();
     let races = nearest.races(alloc)?;

@@ -23,7 +23,7 @@ impl Asks for CountsAre<'_> {
         let alloc = rt.alloc();
         let flags = open_variables(alloc, trace, links)?;
         let settled = Settled::new(trace, links, &flags);
-        let nearest = nearest_races(rt, alloc, trace, true)?;
+        let nearest = nearest_races(rt, alloc, trace, &flags, true)?;
         let counted = counted_races(rt, alloc, &settled, nearest.as_slice(), MOST)?;
         let mut wanted = Vec::new(alloc);
         for (first, second, count) in self.places {

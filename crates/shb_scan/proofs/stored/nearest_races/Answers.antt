@@ -5,7 +5,7 @@ use Rattle.shb_scan.proofs.stored.nearest_races.Goals as goal
 
 pub loop-e-init : goal.loop-e-init
 loop-e-init g c = record {
-  taken = taken_none c.args.disciplined.now.trace.now c.in_ok-locations.locations c.in_ok-nearest.nearest c.in_ok-locations.ensures c.in_ok-nearest.ensures.searched;
+  taken = taken_none c.args.disciplined.now.trace.now c.args.flags.now c.in_ok-locations.locations c.in_ok-nearest.nearest c.in_ok-locations.ensures c.in_ok-nearest.ensures.searched;
   form = c.in_ok-nearest.ensures.form;
 }
 
@@ -13,5 +13,5 @@ pub returns : goal.returns
 returns g c =
     let given = c.args.disciplined.now in
     let all : c.loop-e.e ≡ length given.events.now = omega arith in
-    stored_races c.args.by_variable given.trace.now c.loop-e.e c.loop-e.locations c.loop-e.nearest c.in_ok-races.races.items c.in_ok-pairs.pairs.items (let same = ap length given.of_trace in omega (arith, all, same)) c.loop-e.invariant.taken c.are_different.ensures
+    stored_races c.args.by_variable given.trace.now given.events.now c.args.flags.now c.loop-e.e c.loop-e.locations c.loop-e.nearest c.in_ok-races.races.items c.in_ok-pairs.pairs.items given.of_trace c.requires.settled (let same = ap length given.of_trace in omega (arith, all, same)) c.loop-e.invariant.taken c.are_different.ensures
     c.loop-e.invariant.form c.in_ok-races.ensures (c.in_ok-pairs.ensures ∙ ap (map ends_of) c.as_slice.ensures.value)
