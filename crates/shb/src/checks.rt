@@ -2,7 +2,9 @@
 ghost use Rattle.std.specs.Prelude.{◌≡◌};
 
 use crate::beginning::Begun;
-use crate::complaints::{Reasoned, STANDARD_INPUT, cannot};
+use crate::complaints::{
+    FAILED, Reasoned, STANDARD_INPUT, STANDARD_OUTPUT, cannot, tell_refused_random,
+};
 use crate::output::flushed;
 use crate::refusals::{Ending, explain};
 use crate::tail::Tailed;
@@ -48,13 +50,15 @@ fn check_against<R: Print + Eprint + Input + AllocGlobal + RandomSource, S: Sour
     let mut given = Tailed::new(rt.reader().take(MOST_BYTES + 1));
     let mut reasoned = Reasoned::new(&mut given);
     let mut report = FromRead::new(&mut reasoned);
-    let mut sink = ToWrite::new(writer(rt));
+    let mut output = Reasoned::new(writer(rt));
+    let mut sink = ToWrite::new(&mut output);
     let answer = check(rt, rt.alloc(), trace, &mut report, &mut sink);
     let answer = flushed(answer, sink, RunError::Sink);
     let ending = match &answer {
         Ok(_) => Ending::well(status_of_check(&answer)),
         Err(error) => Ending::of_run(rt, error),
     };
+    output.tell_failure(rt, STANDARD_OUTPUT);
     reasoned.tell_failure(rt, STANDARD_INPUT);
     if matches!(answer, Ok(Verdict::BadLine { .. })) {
         tell_end(rt, &given, is_watched);
@@ -80,9 +84,13 @@ pub(crate) fn follow_check<R: Print + Eprint + Input + AllocGlobal + Files + Ran
     let mut trace = Begun::new(FromRead::new(&mut reader));
     let ending = check_against(rt, &mut trace, is_watched);
     trace.tell_notes(rt, is_watched && matches!(ending.status, 0 | 5));
+    let ending = ending.with_way_out(trace.way_out(is_watched));
     reader.tell_failure(rt, path);
+    if ending.status == FAILED {
+        tell_refused_random(rt);
+    }
     if let Some(refusal) = ending.refusal {
         explain(rt, &mut file, refusal);
     }
-    ending.status
+    ending.close(rt)
 }

@@ -2,7 +2,8 @@
 //! error is passed over.
 ghost use Rattle.std.specs.Prelude.{◌≡◌};
 
-use std::io::{Error, Read};
+use std::io::{Error, Read, Write};
+use std::random::RandomSource;
 
 /// The status of a wrong command line.
 pub(crate) const WORDS_REFUSED: u8 = 3;
@@ -12,6 +13,9 @@ pub(crate) const FAILED: u8 = 4;
 
 /// What standard input is called.
 pub(crate) const STANDARD_INPUT: &str = "standard input";
+
+/// What standard output is called.
+pub(crate) const STANDARD_OUTPUT: &str = "standard output";
 
 /// Says on standard error why the program ends, and gives its status.
 pub(crate) fn complain<R: Eprint>(rt: &R, reason: &str, status: u8) -> u8
@@ -39,23 +43,30 @@ pub(crate) fn cannot<R: Eprint>(rt: &R, words: &str, name: &str, reason: Error) 
     status
 }
 
-/// A reader that keeps why its last read failed, where it did, and else is the reader inside.
+/// Says on standard error if the system refuses random numbers: a run that gets none ends like one that gets no memory.
+pub(crate) fn tell_refused_random<R: Eprint + RandomSource>(rt: &R) {
+    if let Err(reason) = rt.fill_bytes(&mut [0]) {
+        tell_reason(rt, "random numbers", reason);
+    }
+}
+
+/// A reader or a writer that keeps why its last call failed, if it did, and else is the one inside.
 #[derive(Drop)]
-pub(crate) struct Reasoned<Q> {
-    reader: Q,
+pub(crate) struct Reasoned<D> {
+    device: D,
     reason: Option<Error>,
 }
 
-impl<Q: Read> Reasoned<Q> {
-    /// The same reader. No read has failed.
-    pub(crate) fn new(reader: Q) -> Reasoned<Q> {
+impl<D> Reasoned<D> {
+    /// The same reader or writer. No call has failed.
+    pub(crate) fn new(device: D) -> Reasoned<D> {
         Reasoned {
-            reader,
+            device,
             reason: None,
         }
     }
 
-    /// Names on standard error what was read, and says why the last read failed, where it did.
+    /// Names on standard error what was read or written, and says why the last call failed, if it did.
     pub(crate) fn tell_failure<R: Eprint>(&self, rt: &R, name: &str) {
         if let Some(reason) = self.reason {
             tell_reason(rt, name, reason);
@@ -63,19 +74,28 @@ impl<Q: Read> Reasoned<Q> {
     }
 }
 
-impl<Q: Read> Read for Reasoned<Q> {
-    ghost remaining = { λ s. Q.remaining s.reader };
+impl<D: Read> Read for Reasoned<D> {
+    ghost remaining = { λ s. D.remaining s.device };
 
     fn read(&mut self, buf: &mut [u8]) -> std::io::Result<usize> {
-        match self.reader.read(buf) {
-            Ok(count) => {
-                self.reason = None;
-                Ok(count)
-            }
-            Err(reason) => {
-                self.reason = Some(reason);
-                Err(reason)
-            }
-        }
+        let answer = self.device.read(buf);
+        self.reason = answer.err();
+        answer
+    }
+}
+
+impl<D: Write> Write for Reasoned<D> {
+    ghost contents = { λ s. D.contents s.device };
+
+    fn write(&mut self, buf: &[u8]) -> std::io::Result<usize> {
+        let answer = self.device.write(buf);
+        self.reason = answer.err();
+        answer
+    }
+
+    fn flush(&mut self) -> std::io::Result<()> {
+        let answer = self.device.flush();
+        self.reason = answer.err();
+        answer
     }
 }

@@ -11,7 +11,7 @@ mod tail;
 mod traces;
 
 use crate::checks::follow_check;
-use crate::complaints::{FAILED, WORDS_REFUSED, complain};
+use crate::complaints::{FAILED, STANDARD_OUTPUT, WORDS_REFUSED, cannot, complain};
 use crate::traces::{Task, follow_task};
 use shb_run::{Settings, Workers};
 pub use shb_words::{Plan, WordsFault, plan_of};
@@ -105,7 +105,7 @@ fn follow<R: Print + Eprint + Input + AllocGlobal + Files + RandomSource + Threa
         }
         Ok(Plan::Help { text }) => match rt.print(text.as_str()) {
             Ok(()) => 0,
-            Err(_) => complain(rt, "cannot write", FAILED),
+            Err(reason) => cannot(rt, "cannot write", STANDARD_OUTPUT, reason),
         },
         Err(WordsFault::Refused { text }) => {
             let _ = rt.eprint(text.as_str());

@@ -5,6 +5,7 @@ ghost use Rattle.std.specs.Prelude.{◌≡◌};
 ghost use Rattle.shb_check.specs.Errors.{exit_status_of};
 ghost use Rattle.shb_scan.specs.Words.{scan_status_of};
 
+use crate::beginning::WayOut;
 use memchr::memchr;
 use shb_io::{FromRead, NoMemory, Source};
 use shb_lines::{Fault, Lines, Next};
@@ -28,12 +29,14 @@ pub(crate) struct Refusal {
     pub(crate) fault: Fault,
 }
 
-/// How a command over a trace ended: the program's status, and the line for which the trace was refused, where it was and
+/// How a command over a trace ended: the program's status, and the line for which the trace was refused, if it was and
 /// standard error says so.
 #[derive(Clone, Copy)]
 pub(crate) struct Ending {
     pub(crate) status: u8,
     pub(crate) refusal: Option<Refusal>,
+    /// What a user is told at last of a trace that was refused.
+    way_out: Option<WayOut>,
 }
 
 impl Ending {
@@ -44,7 +47,29 @@ impl Ending {
         Ending {
             status,
             refusal: None,
+            way_out: None,
         }
+    }
+
+    /// The same, with what a user is told at last.
+    pub(crate) fn with_way_out(self, way_out: Option<WayOut>) -> Ending
+        ensures { result.status ≡ self.status }
+    {
+        Ending {
+            status: self.status,
+            refusal: self.refusal,
+            way_out,
+        }
+    }
+
+    /// Tells a user of a refused trace the way out, and gives the program's status.
+    pub(crate) fn close<R: Eprint>(self, rt: &R) -> u8
+        ensures { result ≡ self.status }
+    {
+        if let (Some(_), Some(way_out)) = (self.refusal, self.way_out) {
+            way_out.tell(rt);
+        }
+        self.status
     }
 
     /// That of an error, whose line is said on standard error, where there is memory for it.
@@ -59,7 +84,11 @@ impl Ending {
         match line {
             Ok(line) => {
                 let _ = rt.eprintln(line.as_str());
-                Ending { status, refusal }
+                Ending {
+                    status,
+                    refusal,
+                    way_out: None,
+                }
             }
             Err(_) => Ending::well(status),
         }

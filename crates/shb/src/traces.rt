@@ -2,13 +2,15 @@
 ghost use Rattle.std.specs.Prelude.{◌≡◌};
 
 use crate::beginning::Begun;
-use crate::complaints::{FAILED, Reasoned, STANDARD_INPUT, cannot, complain};
+use crate::complaints::{
+    FAILED, Reasoned, STANDARD_INPUT, STANDARD_OUTPUT, cannot, complain, tell_refused_random,
+};
 use crate::output::flushed;
 use crate::refusals::{Ending, explain};
 use shb_io::{FromRead, Source, ToWrite};
 use shb_run::{RunError, ScanError, Settings, Summary, run, run_places, run_scan};
 use std::fs::File;
-use std::io::{BufWriter, Read, writer};
+use std::io::{BufWriter, Read, Write, writer};
 use std::random::RandomSource;
 use std::rt::Files;
 use std::sync::Wait;
@@ -41,15 +43,15 @@ fn end_report<R: Eprint + AllocGlobal>(rt: &R, answer: Result<Summary, RunError>
     }
 }
 
-/// Does a task over a source: writes to standard output, and says on standard error why nothing is written.
-fn do_task<R: Print + Eprint + AllocGlobal + RandomSource + Threads + Wait + Sync, S: Source>(
-    rt: &R,
-    source: &mut S,
-    task: Task,
-) -> Ending
+/// Does a task over a source: writes to this writer, and says on standard error why nothing is written.
+fn write_task<
+    R: Eprint + AllocGlobal + RandomSource + Threads + Wait + Sync,
+    S: Source,
+    W: Write + Drop,
+>(rt: &R, source: &mut S, output: W, task: Task) -> Ending
     requires { S.failure_count source.old ≡ 0 }
 {
-    let Ok(buffer) = BufWriter::with_capacity(rt.alloc(), BUFFER, writer(rt)) else {
+    let Ok(buffer) = BufWriter::with_capacity(rt.alloc(), BUFFER, output) else {
         return Ending::well(complain(rt, "out of memory", FAILED));
     };
     let mut sink = ToWrite::new(buffer);
@@ -72,6 +74,20 @@ fn do_task<R: Print + Eprint + AllocGlobal + RandomSource + Threads + Wait + Syn
     }
 }
 
+/// Does a task over a source: writes to standard output, and says on standard error why nothing is written.
+fn do_task<R: Print + Eprint + AllocGlobal + RandomSource + Threads + Wait + Sync, S: Source>(
+    rt: &R,
+    source: &mut S,
+    task: Task,
+) -> Ending
+    requires { S.failure_count source.old ≡ 0 }
+{
+    let mut output = Reasoned::new(writer(rt));
+    let ending = write_task(rt, source, &mut output, task);
+    output.tell_failure(rt, STANDARD_OUTPUT);
+    ending
+}
+
 /// Does a task over what a reader gives, and says on standard error what there is to say of the trace, to a user who
 /// watches or not, and of the reader, which has this name.
 fn do_named<R: Print + Eprint + AllocGlobal + RandomSource + Threads + Wait + Sync, Q: Read + Drop>(
@@ -85,8 +101,12 @@ fn do_named<R: Print + Eprint + AllocGlobal + RandomSource + Threads + Wait + Sy
     let mut source = Begun::new(FromRead::new(&mut reader));
     let ending = do_task(rt, &mut source, task);
     source.tell_notes(rt, is_watched && ending.status == 0);
+    let way_out = source.way_out(is_watched);
     reader.tell_failure(rt, name);
-    ending
+    if ending.status == FAILED {
+        tell_refused_random(rt);
+    }
+    ending.with_way_out(way_out)
 }
 
 /// Does a task over a file, or over standard input where none is named, and gives the program's status. A user may watch
@@ -95,7 +115,7 @@ pub(crate) fn follow_task<
     R: Print + Eprint + Input + AllocGlobal + Files + RandomSource + Threads + Wait + Sync,
 >(rt: &R, trace: Option<&str>, task: Task, is_watched: bool) -> u8 {
     let Some(path) = trace else {
-        return do_named(rt, rt.reader(), STANDARD_INPUT, task, is_watched).status;
+        return do_named(rt, rt.reader(), STANDARD_INPUT, task, is_watched).close(rt);
     };
     match File::open(rt, path) {
         Ok(mut file) => {
@@ -103,7 +123,7 @@ pub(crate) fn follow_task<
             if let Some(refusal) = ending.refusal {
                 explain(rt, &mut file, refusal);
             }
-            ending.status
+            ending.close(rt)
         }
         Err(reason) => cannot(rt, "cannot open", path, reason),
     }
