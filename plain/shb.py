@@ -1,11 +1,14 @@
 #!/usr/bin/env python3
 """The definitions as a plain program: slow, short, and written apart from the proved code.
 
-Reads a trace from standard input and writes the full report (or, with --list, the list report) to
-standard output, with --leading that of the leading races alone; a refused trace ends with status 2 and
-its fault on standard error.
+    shb.py [--places [--variables]] [--list] < TRACE
+
+writes the report of all races to standard output; with --places that of the nearest race of each place, with
+--variables of each place and variable; with --list without schedules. A refused trace ends with status 2 and its
+fault on standard error.
 """
 
+import math
 import sys
 import typing
 
@@ -21,6 +24,7 @@ class Limits(typing.NamedTuple):
 
 
 LIMITS = Limits(text=1_073_741_824, line=4_096, events=4_194_304, threads=1_024)
+STREAM_LIMITS = Limits(text=math.inf, line=4_096, events=4_294_967_294, threads=65_535)  # of `places --list`
 
 
 class Refused(Exception):
@@ -196,10 +200,14 @@ def places_of(races, lines):
     return counts
 
 
-def leading_races(races, lines):
-    """The races whose place no earlier race of the list has, in the order of the list."""
-    places = [place(race, lines) for race in races]
-    return [race for k, race in enumerate(races) if places[k] not in places[:k]]
+def nearest_races(races, site):
+    """Of all races at a site the one whose later event comes first, and of those with this event the one whose earlier
+    event comes last: such a race of each site, in the order of the later events, then of the earlier ones."""
+    at = {}
+    for race in races:
+        at.setdefault(site(race), []).append(race)
+    nearest = [min(there, key=lambda race: (race[1], -race[0])) for there in at.values()]
+    return sorted(nearest, key=lambda race: (race[1], race[0]))
 
 
 def counts_of(events):
@@ -210,11 +218,24 @@ def counts_of(events):
     return len(events), len(threads), len(locks), len(variables)
 
 
-def report(text, schedules, version=2, leading=False):
+def report(text, schedules, version=2):
+    """The report of all races."""
     events, lines = read_trace(text)
-    races = races_and_schedules(events)
-    if leading:
-        races = leading_races(races, lines)
+    return report_of(events, lines, races_and_schedules(events), schedules, version)
+
+
+def places_report(text, schedules, by_variable=False):
+    """The report of the nearest race of each place, or of each place and variable."""
+    events, lines = read_trace(text, LIMITS if schedules else STREAM_LIMITS)
+
+    def site(race):
+        return place(race, lines), events[race[0]][2] if by_variable else None
+
+    return report_of(events, lines, nearest_races(races_and_schedules(events), site), schedules)
+
+
+def report_of(events, lines, races, schedules, version=2):
+    """The report of these races."""
     out = [
         b"shb-report %d\n" % version,
         b"events %d threads %d locks %d variables %d\n" % counts_of(events),
@@ -235,9 +256,14 @@ def report(text, schedules, version=2, leading=False):
 
 
 def main():
+    schedules = "--list" not in sys.argv
     try:
         text = sys.stdin.buffer.read()
-        sys.stdout.buffer.write(report(text, "--list" not in sys.argv, leading="--leading" in sys.argv))
+        if "--places" in sys.argv:
+            said = places_report(text, schedules, "--variables" in sys.argv)
+        else:
+            said = report(text, schedules)
+        sys.stdout.buffer.write(said)
     except Refused as refused:
         print(refused, file=sys.stderr)
         sys.exit(2)

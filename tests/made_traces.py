@@ -8,13 +8,15 @@ ODD_NAMES = [b"x", b"f(a)", b" ", b"\x00\xff", b"x)(", "größe".encode(), b"0"]
 BAD_LINES = [b"oops", b"|r(x)", b"T1|q(x)", b"T1|r()", b"T1|begin(", b"T1|r(x", b"\r\r", b"T1|w"]
 
 
-def made_events(pick):
+def made_events(pick, is_crowd):
     """Events that keep the discipline, and in some traces one that doesn't."""
     names = pick.sample(ODD_NAMES, len(ODD_NAMES))
     threads = ([b"T%d" % k for k in range(1, 6)] if pick.random() < 0.7 else names)[: pick.randint(2, 5)]
+    if is_crowd:
+        threads = [b"T%d" % k for k in range(pick.randint(6, 70))]
     locks, variables = names[:2], names[2 : 2 + pick.randint(1, 3)]
     events, is_broken = [], pick.random() < 0.15
-    for _ in range(pick.randint(0, 40)):
+    for _ in range(pick.randint(20, 100) if is_crowd else pick.randint(0, 40)):
         thread, word = pick.choice(threads), pick.choices(WORDS, WEIGHTS)[0]
         of = {b"r": variables, b"w": variables, b"acq": locks, b"rel": locks}.get(word, threads)
         event = (thread, word, None if word in shb.MARKS else pick.choice(of))
@@ -30,9 +32,10 @@ def made_line(pick, number, event):
     return thread + b"|" + word + operand + location
 
 
-def made_trace(pick):
+def made_trace(pick, is_crowd=False):
+    """A trace of 2 to 5 threads, or of a crowd of 6 to 70."""
     lines = []
-    for number, event in enumerate(made_events(pick)):
+    for number, event in enumerate(made_events(pick, is_crowd)):
         lines.append(made_line(pick, number, event) + pick.choice([b"", b"", b"", b"\r"]))
         if pick.random() < 0.05:
             lines.append(pick.choice([b"", b"\r"]))
@@ -41,9 +44,9 @@ def made_trace(pick):
     return b"\n".join(lines) + pick.choice([b"\n", b""])
 
 
-def changed(pick, report):
-    """The report with one small change: of a line, a number, a byte, or its end."""
-    lines = report.split(b"\n")
+def changed(pick, text):
+    """A report or a trace with one small change: of a line, a number, a byte, or its end."""
+    lines = text.split(b"\n")
     at = pick.randrange(len(lines))
     way = pick.randrange(6)
     if way == 0:
@@ -51,10 +54,10 @@ def changed(pick, report):
     elif way == 1:
         lines.insert(at, lines[pick.randrange(len(lines))])
     elif way == 2:
-        return report[: pick.randrange(len(report))]
+        return text[: pick.randrange(len(text))]
     elif way == 3:
-        place = pick.randrange(len(report))
-        return report[:place] + bytes([pick.choice(b"0123456789 :abT|\r\n")]) + report[place + 1 :]
+        place = pick.randrange(len(text))
+        return text[:place] + bytes([pick.choice(b"0123456789 :abT|\r\n")]) + text[place + 1 :]
     elif way == 4:
         words = lines[at].split(b" ")
         words[-1] = pick.choice([b"0", b"1", b"2", b"3", b"01", b"18446744073709551615", b"18446744073709551616", b""])

@@ -21,8 +21,6 @@ class ByteOrderMarks(program.Case):
                 self.expect(program.run([command, "--list"], MARKED), 0, LISTED, SAID)
                 self.expect(program.run([command, "--list"], TRACE), 0, program.run(["races", "--list", self.file(TRACE)]).out)
         self.expect(program.run([], MARKED), 0, LISTED, SAID)
-        self.expect(program.run(["scan", self.file(MARKED)]), 0, LISTED, SAID)
-        self.expect(program.run(["scan"], MARKED), 0, LISTED, SAID)
 
     def test_a_check(self):
         trace = self.file(MARKED)

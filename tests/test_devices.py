@@ -16,7 +16,7 @@ class Devices(program.Case):
 
     def writers(self):
         """The words that write, and what each is given."""
-        return (["races", self.trace], b""), (["races", "--list"], TRACE), ([], TRACE), (["places", self.trace], b""), (["scan", self.trace], b""), (["scan"], TRACE), (["check", self.trace], self.report), (["--help"], b"")
+        return (["races", self.trace], b""), (["races", "--list"], TRACE), ([], TRACE), (["places", self.trace], b""), (["places", "--list", self.trace], b""), (["places", "--list"], TRACE), (["check", self.trace], self.report), (["--help"], b"")
 
     def test_a_missing_file(self):
         """The first line is fixed; the second names the file, without what doesn't print, and the system's reason."""
@@ -24,19 +24,19 @@ class Devices(program.Case):
                                  ("", "", "No such file or directory (os error 2)"),
                                  (self.trace / "below", self.trace / "below", "Not a directory (os error 20)"),
                                  (self.folder / "red\033[31m", self.folder / "red\\u{1b}[31m", "No such file or directory (os error 2)")):
-            for command in ("races", "check", "scan"):
-                self.expect(program.run([command, name], self.report), 4, b"", f"cannot open\nshb: {shown}: {why}\n".encode())
+            for words in (["races"], ["check"], ["places"], ["places", "--list"]):
+                self.expect(program.run([*words, name], self.report), 4, b"", f"cannot open\nshb: {shown}: {why}\n".encode())
 
     def test_a_dash_is_a_file(self):
         wanted = ["cannot open", "shb: -: No such file or directory (os error 2)", "standard input has no name: leave TRACE out to read a trace from it"]
         self.expect(program.run(["places", "-"], TRACE, cwd=self.folder), 4, b"", "".join(line + "\n" for line in wanted).encode())
 
     def test_a_directory(self):
-        for command in ("races", "check", "scan"):
-            self.expect(program.run([command, self.folder], self.report), 4, b"", f"cannot read\nshb: {self.folder}: Is a directory (os error 21)\n".encode())
+        for words in (["races"], ["check"], ["places"], ["places", "--list"]):
+            self.expect(program.run([*words, self.folder], self.report), 4, b"", f"cannot read\nshb: {self.folder}: Is a directory (os error 21)\n".encode())
 
     def test_a_directory_as_standard_input(self):
-        for words in (["races"], [], ["check", self.trace], ["scan"]):
+        for words in (["races"], [], ["check", self.trace], ["places"], ["places", "--list"]):
             folder = os.open(self.folder, os.O_RDONLY)
             self.addCleanup(os.close, folder)
             self.expect(program.run_over(words, folder), 4, b"", b"cannot read\nshb: standard input: Is a directory (os error 21)\n")
@@ -65,13 +65,13 @@ class Devices(program.Case):
     def test_a_trace_without_an_event(self):
         """A note to a user who watches standard error, and a report as of any other trace."""
         for text in (b"", b"\n", b"\r\n\n\n"):
-            for command in ("races", "places", "scan"):
-                answer = self.watched([command], text)
+            for words in (["races"], ["places"], ["places", "--list"]):
+                answer = self.watched(words, text)
                 self.assertEqual((answer.status, answer.err), (0, b"the trace has no events\n"))
                 self.assertIn(b"\nevents 0 threads 0 locks 0 variables 0\n", answer.out)
-                self.assertEqual(program.run([command], text), answer._replace(err=b""))
-        self.assertEqual(self.watched(["scan"], b"\n" * 70000 + b"T|begin\n").err, b"")
-        self.assertEqual(self.watched(["scan"], b"\r\r\n").err, b"line 1: the line has no operation field\n")
+                self.assertEqual(program.run(words, text), answer._replace(err=b""))
+        self.assertEqual(self.watched(["places", "--list"], b"\n" * 70000 + b"T|begin\n").err, b"")
+        self.assertEqual(self.watched(["places", "--list"], b"\r\r\n").err, b"line 1: the line has no operation field\n")
 
     def test_a_report_that_is_cut_off(self):
         """A note to a user who watches standard error."""

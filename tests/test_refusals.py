@@ -70,13 +70,13 @@ class Refusals(Refusing):
         for workers in ("1", "2"):
             for given in (LOCKED, racing(5)):
                 self.refuse_in_turn(["places", "--workers", workers], given)
-                self.refuse_in_turn(["places", "--workers", workers, "--list"], given)
+            self.refuse_in_turn(["places", "--workers", workers, "--variables"], LOCKED)
         self.refuse_in_turn(["places"], REFUSED)
 
-    def test_memory_for_a_scan(self):
+    def test_memory_for_places_without_schedules(self):
         for given in (LOCKED, racing(5), REFUSED):
-            self.refuse_in_turn(["scan"], given)
-            self.refuse_in_turn(["scan", "--variables"], given)
+            self.refuse_in_turn(["places", "--list"], given)
+            self.refuse_in_turn(["places", "--list", "--variables"], given)
 
     def test_memory_for_a_refused_trace(self):
         self.refuse_in_turn(["races"], REFUSED)
@@ -112,7 +112,7 @@ class Refusals(Refusing):
         """Each worker is a thread where pairs or texts are made of the races that were kept, and one when schedules are made; 4 where no
         number is named. A list of more races than events is written by batches of so many races, 65,536 where there are fewer
         events, for each of which workers start: fifteen races of twelve events are one. `places` finds its races without
-        workers, and so does `scan`."""
+        workers."""
         trace, many, few = self.file(racing(64)), self.file(racing(6), "many.std"), self.file(LOCKED, "few.std")
         for words, wanted in (
             (["races", "--list", few], 4),
@@ -125,13 +125,12 @@ class Refusals(Refusing):
             (["places", trace], 4),
             (["places", "--workers", "1", trace], 1),
             (["places", "--workers", "3", trace], 3),
-            (["scan", trace], 0),
         ):
             self.assertEqual(self.threads_started(words, b""), wanted)
         self.assertEqual(self.threads_started([], LOCKED), 4)
 
     def test_nothing_is_read_after_the_end(self):
         trace, report = self.file(LOCKED), program.run(["races"], LOCKED).out
-        for words, given in (([], LOCKED), (["races"], b""), (["races", trace], b""), (["scan"], LOCKED), (["scan", trace], b""), (["check", trace], report), (["check", trace], b"")):
+        for words, given in (([], LOCKED), (["races"], b""), (["races", trace], b""), (["places", "--list"], LOCKED), (["places", "--list", trace], b""), (["places", trace], b""), (["check", trace], report), (["check", trace], b"")):
             answer, is_refused = self.run_refused(words, given, WATCH_READS=1)
             self.assertEqual((answer, is_refused), (program.run(words, given), False))

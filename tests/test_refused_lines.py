@@ -36,17 +36,17 @@ class Refused(program.Case):
         for text, first, further in ROWS:
             trace = self.file(text.encode())
             said = "".join(line + "\n" for line in [first, *further]).encode()
-            for words in (["races", "--list"], ["places"], ["scan"], ["check"]):
+            for words in (["races", "--list"], ["places"], ["places", "--list"], ["check"]):
                 with self.subTest(first, words=words):
                     self.expect(program.run([*words, trace]), 2, b"", said)
 
     def test_bytes_that_are_no_text(self):
         trace = self.file(b"T|w(x)|\xff\nT|\xff\xfe|\n")
-        self.expect(program.run(["scan", trace]), 2, b"", (
+        self.expect(program.run(["places", "--list", trace]), 2, b"", (
             f"line 2: the operation is not known\nthe line is `T|\\xff\\xfe|`\n`\\xff\\xfe` {OPERATIONS}\n").encode())
 
     def test_what_cannot_be_read_again_is_not_told_of(self):
         """Standard input, and a pipe by its name."""
         text, first, _ = ROWS[0]
-        for words in (["races"], ["scan"], ["scan", "/dev/stdin"]):
+        for words in (["races"], ["places", "--list"], ["places", "--list", "/dev/stdin"]):
             self.expect(program.run(words, text.encode()), 2, b"", f"{first}\n".encode())

@@ -243,16 +243,16 @@ def report_of_locks(threads, locks):
 class SmallSizes(program.Case):
     """What the reports of this module are, by the plain program of the definitions."""
 
-    def expect_report(self, trace, parts, with_schedules=False, leading=False):
-        self.assertEqual(shb.report(trace, with_schedules, leading=leading), b"".join(parts))
+    def expect_report(self, trace, parts, with_schedules=False, report=shb.report):
+        self.assertEqual(report(trace, with_schedules), b"".join(parts))
 
     def test_reports(self):
         self.expect_report(racing_variables(5), report_of_racing_variables(5))
-        self.expect_report(racing_variables(5), report_of_racing_variables(5), leading=True)
+        self.expect_report(racing_variables(5), report_of_racing_variables(5), report=shb.places_report)
         self.expect_report(ReadsByTurns(5).trace(), ReadsByTurns(5).report())
         self.expect_report(ReadsByTurns(5).trace(b"T|join(U)\n"), [without_races(12, 2, 0, 1)])
         self.expect_report(Locations(3, 4, 7).trace(), Locations(3, 4, 7).report())
-        self.expect_report(SquareOfPlaces(3, 4).trace(), SquareOfPlaces(3, 4).report(), leading=True)
+        self.expect_report(SquareOfPlaces(3, 4).trace(), SquareOfPlaces(3, 4).report(), report=shb.places_report)
         self.expect_report(locks_with_clocks(4, 6), [report_of_locks(4, 6)])
         self.expect_report(LongSchedules(4, 6).trace(), LongSchedules(4, 6).report(), with_schedules=True)
         self.expect_report(reads_after_a_race(4, 5), report_of_reads(4, 5))

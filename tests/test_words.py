@@ -11,15 +11,14 @@ Usage: shb <COMMAND>
 Commands:
   races   Writes the report of a trace to standard output
   places  Writes the report of one race of each place of a trace
-  scan    Writes one race of each place of a long trace
   check   Checks the report on standard input against its trace
   help    Print this message or the help of the given subcommand(s)
 
 Options:
   -h, --help  Print help
 
-No arguments mean 'shb races --list'. Begin with 'shb places --list', or with
-'shb scan' for a long trace. Without --list each race has a schedule.
+No arguments mean 'shb races --list'. Begin with 'shb places --list', which
+reads a trace of any length. Without --list each race has a schedule.
 
   $ printf 'T1|w(y)|1\\nT2|r(y)|2\\n' | shb places --list
 
@@ -68,16 +67,6 @@ class Words(program.Case):
         for operation in ("r(X)", "w(X)", "acq(L)", "rel(L)", "fork(T)", "join(T)", "begin", "end"):
             self.assertIn(operation, text)
 
-    def test_help_of_scan(self):
-        self.expect(program.run(["scan", "--help"]), 0, program.run(["help", "scan"]).out)
-        text = program.run(["help", "scan"]).out.decode()
-        for wanted in ("Usage: shb scan [OPTIONS] [TRACE]", "4294967294 events, 65535 threads", "4096 bytes", "Nothing is written before"):
-            self.assertIn(wanted, text)
-        self.assertLessEqual(max(map(len, text.splitlines())), 80)
-        command, shown = text.split("Example:\n  $ ")[1].split("\n", 1)
-        trace = command.split("'")[1].replace("\\n", "\n").encode()
-        self.expect(program.run(["scan"], trace), 0, "".join(line[2:] + "\n" for line in shown.splitlines()).encode())
-
     def test_help_of_check(self):
         self.expect(program.run(["check", "--help"]), 0, program.run(["help", "check"]).out)
         text = program.run(["help", "check"]).out.decode()
@@ -95,8 +84,7 @@ class Words(program.Case):
             (["frobnicate"], b"error: unrecognized subcommand 'frobnicate'\n"),
             (["races", "a", "b"], b"error: unexpected argument 'b' found\n"),
             (["places", "--workers", "65"], b"error: invalid value '65' for '--workers <N>': 65 is not in 1..=64\n"),
-            (["scan", "a", "b"], b"error: unexpected argument 'b' found\n"),
-            (["scan", "--list"], b"error: unexpected argument '--list' found\n"),
+            (["races", "--variables"], b"error: unexpected argument '--variables' found\n"),
             (["places", "a", "b"], b"error: unexpected argument 'b' found\n"),
             (["check", "a", "b"], b"error: unexpected argument 'b' found\n"),
             (["--version"], b"error: unexpected argument '--version' found\n"),
