@@ -27,6 +27,8 @@ mod pairs;
 #[cfg(test)]
 mod parses;
 #[cfg(test)]
+mod places;
+#[cfg(test)]
 mod replays;
 #[cfg(test)]
 mod reports;

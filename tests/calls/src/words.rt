@@ -29,6 +29,7 @@ fn expect_report(
             Plan::Places {
                 workers,
                 list,
+                by_variable: false,
                 trace,
             },
         ) => (false, workers, list, trace),
@@ -57,15 +58,23 @@ fn reports_are_asked_for(rt: HostRuntime) -> Result<(), Fail> {
 }
 
 #[test]
-fn a_scan_is_asked_for(rt: HostRuntime) -> Result<(), Fail> {
+fn places_are_asked_for_by_variable(rt: HostRuntime) -> Result<(), Fail> {
     for (words, wanted) in [
-        (&["scan"] as &[&str], false),
-        (&["scan", "--variables", "t.std"], true),
+        (&["places", "--list"] as &[&str], (true, false)),
+        (&["places", "--variables", "t.std"], (false, true)),
+        (&["places", "--list", "--variables"], (true, true)),
     ] {
-        let Ok(Plan::Scan { by_variable, .. }) = planned(&rt, words)? else {
-            return Err("no scan is asked for".into());
+        let Ok(
+            Plan::Places {
+                list,
+                by_variable,
+                ..
+            },
+        ) = planned(&rt, words)?
+        else {
+            return Err("no places are asked for".into());
         };
-        same(&rt, &by_variable, &wanted, "by variable");
+        same(&rt, &(list, by_variable), &wanted, "the form");
     }
     Ok(())
 }
@@ -92,13 +101,14 @@ fn help_is_asked_for(rt: HostRuntime) -> Result<(), Fail> {
 
 #[test]
 fn words_are_refused(rt: HostRuntime) -> Result<(), Fail> {
-    let refused: [&[&str]; 6] = [
+    let refused: [&[&str]; 7] = [
         &["races", "--workers", "0"],
         &["races", "--workers", "65"],
         &["races", "--workers", "x"],
         &["check"],
         &["frobnicate"],
         &["races", "a", "b"],
+        &["races", "--variables"],
     ];
     for words in refused {
         let Err(WordsFault::Refused { text }) = planned(&rt, words)? else {
