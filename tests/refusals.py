@@ -57,8 +57,6 @@ COUNTS = "threads locks variables events pieces count".split()
 OTHERS = {
     ("shb_lines/src/read.rt", "limits.text"): "the most bytes of a text, at most 2^30 by the condition of `parse`",
     ("shb_fan/src/streaming.rt", "workers.get()"): "at most 64 by its type",
-    ("shb_numbers/src/lists.rt", "end"): "twice the length of a list, which is below 2^32, behind the memory that there is",
-    ("shb_numbers/src/lists.rt", "usize::MAX"): "asked for only behind 2^32 numbers, 16 GiB, which no trace within the limits has",
     ("shb_numbers/src/dense.rt", "at"): "the word of a number of 32 bits, so below 2^26",
     ("shb_stamps/src/row_list.rt", "room"): "half as many again as there are rows, or their cells or chunks",
     ("shb_witness/src/threads.rt", "end"): "the sum of how many events each thread has",
