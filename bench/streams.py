@@ -1,5 +1,5 @@
 #!/usr/bin/env python3
-"""Measures `shb scan` on streams of any length, which are made meanwhile, and prints time and memory.
+"""Measures `shb places --list` on streams of any length, which are made meanwhile, and prints time and memory.
 
     streams.py [--events N,..] [--beside COMMAND] [PROGRAM]
 
@@ -57,7 +57,7 @@ def megabytes(process):
     return int(re.search(r"VmHWM:\s+(\d+)", status)[1]) / 1024
 
 
-def scan(command, text, rounds, out):
+def analyse(command, text, rounds, out):
     """The processor seconds of a command on a stream of so many rounds, and its megabytes when nearly all was read."""
     process = subprocess.Popen(command, stdin=subprocess.PIPE, stdout=out)
     feed(process.stdin, text, rounds)
@@ -81,9 +81,9 @@ def main():
     parser.add_argument("program", nargs="?", default=measure.HERE.parent / "bin" / "shb", type=pathlib.Path)
     options = parser.parse_args()
     text, count = round_of_steps()
-    commands = [[options.program.resolve(), "scan"], *[shlex.split(options.beside)] * bool(options.beside)]
+    commands = [[options.program.resolve(), "places", "--list"], *[shlex.split(options.beside)] * bool(options.beside)]
     with tempfile.TemporaryFile() as out:
-        scan(commands[0], text, 2, out)
+        analyse(commands[0], text, 2, out)
         wanted = places(out)
         print("| events | GB | wall s | processor s | peak MB |" + " times | memory |" * bool(options.beside))
         for events in map(int, options.events.split(",")):
@@ -91,13 +91,13 @@ def main():
             out.seek(0)
             out.truncate()
             start = time.monotonic()
-            seconds, most = scan(commands[0], text, rounds, out)
+            seconds, most = analyse(commands[0], text, rounds, out)
             cells = [f"{rounds * count + 2}", f"{rounds * len(text) / 1e9:.2f}", f"{time.monotonic() - start:.1f}", f"{seconds:.1f}", f"{most:.0f}"]
             if places(out) != wanted:
                 raise SystemExit(f"of {rounds} rounds it lists other places than of 2")
             if options.beside:
                 with open(os.devnull, "wb") as nowhere:
-                    others = scan(commands[1], text, rounds, nowhere)
+                    others = analyse(commands[1], text, rounds, nowhere)
                 cells += [f"{seconds / others[0]:.2f}", f"{most / others[1]:.2f}"]
             print(f"| {' | '.join(cells)} |", flush=True)
 
