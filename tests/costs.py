@@ -4,11 +4,12 @@ contract speaks of cost, so only this step notices a table that isn't found agai
 
     costs.py [--only WORD] [--write] [PROGRAM]
 
-Each shape of traces (shapes.py) is analysed with a number of events and with twice as many, by valgrind's callgrind, with
-one worker. The first count has its own bound, in costs.tsv; the second may be at most 2.3 times the first. Of recorded
-traces there is the first count alone. Of some shapes the most memory that the program has at a time is bounded in the same
-way. Where a change makes a trace dearer, its bound is changed in the same commit, with the reason in the commit's message;
---write writes bounds a tenth above what this program costs. Ends with the line 'N passed, N failed'; a machine without
+Each shape of traces (shapes.py) is analysed with a number of events and with twice as many, by valgrind's callgrind,
+with one worker. The first count has its own bound, in costs.tsv; the second may be at most 2.3 times the first. Of
+recorded traces there is the first count alone. Of some shapes the most memory that the program has at a time is
+bounded in the same way; that of a stream whose events are of names that are known may grow by 15 % alone. Where a
+change makes a trace dearer, its bound is changed in the same commit, with the reason in the commit's message; --write
+writes bounds a tenth above what this program costs. Ends with the line 'N passed, N failed'; a machine without
 valgrind fails.
 """
 
@@ -35,6 +36,7 @@ import shapes
 BOUNDS = HERE / "costs.tsv"
 RECORDED = HERE / "recorded"
 GROWTH = 2.3
+SAME = 1.15  # the growth of memory that doesn't depend on how long a trace is
 ROOM = 1.1
 FIRST = 65_536  # of a list that is too long, so many bytes are written
 CUT_RUNS = 3
@@ -73,12 +75,12 @@ class Cost(typing.NamedTuple):
     grows: bool = True
     cut: bool = False
     unit: Unit = INSTRUCTIONS
+    growth: float = GROWTH
 
 
 ONE_WORKER = "--workers", "1"
-PLACES, RACES, SCHEDULES = ("places", "--list", *ONE_WORKER), ("races", "--list", *ONE_WORKER), ("races", *ONE_WORKER)
-PLACE_SCHEDULES = ("places", *ONE_WORKER)
-SCAN = ("scan",)
+STREAM, PLACES = ("places", "--list"), ("places", *ONE_WORKER)
+RACES, SCHEDULES = ("races", "--list", *ONE_WORKER), ("races", *ONE_WORKER)
 
 
 def hot(shape, threads, per_event):
@@ -93,7 +95,7 @@ def recorded(path):
 def costs():
     """All that is counted."""
     for name, parts in growth.SHAPES.items():
-        yield Cost(name, PLACES, parts, 10_000)
+        yield Cost(name, STREAM, parts, 10_000)
     ours = {
         "8 threads write under a lock": shapes.under_a_lock(8),
         "256 threads write under a lock": shapes.under_a_lock(256),
@@ -116,38 +118,38 @@ def costs():
         "1,000 readers, few writes": shapes.many_readers,
     }
     for name, parts in ours.items():
-        yield Cost(name, PLACES, parts, 20_000)
-        yield Cost(name, SCAN, parts, 20_000)
+        yield Cost(name, STREAM, parts, 20_000)
     for name in ("8 threads write under a lock", "256 threads write under a lock", "256 threads read under a lock"):
         yield Cost(name, RACES, ours[name], 20_000)
+    for name in ("8 threads write under a lock", "turns at one location", "a chain of 250 threads"):
+        yield Cost(name, PLACES, ours[name], 20_000)
     yield Cost("few and many races by turns", RACES, shapes.few_and_many_races, 40_000, cut=True)
     yield Cost("40 variables with many races each", RACES, shapes.many_hot_variables, 20_000, cut=True)
     yield Cost("a counter of 2 threads", RACES, hot("counter", 2, 4), 20_000, cut=True)
     yield Cost("a counter of 64 threads", RACES, hot("counter", 64, 128), 20_000, cut=True)
+    yield Cost("a counter of 64 threads", STREAM, hot("counter", 64, 128), 20_000)
     yield Cost("a counter of 64 threads", PLACES, hot("counter", 64, 128), 20_000)
-    yield Cost("locks and statistics", PLACES, hot("mixed", 8, 5), 20_000)
-    yield Cost("a counter of 64 threads", SCAN, hot("counter", 64, 128), 20_000)
-    yield Cost("locks and statistics", SCAN, hot("mixed", 8, 5), 20_000)
-    yield Cost("memory in the order of addresses", SCAN, shapes.memory_in_order, 20_000)
-    yield Cost("new threads at one location", SCAN, shapes.new_threads, 20_000)
+    yield Cost("locks and statistics", STREAM, hot("mixed", 8, 5), 20_000)
+    yield Cost("memory in the order of addresses", STREAM, shapes.memory_in_order, 20_000)
+    yield Cost("new threads at one location", STREAM, shapes.new_threads, 20_000)
     yield Cost("locks and statistics", RACES, hot("mixed", 8, 5), 20_000, cut=True)
     yield Cost("locks and statistics of 200 threads", RACES, hot("mixed", 200, 5), 20_000)
     yield Cost("schedules of 20 late races", SCHEDULES, shapes.late_races, 10_000)
-    for words in (SCHEDULES, PLACE_SCHEDULES):
+    for words in (SCHEDULES, PLACES):
         yield Cost("schedules of 780 races after threads alone", words, shapes.late_crowd, 10_000)
         yield Cost("schedules of 780 races, with threads alone in between", words, shapes.early_crowd, 10_000)
     yield Cost("an array", RACES, hot("array", 8, 2), 20_000)
     yield Cost("one hot location beside many of a thread alone", RACES, shapes.hot_beside_alone, 20_000, cut=True)
     yield Cost("200 threads at 200 locations", RACES, shapes.crowd_at_locations, 10_000, cut=True)
-    yield Cost("numbers that are far apart", PLACES, shapes.far_numbers, 20_000)
-    yield Cost("numbers that are far apart", PLACES, shapes.far_numbers, 50_000, unit=MEMORY)
-    yield Cost("5,000 threads forked and joined", SCAN, shapes.forked_and_joined, 15_000, unit=MEMORY)
-    yield Cost("a lock handed on by 4,000 threads", SCAN, shapes.handed_on, 8_000, unit=MEMORY)
-    yield Cost("variables that 200 threads write under a lock", SCAN, shapes.variables_under_a_lock, 1_500_000, unit=MEMORY)
+    yield Cost("numbers that are far apart", STREAM, shapes.far_numbers, 20_000)
+    yield Cost("numbers that are far apart", STREAM, shapes.far_numbers, 50_000, unit=MEMORY)
+    yield Cost("2,500 threads forked and joined", STREAM, shapes.forked_and_joined, 7_500, unit=MEMORY)
+    yield Cost("a lock handed on by 3,000 threads", STREAM, shapes.handed_on, 6_000, unit=MEMORY)
+    yield Cost("variables that 200 threads write under a lock again and again", STREAM, shapes.variables_under_a_lock, 1_500_000,
+               unit=MEMORY, growth=SAME)
     for path in sorted(RECORDED.glob("*.std.xz")):
-        yield Cost(path.name, PLACES, recorded(path), 0, grows=False)
-        yield Cost(path.name, RACES, recorded(path), 0, grows=False)
-        yield Cost(path.name, SCAN, recorded(path), 0, grows=False)
+        for words in (STREAM, PLACES, RACES):
+            yield Cost(path.name, words, recorded(path), 0, grows=False)
 
 
 def limit_files():
@@ -176,8 +178,8 @@ def counted(program, cost, times):
 
 
 def key(cost):
-    memory = ", memory" if cost.unit is MEMORY else ""
-    return f"{cost.words[0]}: {cost.name}{memory}"
+    command, memory = " ".join(word for word in cost.words if word not in ONE_WORKER), ", memory" if cost.unit is MEMORY else ""
+    return f"{command}: {cost.name}{memory}"
 
 
 def bounds():
@@ -190,8 +192,8 @@ def complaints(cost, once, twice, bound):
         yield "has no bound in costs.tsv"
     elif once > bound * cost.unit.size:
         yield f"takes {once // cost.unit.size} {cost.unit.name}, and may take {bound}"
-    if twice is not None and twice > GROWTH * once:
-        yield f"takes {twice / once:.2f} times as much for twice the events, and may take {GROWTH}"
+    if twice is not None and twice > cost.growth * once:
+        yield f"takes {twice / once:.2f} times as much for twice the events, and may take {cost.growth}"
 
 
 def measured(program, cost):

@@ -23,6 +23,9 @@ class Complaints(unittest.TestCase):
 
     def test_grows_too_fast(self):
         self.assertEqual(len([*costs.complaints(COST, 50_000, 120_000, 50)]), 1)
+        still = COST._replace(unit=costs.MEMORY, growth=costs.SAME)
+        self.assertEqual([*costs.complaints(still, 40, 46, 50)], [])
+        self.assertEqual(len([*costs.complaints(still, 40, 47, 50)]), 1)
 
     def test_has_no_bound(self):
         self.assertEqual(len([*costs.complaints(COST, 50_000, 100_000, None)]), 1)
