@@ -123,6 +123,7 @@ def costs():
         yield Cost(name, RACES, ours[name], 20_000)
     for name in ("8 threads write under a lock", "turns at one location", "a chain of 250 threads"):
         yield Cost(name, PLACES, ours[name], 20_000)
+    yield Cost("places of many variables, the last one first", RACES, shapes.variables_backwards, 6_000, cut=True, unit=MEMORY)
     yield Cost("few and many races by turns", RACES, shapes.few_and_many_races, 40_000, cut=True)
     yield Cost("40 variables with many races each", RACES, shapes.many_hot_variables, 20_000, cut=True)
     yield Cost("a counter of 2 threads", RACES, hot("counter", 2, 4), 20_000, cut=True)
@@ -132,6 +133,7 @@ def costs():
     yield Cost("locks and statistics", STREAM, hot("mixed", 8, 5), 20_000)
     yield Cost("memory in the order of addresses", STREAM, shapes.memory_in_order, 20_000)
     yield Cost("new threads at one location", STREAM, shapes.new_threads, 20_000)
+    yield Cost("two variables that 1,000 threads wrote in other orders", STREAM, shapes.two_orders, 10_000)
     yield Cost("locks and statistics", RACES, hot("mixed", 8, 5), 20_000, cut=True)
     yield Cost("locks and statistics of 200 threads", RACES, hot("mixed", 200, 5), 20_000)
     yield Cost("schedules of 20 late races", SCHEDULES, shapes.late_races, 10_000)
@@ -145,6 +147,7 @@ def costs():
     yield Cost("numbers that are far apart", STREAM, shapes.far_numbers, 50_000, unit=MEMORY)
     yield Cost("2,500 threads forked and joined", STREAM, shapes.forked_and_joined, 7_500, unit=MEMORY)
     yield Cost("a lock handed on by 3,000 threads", STREAM, shapes.handed_on, 6_000, unit=MEMORY)
+    yield Cost("variables that 1,000 threads write under a lock", STREAM, shapes.rows_wide, 362_000, unit=MEMORY)
     yield Cost("variables that 200 threads write under a lock again and again", STREAM, shapes.variables_under_a_lock, 1_500_000,
                unit=MEMORY, growth=SAME)
     for path in sorted(RECORDED.glob("*.std.xz")):
