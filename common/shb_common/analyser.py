@@ -11,7 +11,8 @@ from shb_common.report import BadReport
 
 MOST_SAID = 4_096   # bytes of what the program says that are kept
 MOST_WORDS = 500    # of these, those that are told as words of one line
-LIST, HEAD, FULL, SCAN = ["places", "--list"], ["races", "--list"], ["places"], ["scan", "--variables"]
+HEAD, FULL, LIST = ["races", "--list"], ["places"], ["places", "--list"]
+WITH_VARIABLES = [*LIST, "--variables"]
 REFUSED = 2         # the status of `shb` for a refused trace
 
 
@@ -83,8 +84,8 @@ def words_in(said):
 
 
 def places_in(report):
-    """The places of a `Report` that has one race of each variable at each place, as `scan --variables` writes it: each with its first so
-    many variables."""
+    """The places of a `Report` that has one race of each variable at each place, as `places --list --variables`
+    writes it: each with its first so many variables."""
     found, more = {}, set()
     for race, accesses in report.races():
         place, name = tuple(access.location for access in accesses), accesses[0].name

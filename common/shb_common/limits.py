@@ -1,4 +1,5 @@
-"""What `shb` takes. It refuses a trace that has more; for `shb scan` only the limit of a line holds. recorder/converter/converter.h has the same."""
+"""What `shb` takes. It refuses a trace that has more; for `shb places --list` only the limit of a line holds.
+recorder/converter/converter.h has the same."""
 
 MOST_EVENTS = 4_194_304
 MOST_THREADS = 1_024

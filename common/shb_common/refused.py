@@ -34,7 +34,7 @@ REPAIRS = {         # of faults between lines
 }
 LIMITS = (f"there are more than {MOST_EVENTS} events", f"there are more than {MOST_THREADS} threads",
           f"the text is longer than {MOST_TEXT} bytes")
-SCAN = "`shb scan` lists the places of a longer trace"
+LONGER = "`shb places --list` lists the places of a longer trace"
 CARRIAGE_RETURNS = "a carriage return without a line feed: lines end with a line feed, or with both"
 
 
@@ -69,7 +69,7 @@ def line_and_hint(words, file):
 def repair_of(words):
     """What helps where a trace is too long, and what `shb-fix` may repair of a fault between lines."""
     if words.endswith(LIMITS):
-        return SCAN
+        return LONGER
     repair = next((repair for fault, repair in REPAIRS.items() if words.endswith(fault)), None)
     return f"{repair}; `shb-fix` repairs such logs" if repair else ""
 

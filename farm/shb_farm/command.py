@@ -38,7 +38,7 @@ Files in OUT:
                   or size, or missing; with its seconds and MiB
   reports/        for each unknown place the full report of the smallest trace
                   that has it; of a trace that is too long for one that of
-                  'shb scan', which has no schedules
+                  'shb places --list', which has no schedules
 
 Known places:
   On a line two locations, or functions as FILE:FUNCTION(), in either order,

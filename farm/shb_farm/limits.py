@@ -5,7 +5,7 @@ import os
 from shb_common.limits import MOST_EVENTS, MOST_TEXT
 
 MIB = 1 << 20
-SCAN_MIB = 128      # for a trace that is scanned, which keeps names alone
+LIST_MIB = 128      # for a trace whose places alone are listed, which keeps names alone
 
 
 def memory_for(size):
@@ -16,7 +16,7 @@ def memory_for(size):
     needs more is refused for its memory, and goes on to the next pass. Of a longer text than the program keeps names alone are kept.
     """
     if size > MOST_TEXT:
-        return SCAN_MIB
+        return LIST_MIB
     events = min(size // 32, MOST_EVENTS)
     return 64 + (size + 100 * events) // MIB
 

@@ -12,7 +12,7 @@ from shb_farm import calls, passes, running, traces
 from shb_farm.limits import memory_for
 from shb_farm.running import METER, End
 
-TOO_LONG = "it is longer than a report with schedules may be of: what is kept is that of `shb scan`, without schedules"
+TOO_LONG = "it is longer than a report with schedules may be of: what is kept is that of `shb places --list`, without schedules"
 MARKED = "a byte order mark before the first line is part of the first thread's name"
 
 
@@ -30,7 +30,7 @@ def analysed(work, name, trace):
 
 
 def listed(work, trace):
-    """The same of a trace that isn't packed: by one race of each variable at each place, as `shb scan` lists them."""
+    """The same of a trace that isn't packed: by one race of each variable at each place."""
     with temporary_file(work.room) as (out, _):
         end = running.analyse(work, passes.LIST, trace, out)
         if end.kind != "report":

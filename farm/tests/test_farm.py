@@ -101,7 +101,7 @@ class Tables(farm.Case):
 
     def test_a_full_report_that_is_not_whole(self):
         self.trace("race.std", RACE)
-        shb = self.script("cut", f"case \"$*\" in scan*) exec {farm.SHB} \"$@\" ;; esac\n{farm.SHB} \"$@\" | head -n -1\n")
+        shb = self.script("cut", f"case \"$*\" in *--list*) exec {farm.SHB} \"$@\" ;; esac\n{farm.SHB} \"$@\" | head -n -1\n")
         self.assertEqual(self.farm("--memory", "256", shb=shb).status, 2)
         self.assertEqual(self.table("places.tsv"), [["1", "unknown", "a.c:1", "b.c:2", "race.std", "missing", "1", "x", ""]])
         self.assertEqual(list((self.out / "reports").glob("*.report")), [])

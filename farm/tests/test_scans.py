@@ -11,10 +11,10 @@ MANY = 4_194_304        # events that a report with schedules may be of
 END = b"A|end\n"
 FAR = b"T3|w(y)|k.c:1\nT4|r(z)|k.c:2\n" + END * MANY + b"T4|r(y)|k.c:2\nT3|w(z)|k.c:1\n"  # two races at two places, far apart
 THREADS = b"".join(b"T%d|w(x)|q.c:1\n" % number for number in range(1025))
-NOTE = "it is longer than a report with schedules may be of: what is kept is that of `shb scan`, without schedules"
+NOTE = "it is longer than a report with schedules may be of: what is kept is that of `shb places --list`, without schedules"
 
 
-class Scans(farm.Case):
+class LongTraces(farm.Case):
     def setUp(self):
         super().setUp()
         self.run_alone()
@@ -50,7 +50,7 @@ end
 """)
         self.assertEqual(list((self.out / "tmp").iterdir()), [])
 
-    def test_an_outcome_of_a_scan_stands(self):
+    def test_an_outcome_of_a_list_stands(self):
         self.trace("threads.std", THREADS)
         shb = self.counting()
         self.assertEqual(self.farm(shb=shb).status, 1)
@@ -74,4 +74,4 @@ end
         self.assertRegex(self.ends()["long.std"][1], r"^line 1026: the line has no operation field")
 
     def test_a_text_that_no_report_is_of_begins_with_little_memory(self):
-        self.assertEqual((limits.memory_for(limits.MOST_TEXT) > 1024, limits.memory_for(limits.MOST_TEXT + 1)), (True, limits.SCAN_MIB))
+        self.assertEqual((limits.memory_for(limits.MOST_TEXT) > 1024, limits.memory_for(limits.MOST_TEXT + 1)), (True, limits.LIST_MIB))

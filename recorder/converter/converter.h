@@ -4,7 +4,7 @@
 #include "tables.h"
 
 enum { THREADS = 1 << 20 };            /* of a record, whose numbers may be used again */
-/* What shb takes of a trace, as common/shb_common/limits.py has it; the last is the most threads of shb scan. */
+/* What shb takes of a trace, as common/shb_common/limits.py has it; the last is the most threads of shb places --list. */
 enum { SHB_EVENTS = 4194304, SHB_THREADS = 1024, SHB_LINE = 4096, SHB_BYTES = 1 << 30, SCAN_THREADS = 65535 };
 typedef struct { const char *at; u64 length; } part;         /* of a text, without an end of its own */
 

@@ -14,7 +14,7 @@ void use_limits_of_scan(void) {
     event_limit = SCAN_EVENTS;
     byte_limit = -1;
     thread_limit = SCAN_THREADS;
-    too_many_threads = "before a thread too many: shb scan takes 65,535";
+    too_many_threads = "before a thread too many: shb places --list takes 65,535";
 }
 
 /* number: in state.c, from its first event on */

@@ -130,13 +130,13 @@ static void write_trace(void) {
 static const char help[] =
     "usage: shb-std [OPTION].. RECORD > TRACE\n"
     "       shb-std --only RACES [OPTION].. RECORD > TRACE\n"
-    "       shb-std --scan [--only RACES --page TRACE] [OPTION].. RECORD | shb scan\n"
+    "       shb-std --scan [--only RACES --page TRACE] [OPTION].. RECORD | shb places --list\n"
     "\n"
     "Turns a record of the recorder into an STD trace, which is cut at the most\n"
     "events and threads that shb takes.\n"
     "\n"
     "options:\n"
-    "  --scan         the trace of the whole run, for 'shb scan'\n"
+    "  --scan         the trace of the whole run, for 'shb places --list'\n"
     "  --only RACES   write a part of the trace, for a page: around the races of this\n"
     "                 file, the accesses of their variables, and locks, forks and\n"
     "                 joins. It has a line for each race: I J VARIABLE, with the\n"
@@ -202,7 +202,7 @@ static void write_to(const char *path) {
     if (!freopen(path, "w", stdout)) die("cannot write to %s: %s", path, strerror(errno));
 }
 
-/* Standard output ends with the trace for shb scan, so that that ends too. In a pipe with room the two give way to each other less often.
+/* Standard output ends with the trace for shb places --list, so that that ends too. In a pipe with room the two give way to each other less often.
    Gives why it is cut, or null. */
 static const char *write_scan(void) {
     u64 limit = event_limit;

@@ -1,4 +1,4 @@
-/* The trace of a page: a part of the run's trace, around races that shb scan has found in that.
+/* The trace of a page: a part of the run's trace, around races that shb places --list has found in that.
 
    The file of races has a line for each of them: the numbers of its two events in the run's trace, and its variable. Of the events
    from a few before the first one of a race to a few behind its second one the page's trace has the accesses of variables in races, and

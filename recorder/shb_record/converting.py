@@ -13,7 +13,7 @@ from shb_common.faults import Refused
 from shb_common.uses import BadUses, Uses
 from shb_common.words import counted
 from shb_record.parts import CONVERTER
-from shb_record.scanning import Contradiction
+from shb_record.listing import Contradiction
 
 CUTS = "the recording is not the whole run: ", "the trace is cut "
 KILLED = CUTS[0] + "the program was killed"
@@ -74,8 +74,9 @@ def check_room(process, most_events):
 
 
 class Conversion:
-    """Turns a record into the run's trace, for `shb scan`, and where that finds races into the trace of their page. `trace`, `uses` and
-    `stacks` are of that trace, `scan` is what the scan wrote; `numbers` has for the events of a race those of that trace, if it has both in one part."""
+    """Turns a record into the run's trace, for `shb places --list`, and where that finds races into the trace of their
+    page. `trace`, `uses` and `stacks` are of that trace, `scan` is the list of places; `numbers` has for the events of
+    a race those of that trace, if it has both in one part."""
 
     def __init__(self, process, options):
         self.process = process
@@ -84,27 +85,28 @@ class Conversion:
         self.left = process.record.with_suffix(".left")  # a segment's blocks at its end
         blocks = ["--blocks", process.blocks] if process.blocks else []
         self.window = options.window
-        self.scan_words = [CONVERTER, "--scan", *strip, *blocks, process.record]
+        self.list_words = [CONVERTER, "--scan", *strip, *blocks, process.record]
         self.page_words = [*strip, *blocks, "-n", str(options.window), process.record]
         self.words = [CONVERTER, "--scan", "--only", "/dev/stdin", "--page", self.trace, "--uses", self.uses, "--stacks", self.stacks,
                       *(["--left", self.left] if options.live else []), *self.page_words]
         self.size, self.notes, self.cuts = "", [], []  # known at the end: how much there is, what is said of it, what makes it a part
         self.numbers, self.has_page = {}, False
-        self.found = []  # the places of the run, once the scan has them
+        self.found = []  # the places of the run, once they are listed
 
-    def places(self, scan, choose):
+    def places(self, listed, choose):
         """Finds the places of the run. Of those that `choose` gives of them the page's trace is there then."""
-        with tempfile.TemporaryFile() as said, subprocess.Popen(self.words, stdin=subprocess.PIPE, stdout=scan.descriptor, stderr=said, **apart()) as ran:
-            scan.begun()
+        pipes = {"stdin": subprocess.PIPE, "stdout": listed.descriptor}
+        with tempfile.TemporaryFile() as said, subprocess.Popen(self.words, **pipes, stderr=said, **apart()) as ran:
+            listed.begun()
             try:
                 chosen, fault = [], None
                 try:
-                    self.found = scan.places()
+                    self.found = listed.places()
                     chosen = choose(self.process, self.found)
                 except Refused as its:
                     fault = its
                 if self.found:
-                    scan.copy(self.scan)
+                    listed.copy(self.scan)
                 with contextlib.suppress(BrokenPipeError):  # its status says how it ended
                     ran.stdin.write(b"".join(lines_of(chosen)))
                     ran.stdin.close()
@@ -132,9 +134,9 @@ class Conversion:
             for number, line in enumerate(trace, 1):
                 access = wanted.pop(number, None)
                 if access and line != b"%b|%b(%b)|%b\n" % access:
-                    raise Contradiction(f"{self.process.name}: event {number:,} of the page's trace isn't that of `shb scan`")
+                    raise Contradiction(f"{self.process.name}: event {number:,} of the page's trace isn't that of `shb places --list`")
         if wanted or lost:
-            raise Contradiction(f"{self.process.name}: the page's trace lacks {counted(len(wanted) + lost, 'event')} of `shb scan`")
+            raise Contradiction(f"{self.process.name}: the page's trace lacks {counted(len(wanted) + lost, 'event')} of `shb places --list`")
         self.numbers, self.has_page = {race.events: pair for race in races for pair in [uses.pair(*race.events)] if pair}, True
 
     def write_page(self, places):

@@ -15,7 +15,7 @@ from shb_record.modules import Modules
 from shb_record.parts import now, say
 from shb_record.places import Places
 from shb_record.running import PRELOADED, cause
-from shb_record.scanning import Contradiction, scanning
+from shb_record.listing import Contradiction, listing
 
 
 KINDS = {b"r": "read", b"w": "written"}
@@ -85,7 +85,7 @@ class Look:
         return looked
 
     def say_unshown(self, looked):
-        """Says what the scan found in a process that can't be shown."""
+        """Says which places are listed of a process that can't be shown."""
         if looked.named:
             found = [(new.place, new.variables) for new in self.places.unknown_of(looked.new)]
         else:
@@ -124,9 +124,9 @@ class Look:
     def analyse(self, looked):
         """Converts and analyses a process."""
         check_room(looked.process, self.options.window)
-        with scanning(self.results.work) as scan:
-            looked.conversion.places(scan, self.choose)
-            looked.places, looked.events = looked.conversion.found, scan.events
+        with listing(self.results.work) as listed:
+            looked.conversion.places(listed, self.choose)
+            looked.places, looked.events = looked.conversion.found, listed.events
         if looked.events:
             self.modules.add(looked.process.modules)
         looked.new, looked.named = self.add_new(looked, looked.places)

@@ -1,6 +1,6 @@
-"""A second look at a process with known races. What follows a racy read in its thread counts as ordered behind the write that it saw, so a
-known race may hide others. The scan runs once more over the run's trace, without the accesses that stand at known places; what it finds
-besides is real if the known races are harmless."""
+"""A second look at a process with known races. What follows a racy read in its thread counts as ordered behind the write
+that it saw, so a known race may hide others. `shb places --list` runs once more over the run's trace, without the
+accesses that stand at known places; what it finds besides is real if the known races are harmless."""
 
 import array
 import bisect
@@ -9,7 +9,7 @@ import subprocess
 
 from shb_common.analyser import Place
 from shb_common.children import apart
-from shb_record.scanning import scanning
+from shb_record.listing import listing
 
 
 class Second:
@@ -25,13 +25,14 @@ class Second:
 
     def places(self, conversion, room):
         """The places of the trace without these accesses, with the events' numbers in the whole trace."""
-        with scanning(room) as scan, subprocess.Popen(conversion.scan_words, stdout=subprocess.PIPE, stderr=subprocess.DEVNULL, **apart()) as ran:
+        pipes = {"stdout": subprocess.PIPE, "stderr": subprocess.DEVNULL}
+        with listing(room) as listed, subprocess.Popen(conversion.list_words, **pipes, **apart()) as ran:
             try:
-                with contextlib.suppress(BrokenPipeError), open(scan.descriptor, "wb", closefd=False) as out:  # the scan's status says how it ended
-                    self.write_rest(ran.stdout, out)
-                scan.begun()
+                with contextlib.suppress(BrokenPipeError), open(listed.descriptor, "wb", closefd=False) as out:
+                    self.write_rest(ran.stdout, out)    # if it ended early, the status of `shb` says why
+                listed.begun()
                 return [place._replace(variables={name: found._replace(events=tuple(map(self.number, found.events)))
-                                                  for name, found in place.variables.items()}) for place in scan.places()]
+                                                  for name, found in place.variables.items()}) for place in listed.places()]
             finally:
                 ran.kill()
 

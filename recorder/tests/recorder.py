@@ -90,12 +90,12 @@ def convert(path, *options):
 
 
 def scanned(record, page, converter=None):
-    """The places of a record by the scan of its trace, each with its two locations in order and a variable; the page's trace of these is
-    written to a file, or none. It has both accesses of each race of the scan where the file of uses says."""
+    """The places of a record's trace, each with its two locations in order and a variable; the page's trace of these is
+    written to a file, or none. It has both accesses of each listed race where the file of uses says."""
     uses = page.with_suffix(".uses")
     words = [str(word) for word in (converter or BUILT / "shb-std", "--scan", "--only", "/dev/stdin", "--page", page, "--uses", uses, record)]
     with subprocess.Popen(words, stdin=subprocess.PIPE, stdout=subprocess.PIPE, stderr=subprocess.PIPE) as ran:
-        listed = must(call(SHB, "scan", "--variables", stdin=ran.stdout)).stdout
+        listed = must(call(SHB, "places", "--list", "--variables", stdin=ran.stdout)).stdout
         found = re.findall(rb"^race \d+: (\d+) (\d+)\nfirst (.*?\|[rw]\((.*?)\)\|(.*))\nsecond (.*?\|[rw]\(.*?\)\|(.*))$", listed, re.M)
         ran.communicate(b"".join(b"%b %b %b\n" % (first, second, name) for first, second, _, name, _, _, _ in found))
         if ran.returncode:

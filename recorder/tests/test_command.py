@@ -199,13 +199,13 @@ int main(int count, char **words) {
         fake.chmod(0o755)
         for words in ("0", "race"), ("0",):
             self.record(self.program(), *words, SHB=str(fake))
-        self.assertEqual(text_of(log), "scan --variables\n" * 2)
+        self.assertEqual(text_of(log), "places --list --variables\n" * 2)
 
-    def test_a_scan_that_fails(self):
+    def test_a_list_that_fails(self):
         fake = self.folder / "shb"
-        for answer, wanted in (("exit 4", "`shb scan` ended with status 4: "), ("echo shb-report 2", "`shb scan` wrote no whole report: line 2 of the report is missing"),
-                               ("kill -KILL $$", "`shb scan` ended with status -9: ")):
-            fake.write_text(f'#!/bin/sh\n[ "$1" = scan ] || exec {recorder.SHB} "$@"\n{answer}\n')
+        for answer, wanted in (("exit 4", "`shb places --list` ended with status 4: "), ("echo shb-report 2", "`shb places --list` wrote no whole report: line 2 of the report is missing"),
+                               ("kill -KILL $$", "`shb places --list` ended with status -9: ")):
+            fake.write_text(f'#!/bin/sh\n[ "$1 $2" = "places --list" ] || exec {recorder.SHB} "$@"\n{answer}\n')
             fake.chmod(0o755)
             status, _, said = self.record(self.program(), "0", "race", SHB=str(fake))
             self.assertEqual((status, wanted in said), (125, True), said)
@@ -701,7 +701,7 @@ int main(int count, char **words) {
             fake.write_text(f"#!/bin/sh\n{recorder.SHB} {end}\n")
             fake.chmod(0o755)
             status, _, said = self.record(self.program(), "0", "race", SHB=str(fake))
-            self.assertEqual((status, "`shb scan` wrote no whole report: line " in said), (125, True), said)
+            self.assertEqual((status, "`shb places --list` wrote no whole report: line " in said), (125, True), said)
 
     def command_alone(self):
         """A command without its converter, which is to be put beside it."""
@@ -730,8 +730,8 @@ int main(int count, char **words) {
         self.assertEqual(status, 125, said)
         self.assertRegex(said, r"(?m)^shb-record: run 1, process \d+: shb-std ended with signal 9$")
 
-    def test_a_page_that_contradicts_the_scan(self):
-        """What the scan found is said, since no page shows it."""
+    def test_a_page_that_contradicts_the_list(self):
+        """Which places are listed is said, since no page shows it."""
         real = recorder.BUILT / "shb-std"
         for end in "sed -i s/status.c:9/status.c:8/ $5", ": > $5":
             with self.subTest(end):
@@ -751,7 +751,7 @@ int main(int count, char **words) {
         command = self.command_alone()
         shutil.copy(planted(self.folder / "planted", "page.c", "wanted[wanted_at] == number)", "wanted[wanted_at] == number && !wanted_at)"), command.parent)
         status, _, said = self.record(self.program(), "0", "race", command=command)
-        self.assertEqual((status, "the page's trace lacks 1 event of `shb scan`" in said), (125, True), said)
+        self.assertEqual((status, "the page's trace lacks 1 event of `shb places --list`" in said), (125, True), said)
 
     def test_what_earlier_runs_recorded_is_shown(self):
         """The third run leaves no record, for it can't begin one."""

@@ -1,4 +1,4 @@
-"""The scan of `shb-std`'s text has the places of a record: of records drawn at random `analysis.py` finds the same, from the entries alone.
+"""The list of places of `shb-std`'s text has those of a record: of records drawn at random `analysis.py` finds the same, from the entries alone.
 
 What decides which accesses `shb` is given, and of which variable, is in the converter; so a fault there would be found, which is tested too.
 """
@@ -76,9 +76,9 @@ def draw_record(folder, seed):
 
 
 def scanned(path, converter):
-    """By two places: the first bytes of the variables of which `shb scan` finds a race, as (number of the block, address or offset)."""
+    """By two places: the first bytes of the variables of which `shb places --list` has a race, as (number of the block, address or offset)."""
     trace = recorder.must(recorder.call(converter, "--scan", path)).stdout
-    report = Report(io.BytesIO(recorder.must(recorder.call(recorder.SHB, "scan", "--variables", input=trace)).stdout))
+    report = Report(io.BytesIO(recorder.must(recorder.call(recorder.SHB, "places", "--list", "--variables", input=trace)).stdout))
     found = {}
     for _, (one, other) in report.races():
         name = one.name.partition(b"!")[0]
@@ -104,7 +104,7 @@ def differs(steps, found):
 
 
 class Decided(recorder.Case):
-    def test_the_scan_has_the_races_of_the_record(self):
+    def test_the_list_has_the_races_of_the_record(self):
         places = 0
         for seed in range(300):
             steps, path = draw_record(self.folder, seed)

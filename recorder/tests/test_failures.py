@@ -123,7 +123,7 @@ class Failures(recorder.Case):
         self.assertEqual((ran.stdout, ran.stderr), (b"66002\n", b""))
         answer = recorder.part(recorder.convert(path, "--scan"))
         self.assertIn(b" 66003 threads, ", answer.stderr)
-        self.assertIn(b"the trace is cut before a thread too many: shb scan takes 65,535", answer.stderr)
+        self.assertIn(b"the trace is cut before a thread too many: shb places --list takes 65,535", answer.stderr)
 
     def test_threads_whose_begin_is_not_seen(self):
         path = self.folder / "app.rec"

@@ -45,11 +45,11 @@ class Parts(recorder.Case):
         self.converter = planted(self.folder / "converter", "page.c", SPANS, "enum { CONTEXT = 2, SHORT_RUN = 4, ONE_TRACE = 20, SPARSE = 4 };")
 
     def page_of(self, entries, *options):
-        """The page's trace of a record, with spans of a few events; the scan's report is beside it."""
+        """The page's trace of a record, with spans of a few events; the list of places is beside it."""
         record, page, scan = (self.folder / name for name in ("app.rec", "page.std", "page.scan"))
         record.write_bytes(HEADER + b"".join(entries))
         whole = recorder.must(recorder.call(self.converter, "--scan", record)).stdout
-        scan.write_bytes(recorder.must(recorder.call(recorder.SHB, "scan", "--variables", input=whole)).stdout)
+        scan.write_bytes(recorder.must(recorder.call(recorder.SHB, "places", "--list", "--variables", input=whole)).stdout)
         races = re.findall(rb"^race \d+: (\d+) (\d+)\nfirst .*?\|[rw]\((.*?)\)", scan.read_bytes(), re.M)
         uses = self.folder / "page.uses"
         page.write_bytes(recorder.must(recorder.call(self.converter, "--only", "/dev/stdin", "--uses", uses, *options, record,

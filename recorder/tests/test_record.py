@@ -89,7 +89,7 @@ class Canned(recorder.Case):
         self.assertIn(b"the trace is cut at the limit of events", answer.stderr)
         self.assertNotIn(b"cut", recorder.convert(self.record, "-n", str(len(TRACE))).stderr)
 
-    def test_the_trace_for_scan(self):
+    def test_the_trace_of_the_whole_run(self):
         """It is the same, and no limit cuts it."""
         for words in ((), ("-n", "5"), ("--stacks", self.folder / "stacks")):
             answer = recorder.must(recorder.convert(self.record, "--scan", *words))

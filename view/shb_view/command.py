@@ -59,8 +59,8 @@ def arguments(words, program):
     parser.add_argument("--json", metavar="FILE", help="write the places to this file, for programs (docs/FORMATS.md has the form)")
     parser.add_argument("--stacks", metavar="FILE", help="show call stacks and names of locals, as `shb-std --stacks` wrote them")
     parser.add_argument("--recorded-source", action="store_true", help="show lines of the source files that the file of --stacks names")
-    parser.add_argument("--scan", metavar="FILE", help="the races are those of this file, which `shb scan --variables` wrote of the run that the trace is "
-                        "of: `shb` isn't asked; it needs --uses")
+    parser.add_argument("--scan", metavar="FILE", help="the races are those of this file, which `shb places --list --variables` wrote of "
+                        "the run that the trace is of: `shb` isn't asked; it needs --uses")
     parser.add_argument("--uses", metavar="FILE", help="the uses of the variables in the whole run, as `shb-std --uses` wrote them")
     parser.add_argument("--check", action="store_true", help="run `shb check` on the REPORT that is given")
     parser.add_argument("--shb", metavar="PROGRAM", default=os.environ.get("SHB") or program, help="the `shb` to run")

@@ -159,7 +159,8 @@ class Counting:
         counts[kind] = counts.get(kind, 0) + 1
 
     def see(self, number, variable, thread, location):
-        """Takes a read of what a racing write wrote. Of a scan one race of a variable at a place is known, and stands for others there."""
+        """Takes a read of what a racing write wrote. Of a run one race of a variable at a place is known, and stands for
+        others there."""
         write, writer, written = self.writes[variable]
         stands = self.uses is not None and writer != thread and (variable, written, location) in self.racing_reads
         if stands or (write, number) in self.reads:

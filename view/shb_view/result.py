@@ -14,7 +14,7 @@ def document(view):
     pairs = [(number, section, pair) for number, section in enumerate(view.sections, 1) for pair in section.group.pairs]
     origin, names = naming(view.stacks, {location for _, _, pair in pairs for location in pair.locations})
     places = [{**entry(view, section, pair, origin, names), "group": number} for number, section, pair in pairs]
-    summary = {**({} if view.of_scan else {"races": view.made.races}), "places": view.pairs, "groups": view.groups, **view.made.counts._asdict()}
+    summary = {**({} if view.of_run else {"races": view.made.races}), "places": view.pairs, "groups": view.groups, **view.made.counts._asdict()}
     notes = [*view.notes, *notes_of(view), *view.about]
     return result.document("shb-view", summary, places, title=view.title, notes=notes, groups=[group_entry(view, section) for section in view.sections])
 
@@ -33,7 +33,7 @@ def entry(view, section, pair, origin, names):
             found.update(site_entry(sites[location]))
         found["stacks"] = [stack_entry(frames, count) for (frames, _), count in section.callers.get(location, ())[:MOST_STACKS] if frames]
         accesses.append(found)
-    return {"places": len(pair.orders), "accesses": accesses, "variables": view.variables(pair), **({} if view.of_scan else {"races": pair.races}),
+    return {"places": len(pair.orders), "accesses": accesses, "variables": view.variables(pair), **({} if view.of_run else {"races": pair.races}),
             "headline": flat(section.fact.tag), "remedy": flat(section.fact.remedy),
             "facts": [flat(parts) for parts in told_of(section)]}
 

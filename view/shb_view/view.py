@@ -52,8 +52,8 @@ class Given(collections.namedtuple("Given", "name file verdict places")):
 
 class Subject(collections.namedtuple("Subject", "given counts races listed is_sample events uses in_run parts", defaults=({}, ()))):
     """The races of a trace with so many events: how many it has, and how many of these a given report has. Of a sample (`is_sample`) one race
-    of each variable at each place is known. Of a scan the races are one of each variable at each place of a run, which aren't counted; it has
-    the `uses` in the run, and `counts` are the run's. `in_run` has by an event of the trace that of the run, of those that race; at `parts`
+    of each variable at each place is known. Of a recorded run too, and they aren't counted; it has the `uses` in the run,
+    and `counts` are the run's. `in_run` has by an event of the trace that of the run, of those that race; at `parts`
     parts of the trace begin."""
 
 
@@ -62,7 +62,7 @@ class View(collections.namedtuple("View", "title made pairs groups sections sour
     trace, `about` what it said of the recorder."""
 
     @property
-    def of_scan(self):
+    def of_run(self):
         return self.made.uses is not None
 
     @property
@@ -76,7 +76,7 @@ class View(collections.namedtuple("View", "title made pairs groups sections sour
             for name, races in self.kinds.gathered.variables.get(place, {}).items():
                 name = text(without_block(self.kinds.name(name)))
                 found[name] = found.get(name, 0) + races
-        return [{"name": name, **({} if self.of_scan or self.made.is_sample else {"races": races})} for name, races in sorted(found.items())]
+        return [{"name": name, **({} if self.of_run or self.made.is_sample else {"races": races})} for name, races in sorted(found.items())]
 
 
 def are_at(path, sections, stacks):
@@ -99,7 +99,7 @@ def make_view(options, progress):
     with contextlib.ExitStack() as stack:
         file = stack.enter_context(open_regular(options.trace))
         gathered = Gathered()
-        made = scanned(options, gathered, stack) if options.scan else analysed(options, file, gathered, progress, stack)
+        made = of_record(options, gathered, stack) if options.scan else analysed(options, file, gathered, progress, stack)
         with damage_of(options.stacks):
             stacks = Stacks(options.stacks, made.events)
         gathered.name_locals(stacks)
@@ -132,20 +132,20 @@ def analysed(options, file, gathered, progress, stack):
     return Subject(given, head.counts, head.count, listed if options.report else head.count, is_sample, head.counts.events, None)
 
 
-def scanned(options, gathered, stack):
-    """The races of a scan with both accesses in one part of the trace, by their numbers there."""
+def of_record(options, gathered, stack):
+    """The races of a recorded run with both accesses in one part of the trace, by their numbers there."""
     with damage_of(options.uses):
         uses = Uses(options.uses)
     file, listed = stack.enter_context(open(options.scan, "rb")), 0
     with faults_of(options.scan):
-        scan = Report(file)
-        for race, accesses in scan.races():
+        report = Report(file)
+        for race, accesses in report.races():
             pair = uses.pair(race.first, race.second)
             if pair:
                 listed += 1
                 gathered.add(race._replace(first=pair[0], second=pair[1]), *accesses, {})
     in_run = {in_page: event for event, in_page in uses.events.items()}
-    return Subject(Given(options.scan, file, OWN, None), scan.counts, listed, listed, False, uses.count, uses.uses, in_run, uses.parts)
+    return Subject(Given(options.scan, file, OWN, None), report.counts, listed, listed, False, uses.count, uses.uses, in_run, uses.parts)
 
 
 @contextlib.contextmanager

@@ -103,7 +103,7 @@ def partner_parts(site):
 def summary(view):
     """How much the report and the trace have."""
     size = ", ".join(counted(count, name[:-1]) for name, count in view.made.counts._asdict().items())
-    if view.of_scan:
+    if view.of_run:
         return f"{counted(view.pairs, 'place')} with races, in {counted(view.groups, 'group')}", size
     races = counted(view.made.races, "race") if view.made.listed == view.made.races else f"{view.made.listed:,} of {counted(view.made.races, 'race')}"
     lines = f" at {counted(view.pairs, 'place')}, in {counted(view.groups, 'group')}" if view.groups else ""
@@ -121,7 +121,7 @@ def notes_of(view):
     elif not view.made.races:
         yield "Any two conflicting accesses are ordered in this trace. A run with another interleaving may have races."
     if view.sections and view.stacks.numbers:
-        yield f"Counts are those of the {'whole run' if view.of_scan else 'trace'}. The recorder omits repeats: a loop may count as two accesses."
+        yield f"Counts are those of the {'whole run' if view.of_run else 'trace'}. The recorder omits repeats: a loop may count as two accesses."
     if view.made.listed < view.made.races:
         yield "The report doesn't list all races of the trace; the counts are the report's."
     if view.made.is_sample:

@@ -1,4 +1,4 @@
-"""`shb scan` on all that a process recorded: which places there are, and of which variables."""
+"""`shb places --list` on all that a process recorded: which places there are, and of which variables."""
 
 import contextlib
 import os
@@ -15,16 +15,16 @@ class Contradiction(Refused):
     """A check failed: the parts of this command don't fit each other."""
 
 
-class Scanning:
-    """A running `shb scan`, which reads from a pipe. `descriptor` is where the trace is to be written; it ends when whoever was started
-    with it has ended, and `begun` was called."""
+class Listing:
+    """A running `shb places --list`, which reads from a pipe. `descriptor` is where the trace is to be written; it ends
+    when whoever was started with it has ended, and `begun` was called."""
 
     def __init__(self, room):
         self.text = tempfile.TemporaryFile(dir=room)
         self.events = 0  # of the run, when all is read
         reading, self.descriptor = os.pipe()
         with open(reading, "rb") as pipe:
-            self.run = analyser.Run([ANALYSER, *analyser.SCAN], pipe, self.text, **apart())
+            self.run = analyser.Run([ANALYSER, *analyser.WITH_VARIABLES], pipe, self.text, **apart())
 
     def begun(self):
         os.close(self.descriptor)
@@ -41,14 +41,14 @@ class Scanning:
         """The places of the run, with their variables, when all is read."""
         answer = self.run.answer()
         if answer.status:
-            raise Refused(f"`shb scan` ended with status {answer.status}: {answer.words}")
+            raise Refused(f"`shb places --list` ended with status {answer.status}: {answer.words}")
         self.text.seek(0)
         try:
             report = Report(self.text)
             self.events = report.counts.events
             return analyser.places_in(report)
         except BadReport as fault:
-            raise Contradiction(f"`shb scan` wrote no whole report: {fault}") from None
+            raise Contradiction(f"`shb places --list` wrote no whole report: {fault}") from None
 
     def copy(self, path):
         """Puts what it wrote into a file."""
@@ -59,9 +59,9 @@ class Scanning:
 
 
 @contextlib.contextmanager
-def scanning(room):
-    scan = Scanning(room)
+def listing(room):
+    its = Listing(room)
     try:
-        yield scan
+        yield its
     finally:
-        scan.close()
+        its.close()
