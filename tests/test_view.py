@@ -603,9 +603,9 @@ class Windows(program.Case):
         trace = b"A|r(a)|1\nB|r(b)|2\nA|w(x)|3\nB|w(x)|4\n"
         report = shb.report(trace, True).replace(b"schedule 2: 1 2", b"schedule 2: 2 1")
         self.assertEqual(judge.verdict(trace, report), b"ok 1\n")
-        self.assertEqual([(w.before, w.length) for w in windows(trace, report)], [([2, 1], 2)])
+        self.assertEqual([(w.before, w.schedule) for w in windows(trace, report)], [([2, 1], (2, [2, 1]))])
         for is_good in (False, None):
-            self.assertEqual([(w.before, w.length) for w in windows(trace, report, is_good)], [([1, 2], None)])
+            self.assertEqual([(w.before, w.schedule) for w in windows(trace, report, is_good)], [([1, 2], None)])
 
     def test_events_of_made_traces(self):
         """Edges, locks held and what comes before, against the definitions."""
@@ -615,7 +615,7 @@ class Windows(program.Case):
             below, lines = shb.below_sets(events), shb.read_trace(text)[1]
             for window in windows(text, shb.report(text, True)):
                 schedule = schedules[window.accesses]
-                self.assertEqual(window.length, len(schedule))
+                self.assertEqual(window.schedule, (len(schedule), schedule))
                 self.assertEqual(window.before, [e for e in schedule if e in window.before])
                 self.assertTrue(all(shb.is_edge(events, s - 1, e - 1) and events[s - 1][0] != events[e - 1][0] for s, e in window.edges))
                 edges += len(window.edges)

@@ -119,8 +119,9 @@ class Pages(program.Case):
     def test_commands_that_run_it_again(self):
         page = self.page(self.example("account"), "--turns", "out/a b.turns", "--command", "./account 7")
         self.assertEqual(page.data()["groups"][0]["again"], [
-            "shb-record --replay 'out/a b.turns' ./account 7", "shb-record --replay 'out/a b.turns' gdb -ex 'break account.c:10' "
-            "-ex 'break account.c:8' -ex run --args ./account 7"])
+            ["with the same turns of the threads", "shb-record --replay 'out/a b.turns' ./account 7"],
+            ["in a debugger that stops at the two lines", "shb-record --replay 'out/a b.turns' gdb "
+             "-ex 'break account.c:10' -ex 'break account.c:8' -ex run --args ./account 7"]])
 
     def test_nothing_comes_from_outside(self):
         page = self.page(self.example("unlocked-read"))

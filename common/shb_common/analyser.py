@@ -12,7 +12,7 @@ from shb_common.report import BadReport
 MOST_SAID = 4_096   # bytes of what the program says that are kept
 MOST_WORDS = 500    # of these, those that are told as words of one line
 HEAD, FULL, LIST = ["races", "--list"], ["places"], ["places", "--list"]
-WITH_VARIABLES = [*LIST, "--variables"]
+VARIABLES, LIST_VARIABLES = [*FULL, "--variables"], [*LIST, "--variables"]
 REFUSED = 2         # the status of `shb` for a refused trace
 
 

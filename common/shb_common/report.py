@@ -20,6 +20,7 @@ RACE = re.compile(rb"race %b: %b %b\n" % (NUMBER, NUMBER, NUMBER))
 FIRST, SECOND = (re.compile(word + rb" (([^\n|]+)\|([rw])\(([^\n|]+)\)(?:\|([^\n]*))?)\n") for word in (rb"first", rb"second"))
 SCHEDULE = re.compile(rb"schedule %b:" % NUMBER)
 END = re.compile(rb"end\n")
+MOST_EVENTS = 1_000     # of a schedule that is given as a list
 LONGEST = 60        # columns of a line that a refusal shows
 MOST_KNOWN = 10_000  # lines of accesses that are kept
 
@@ -38,6 +39,10 @@ class Access(collections.namedtuple("Access", "thread word name location")):
 
 class Race(collections.namedtuple("Race", "number first second first_line second_line schedule")):
     """A race of a report. `schedule` is where its schedule begins in the file, or None."""
+
+
+class Schedule(collections.namedtuple("Schedule", "length events")):
+    """How many events a schedule has, and which; None of more than MOST_EVENTS."""
 
 
 class Lines:
@@ -172,8 +177,11 @@ class Report:
 
 
 def in_order(file, race, events):
-    """Some events in the order of the race's schedule, which `shb check` found good, and how many events that has."""
+    """Some events in the order of the race's schedule, which `shb check` found good, and that schedule."""
     file.seek(race.schedule)
     line = file.readline().replace(b"\n", b" ")
-    places = {event: line.find(b" %d " % event) for event in events}
-    return sorted(events, key=places.get), int(SCHEDULE.match(line)[1])
+    places, head = {event: line.find(b" %d " % event) for event in events}, SCHEDULE.match(line)
+    length = int(head[1])
+    has_few = length <= MOST_EVENTS
+    schedule = Schedule(length, list(map(int, line[head.end():].split())) if has_few else None)
+    return sorted(events, key=places.get), schedule

@@ -22,7 +22,7 @@ class Asked(side_by_side.Case):
     def test_all_variables_of_each_place(self):
         text = b"T1|w(x)|a:1\nT1|w(y)|a:1\r\n\nT2|w(x)|a:2|b\nT2|r(y)|a:2|b\nT2|w(q)\nT1|w(q)"
         found = {(place.first, place.second): {name: race.events for name, race in place.variables.items()}
-                 for place in analyser.places_in(asked(analyser.WITH_VARIABLES, text))}
+                 for place in analyser.places_in(asked(analyser.LIST_VARIABLES, text))}
         self.assertEqual(found, {(b"a:1", b"a:2|b"): {b"x": (1, 3), b"y": (2, 4)}, (b"", b""): {b"q": (5, 6)}})
 
     def test_the_same_as_in_the_list_of_all_races(self):
@@ -41,13 +41,13 @@ class Asked(side_by_side.Case):
             text, wanted = "".join(lines).encode(), {}
             for _, (one, other) in asked(["races", "--list"], text).races():
                 wanted.setdefault((one.location, other.location), set()).add(one.name)
-            found = {(place.first, place.second): set(place.variables) for place in analyser.places_in(asked(analyser.WITH_VARIABLES, text))}
+            found = {(place.first, place.second): set(place.variables) for place in analyser.places_in(asked(analyser.LIST_VARIABLES, text))}
             self.assertEqual(found, wanted, text)
 
     def test_more_than_are_kept(self):
         many = variables.MOST_VARIABLES
         text = b"".join(b"%s|w(x%d)|%s\n" % (thread, number, thread) for thread in (b"A", b"B") for number in range(many + 1))
-        [place] = analyser.places_in(asked(analyser.WITH_VARIABLES, text))
+        [place] = analyser.places_in(asked(analyser.LIST_VARIABLES, text))
         self.assertEqual((len(place.variables), place.has_more), (many, True))
 
     def test_a_variable_that_is_there_twice(self):

@@ -9,7 +9,7 @@ from shb_common import analyser
 from shb_common.children import end_with
 from shb_farm.limits import MIB
 
-WORDS = {"list": analyser.WITH_VARIABLES, "full": [*analyser.FULL, "--workers", "1"]}
+WORDS = {"list": analyser.LIST_VARIABLES, "full": [*analyser.FULL, "--workers", "1"]}
 
 
 class End(collections.namedtuple("End", "kind words")):

@@ -24,7 +24,7 @@ class Listing:
         self.events = 0  # of the run, when all is read
         reading, self.descriptor = os.pipe()
         with open(reading, "rb") as pipe:
-            self.run = analyser.Run([ANALYSER, *analyser.WITH_VARIABLES], pipe, self.text, **apart())
+            self.run = analyser.Run([ANALYSER, *analyser.LIST_VARIABLES], pipe, self.text, **apart())
 
     def begun(self):
         os.close(self.descriptor)

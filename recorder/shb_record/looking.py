@@ -12,7 +12,7 @@ from shb_common.standard import words_of
 from shb_common.words import counted
 from shb_record.converting import CRASHED, KILLED, Conversion, check_room, order_of, processes
 from shb_record.modules import Modules
-from shb_record.parts import now, say
+from shb_record.parts import ANALYSER, now, say
 from shb_record.places import Places
 from shb_record.running import PRELOADED, cause
 from shb_record.listing import Contradiction, listing
@@ -227,14 +227,17 @@ class Look:
         behind.write_bytes(b"".join(line for one in unknown if one.place in looked.behind for line in lines_of_new(one)))
         from shb_view.command import asked, explain  # takes its time, and a run without a place does without
         from shb_view.result import document
-        status, view = explain(asked(
-            conversion.trace, title=f"{process.command} ({process.name}, {self.started})", note=notes, about=list(self.meaning()), has_notes=False,
-            recorded_source=True, source=self.options.source, stacks=conversion.stacks, scan=conversion.scan, uses=conversion.uses, only=only,
-            behind=behind, unseen=self.modules.calls(process.modules), turns=turns, text=True, html=page,
-            command=shlex.join([self.options.program, *self.options.arguments])), sys.stderr)
-        if status:
+        from shb_view.words import bad_words
+        _, view = explain(asked(
+            conversion.trace, title=f"{process.command} ({process.name}, {self.started})", note=notes, about=list(self.meaning()),
+            has_notes=False, recorded_source=True, source=self.options.source, stacks=conversion.stacks, scan=conversion.scan,
+            uses=conversion.uses, only=only, behind=behind, unseen=self.modules.calls(process.modules), turns=turns, text=True,
+            html=page, shb=ANALYSER, command=shlex.join([self.options.program, *self.options.arguments])), sys.stderr)
+        if not view:
             print(lines.decode(errors="backslashreplace"), end="", file=sys.stderr)
             return
+        if view.verdict.is_good is False:
+            self.fail(Contradiction(f"{process.name}: {bad_words(view)}"))
         self.pages.append(page)
         self.found[process.name, conversion.trace] = found = document(view)
         self.sources[process.name, conversion.trace] = looked.sources

@@ -60,7 +60,7 @@ class Command(recorder.Case):
         self.assertRegex(said, r"(?m)^shb-record: run 1, process \d+ \(\S+/status 0 race\): .*; 1 place with races$")
         self.assertIn("status.c:9", said)
         page, = (self.folder / "status.shb").glob("run*.html")
-        self.assertEqual([said.splitlines()[-4], *said.splitlines()[-2:]], ["shb-record: 1 place with races; the program's own status: 0; files in "
+        self.assertEqual([said.splitlines()[-5], *said.splitlines()[-2:]], ["shb-record: 1 place with races; the program's own status: 0; files in "
                                                   f"{self.folder}/status.shb", ONE, f"shb-record: page: {page}"])
         self.assertRegex(text_of(page), r"<title>\S+/status 0 race \(run 1, process \d+, \d{4}-\d\d-\d\d \d\d:\d\d\): 1 place with races, ")
         self.assertEqual(self.names(), [*TABLES, "run1.N.html", "run1.N.scan", "run1.N.stacks", "run1.N.std", "run1.N.turns", "run1.N.uses",
@@ -147,7 +147,7 @@ int main(int count, char **words) {
         self.assertEqual(there, back[::-1])
         for shown in said, text_of(page):
             self.assertRegex(shown, r"2 places with races, in \d group")
-        numbers = re.findall(r"In the run the accesses are events ([\d,]+) and ([\d,]+): ", text_of(page))
+        numbers = re.findall(r"In the run the accesses are events ([\d,]+) and ([\d,]+)\.", text_of(page))
         races = re.findall(r"(?m)^race \d+: (\d+) (\d+)$", text_of(scan))
         self.assertTrue(numbers and {tuple(number.replace(",", "") for number in pair) for pair in numbers} <= set(races), (numbers, races))
         self.assertIn(f"races with {there[1]}\n", said)
@@ -193,13 +193,14 @@ int main(int count, char **words) {
             self.assertEqual((status, "1 unknown place with races" in said), (wanted, wanted == 66), said)
 
     def test_how_often_shb_runs(self):
-        """Once, with and without a race."""
+        """Once for all places, and with a race for its schedule, and to judge that."""
         fake, log = self.folder / "shb", self.folder / "log"
         fake.write_text(f'#!/bin/sh\necho "$@" >> {log}\nexec {recorder.SHB} "$@"\n')
         fake.chmod(0o755)
         for words in ("0", "race"), ("0",):
             self.record(self.program(), *words, SHB=str(fake))
-        self.assertEqual(text_of(log), "places --list --variables\n" * 2)
+        listed = "places --list --variables\n"
+        self.assertRegex(text_of(log), rf"\A{listed}places --variables\ncheck /dev/fd/\d+\n{listed}\Z")
 
     def test_a_list_that_fails(self):
         fake = self.folder / "shb"

@@ -5,7 +5,7 @@ import os
 import subprocess
 import tempfile
 
-from shb_common.analyser import HEAD, REFUSED, WITH_VARIABLES, Run, rewound
+from shb_common.analyser import HEAD, REFUSED, LIST_VARIABLES, Run, rewound
 from shb_common.faults import Refused
 from shb_common.refused import line_and_hint, without_note
 from shb_common.report import BadReport, Report
@@ -70,7 +70,7 @@ class Analyser:
     def share_variables(self, take):
         """Gives one race of each variable at each place to `take`, whatever the number of races."""
         with tempfile.TemporaryFile() as listed:
-            self.write(WITH_VARIABLES, listed)
+            self.write(LIST_VARIABLES, listed)
             for race, accesses in Report(listed).races():
                 take(race, *accesses)
 

@@ -30,7 +30,7 @@ A place is a pair of locations that race, that of the first access and that of t
 # What is asked for where nothing else is. `unseen` has by the name of a function, a file or a module which modules without hooks it calls or is.
 DEFAULTS = {"html": None, "text": False, "only": None, "title": None, "source": [], "all": False, "note": [], "about": [], "has_notes": True,
             "behind": None, "unseen": {}, "turns": None, "command": "", "json": None, "stacks": None, "recorded_source": False, "scan": None,
-            "uses": None, "check": False, "report": None}
+            "uses": None, "check": False, "report": None, "shb": None}
 
 
 def asked(trace, **more):
@@ -60,7 +60,7 @@ def arguments(words, program):
     parser.add_argument("--stacks", metavar="FILE", help="show call stacks and names of locals, as `shb-std --stacks` wrote them")
     parser.add_argument("--recorded-source", action="store_true", help="show lines of the source files that the file of --stacks names")
     parser.add_argument("--scan", metavar="FILE", help="the races are those of this file, which `shb places --list --variables` wrote of "
-                        "the run that the trace is of: `shb` isn't asked; it needs --uses")
+                        "the run that the trace is of: of `shb` a page has schedules alone; it needs --uses")
     parser.add_argument("--uses", metavar="FILE", help="the uses of the variables in the whole run, as `shb-std --uses` wrote them")
     parser.add_argument("--check", action="store_true", help="run `shb check` on the REPORT that is given")
     parser.add_argument("--shb", metavar="PROGRAM", default=os.environ.get("SHB") or program, help="the `shb` to run")

@@ -43,16 +43,16 @@ class Group(collections.namedtuple("Group", "pairs variables names")):
         return {location for pair in self.pairs for location in pair.locations}
 
     def closest(self):
-        """The listed race whose events are closest in the trace, the first of these."""
-        return min((pair.closest for pair in self.pairs), key=distance)
+        """The listed race whose events are closest in the trace, the first of these; one with a schedule if there is one."""
+        return min((pair.closest for pair in self.pairs), key=shown_first)
 
     def places(self):
         """The pairs of racing lines, in each the lesser first."""
         return {pair.locations for pair in self.pairs}
 
 
-def distance(race):
-    return race.second - race.first, race.first
+def shown_first(race):
+    return race.schedule is None, race.second - race.first, race.first
 
 
 class Between(collections.namedtuple("Between", "first second giver taker variable words")):
@@ -92,7 +92,7 @@ class Gathered:
         locations = tuple(sorted(place))
         pair = self.pairs.setdefault(locations, Pair(locations, race))
         pair.orders[place] = pair.orders.get(place, 0) + (places.pop(place, 0) if places is not None else 1)
-        pair.closest = min(pair.closest, race, key=distance)
+        pair.closest = min(pair.closest, race, key=shown_first)
         self.share(race, first, second, 1 if places is None else 0)
         self.lines.update({race.first: race.first_line, race.second: race.second_line})
 

@@ -59,10 +59,11 @@ def stack_lines(frames):
 
 def order_text(view, window):
     """After what the two accesses can execute next, as far as it is known."""
-    if window.length is None:
-        numbers = [f"{view.made.in_run[access]:,}" for access in window.accesses if access in view.made.in_run]
-        of_run = f"In the run the accesses are events {' and '.join(numbers)}" if numbers else "No schedule of this race is at hand"
-        return f"{of_run}: events are shown in the order of the trace."
+    numbers = [f"{view.made.in_run[access]:,}" for access in window.accesses if access in view.made.in_run]
+    of_run = f"In the run the accesses are events {' and '.join(numbers)}" if numbers else ""
+    if window.schedule is None:
+        return f"{of_run or 'No schedule of this race is at hand'}: events are shown in the order of the trace."
     of = f"`shb check` found the schedule of race {window.race.number} good" if view.verdict.is_good else (
         f"`shb places` has a schedule of it, race {window.race.number}")
-    return f"{of}: after its {counted(window.length, 'event')} both accesses can execute next."
+    its = counted(window.schedule.length, "event") + " of the page's trace" * view.of_run
+    return f"{of}: after its {its} both accesses can execute next." + f" {of_run}." * bool(of_run)

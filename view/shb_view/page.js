@@ -174,9 +174,9 @@ function draw(row) {
   const group = DATA.groups[numberOf(row) - 1], text = row.querySelector("pre");
   if (row.classList.contains("drawn") || !group) return;
   row.classList.add("drawn");
-  const commands = group.again.map((words, at) => {
+  const commands = group.again.map(([what, words]) => {
     const line = make("pre", { class: "command" }, words);
-    return make("div", { class: "line" }, make("span", null, at ? "in a debugger that stops at the two lines" : "with the same turns of the threads"), line, copier(line));
+    return make("div", { class: "line" }, make("span", null, what), line, copier(line));
   });
   const asText = folded("As text, for an issue", copier(text)), head = `#${row.id}`;
   text.before(make("div", { class: "body" }, group.about.map((parts) => make("p", null, told(parts))),

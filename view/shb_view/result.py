@@ -43,8 +43,15 @@ def group_entry(view, section):
     names, locals = section.group.names, view.kinds.locals
     unseen = {"perhaps_ordered_by": list(map(result.text, section.unseen))} if section.unseen else {}
     return {"form": section.fact.form, "group": [result.text(name) for name in names], **section.fact.said, **unseen,
-            "locals": {result.text(name): result.text(locals[name]) for name in names if name in locals}, "all_races": races_looked_at(section.group, view.kinds),
+            **schedule_entry(view, section.window), "locals": {result.text(name): result.text(locals[name]) for name in names if name in locals}, "all_races": races_looked_at(section.group, view.kinds),
             "pairs": [list(map(result.text, pair)) for pair in sorted(section.group.places())]}
+
+
+def schedule_entry(view, window):
+    """The schedule of the race that is shown."""
+    if not window or not window.schedule:
+        return {}
+    return {"schedule": {"race": window.accesses, **window.schedule._asdict(), "is_checked": bool(view.verdict.is_good)}}
 
 
 def site_entry(site):

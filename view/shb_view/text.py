@@ -7,7 +7,7 @@ from shb_view.groups import common_name
 from shb_view.issue import issue_lines
 from shb_view.names import code_line, columns, padded, short
 from shb_view.stacks import caller_lines, origins
-from shb_view.words import (MOST_SITES, about, accesses_text, flat_in, lock_words, notes_of, partner_parts, place, races_text,
+from shb_view.words import (MOST_SITES, about, accesses_text, bad_words, flat_in, lock_words, notes_of, partner_parts, place, races_text,
                             share, summary, thread_parts)
 
 NAME = 80  # columns of a name or a location
@@ -30,7 +30,7 @@ def text_lines(view, colours, is_whole, has_notes=True):
     """The lines of the whole text, with its notes behind the groups. `is_whole` adds the report for an issue and the events before the
     accesses."""
     if view.verdict.is_good is False:
-        yield colours.red(f"`shb check` finds the report bad: {view.verdict.words}. What follows rests on this report alone.")
+        yield colours.red(bad_words(view))
     races, size = summary(view)
     yield f"{colours.bold(f'{view.title}: {races}')} ({size})"
     yield from map(colours.red, view.notes)

@@ -3,12 +3,13 @@
 import collections
 import contextlib
 import os
+import shlex
 import stat
 import sys
 import tempfile
 
 from shb_common import known
-from shb_common.analyser import FULL, LIST
+from shb_common.analyser import FULL, LIST, VARIABLES
 from shb_common.faults import Refused
 from shb_common.limits import MOST_TEXT
 from shb_common.report import BadReport, Report, in_order
@@ -44,10 +45,13 @@ class Given(collections.namedtuple("Given", "name file verdict places")):
     """A report to be shown. `places` has how many races each place has, where the report lists one race of each place."""
 
     def order(self, race, events):
-        """Some events in the order of a race's schedule, with the schedule's length, if `shb` made the report or `check` found it
-        good; else as they are."""
+        """Some events in the order of a race's schedule, with that schedule, if `shb` made the report or `check` found it good;
+        else as they are."""
         is_known = self.verdict.is_good or self.verdict is OWN
         return in_order(self.file, race, events) if is_known and race.schedule is not None else (events, None)
+
+
+NO_REPORT = Given("", None, OWN, None)
 
 
 class Subject(collections.namedtuple("Subject", "given counts races listed is_sample events uses in_run parts", defaults=({}, ()))):
@@ -57,9 +61,10 @@ class Subject(collections.namedtuple("Subject", "given counts races listed is_sa
     parts of the trace begin."""
 
 
-class View(collections.namedtuple("View", "title made pairs groups sections source notes about stacks kinds turns command")):
-    """All that is shown. `pairs` and `groups` are how many there are, `sections` those that are shown. `notes` are what the caller said of the
-    trace, `about` what it said of the recorder."""
+class View(collections.namedtuple("View", "title made pairs groups sections source notes about stacks kinds turns command judge")):
+    """All that is shown. `pairs` and `groups` are how many there are, `sections` those that are shown. `notes` are what the
+    caller said of the trace, `about` what it said of the recorder. `judge` is the command that makes the schedules of a
+    recorded run's page again and judges them, or nothing."""
 
     @property
     def of_run(self):
@@ -99,7 +104,7 @@ def make_view(options, progress):
     with contextlib.ExitStack() as stack:
         file = stack.enter_context(open_regular(options.trace))
         gathered = Gathered()
-        made = of_record(options, gathered, stack) if options.scan else analysed(options, file, gathered, progress, stack)
+        made = of_record(options, file, gathered, stack) if options.scan else analysed(options, file, gathered, progress, stack)
         with damage_of(options.stacks):
             stacks = Stacks(options.stacks, made.events)
         gathered.name_locals(stacks)
@@ -115,7 +120,7 @@ def make_view(options, progress):
         notes, about = ([readable(os.fsencode(line)) for line in lines] for lines in (options.note, options.about))
         turns = readable(os.fsencode(options.turns)) if options.turns else ""
         return View(title, made, pairs, count, sections, source, [*notes, *warnings(options.trace)], about, stacks, kinds, turns,
-                    readable(os.fsencode(options.command)))
+                    readable(os.fsencode(options.command)), judge_of(made, options.trace))
 
 
 def analysed(options, file, gathered, progress, stack):
@@ -132,20 +137,50 @@ def analysed(options, file, gathered, progress, stack):
     return Subject(given, head.counts, head.count, listed if options.report else head.count, is_sample, head.counts.events, None)
 
 
-def of_record(options, gathered, stack):
-    """The races of a recorded run with both accesses in one part of the trace, by their numbers there."""
+def of_record(options, file, gathered, stack):
+    """The races of a recorded run with both accesses in one part of the trace, by their numbers there; those that
+    `shb places` lists of the trace have schedules."""
     with damage_of(options.uses):
         uses = Uses(options.uses)
-    file, listed = stack.enter_context(open(options.scan, "rb")), 0
-    with faults_of(options.scan):
-        report = Report(file)
-        for race, accesses in report.races():
-            pair = uses.pair(race.first, race.second)
-            if pair:
-                listed += 1
-                gathered.add(race._replace(first=pair[0], second=pair[1]), *accesses, {})
+    with faults_of(options.scan), open(options.scan, "rb") as listed:
+        report = Report(listed)
+        races = [(race._replace(first=pair[0], second=pair[1]), accesses) for race, accesses in report.races()
+                 for pair in [uses.pair(race.first, race.second)] if pair]
+    given, found = NO_REPORT, {}
+    if races and (options.html or options.all):
+        given, found = schedules(options, file, races, uses.count, stack)
+    for race, accesses in races:
+        gathered.add(found.get((race.first, race.second), race), *accesses, {})
     in_run = {in_page: event for event, in_page in uses.events.items()}
-    return Subject(Given(options.scan, file, OWN, None), report.counts, listed, listed, False, uses.count, uses.uses, in_run, uses.parts)
+    count = len(races)
+    return Subject(given, report.counts, count, count, False, uses.count, uses.uses, in_run, uses.parts)
+
+
+def schedules(options, file, races, events, stack):
+    """The report of `shb places` on the trace of a recorded run's page, as `shb check` judges it, and its races by their
+    events: those of each variable at each place, or of each place alone if these would be too long."""
+    places = {tuple(access.location for access in accesses) for _, accesses in races}
+    most = MOST_REPORT // (events * NUMBER)
+    if len(places) > most:
+        return NO_REPORT._replace(verdict=TOO_LONG), {}
+    words = VARIABLES if len(races) <= most else FULL
+    analyser, report = Analyser(options.shb, file), stack.enter_context(tempfile.TemporaryFile())
+    try:
+        analyser.write(words, report)
+        given = Given(f"shb {' '.join(words)}", report, analyser.check(report), None)
+        good = Report(report).races() if given.verdict.is_good else ()
+        return given, {(race.first, race.second): race for race, _ in good}
+    except Refused as fault:
+        return NO_REPORT._replace(verdict=Verdict(None, f"No schedules were made: {fault}")), {}
+
+
+def judge_of(made, path):
+    """The command that makes a recorded run's schedules again and judges them, in the working folder."""
+    if made.uses is None or not made.given.name:
+        return ""
+    path = os.path.abspath(path) if os.path.relpath(path).startswith("..") else os.path.relpath(path)
+    path = shlex.quote(readable(os.fsencode(path)))
+    return f"{made.given.name} {path} | shb check {path}"
 
 
 @contextlib.contextmanager

@@ -19,10 +19,10 @@ class Moment(collections.namedtuple("Moment", "previous locks held freed")):
     """What the pass notes at an event."""
 
 
-class Window(collections.namedtuple("Window", "race accesses before edges forks events length")):
+class Window(collections.namedtuple("Window", "race accesses before edges forks events schedule")):
     """A race with what comes before it. `before` are the events before the accesses in the order of its schedule or of the trace;
     `edges` are pairs of events of different threads, the earlier first; `forks` has the fork of each access's thread, or 0;
-    `length` is that of the schedule, or None."""
+    `schedule` is a `report.Schedule`, or None."""
 
 
 class Moments:
@@ -67,7 +67,7 @@ class Moments:
 
 
 def make_windows(trace, races, counting, order):
-    """A window for each race. `order` gives some events in the order of a race's schedule, and the schedule's length."""
+    """A window for each race. `order` gives some events in the order of a race's schedule, and that schedule."""
     accesses = {access: event_of(line).thread for race in races
                 for access, line in ((race.first, race.first_line), (race.second, race.second_line))}
     before = {event for access in accesses for event in counting.noted[access].before}
@@ -105,10 +105,10 @@ def window(race, counting, forks, shown, order):
                 starts[event] = forks[access]
         before.update(starts.values(), filter(None, (shown[event].source for event in noted.before)))
     before = {event for event in before if stands_before(shown, event, accesses)}
-    ordered, length = order(race, sorted(before))
+    ordered, schedule = order(race, sorted(before))
     sources = {event: (starts.get(event, 0), 0 if event in accesses else shown[event].source) for event in (*ordered, *accesses)}
     edges = [(source, event) for event, found in sources.items() for source in found if source in before]
-    return Window(race, accesses, ordered, edges, forks, shown, length)
+    return Window(race, accesses, ordered, edges, forks, shown, schedule)
 
 
 def stands_before(shown, event, accesses):

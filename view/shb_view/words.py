@@ -110,9 +110,20 @@ def summary(view):
     return f"{races}{lines}", size
 
 
+def bad_words(view):
+    """What is said of a report that `shb check` finds bad."""
+    if view.of_run:
+        return f"`shb check` finds the schedules of this page bad: {view.verdict.words}. None is shown."
+    return f"`shb check` finds the report bad: {view.verdict.words}. What follows rests on this report alone."
+
+
 def notes_of(view):
     """What the reader has to know of the report."""
-    if view.verdict.is_good:
+    if view.verdict.is_good and view.of_run:
+        races = [section.window.schedule for section in view.sections]
+        some = f"{len(races) - races.count(None):,} of {counted(len(races), 'race')}" if None in races else "Each race"
+        yield f"{some} that the page shows {'have' if None in races else 'has'} a schedule in the page's trace: `{view.judge}` finds them good."
+    elif view.verdict.is_good:
         yield f"shb check: {view.verdict.words}"
     elif view.verdict.is_good is None and view.made.races and view.verdict.words:
         yield view.verdict.words
