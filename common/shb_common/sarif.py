@@ -34,10 +34,10 @@ FOUND, RELATIVE, ABSOLUTE, NAME = range(4)      # what is known of a location, f
 MOST_NAMED = 3          # variables in a message
 
 
-class Alert(collections.namedtuple("Alert", "row facts seen example accesses properties")):
-    """A place for review. `facts` is what is known of its locks, `seen` where it was seen, both as sentences; `example` is the path of
-    a trace that has it, from the folder of the traces; `accesses` are those of a race there with their call stacks; `properties` are
-    further facts."""
+class Alert(collections.namedtuple("Alert", "row facts seen example accesses properties blamed", defaults=(None,))):
+    """A place for review. `facts` is what is known of its locks, `seen` where it was seen, both as sentences; `example` is
+    the path of a trace that has it, from the folder of the traces; `accesses` are those of a race there with their call
+    stacks; `properties` are further facts; `blamed` is the name of the location that the facts name first, or None."""
 
     def variables(self):
         """Those that race there."""
@@ -164,6 +164,8 @@ def result_of(alert, sources, seen):
     if by_lines:
         seen[by_lines] += 1
         prints["primaryLocationLineHash"] = f"{by_lines}:{seen[by_lines]}"
+    if second.text == alert.blamed:     # the fingerprints stay, whatever the facts of a run name first
+        first, second = second, first
     return {
         "ruleId": RULE["id"],
         "ruleIndex": 0,

@@ -54,8 +54,12 @@ def log(look, rows, entries, status):
     for row in rows:
         process, trace = row.example
         found = result.entry_of(entries, row)
-        accesses = tuple(access_of(one, look.sources[row.example]) for one in entry(look, row, entries)["accesses"] if one.get("stacks")) if found else ()
-        alerts.append(sarif.Alert(row, without_numbers(found), "", os.fsencode(trace.relative_to(look.results.folder)), accesses, {"process": process}))
+        sides = entry(look, row, entries)["accesses"]
+        with_stacks = [one for one in sides if found and one.get("stacks")]
+        accesses = tuple(access_of(one, look.sources[row.example]) for one in with_stacks)
+        blamed = next((name for name, one in zip(row.names, sides) if one.get("is_blamed")), None)
+        example = os.fsencode(trace.relative_to(look.results.folder))
+        alerts.append(sarif.Alert(row, without_numbers(found), "", example, accesses, {"process": process}, blamed))
     notes = [("note", line) for line in look.meaning()]
     return sarif.log(alerts, sarif.Here(pathlib.Path.cwd()), notes, not look.has_failed and not look.is_cut, status)
 

@@ -163,6 +163,16 @@ class Results(recorder.Case):
             texts.append(re.sub(r"process \d+", "", json.dumps([result["message"], result["partialFingerprints"]])))
         self.assertEqual(*texts)
 
+    def test_code_review_shows_an_alert_at_the_line_to_mend(self):
+        program = self.build((recorder.SOURCES.parent / "examples" / "account.c").read_text())
+        self.assertEqual(self.record("-o", "out", program)[0], 66)
+        [result] = json.loads((self.folder / "out" / "places.sarif").read_text())["runs"][0]["results"]
+        lines = [one[0]["physicalLocation"]["region"]["startLine"] for one in (result["locations"], result["relatedLocations"])]
+        self.assertEqual(lines, [8, 10])
+        self.assertIn("between app.c:8 and [app.c:10](1). app.c:8 reads without door", result["message"]["text"])
+        [place] = json.loads((self.folder / "out" / "places.json").read_text())["places"]
+        self.assertEqual([access["in_trace"] for access in place["accesses"] if access.get("is_blamed")], ["app.c:8"])
+
     def test_what_did_not_race_is_not_said(self):
         """There are no suspicions: no word, no file, no option, and nothing of them in the sources."""
         program = self.build(ALMOST_LOCKED)

@@ -80,6 +80,11 @@ class Fact(collections.namedtuple("Fact", "form said tag sentences remedy lock u
     code that it names besides the group's."""
 
 
+def blamed_of(fact, locations):
+    """That of some racing lines which the headline names first, or None."""
+    return next((bytes(part) for part in fact.tag if part in locations), None)
+
+
 class Locks:
     """The locks of a group's variables. Of those that differ by numbers of blocks and elements alone, as `a[3].door`, a variable's own
     one is that which most of its accesses hold; it has one name for all variables."""

@@ -10,7 +10,7 @@ import shlex
 from shb_common.locations import line_of
 from shb_common.stacks import bare
 from shb_common.words import counted
-from shb_view.facts import RANKS
+from shb_view.facts import RANKS, blamed_of
 from shb_view.groups import common_name
 from shb_view.issue import issue_lines, order_text
 from shb_view.markup import Markup, element, joined, marked, with_commands
@@ -84,8 +84,7 @@ def group_row(view, number, section, tag):
 
 def blamed(section):
     """The racing line that the headline names first, or the first one that there is."""
-    named = [part for part in section.fact.tag if part in section.group.locations()]
-    return bytes([*named, *(site.location or b"" for site in section.sites)][0])
+    return blamed_of(section.fact, section.group.locations()) or section.sites[0].location or b""
 
 
 class Tables:

@@ -2,6 +2,7 @@
 
 from shb_common import result
 from shb_common.programs import naming
+from shb_view.facts import blamed_of
 from shb_view.group_facts import races_looked_at
 from shb_view.issue import flat
 from shb_view.words import KINDS, notes_of, told_of
@@ -21,11 +22,11 @@ def document(view):
 
 def entry(view, section, pair, origin, names):
     """Two lines that race: what the trace has at their locations, and what is said of their group."""
-    sites = {site.location: site for site in section.sites}
-    accesses = []
+    sites, accesses = {site.location: site for site in section.sites}, []
+    blamed = blamed_of(section.fact, pair.locations)
     for location in pair.locations:
         its = origin.location(location)
-        found = result.access(names.name(its), its, location)
+        found = {**result.access(names.name(its), its, location), **({"is_blamed": True} if location == blamed else {})}
         code = view.source.code(location)
         if code is not None:
             found["code"] = result.text(code)
