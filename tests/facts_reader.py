@@ -256,6 +256,8 @@ class Group:
                 yield f"no free at {line}"
         if frees != {access.location for access in self.racing() if access.is_free}:
             yield "not all frees"
+        if self.has_without(are_kept=True):
+            yield "a lock that the uses lack is held at the frees"
         if set(self.fact["uses"]) != {line for pair in self.pairs if pair & frees and len(pair) == 2 for line in pair
                                       if any(other in frees for other in pair - {line})}:
             yield "other uses"
@@ -265,7 +267,7 @@ class Group:
                 yield f"no use at {line} after a free"
 
     def has_freed(self):
-        return any(access.is_free for access in self.racing())
+        return any(access.is_free for access in self.racing()) and not self.has_without(are_kept=True)
 
     # ---- plain: some racing lines write atomically, others never ----
     def check_plain(self):
@@ -326,7 +328,7 @@ class Group:
         is_bare = not any(access.held or access.shared for line in lines for access in self.used(line))
         if not is_bare and not some and len(holding) <= len(lines):
             yield "the lines hold other locks, and are not fewer"
-        if not any(access.word == "w" for line in holding for access in self.used(line)) and any(
+        if not any(access.word == "w" for line in holding for access in self.at(line)) and any(
                 access.word == "r" for line in lines for access in self.used(line)):
             yield "readers alone hold it"
         if len(set(of.values())) > 1 and len({re.sub(r"(#|\[)[0-9]+", r"\1", lock) for lock in of.values()}) > 1:
@@ -341,7 +343,7 @@ class Group:
             if len({held for access, held in holds.items() if access.location == line}) != 2:
                 yield f"{line} doesn't hold it at times"
         for line in holding:
-            if not all(held for access, held in holds.items() if access.location == line) or not self.used(line):
+            if not all(held for access, held in holds.items() if access.location == line) or not (self.used(line) or line in fact.get("frees", ())):
                 yield f"{line} doesn't hold it always"
         scope = fact["scope"]
         said = {"writes": lambda access: access.word == "w", "reads": lambda access: access.word == "r",
@@ -363,25 +365,27 @@ class Group:
             if len(self.variables) == 1 and every and frozenset.intersection(*every) != {lock for of in held.get(line, ()) for lock in of.values()}:
                 yield f"{line} holds others"
 
-    def has_without(self):
+    def has_without(self, are_kept=False):
         """Whether locks of one kind, one for each variable, are held at each access of some lines, and all racing lines without them hold none,
-        or hold these at times, or are fewer."""
+        or hold these at times, or are fewer. With `are_kept` frees are accesses, and hold these."""
         kinds = collections.defaultdict(lambda: collections.defaultdict(set))
         for access in self.used():
             for lock in access.held | access.shared:
                 kinds[re.sub(r"(#|\[)[0-9]+", r"\1", lock)][access.variable].add(lock)
-        return any(self.is_without(dict(zip(by, locks))) for by in kinds.values() if self.variables <= set(by)
+        frees = [access for access in self.racing() if access.is_free] if are_kept else ()
+        choices = (dict(zip(by, locks)) for by in kinds.values() if self.variables <= set(by)
                    for locks in itertools.islice(itertools.product(*by.values()), MOST_CHOICES))
+        return any(all(self.has(free, of.get(free.variable)) for free in frees) and self.is_without(of, self.all if are_kept else self.used()) for of in choices)
 
-    def is_without(self, of):
+    def is_without(self, of, uses):
         by_line = collections.defaultdict(list)
-        for access in self.used():
+        for access in uses:
             by_line[access.location].append(self.has(access, of.get(access.variable)))
         holding = [line for line in by_line if all(by_line[line])]
         lacking = [line for line in self.lines if not all(by_line[line])]
-        bare = all(not access.held and not access.shared for line in lacking for access in self.used(line))
-        words = lambda lines: {access.word for line in lines for access in self.used(line)}
-        holders = {access.variable for line in holding for access in self.used(line)}
+        bare = all(not access.held and not access.shared for access in uses if access.location in lacking)
+        words = lambda lines: {access.word for access in uses if access.location in lines}
+        holders = {access.variable for access in uses if access.location in holding and not access.is_free}
         return bool(holding and lacking) and self.variables <= holders and ("w" in words(holding) or "r" not in words(lacking)) and (
             bare or any(any(by_line[line]) for line in lacking) or len(holding) > len(lacking))
 

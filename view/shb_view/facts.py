@@ -141,7 +141,8 @@ def fact_of(sites, locks, whole, published=()):
     of_locks = uncounted(used, whole) if any(site.unknown for site in used) else lock_fact(used, racing, locks, whole)
     if of_locks and of_locks.form == "without" and any(pair.store.kind == b"update" for pair, _ in published):
         published = ()  # beside a lock what is updated is a counter
-    found = publication(published) or freed(racing, whole) or not_atomic(racing, whole) or of_locks or no_lock(racing, whole)
+    found = (publication(published) or freed_under_lock(sites, racing, locks, whole) or freed(racing, whole) or not_atomic(racing, whole) or of_locks
+             or no_lock(racing, whole))
     if found.form != "published" or not of_locks or of_locks.form != "without":
         return found
     also = {"form": of_locks.form, **of_locks.said}  # either of the two would fix it
@@ -170,6 +171,21 @@ def handed_words(pair):
     return [Code(store.thread), " and ", Code(load.thread), " hand this on by the atomic ", Code(pair.name), ": ", place(store.location), " ",
             *store.words(), " after the first access, and ", place(load.location), " ", *load.words(),
             f" before the second. Without {' and '.join(pair.lacking())} that orders nothing."]
+
+
+def freed_under_lock(sites, racing, locks, whole):
+    """Racing lines without a lock that all other lines hold, those that free too."""
+    frees = [site for site in racing if site.accesses[b"f"]]
+    if not frees or any(site.unknown for site in sites):
+        return None
+    kept = [lock for lock in by_weight(sites) if not any(site.lacks(lock) for site in frees)]
+    found = next(filter(None, (without(sites, racing, lock, locks, whole) for lock in kept)), None)
+    if not found:
+        return None
+    lines = [site for site in racing if site.lacks(found.lock)]
+    warning = [*lines_of(frees), " frees" if len(frees) == 1 else " free", " the block under it: use what was found there in the same section."]
+    return found._replace(said={**found.said, "frees": names_of(frees)}, sentences=[*found.sentences, warning],
+                          remedy=["hold ", *lock_name(found.lock), " at ", *lines_of(lines), ", and as long as the block is used."])
 
 
 def freed(racing, whole):
@@ -208,13 +224,17 @@ def uncounted(sites, whole):
     return Fact("uncounted", {}, ["locks not counted"], [[f"In this {whole} the locks held at {count} aren't counted."]])
 
 
-def lock_fact(sites, racing, locks, whole):
-    """What is held at the lines. Locks that more lines hold at each access come first, then those that more accesses hold."""
-    names = {lock for site in sites for lock in (*site.locks, *site.reading)}
+def by_weight(sites):
+    """The locks that are held at some lines, those that more lines hold at each access first, then those that more accesses hold."""
     def weight(lock):
         holding = [site for site in sites if not site.lacks(lock)]
         return -len(holding), -sum(site.guarded(lock) for site in sites), not isinstance(lock, Own), lock
-    names = sorted(names, key=weight)
+    return sorted({lock for site in sites for lock in (*site.locks, *site.reading)}, key=weight)
+
+
+def lock_fact(sites, racing, locks, whole):
+    """What is held at the lines."""
+    names = by_weight(sites)
     for rule in (under_read_lock, without, sometimes):
         for lock in names:
             found = rule(sites, racing, lock, locks, whole)
