@@ -90,6 +90,16 @@ def told_apart(locks):
     return frozenset(locks - shared), frozenset(READER.fullmatch(lock)[1] for lock in shared)
 
 
+def is_beside(locks, variables):
+    """Whether each variable and its lock are members of one object: their names have the same begin, and a block or a function in common."""
+    def thing(name):
+        found = re.fullmatch(r"(.*?)((?:\.[A-Za-z_]\w*|\[[0-9]+\])*(?:\+[0-9]+)?)( of .+?)?(#[0-9]+)?", name, re.S)
+        two = re.fullmatch(r"(.+#[0-9]+)((?:\.[A-Za-z_]\w*|\[[0-9]+\])*(?:\+[0-9]+)?)", name, re.S)
+        found = (two[1], two[2]) if two and two[2] else (found[1], found[2], found[3], found[4])
+        return (found[0], *found[2:]) if found[1] and not name.startswith("stack.") else None
+    return all(variable in locks and thing(variable) and thing(variable) == thing(locks[variable]) for variable in variables)
+
+
 class Group:
     """A fact with its group. `traced` are the accesses of its variables that the trace has, `all` those that facts count. The name of what a
     thread writes atomically is that of the atomic here."""
@@ -328,7 +338,7 @@ class Group:
         is_bare = not any(access.held or access.shared for line in lines for access in self.used(line))
         if not is_bare and not some and len(holding) <= len(lines):
             yield "the lines hold other locks, and are not fewer"
-        if not any(access.word == "w" for line in holding for access in self.at(line)) and any(
+        if not is_beside(of, self.variables) and not any(access.word == "w" for line in holding for access in self.at(line)) and any(
                 access.word == "r" for line in lines for access in self.used(line)):
             yield "readers alone hold it"
         if len(set(of.values())) > 1 and len({re.sub(r"(#|\[)[0-9]+", r"\1", lock) for lock in of.values()}) > 1:
@@ -386,7 +396,8 @@ class Group:
         bare = all(not access.held and not access.shared for access in uses if access.location in lacking)
         words = lambda lines: {access.word for access in uses if access.location in lines}
         holders = {access.variable for access in uses if access.location in holding and not access.is_free}
-        return bool(holding and lacking) and self.variables <= holders and ("w" in words(holding) or "r" not in words(lacking)) and (
+        return bool(holding and lacking) and self.variables <= holders and (
+            "w" in words(holding) or "r" not in words(lacking) or is_beside(of, self.variables)) and (
             bare or any(any(by_line[line]) for line in lacking) or len(holding) > len(lacking))
 
     def check_sometimes(self):

@@ -161,7 +161,7 @@ class Facts(farm.Case):
         self.assertEqual([(access["location"], access["uses"], access["threads"], access["without_lock"]) for access in place["accesses"]],
                          [("a.c:1", {"write": 1}, {"T1": 1}, 1), ("b.c:2", {"write": 1}, {"T2": 1}, 1)])
         self.assertEqual(place["facts"], ["In this trace no lock is held at any access; 2 threads write, at a.c:1 and b.c:2.",
-                                          "Remedy: hold one lock at a.c:1 and b.c:2, or order them by a join, or by a release and an acquire."])
+                                          "Remedy: make it atomic if it is a flag or a counter; else hold one lock at a.c:1 and b.c:2, or order them by a join, or by a release and an acquire."])
         self.assertEqual([(trace["trace"], trace["outcome"]) for trace in found["traces"]], [("clean.std", "report"), ("race.std", "report")])
         self.assertTrue(all(trace["seconds"] >= 0 and trace["MiB"] > 0 for trace in found["traces"]))
 

@@ -156,7 +156,7 @@ class Results(recorder.Case):
             [result] = run["results"]
             self.assertEqual(result["locations"][0]["physicalLocation"]["artifactLocation"], {"uri": "source/lib/app.c", "uriBaseId": "SRCROOT"})
             self.assertEqual(result["message"]["text"], "Data race on `hits` between app.c:5 and [app.c:5](1). app.c:5 writes without a "
-                             "lock. Remedy: hold one lock at app.c:5, or order them by a join, or by a release and an acquire.")
+                             "lock. Remedy: make it atomic if it is a flag or a counter; else hold one lock at app.c:5, or order them by a join, or by a release and an acquire.")
             flows = result["codeFlows"][0]["threadFlows"]
             self.assertEqual([step["location"]["physicalLocation"]["region"]["startLine"] for flow in flows for step in flow["locations"]], [5, 5])
             self.assertTrue(run["tool"]["driver"]["version"])

@@ -6,11 +6,13 @@ import re
 
 from shb_common.result import text
 from shb_common.words import counted
+from shb_view.groups import name_parts
 from shb_view.held import read_lock
 from shb_view.names import by_numbers
 from shb_view.words import Code, Own, listed, lock_name, place
 
 MOST_NAMED = 3  # lines in a sentence
+FLAG = "make it atomic if it is a flag or a counter; else "
 NUMBERS = re.compile(rb"(?<=#)[0-9]+|(?<=\[)[0-9]+(?=\])")  # of a block, and of an element
 
 
@@ -259,7 +261,8 @@ def without(sites, racing, lock, locks, whole):
     """Racing lines that don't hold a lock which all others, or all others that race, hold at each access. Where they hold other locks,
     that more lines have this one says that it is theirs too."""
     lacking, holding = [site for site in racing if site.lacks(lock)], [site for site in sites if not site.lacks(lock)]
-    if not is_rule(lacking, holding, set().union(*(site.variables for site in racing)), lock):
+    variables = set().union(*(site.variables for site in racing)) - {b""}
+    if not is_rule(lacking, holding, variables, lock, is_beside(locks.of(lock), variables)):
         return None
     scope = scope_of([site for site in sites if site.lacks(lock) and not site.partners], lacking, holding)
     who = {"writes": ["every write"], "reads": ["every read"], "all": ["every other access"],
@@ -277,13 +280,27 @@ def without(sites, racing, lock, locks, whole):
     return Fact("without", said, tag, [sentence], ["hold ", *name, " at ", *lines, "."], lock)
 
 
-def is_rule(lacking, holding, variables, lock):
-    """Whether lines that hold a lock say of those that lack it that they should: each variable is used with it, what some readers
-    alone hold is no rule, and the others hold no lock, or hold this one at times, or are fewer."""
+def is_beside(locks, variables):
+    """Whether each variable's lock is a member of the object that the variable is a member of."""
+    objects = {variable: object_in(variable) for variable in variables}
+    return all(its and variable in locks and object_in(locks[variable]) == its for variable, its in objects.items())
+
+
+def object_in(name):
+    """The named object or the block that a name is inside of; None of one that is no part, or on a stack."""
+    parts = name_parts(name)
+    is_part = parts["inside"] and not name.startswith(b"stack.")
+    return (parts["base"], parts["block"], parts["of"]) if is_part else None
+
+
+def is_rule(lacking, holding, variables, lock, is_member):
+    """Whether lines that hold a lock say of those that lack it that they should: each variable is used with it, what some
+    readers alone hold is a rule if it is a member of the variable's object (`is_member`), and the others hold no lock, or
+    hold this one at times, or are fewer."""
     holders = set().union(*(site.variables for site in holding))
     if not lacking or not holding or not variables <= holders:
         return False
-    if not any(site.writes() for site in holding) and any(site.reads() for site in lacking):
+    if not is_member and not any(site.writes() for site in holding) and any(site.reads() for site in lacking):
         return False
     is_bare = all(site.bare == site.total() for site in lacking)
     return is_bare or any(site.guarded(lock) for site in lacking) or len(holding) > len(lacking)
@@ -326,7 +343,10 @@ def apart(racing, locks, whole):
     holds = [[place(site.location), " holds ", *(listed([lock_name(lock) for lock in site.held()], MOST_NAMED) if site.held() else
               ["no lock" if site.bare == site.total() else "none at each of its accesses"])] for site in racing]
     all_hold = all(site.held() for site in racing)
-    tag = [*lines_of(racing), " hold different locks" if all_hold else " have no lock in common"]
+    is_bare = racing[0].bare == racing[0].total()
+    alone = f" {verb_of(racing)} without a lock" if is_bare else " doesn't hold the same lock each time"
+    several = " hold different locks" if all_hold else " have no lock in common"
+    tag = [*lines_of(racing), alone if len(racing) == 1 else several]
     return Fact("apart", {"lines": names_of(racing), "all_hold": all_hold, "held": held_of(racing, locks)}, tag,
                 [[f"In this {whole} ", *listed(holds, MOST_NAMED), ", and no lock is common to them."]],
                 ["hold one lock at ", *lines_of(racing), "."])
@@ -339,8 +359,10 @@ def no_lock(racing, whole):
     readers = [site for site in racing if not site.writes()]
     also = [", ", *lines_of(readers), " reads" if len(readers) == 1 else " read"] if readers else []
     sentence = [f"In this {whole} no lock is held at any access; {count} ", "writes, at " if len(writers) == 1 else "write, at ", *lines_of(writing), "."]
-    return Fact("no-lock", {"writes": names_of(writing), "writers": sorted(map(text, writers))}, [*lines_of(writing), f" {verb}", *also, " without a lock"],
-                [sentence], ["hold one lock at ", *lines_of(racing), ", or order them by a join, or by a release and an acquire."])
+    said = {"writes": names_of(writing), "writers": sorted(map(text, writers))}
+    is_one = len(set().union(*(site.variables for site in racing))) == 1
+    remedy = [FLAG * is_one + "hold one lock at ", *lines_of(racing), ", or order them by a join, or by a release and an acquire."]
+    return Fact("no-lock", said, [*lines_of(writing), f" {verb}", *also, " without a lock"], [sentence], remedy)
 
 
 def by_variable(locks, lock):

@@ -17,7 +17,7 @@ static Player *find(int id) {
 }
 static void award(int id, int points) {
     if (Player *p = find(id))
-        p->score += points; 
+        p->score += points;
 }
 int main() {
     join_game(1);
