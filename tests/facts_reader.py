@@ -416,6 +416,7 @@ class Group:
         """Of one variable: a racing line that writes and holds some lock at some accesses."""
         return len(self.variables) == 1 and any(
             len({self.has(access, lock) for access in self.used(line)}) == 2 and any(access.word == "w" for access in self.used(line))
+            and not all(any(re.sub("[0-9]", "", other) == re.sub("[0-9]", "", lock) for other in self.locks(access)) for access in self.used(line))
             for line in self.lines for lock in set().union(*(access.held | access.shared for access in self.used(line))))
 
     def check_apart(self):

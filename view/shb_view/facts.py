@@ -13,6 +13,7 @@ from shb_view.words import Code, Own, listed, lock_name, place
 
 MOST_NAMED = 3  # lines in a sentence
 FLAG = "make it atomic if it is a flag or a counter; else "
+DIGITS = re.compile(rb"[0-9]+")
 NUMBERS = re.compile(rb"(?<=#)[0-9]+|(?<=\[)[0-9]+(?=\])")  # of a block, and of an element
 
 
@@ -203,7 +204,9 @@ def freed(racing, whole):
     found = set().union(*(site.later for site in frees if site.accesses[b"f"] == site.total()))
     after = [site for site in racing if site.location in found and not site.accesses[b"f"]]
     said = {"frees": names_of(frees), "uses": list(map(text, used)), "after": names_of(after)}
-    remedy = ["free it behind the last use, as after a join." if used else "free it once."]
+    at = listed([[place(location)] for location in used], MOST_NAMED)
+    remedy = ["don't use it at ", *at, " once it may be freed at ", *lines_of(frees), ", or free it after that use."]
+    remedy = remedy if used else ["free it once."]
     if not after:
         return Fact("freed", said, ["freed at " if used else "freed twice at ", *lines_of(frees), " while in use" if used else ""], [sentence], remedy)
     sentence += [" The use at ", *lines_of(after), " came after it here: a use after free."]
@@ -323,7 +326,7 @@ def verb_of(sites):
 
 def sometimes(sites, racing, lock, locks, whole):
     """A lock that racing lines hold at some accesses, and no line at each."""
-    some = [site for site in racing if site.lacks(lock) and site.guarded(lock) and site.writes()]
+    some = [site for site in racing if site.lacks(lock) and site.guarded(lock) and site.writes() and not holds_another(site, lock)]
     if not some:
         return None
     counts = [[f"{site.guarded(lock):,} of {counted(site.total(), 'access', 'accesses')} at ", place(site.location)] for site in some]
@@ -334,17 +337,32 @@ def sometimes(sites, racing, lock, locks, whole):
                 ["hold ", *lock_name(lock), " at each access."], lock)
 
 
+def holds_another(site, lock):
+    """Whether the accesses of a line that don't hold a lock hold others whose names differ from it by numbers alone, as
+    each object's or each call's own."""
+    kind = DIGITS.sub(b"", lock)
+    alike = [one for one in {*site.locks, *site.reading} if DIGITS.sub(b"", one) == kind]
+    return len(alike) > 1 and sum(map(site.guarded, alike)) >= site.total()
+
+
+def unlike_words(site):
+    """What a line holds at whose accesses no lock is common."""
+    if site.bare == site.total():
+        return "no lock"
+    return "no lock at some accesses" if site.bare else "a lock, but not the same each time"
+
+
 def apart(racing, locks, whole):
     """No lock is held at every access of all racing lines."""
     common = set.intersection(*(set(site.held()) for site in racing))
     if common:
         name = lock_name(min(common))
         return Fact("ordered", {}, ["every access holds ", *name], [[f"In this {whole} every access holds ", *name, ": these are no races."]])
-    holds = [[place(site.location), " holds ", *(listed([lock_name(lock) for lock in site.held()], MOST_NAMED) if site.held() else
-              ["no lock" if site.bare == site.total() else "none at each of its accesses"])] for site in racing]
+    held = [listed(map(lock_name, site.held()), MOST_NAMED) or [unlike_words(site)] for site in racing]
+    holds = [[place(site.location), " holds ", *its] for site, its in zip(racing, held)]
     all_hold = all(site.held() for site in racing)
     is_bare = racing[0].bare == racing[0].total()
-    alone = f" {verb_of(racing)} without a lock" if is_bare else " doesn't hold the same lock each time"
+    alone = f" {verb_of(racing)} without a lock" if is_bare else f" holds {unlike_words(racing[0])}"
     several = " hold different locks" if all_hold else " have no lock in common"
     tag = [*lines_of(racing), alone if len(racing) == 1 else several]
     return Fact("apart", {"lines": names_of(racing), "all_hold": all_hold, "held": held_of(racing, locks)}, tag,
