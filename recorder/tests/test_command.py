@@ -237,7 +237,7 @@ int main(int count, char **words) {
         status, _, said = self.record(self.program("early_free.c"))
         self.assertEqual(status, 66, said)
         self.assertRegex(said, r"(?m)^1\. .*: early_free.c:11 writes used without release, and early_free.c:19 reads it without acquire \(")
-        self.assertIn("   early_free.c:20: 1 free by main\n", said)
+        self.assertIn("   early_free.c:20: frees by main\n", said)
 
     def test_a_late_use(self):
         """The recorded order tells that the use came after the free."""

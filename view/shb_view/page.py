@@ -114,7 +114,8 @@ def told(parts, most=NAME):
 
 
 def group_data(view, section, tables):
-    sites = [[told([place(site.location)] if site.location is not None else ["further lines"]), code_line(view.source.code(site.location) or b"", LINE), accesses_text(site),
+    sites = [[told([place(site.location)] if site.location is not None else ["further lines"]),
+              code_line(view.source.code(site.location) or b"", LINE), accesses_text(site, not view.of_run),
               told(thread_parts(site) if site.location is not None else []),
               [[kind, told(parts)] for kind, parts in lock_words(site)], told(partner_parts(site)), bool(site.partners)]
              for site in section.sites[:MOST_SITES]]

@@ -67,7 +67,7 @@ def site_lines(view, section, site, colours):
     """A line that uses the variables."""
     location = "(further lines)" if site.location is None else flat([place(site.location)])
     by = flat([" by ", *thread_parts(site)]) if site.location is not None else ""
-    yield f"   {colours.red(location) if site.partners else location}: {accesses_text(site)}{by}"
+    yield f"   {colours.red(location) if site.partners else location}: {accesses_text(site, not view.of_run)}{by}"
     code, source = view.source.code(site.location), view.source.place(site.location) if site.location else None
     if code is not None:
         yield f"     | {code_line(code, LINE)}"

@@ -84,9 +84,11 @@ def lock_words(site):
     return found
 
 
-def accesses_text(site):
-    """How often a line reads, writes and frees."""
-    return "".join(listed([[counted(site.accesses[word], KINDS[word])] for word in KINDS if site.accesses[word]], len(KINDS)))
+def accesses_text(site, is_counted):
+    """How often a line reads, writes and frees; of a recorded run, whose repeats are omitted, that it does."""
+    kinds = [word for word in KINDS if site.accesses[word]]
+    words = [counted(site.accesses[word], KINDS[word]) if is_counted else f"{KINDS[word]}s" for word in kinds]
+    return "".join(listed([[its] for its in words], len(KINDS)))
 
 
 def share(count, total, is_bare):
@@ -132,7 +134,8 @@ def notes_of(view):
     elif not view.made.races:
         yield "Any two conflicting accesses are ordered in this trace. A run with another interleaving may have races."
     if view.sections and view.stacks.numbers:
-        yield f"Counts are those of the {'whole run' if view.of_run else 'trace'}. The recorder omits repeats: a loop may count as two accesses."
+        yield ("Numbers as 6 of 7 are of the accesses that were recorded in the whole run: repeats are omitted." if view.of_run
+               else "Counts are those of the trace. The recorder omits repeats: a loop may count as two accesses.")
     if view.made.listed < view.made.races:
         yield "The report doesn't list all races of the trace; the counts are the report's."
     if view.made.is_sample:
