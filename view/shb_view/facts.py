@@ -2,6 +2,7 @@
 each variable of the listed races, and names no fault. The first that holds is the group's."""
 
 import collections
+import functools
 import re
 
 from shb_common.result import text
@@ -15,6 +16,12 @@ MOST_NAMED = 3  # lines in a sentence
 FLAG = "make it atomic if it is a flag or a counter; else "
 DIGITS = re.compile(rb"[0-9]+")
 NUMBERS = re.compile(rb"(?<=#)[0-9]+|(?<=\[)[0-9]+(?=\])")  # of a block, and of an element
+
+
+@functools.lru_cache(maxsize=65_536)
+def alike(lock):
+    """A lock with stars for its numbers of blocks and elements."""
+    return NUMBERS.sub(b"*", lock)
 
 
 # The forms, in the order in which they are tried, each with a number: the least is shown first and in the first colour.
@@ -57,9 +64,11 @@ class Site:
 
     def held(self):
         """The locks that each access holds."""
-        return sorted(lock for lock in {*self.locks, *self.reading} if self.guarded(lock) == self.total())
+        total = self.total()
+        return sorted(lock for lock in {*self.locks, *self.reading} if self.guarded(lock) == total)
 
     def add(self, variable, thread, word, locks, count):
+        """Takes accesses of a kind; `locks` are None where they aren't counted."""
         self.variables.add(variable)
         self.accesses[word] += count
         self.threads[thread] += count
@@ -69,12 +78,26 @@ class Site:
             self.unknown += count
         elif not locks:
             self.bare += count
-        for lock, is_shared in locks or ():
-            if is_shared:
-                self.reading[lock] += count
-                self.wrong[lock] += count if word != b"r" else 0
+        for lock in locks or ():
+            shared = read_lock(lock)
+            if shared:
+                self.reading[shared] += count
+                self.wrong[shared] += count if word != b"r" else 0
             else:
                 self.locks[lock] += count
+
+    def take(self, other, name):
+        """Takes what another one has; `name` gives its locks their names here."""
+        self.variables |= other.variables
+        self.writers |= other.writers
+        self.bare += other.bare
+        self.unknown += other.unknown
+        for mine, its in ((self.accesses, other.accesses), (self.threads, other.threads)):
+            for key, count in its.items():
+                mine[key] += count
+        for mine, its in ((self.locks, other.locks), (self.reading, other.reading), (self.wrong, other.wrong)):
+            for lock, count in its.items():
+                mine[name(lock)] += count
 
 
 class Fact(collections.namedtuple("Fact", "form said tag sentences remedy lock uses", defaults=([], None, ()))):
@@ -88,26 +111,72 @@ def blamed_of(fact, locations):
     return next((bytes(part) for part in fact.tag if part in locations), None)
 
 
+class Sites:
+    """How a group's variables are used: of each variable its sites by their locations, and how often which frees are of all
+    of them."""
+
+    def __init__(self, variables=(), frees=()):
+        self.variables, self.frees = dict(variables), dict(frees)
+
+    def add(self, kind, count):
+        """Takes accesses of a kind, as `Counting.counts` has them."""
+        location, thread, word, locks, variable = kind
+        if not variable:
+            self.frees[kind] = count
+            return
+        sites = self.variables.setdefault(variable, {})
+        site = sites.get(location)
+        if site is None:
+            site = sites[location] = Site(location)
+        site.add(variable, thread, word, locks, count)
+
+    def of(self, variable):
+        """Those of one of the variables alone. A free is one of all."""
+        return Sites({variable: self.variables.get(variable, {})}, self.frees)
+
+    def total(self):
+        return sum(self.frees.values()) + sum(site.total() for sites in self.variables.values() for site in sites.values())
+
+
+def sites_in(counts):
+    """The sites of a group's counted accesses."""
+    found = Sites()
+    for kind, count in counts.items():
+        if count:
+            found.add(kind, count)
+    return found
+
+
+def joined(uses):
+    """The uses of several groups of one object as those of one group. A free is a free of all its variables."""
+    found = Sites()
+    for one in uses:
+        found.variables.update(one.variables)
+        for kind, count in one.frees.items():
+            found.frees[kind] = max(found.frees.get(kind, 0), count)
+    return found
+
+
 class Locks:
     """The locks of a group's variables. Of those that differ by numbers of blocks and elements alone, as `a[3].door`, a variable's own
     one is that which most of its accesses hold; it has one name for all variables."""
 
-    def __init__(self, counts):
+    def __init__(self, uses):
         held, self.own = collections.Counter(), {}
-        for (_, _, _, locks, variable), count in counts.items():
-            for lock in {read_lock(lock) or lock for lock in locks or ()} if variable else ():
-                held[variable, lock] += count
+        for variable, sites in uses.variables.items():
+            for site in sites.values():
+                for locks in (site.locks, site.reading):
+                    for lock, count in locks.items():
+                        held[variable, lock] += count
         self.held = list(held)
         for variable, lock in sorted(held, key=lambda it: (-held[it], it)):
-            self.own.setdefault(NUMBERS.sub(b"*", lock), {}).setdefault(variable, lock)
+            self.own.setdefault(alike(lock), {}).setdefault(variable, lock)
+        self.several = {name for name, own in self.own.items() if len(set(own.values())) > 1}
 
     def name(self, variable, lock):
-        """The lock as it is named of the variable, and whether it is held for reading."""
-        shared = read_lock(lock)
-        lock = shared or lock
-        own = self.own.get(NUMBERS.sub(b"*", lock), {})
-        is_own = len(set(own.values())) > 1 and own.get(variable) == lock
-        return (Own(NUMBERS.sub(b"*", lock)) if is_own else lock), bool(shared)
+        """The lock as it is named of the variable."""
+        name = alike(lock)
+        return Own(name) if name in self.several and self.own[name].get(variable) == lock else lock
 
     def of(self, name):
         """By variable: the lock of this name."""
@@ -116,14 +185,17 @@ class Locks:
         return {variable: lock for variable, lock in self.held if lock == name}
 
 
-def sites_of(group, counts):
+def sites_of(group, uses):
     """The lines that use a group's variables: racing ones first, then those that write, then by how often; and their locks."""
-    sites, racing, locks = {}, group.locations(), Locks({kind: count for kind, count in counts.items() if count})
-    for (location, thread, word, held, variable), count in counts.items():
-        if not count:
-            continue
-        named = None if held is None else [locks.name(variable, lock) for lock in held]
-        sites.setdefault(location, Site(location)).add(variable, thread, word, named, count)
+    sites, racing, locks = {}, group.locations(), Locks(uses)
+    for variable, its in uses.variables.items():
+        name = functools.partial(locks.name, variable)
+        for location, site in its.items():
+            if location not in sites:
+                sites[location] = Site(location)
+            sites[location].take(site, name)
+    for (location, thread, word, held, variable), count in uses.frees.items():
+        sites.setdefault(location, Site(location)).add(variable, thread, word, held, count)
     for pair in group.pairs:
         one, other = pair.locations
         for location, partner in {(one, other), (other, one)}:
@@ -181,7 +253,7 @@ def freed_under_lock(sites, racing, locks, whole):
     frees = [site for site in racing if site.accesses[b"f"]]
     if not frees or any(site.unknown for site in sites):
         return None
-    kept = [lock for lock in by_weight(sites) if not any(site.lacks(lock) for site in frees)]
+    kept = [lock for lock in by_weight(sites)[0] if not any(site.lacks(lock) for site in frees)]
     found = next(filter(None, (without(sites, racing, lock, locks, whole) for lock in kept)), None)
     if not found:
         return None
@@ -230,18 +302,25 @@ def uncounted(sites, whole):
 
 
 def by_weight(sites):
-    """The locks that are held at some lines, those that more lines hold at each access first, then those that more accesses hold."""
-    def weight(lock):
-        holding = [site for site in sites if not site.lacks(lock)]
-        return -len(holding), -sum(site.guarded(lock) for site in sites), not isinstance(lock, Own), lock
-    return sorted({lock for site in sites for lock in (*site.locks, *site.reading)}, key=weight)
+    """The locks that are held at some lines, those that more lines hold at each access first, then those that more accesses
+    hold; and of those that lines hold at each access how many do."""
+    holding, guarded = collections.Counter(), collections.Counter()
+    for site in sites:
+        total = site.total()
+        for lock in {*site.locks, *site.reading}:
+            its = site.guarded(lock)
+            guarded[lock] += its
+            if its == total:
+                holding[lock] += 1
+    return sorted(guarded, key=lambda lock: (-holding[lock], -guarded[lock], not isinstance(lock, Own), lock)), holding
 
 
 def lock_fact(sites, racing, locks, whole):
-    """What is held at the lines."""
-    names = by_weight(sites)
-    for rule in (under_read_lock, without, sometimes):
-        for lock in names:
+    """What is held at the lines, by the first rule that a lock fits: of each rule those alone are tried that it can be about."""
+    names, holding = by_weight(sites)
+    wrong = {lock for site in racing for lock, count in site.wrong.items() if count}
+    for rule, its in ((under_read_lock, wrong), (without, holding), (sometimes, set(names))):
+        for lock in filter(its.__contains__, names):
             found = rule(sites, racing, lock, locks, whole)
             if found:
                 return found

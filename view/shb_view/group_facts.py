@@ -4,7 +4,7 @@
 import collections
 
 from shb_common.result import text
-from shb_view.facts import RANKS, fact_of, sites_of
+from shb_view.facts import RANKS, fact_of, joined, sites_in, sites_of
 from shb_view.groups import Group, Pair, object_of
 from shb_view.handed import MOST_RACES, handed, published
 from shb_view.words import Code, listed
@@ -12,9 +12,9 @@ from shb_view.words import Code, listed
 MOST_NAMED = 3  # variables in a sentence
 
 
-class Section(collections.namedtuple("Section", "group counts sites fact window callers seen unseen is_behind is_asked_for",
+class Section(collections.namedtuple("Section", "group uses sites fact window callers seen unseen is_behind is_asked_for",
                                      defaults=(None, {}, (), (), False, True))):
-    """A group with its counts, its lines and its fact, and what else is shown of it: a race with what comes before it (`window`); by racing line
+    """A group with its uses, its lines and its fact, and what else is shown of it: a race with what comes before it (`window`); by racing line
     the stacks of its racing accesses, as `callers_of` gives them, each with how many have it; the pairs of lines of races where the second
     reads what the first wrote (`seen`); the modules without hooks that may order its accesses (`unseen`). `is_behind` says that it was found
     behind known races; groups that aren't asked for are in the page alone."""
@@ -27,36 +27,33 @@ class Facts:
         self.kinds, self.whole = kinds, whole
         self.pairs = handed(kinds.stacks.uses, len(kinds.stacks.free_starts) > 0, kinds.stacks.lasting_locals)
 
-    def of(self, group, counts):
+    def of(self, group, uses):
         """What holds of a group: of each of its variables in the same form, or of its parts."""
-        found = self.of_all(group, counts)
+        found = self.of_all(group, uses)
         parts = self.parts(found) if len(group.variables) > 1 else ()
         return found._replace(fact=self.mixed(parts)) if len(parts) > 1 else found
 
-    def of_all(self, group, counts):
-        """What holds of a group's counts, whichever variable they are of."""
-        sites, locks = sites_of(group, counts)
-        races = self.kinds.gathered.races_of(group.names)
+    def of_all(self, group, uses):
+        """What holds of a group's uses, whichever variable they are of."""
+        sites, locks = sites_of(group, uses)
+        races = self.kinds.gathered.races_of(group.names) if self.pairs else {}
         by = published(races, self.pairs, lambda event: self.kinds.stacks.free_of(event) is not None) if self.pairs else ()
-        return Section(group, counts, sites, fact_of(sites, locks, self.whole, by))
+        return Section(group, uses, sites, fact_of(sites, locks, self.whole, by))
 
     def parts(self, found):
         """The variables of a group, those of which the same is said together; none where all have the group's form."""
-        names, counts, alike = {}, {}, {}
+        names, alike = {}, {}
         for name in found.group.names:
             names.setdefault(self.kinds.in_trace(name), []).append(name)
-        for kind, count in found.counts.items():
-            for variable in [kind[4]] if kind[4] else names:     # a free is one of all
-                counts.setdefault(variable, {})[kind] = count
-        alone = {variable: self.of_all(part_of(found.group, its, self.kinds), counts.get(variable, {})) for variable, its in names.items()}
+        alone = {variable: self.of_all(part_of(found.group, its, self.kinds), found.uses.of(variable)) for variable, its in names.items()}
         if {one.fact.form for one in alone.values()} == {found.fact.form}:
             return ()
         for variable, one in alone.items():
             alike.setdefault((one.fact.form, str(one.fact.tag)), []).append(variable)
-        joined = [self.of_all(part_of(found.group, sum((names[one] for one in its), []), self.kinds), joined_counts([counts.get(one, {}) for one in its]))
-                  for its in alike.values()]
-        are_alike = all(one.fact.form == form for one, (form, _) in zip(joined, alike))
-        return sorted(joined if are_alike else alone.values(), key=lambda one: RANKS[one.fact.form])
+        together = [self.of_all(part_of(found.group, sum((names[one] for one in its), []), self.kinds), joined(map(found.uses.of, its)))
+                    for its in alike.values()]
+        are_alike = all(one.fact.form == form for one, (form, _) in zip(together, alike))
+        return sorted(together if are_alike else alone.values(), key=lambda one: RANKS[one.fact.form])
 
     def mixed(self, parts):
         """What is said of a group whose variables differ: of each part its fact."""
@@ -90,19 +87,10 @@ def merged_groups(groups, counts, facts):
     """The groups, those of one object as one where the same threads race in it and the same is missing."""
     found = {}
     for number, group in enumerate(groups):
-        one, thing = facts.of(group, counts[number]), object_of(group)
+        one, thing = facts.of(group, sites_in(counts[number])), object_of(group)
         racing = frozenset((thread, thread in site.writers) for site in one.sites if site.partners for thread in site.threads)
         uses = tuple((use.name, use.location) for use in one.fact.uses)
         key = (thing, one.fact.form, one.fact.lock, uses, racing) if thing and one.fact.form != "mixed" else number
         found.setdefault(key, []).append(one)
     return [parts[0] if len(parts) == 1 else facts.of(Group(*(sum(fields, ()) for fields in zip(*(part.group for part in parts)))),
-                                                      joined_counts([part.counts for part in parts])) for parts in found.values()]
-
-
-def joined_counts(counts):
-    """Counts of several groups of one object as those of one group. A free is a free of all its variables."""
-    found = {}
-    for one in counts:
-        for kind, count in one.items():
-            found[kind] = max(found.get(kind, 0), count) if kind[2] == b"f" else found.get(kind, 0) + count
-    return found
+                                                      joined(part.uses for part in parts)) for parts in found.values()]

@@ -1,5 +1,6 @@
 """The locks that a thread holds while its events are read."""
 
+import functools
 import itertools
 import re
 
@@ -9,6 +10,7 @@ READ_LOCK = re.compile(rb"(.+)@reader\..+", re.S)  # as the recorder names what 
 STAND_IN = re.compile(rb".+@[0-9]+(?:[<>].+)?", re.S)  # as it names a lock that tells the order of an atomic: none of the program's
 
 
+@functools.lru_cache(maxsize=65_536)
 def read_lock(name):
     """The reader-writer lock that is held for reading under this name, or None."""
     found = READ_LOCK.fullmatch(name) if b"@" in name else None

@@ -269,7 +269,7 @@ def make_sections(options, kinds, made, trace, groups):
     try:
         counting.read(trace, made.events)
         found = merged_groups(groups, counting.counts, Facts(kinds, "trace" if made.uses is None else "run"))
-        first = sorted(found, key=lambda it: (RANKS[it.fact.form], -(it.group.races() or sum(it.counts.values()))))[:MOST_GROUPS]
+        first = sorted(found, key=lambda it: (RANKS[it.fact.form], -(it.group.races() or it.uses.total())))[:MOST_GROUPS]
         sections = [make_section(it, counting, options.unseen) for it in first]
         if options.html or options.all:
             windows = make_windows(trace, [section.group.closest() for section in sections], counting, made.given.order)
