@@ -103,24 +103,21 @@ exec REAL "$@"
         self.assertEqual((page.read_bytes(), log.read_text().split()), (alone, ["races", "places"]))
 
     def test_groups_with_places_that_are_asked_for(self):
-        """In either order of the two locations; the page has all groups."""
+        """The page has all groups."""
         trace, page = EXAMPLES / "unlocked-read.std", self.folder / "page.html"
-        only = self.file(b"queue.c:29\tmain.c:12\n", "places")
-        status, out, err = run_here(["--text", "--only", only, "--html", page, trace])
+        only = {(b"main.c:12", b"queue.c:29"): {b"closed"}}
+        status, out, err = run_here(["--text", "--html", page, trace], only=only)
         self.assertEqual((status, err), (0, ""))
         self.assertIn("\nOf 2 groups 1 are shown, those with a place that is asked for.\n\n2. closed: ", out)
         self.assertNotIn("items", out)
         self.assertIn("items", page.read_text())
-        wrong = self.file(b"a.c:1 b.c:2\n", "wrong")
-        self.assertEqual(self.said(["--only", wrong, trace], 4), f"--only: {wrong}, line 1: a place is two locations or functions and a variable, "
-                                                                 "with tabs between them")
-        only = self.file(b"queue.c:29\tmain.c:12\titems\n", "places")
-        self.assertIn("\nOf 2 groups 0 are shown", run_here(["--only", only, trace])[1])
+        only = {(b"main.c:12", b"queue.c:29"): {b"items"}}
+        self.assertIn("\nOf 2 groups 0 are shown", run_here([trace], only=only)[1])
 
     def test_what_is_said_of_the_recorder(self):
         """Text, page and the result for programs have it; it is escaped."""
         page, found = self.folder / "page.html", self.folder / "found.json"
-        status, out, err = run_here(["--about", "Code of <b>lib\x1b.so isn't seen.", "--text", "--html", page, "--json", found, TRACE])
+        status, out, err = run_here(["--text", "--html", page, "--json", found, TRACE], about=["Code of <b>lib\x1b.so isn't seen."])
         self.assertEqual((status, err), (0, ""))
         self.assertIn("\nCode of <b>lib\\x1b.so isn't seen.\n", out)
         self.assertIn("Code of &lt;b&gt;lib\\x1b.so isn&#x27;t seen.", page.read_text())

@@ -72,10 +72,10 @@ def said(parts):
 
 
 class Pages(program.Case):
-    def page(self, trace, *words):
-        """The page of a trace, parsed. Words after it are further arguments."""
+    def page(self, trace, *words, **more):
+        """The page of a trace, parsed. Words after it are further arguments, `more` is as `run_here` has it."""
         path = self.folder / "page.html"
-        status, out, err = run_here(["--html", path, self.file(trace), *words])
+        status, out, err = run_here(["--html", path, self.file(trace), *words], **more)
         self.assertEqual((status, out, err), (0, "", ""))
         return Page(path.read_text(encoding="utf-8"))
 
@@ -112,12 +112,12 @@ class Pages(program.Case):
         self.assertEqual([event[6].splitlines()[0] for event in group["picture"]["events"]], ["line 3: A|w(x)", "line 5: B|w(x)"])
 
     def test_known_groups_are_folded_behind_the_others(self):
-        only = self.file(b"queue.c:22\tmain.c:11\titems\n", "only")
-        self.assertEqual([(attributes["class"], text) for attributes, text in self.page(self.example("unlocked-read"), "--only", only).all("span", "tag")],
+        only = {(b"main.c:11", b"queue.c:22"): {b"items"}}
+        self.assertEqual([(attributes["class"], text) for attributes, text in self.page(self.example("unlocked-read"), only=only).all("span", "tag")],
                          [("tag new", "new"), ("tag known", "known")])
 
     def test_commands_that_run_it_again(self):
-        page = self.page(self.example("account"), "--turns", "out/a b.turns", "--command", "./account 7")
+        page = self.page(self.example("account"), turns="out/a b.turns", command="./account 7")
         self.assertEqual(page.data()["groups"][0]["again"], [
             ["with the same turns of the threads", "shb-record --replay 'out/a b.turns' ./account 7"],
             ["in a debugger that stops at the two lines", "shb-record --replay 'out/a b.turns' gdb "

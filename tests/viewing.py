@@ -59,11 +59,15 @@ def run(words, command=VIEW / "shb-view", **how):
     return program.Answer(ran.returncode, ran.stdout, ran.stderr)
 
 
-def run_here(words):
-    """The same in this process: what isn't answered ends the test."""
+def run_here(words, **more):
+    """The same in this process: what isn't answered ends the test. `more` is what `shb-record` hands over besides."""
     out, err = io.TextIOWrapper(io.BytesIO(), "utf-8"), io.StringIO()
+    words, shb = [str(word) for word in words], os.environ.get("SHB") or program.PATH
     with contextlib.redirect_stdout(out), contextlib.redirect_stderr(err):
-        status = command.main([str(word) for word in words], os.environ.get("SHB") or program.PATH)
+        if more:
+            status, _ = command.explain(argparse.Namespace(**{**vars(command.arguments(words, shb)), **more}), out)
+        else:
+            status = command.main(words, shb)
     out.flush()
     return status, out.buffer.getvalue().decode(), err.getvalue()
 

@@ -28,27 +28,27 @@ class Uses:
         self.uses, self.events, self.parts, self.count = [], {}, [], None
         with open_regular(path) as file:
             for number, line in enumerate(file, 1):
-                kind, *fields = line.rstrip(b"\n").split(b"\t")
                 try:
-                    self.take(kind, fields)
+                    self.take(line[:-1].split(b"\t") if line.endswith(b"\n") else [])
                 except (ValueError, IndexError):
                     raise BadUses(f"is damaged in line {number}: `{printable(line[:80].rstrip())}`") from None
         if self.count is None:
             raise BadUses("is cut off")
 
-    def take(self, kind, fields):
+    def take(self, fields):
+        kind = fields[0]
         if kind == b"use":
-            count, word, variable, local, thread, location, stack, *locks = fields
+            count, word, variable, local, thread, location, stack = fields[1:8]
             if word not in WORDS:
                 raise ValueError
-            self.uses.append(Use(number_of(count), word, variable, local, thread, location, number_of(stack), tuple(locks)))
+            self.uses.append(Use(number_of(count), word, variable, local, thread, location, number_of(stack), tuple(fields[8:])))
         elif kind == b"event":
-            in_page, in_run = map(number_of, fields)
+            in_page, in_run = map(number_of, fields[1:])
             self.events[in_run] = in_page
         elif kind == b"part":
-            self.parts.extend(map(number_of, fields))
+            self.parts.extend(map(number_of, fields[1:]))
         elif kind == b"events":
-            [self.count] = map(number_of, fields)
+            [self.count] = map(number_of, fields[1:])
         else:
             raise ValueError
 

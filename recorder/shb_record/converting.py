@@ -2,6 +2,7 @@
 
 import collections
 import contextlib
+import itertools
 import re
 import shutil
 import signal
@@ -90,7 +91,7 @@ class Conversion:
         self.words = [CONVERTER, "--scan", "--only", "/dev/stdin", "--page", self.trace, "--uses", self.uses, "--stacks", self.stacks,
                       *(["--left", self.left] if options.live else []), *self.page_words]
         self.size, self.notes, self.cuts = "", [], []  # known at the end: how much there is, what is said of it, what makes it a part
-        self.numbers, self.has_page = {}, False
+        self.numbers, self.used = {}, None  # `used`: what the file of uses has, once the page's trace is there
         self.found = []  # the places of the run, once they are listed
 
     def places(self, listed, choose):
@@ -130,14 +131,18 @@ class Conversion:
         has_all = uses.count < self.window and max(asked) - min(asked) <= self.window  # else some may have given way
         lost = len(asked - uses.events.keys()) if has_all else 0
         wanted = {uses.events[event]: access for race in races for event, access in zip(race.events, race.accesses) if event in uses.events}
+        at, of_list = 0, "of `shb places --list`"
         with open(self.trace, "rb") as trace:
-            for number, line in enumerate(trace, 1):
-                access = wanted.pop(number, None)
-                if access and line != b"%b|%b(%b)|%b\n" % access:
-                    raise Contradiction(f"{self.process.name}: event {number:,} of the page's trace isn't that of `shb places --list`")
-        if wanted or lost:
-            raise Contradiction(f"{self.process.name}: the page's trace lacks {counted(len(wanted) + lost, 'event')} of `shb places --list`")
-        self.numbers, self.has_page = {race.events: pair for race in races for pair in [uses.pair(*race.events)] if pair}, True
+            for number in sorted(wanted):
+                line, at = next(itertools.islice(trace, number - at - 1, None), None), number
+                lost += line is None
+                if line and line != b"%b|%b(%b)|%b\n" % wanted[number]:
+                    fault = f"event {number:,} of the page's trace isn't that {of_list}"
+                    raise Contradiction(f"{self.process.name}: {fault}")
+        if lost:
+            raise Contradiction(f"{self.process.name}: the page's trace lacks {counted(lost, 'event')} {of_list}")
+        self.numbers = {race.events: pair for race in races for pair in [uses.pair(*race.events)] if pair}
+        self.used = uses
 
     def write_page(self, places):
         """Writes the trace of a page anew, around the races of these places."""

@@ -123,7 +123,7 @@ class Live(Look):
 
     def add_new(self, looked, places, is_behind=False):
         process = looked.process
-        if places and not looked.conversion.has_page:
+        if places and not looked.conversion.used:
             found = [(place, {variable: self.met[way_to(process, place, variable)] for variable in place.variables}) for place in places]
             return [], [(next(key for key, _ in its.values()), place, {variable: name for variable, (_, name) in its.items()}) for place, its in found]
         new, named = super().add_new(looked, places, is_behind)

@@ -3,7 +3,6 @@
 import shlex
 import sys
 
-from shb_common import known
 from shb_common.faults import Refused
 from shb_common.printable import printable
 from shb_common.programs import Origin
@@ -220,21 +219,19 @@ class Look:
         first = [note for note in conversion.notes if note.startswith(CRASHED)] + conversion.cuts
         notes = [f"{note[0].upper()}{note[1:]}." for note in [*first, *[process.replay] * bool(process.replay)]]
         turns = self.results.folder / f"{process.base}.turns" if process.record.with_suffix(".turns").exists() else None
-        only, behind = (self.results.work / name for name in ("new.places", "behind.places"))
         page = self.results.path(f"{process.base}.html")
-        lines = b"".join(line for one in unknown for line in lines_of_new(one))
-        only.write_bytes(lines)
-        behind.write_bytes(b"".join(line for one in unknown if one.place in looked.behind for line in lines_of_new(one)))
         from shb_view.command import asked, explain  # takes its time, and a run without a place does without
         from shb_view.result import document
         from shb_view.words import bad_words
         _, view = explain(asked(
-            conversion.trace, title=f"{process.command} ({process.name}, {self.started})", note=notes, about=list(self.meaning()),
-            has_notes=False, recorded_source=True, source=self.options.source, stacks=conversion.stacks, scan=conversion.scan,
-            uses=conversion.uses, only=only, behind=behind, unseen=self.modules.calls(process.modules), turns=turns, text=True,
-            html=page, shb=ANALYSER, command=shlex.join([self.options.program, *self.options.arguments])), sys.stderr)
+            conversion.trace, title=f"{process.command} ({process.name}, {self.started})", note=notes,
+            about=list(self.meaning()), has_notes=False, recorded_source=True, source=self.options.source,
+            stacks=conversion.stacks, listed=conversion.scan, uses=conversion.used, only=variables_at(unknown),
+            behind=variables_at(one for one in unknown if one.place in looked.behind), shb=ANALYSER, html=page, text=True,
+            unseen=self.modules.calls(process.modules), turns=turns,
+            command=shlex.join([self.options.program, *self.options.arguments])), sys.stderr)
         if not view:
-            print(lines.decode(errors="backslashreplace"), end="", file=sys.stderr)
+            say_places((one.place, one.variables) for one in unknown)
             return
         if view.verdict.is_good is False:
             self.fail(Contradiction(f"{process.name}: {bad_words(view)}"))
@@ -259,10 +256,12 @@ def say_places(found):
             say(f"  {printable(name)}: {first}, and {second}")
 
 
-def lines_of_new(new):
-    """What the view is to show of a new place, as a file of known places has it."""
-    pair = known.pair_of(new.place.first, new.place.second)
-    return [known.line_of(pair, variable) for variable in sorted(new.variables)]
+def variables_at(new):
+    """The variables of new places by their two locations, the lesser first."""
+    found = {}
+    for one in new:
+        found.setdefault(tuple(sorted((one.place.first, one.place.second))), set()).update(one.variables)
+    return found
 
 
 def tables_in(stacks):

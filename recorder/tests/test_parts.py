@@ -1,11 +1,12 @@
 """A page's trace of several parts: what a page shows of one has nothing of another."""
 
+import io
 import json
 import re
-import sys
 
 import recorder
 from shb_common.uses import Uses
+from shb_view.command import asked, explain
 from test_open import planted
 from test_record import HEADER, LOCK, entry
 
@@ -60,10 +61,11 @@ class Parts(recorder.Case):
     def explained(self, entries, *options):
         """The view's document and text of such a page."""
         page, found = self.page_of(entries, *options), self.folder / "found.json"
-        view = recorder.SOURCES.parent / "view" / "shb-view"
-        text = recorder.must(recorder.call(sys.executable, view, "--all", "--text", "--json", found, "--scan", page.with_suffix(".scan"), "--uses",
-                                           page.with_suffix(".uses"), page)).stdout.decode()
-        return json.loads(found.read_text()), re.split(r"(?m)^(?=\d+\. )", text)
+        out = io.TextIOWrapper(io.BytesIO(), "utf-8", write_through=True)
+        status, _ = explain(asked(page, listed=page.with_suffix(".scan"), uses=self.uses, all=True, text=True, json=found,
+                                  shb=recorder.SHB), out)
+        self.assertEqual(status, 0)
+        return json.loads(found.read_text()), re.split(r"(?m)^(?=\d+\. )", out.buffer.getvalue().decode())
 
     def test_nothing_of_another_part_is_shown(self):
         _, sections = self.explained(READ_ALONE)

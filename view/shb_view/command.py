@@ -22,15 +22,19 @@ Explains the races of a trace: runs `shb` for them, and shows for each group of 
 that share a variable which lines use it, in which threads and under which locks."""
 STATUS = """\
 Exit status: 0 shown; 1 the report is bad; 2 nothing could be shown: the trace is refused,
-`shb` failed, or a file can't be read or written; 3 wrong command line; 4 a file of --stacks
-or --only is damaged. SHB=PROGRAM names another `shb`.
+`shb` failed, or a file can't be read or written; 3 wrong command line; 4 the file of --stacks
+is damaged. SHB=PROGRAM names another `shb`.
 
 A place is a pair of locations that race, that of the first access and that of the second."""
 
-# What is asked for where nothing else is. `unseen` has by the name of a function, a file or a module which modules without hooks it calls or is.
-DEFAULTS = {"html": None, "text": False, "only": None, "title": None, "source": [], "all": False, "note": [], "about": [], "has_notes": True,
-            "behind": None, "unseen": {}, "turns": None, "command": "", "json": None, "stacks": None, "recorded_source": False, "scan": None,
-            "uses": None, "check": False, "report": None, "shb": None}
+# What is asked for where nothing else is. The last two lines are what `shb-record` hands over of a recorded run: the path of the
+# list of its places; their `Uses`; by two locations the names of the variables that are new there (`only`), and of those found
+# behind known races; the list of turns that runs the interleaving again, and the program's words; what the recorder has to say;
+# and by the name of a function, a file or a module which modules without hooks it calls or is.
+DEFAULTS = {"html": None, "text": False, "json": None, "all": False, "title": None, "source": [], "note": [], "has_notes": True,
+            "stacks": None, "recorded_source": False, "check": False, "report": None, "shb": None,
+            "listed": None, "uses": None, "only": None, "behind": {}, "turns": None, "command": "", "about": [],
+            "unseen": {}}
 
 
 def asked(trace, **more):
@@ -43,34 +47,21 @@ def arguments(words, program):
     parser.set_defaults(**DEFAULTS)
     parser.add_argument("--html", metavar="PAGE", help="write a page to this file, not text to standard output")
     parser.add_argument("--text", action="store_true", help="beside the page, write the text too")
-    parser.add_argument("--only", metavar="FILE", help="in the text, show only the groups with a place of this file, which has the form of "
-                        "a file of known places (docs/FORMATS.md)")
     parser.add_argument("--title", metavar="TEXT", help="the title, if it isn't to be the trace's name")
     parser.add_argument("--source", metavar="DIR", action="append",
                         help="show lines of the source files below this folder; may be given again")
     parser.add_argument("--all", action="store_true", help="in the text, add a race of each group and what comes before it")
     parser.add_argument("--note", metavar="TEXT", action="append",
                         help="a note on the trace, shown below the title; may be given again")
-    parser.add_argument("--about", metavar="TEXT", action="append",
-                        help="a fact on the trace, such as that a library wasn't recorded; may be given again")
-    parser.add_argument("--behind", metavar="FILE", help="a file like that of --only: places that were found behind known races")
-    parser.add_argument("--turns", metavar="FILE", help="the list of turns that `shb-record --replay` runs the trace's interleaving again with")
-    parser.add_argument("--command", metavar="WORDS", help="the program of --turns and its arguments, as a shell takes them")
     parser.add_argument("--json", metavar="FILE", help="write the places to this file, for programs (docs/FORMATS.md has the form)")
     parser.add_argument("--stacks", metavar="FILE", help="show call stacks and names of locals, as `shb-std --stacks` wrote them")
     parser.add_argument("--recorded-source", action="store_true", help="show lines of the source files that the file of --stacks names")
-    parser.add_argument("--scan", metavar="FILE", help="the races are those of this file, which `shb places --list --variables` wrote of "
-                        "the run that the trace is of: of `shb` a page has schedules alone; it needs --uses")
-    parser.add_argument("--uses", metavar="FILE", help="the uses of the variables in the whole run, as `shb-std --uses` wrote them")
     parser.add_argument("--check", action="store_true", help="run `shb check` on the REPORT that is given")
     parser.add_argument("--shb", metavar="PROGRAM", default=os.environ.get("SHB") or program, help="the `shb` to run")
     parser.add_argument("trace", metavar="TRACE", help="a trace, as `shb` reads it")
     parser.add_argument("report", metavar="REPORT", nargs="?",
                         help="a report of it (- is standard input) to explain, in place of one that `shb` makes; `shb` is asked for the trace's counts all the same")
-    found = parser.parsed(words)
-    if bool(found.scan) != bool(found.uses) or found.scan and found.report:
-        parser.error("--scan and --uses go together, and without a REPORT")
-    return found
+    return parser.parsed(words)
 
 
 def show(options, progress, out):

@@ -6,9 +6,10 @@ import collections
 from shb_common.faults import Refused
 from shb_common.report import BadReport
 from shb_common.variables import without_end
+from shb_view.facts import Sites, sites_in
 from shb_view.groups import name_parts
-from shb_view.held import MOST_COUNTED, Held, called
-from shb_view.trace import CHANGED, OPENS, event_of
+from shb_view.held import MOST_COUNTED, Held, Operations, called
+from shb_view.trace import CHANGED, OPENS
 
 BEFORE = 6  # events of a thread right before its access
 MOST_KINDS = 200_000  # accesses that are told apart: by group, line, thread, word and locks held
@@ -75,9 +76,10 @@ class Counting:
         # By group, how many accesses there are of each kind: its location (None where lines aren't told apart any more),
         # thread, word of `words.KINDS`, the names of the locks held (None where they aren't counted), and the variable (not of a free).
         self.counts = collections.defaultdict(dict)
+        self.used = collections.defaultdict(Sites)  # the same by group, of the uses of a run
         self.kinds = self.found = 0
         self.noted = {}  # by event
-        self.held = collections.defaultdict(lambda: Held(kinds.locks))  # by thread
+        self.held, self.operations = collections.defaultdict(Held), Operations(kinds.locks)  # by thread
         self.recent = collections.defaultdict(lambda: collections.deque(maxlen=BEFORE))  # by thread: its last events
         self.before = {}  # by group and thread: its last access
         self.writes = {}  # by variable: its last write, and the thread and location of that
@@ -97,18 +99,20 @@ class Counting:
             raise BadReport("the report belongs to another trace: it names events that aren't accesses to its variables")
 
     def take_all(self, trace):
-        groups, recent = {word + name + b")": group for name, group in self.groups.items() for word in (b"r(", b"w(")}, self.recent
+        groups = {word + name + b")": group for name, group in self.groups.items() for word in (b"r(", b"w(")}
+        held, recent, operations, parts = self.held, self.recent, self.operations, trace.parts
         for number, thread, operation, line in trace.events("counting accesses"):
-            if number in trace.parts:
+            if number in parts:
                 self.begin_part()
             if operation[1] != OPENS:
-                self.held[thread].take(operation, number)
-                if operation.startswith(b"fork("):
+                if operations[operation]:
+                    held[thread].take(*operations[operation], number)
+                elif operation.startswith(b"fork("):
                     self.forks[operation[5:-1]] = number
                 elif operation.startswith(b"join(") and recent.get(operation[5:-1]):
                     self.joined[number] = recent[operation[5:-1]][-1]
             elif operation in groups:
-                self.access(number, without_end(line), groups[operation])
+                self.access(number, thread, operation, without_end(line), groups[operation])
             recent[thread].append(number)
 
     def begin_part(self):
@@ -116,9 +120,9 @@ class Counting:
         for of_part in (self.recent, self.before, self.writes):
             of_part.clear()
 
-    def access(self, number, line, group):
+    def access(self, number, thread, operation, line, group):
         """Takes an access to a variable of the group."""
-        thread, word, variable, location = event_of(line)
+        word, variable, location = operation[:1], operation[2:-1], line[len(thread) + len(operation) + 2:]
         if number in self.lines:
             self.found += 1
             if self.lines[number] != line:
@@ -127,7 +131,7 @@ class Counting:
             self.writes[variable] = number, thread, location
         elif variable in self.writes:
             self.see(number, variable, thread, location)
-        if not self.access_kinds.is_in_life(number, variable):
+        if self.uses is not None and number not in self.wanted or not self.access_kinds.is_in_life(number, variable):
             return
         held, stacks = self.held[thread], self.access_kinds.stacks
         if number in self.wanted:
@@ -168,22 +172,27 @@ class Counting:
 
     def take_uses(self):
         """Takes the uses of the whole run. A free is one of all variables of its block."""
-        kinds, frees = self.access_kinds, {}
+        kinds, frees, locks_of = self.access_kinds, {}, {}
         groups = {kinds.in_trace(variable): group for variable, group in self.groups.items()}
-        for use in self.uses:
-            group = groups.get(use.variable)
-            if group is None or use.variable.startswith(b"stack.") and use.variable in kinds.locals and kinds.locals[use.variable] != use.local:
+        for count, word, variable, local, thread, location, stack, locks in self.uses:
+            group = groups.get(variable)
+            if group is None or variable.startswith(b"stack.") and variable in kinds.locals and kinds.locals[variable] != local:
                 continue
-            self.callers[use.variable, use.location][use.stack, not use.locks] += use.count
-            locks = tuple(called(lock, kinds.locks) for lock in use.locks) if len(use.locks) <= MOST_COUNTED else None
-            kind = use.location, use.thread, use.word, locks, b"" if use.word == b"f" else use.variable
-            count = use.count
-            if use.word == b"f":
-                block = name_parts(use.variable)["block"]
+            self.callers[variable, location][stack, not locks] += count
+            if locks not in locks_of:
+                locks_of[locks] = tuple(called(lock, kinds.locks) for lock in locks) if len(locks) <= MOST_COUNTED else None
+            kind = location, thread, word, locks_of[locks], b"" if word == b"f" else variable
+            if word == b"f":
+                block = name_parts(variable)["block"]
                 before = frees.get((group, kind, block), 0)
                 frees[group, kind, block] = max(before, count)
-                count = max(count - before, 0)
-            self.counts[group][kind] = self.counts[group].get(kind, 0) + count
+                count -= before
+            if count > 0:
+                self.used[group].add(kind, count)
+
+    def uses_of(self, group):
+        """How the variables of a group are used, by its number."""
+        return sites_in(self.counts[group]) if self.uses is None else self.used[group]
 
 
 def racing_reads(races):

@@ -28,17 +28,24 @@ def alike(lock):
 RANKS = {"published": 0, "freed": 0, "plain": 1, "uncounted": 3, "read-lock": 1, "without": 1, "sometimes": 2, "apart": 2, "no-lock": 3, "mixed": 3, "ordered": 5}
 
 
+class Counts(dict):
+    """Numbers by what they are of; 0 of what isn't there. `collections.Counter` takes ten times as long to be made, and there are many."""
+
+    def __missing__(self, key):
+        return 0
+
+
 class Site:
     """A line that uses the variables, with what is counted there."""
 
     def __init__(self, location):
         self.location = location
-        self.accesses = collections.Counter()  # by word
-        self.threads = collections.Counter()
+        self.accesses = Counts()  # by word
+        self.threads = Counts()
         self.writers = set()  # threads
-        self.locks = collections.Counter()  # how many accesses hold each lock, for writing if it is a reader-writer lock
-        self.reading = collections.Counter()  # how many hold it for reading
-        self.wrong = collections.Counter()  # how many of these write
+        self.locks = Counts()  # how many accesses hold each lock, for writing if it is a reader-writer lock
+        self.reading = Counts()  # how many hold it for reading
+        self.wrong = Counts()  # how many of these write
         self.bare = 0  # accesses that hold no lock
         self.unknown = 0  # accesses whose locks aren't counted
         self.variables = set()
@@ -68,7 +75,7 @@ class Site:
         return sorted(lock for lock in {*self.locks, *self.reading} if self.guarded(lock) == total)
 
     def add(self, variable, thread, word, locks, count):
-        """Takes accesses of a kind; `locks` are None where they aren't counted."""
+        """Takes accesses of a kind; `locks` is None where they aren't counted."""
         self.variables.add(variable)
         self.accesses[word] += count
         self.threads[thread] += count
@@ -79,10 +86,9 @@ class Site:
         elif not locks:
             self.bare += count
         for lock in locks or ():
-            shared = read_lock(lock)
-            if shared:
-                self.reading[shared] += count
-                self.wrong[shared] += count if word != b"r" else 0
+            if b"@" in lock and read_lock(lock):
+                self.reading[read_lock(lock)] += count
+                self.wrong[read_lock(lock)] += count if word != b"r" else 0
             else:
                 self.locks[lock] += count
 
@@ -122,9 +128,11 @@ class Sites:
         """Takes accesses of a kind, as `Counting.counts` has them."""
         location, thread, word, locks, variable = kind
         if not variable:
-            self.frees[kind] = count
+            self.frees[kind] = self.frees.get(kind, 0) + count
             return
-        sites = self.variables.setdefault(variable, {})
+        sites = self.variables.get(variable)
+        if sites is None:
+            sites = self.variables[variable] = {}
         site = sites.get(location)
         if site is None:
             site = sites[location] = Site(location)
@@ -304,7 +312,7 @@ def uncounted(sites, whole):
 def by_weight(sites):
     """The locks that are held at some lines, those that more lines hold at each access first, then those that more accesses
     hold; and of those that lines hold at each access how many do."""
-    holding, guarded = collections.Counter(), collections.Counter()
+    holding, guarded = Counts(), Counts()
     for site in sites:
         total = site.total()
         for lock in {*site.locks, *site.reading}:

@@ -4,7 +4,7 @@
 import collections
 
 from shb_common.result import text
-from shb_view.facts import RANKS, fact_of, joined, sites_in, sites_of
+from shb_view.facts import RANKS, fact_of, joined, sites_of
 from shb_view.groups import Group, Pair, object_of
 from shb_view.handed import MOST_RACES, handed, published
 from shb_view.words import Code, listed
@@ -24,7 +24,7 @@ class Facts:
     """Makes facts of groups. `whole` is what they are of: a trace or a run."""
 
     def __init__(self, kinds, whole):
-        self.kinds, self.whole = kinds, whole
+        self.kinds, self.whole, self.known = kinds, whole, {}  # `known`: by variable what holds of it alone
         self.pairs = handed(kinds.stacks.uses, len(kinds.stacks.free_starts) > 0, kinds.stacks.lasting_locals)
 
     def of(self, group, uses):
@@ -45,7 +45,7 @@ class Facts:
         names, alike = {}, {}
         for name in found.group.names:
             names.setdefault(self.kinds.in_trace(name), []).append(name)
-        alone = {variable: self.of_all(part_of(found.group, its, self.kinds), found.uses.of(variable)) for variable, its in names.items()}
+        alone = {variable: self.alone(found, variable, its) for variable, its in names.items()}
         if {one.fact.form for one in alone.values()} == {found.fact.form}:
             return ()
         for variable, one in alone.items():
@@ -54,6 +54,12 @@ class Facts:
                     for its in alike.values()]
         are_alike = all(one.fact.form == form for one, (form, _) in zip(together, alike))
         return sorted(together if are_alike else alone.values(), key=lambda one: RANKS[one.fact.form])
+
+    def alone(self, found, variable, names):
+        """What holds of one of a group's variables, in this group and in one that it becomes a part of: only frees are of all variables."""
+        if found.uses.frees or variable not in self.known:
+            self.known[variable] = self.of_all(part_of(found.group, names, self.kinds), found.uses.of(variable))
+        return self.known[variable]
 
     def mixed(self, parts):
         """What is said of a group whose variables differ: of each part its fact."""
@@ -83,11 +89,11 @@ def part_of(group, names, kinds):
     return Group(tuple(pairs), tuple(dict.fromkeys(map(kinds.name, names))), tuple(names))
 
 
-def merged_groups(groups, counts, facts):
+def merged_groups(groups, uses_of, facts):
     """The groups, those of one object as one where the same threads race in it and the same is missing."""
     found = {}
     for number, group in enumerate(groups):
-        one, thing = facts.of(group, sites_in(counts[number])), object_of(group)
+        one, thing = facts.of(group, uses_of(number)), object_of(group)
         racing = frozenset((thread, thread in site.writers) for site in one.sites if site.partners for thread in site.threads)
         uses = tuple((use.name, use.location) for use in one.fact.uses)
         key = (thing, one.fact.form, one.fact.lock, uses, racing) if thing and one.fact.form != "mixed" else number

@@ -23,29 +23,40 @@ def called(lock, locals):
     return locals[base] + sign + rest if base in locals else lock
 
 
+class Operations(dict):
+    """By an operation of the trace: whether it is an acquire, and its lock as the program has it; None for what is no acquire or release of a
+    lock that the program has. `locals` has the names of locks on stacks."""
+
+    def __init__(self, locals=()):
+        super().__init__()
+        self.locals = locals or {}
+
+    def __missing__(self, operation):
+        word, _, name = operation[:-1].partition(b"(")
+        lock = called(name, self.locals)
+        is_lock = word in (b"acq", b"rel") and not (b"@" in lock and STAND_IN.fullmatch(lock))
+        self[operation] = found = (word == b"acq", lock) if is_lock else None
+        return found
+
+
 class Held:
     """The locks that one thread holds, oldest first, but for those that the program doesn't have. Of nested acquires of a lock the
-    outermost counts. `locals` has the names of those on stacks."""
+    outermost counts."""
 
-    def __init__(self, locals={}):
-        self.locals = locals
+    def __init__(self):
         self.locks = {}  # by name: the acquire since which it is held, and how often it was acquired since
         self.kept_names = self.kept_newest = None  # answers, until the locks change
 
-    def take(self, operation, event):
-        """Takes an acquire or a release; other operations change nothing."""
-        word, _, lock = operation[:-1].partition(b"(")
-        if word not in (b"acq", b"rel"):
-            return
-        lock = called(lock, self.locals)
-        if lock in self.locks and not (word == b"rel" and self.is_last_release(lock)):
-            self.locks[lock][1] += 1 if word == b"acq" else -1
+    def take(self, is_acquire, lock, event):
+        """Takes an acquire or a release."""
+        if lock in self.locks and (is_acquire or not self.is_last_release(lock)):
+            self.locks[lock][1] += 1 if is_acquire else -1
             return
         self.kept_names = self.kept_newest = None
-        if word == b"rel":
-            self.locks.pop(lock, None)
-        elif b"@" not in lock or not STAND_IN.fullmatch(lock):
+        if is_acquire:
             self.locks[lock] = [event, 1]
+        else:
+            self.locks.pop(lock, None)
 
     def is_last_release(self, lock):
         """Whether one release more makes the lock free."""

@@ -8,16 +8,13 @@ import stat
 import sys
 import tempfile
 
-from shb_common import known
 from shb_common.analyser import FULL, LIST, VARIABLES
 from shb_common.faults import Refused
 from shb_common.limits import MOST_TEXT
 from shb_common.report import BadReport, Report, in_order
-from shb_common.programs import naming
 from shb_common.result import text
 from shb_common.standard import faults_of
 from shb_common.stacks import BadStacks, Stacks
-from shb_common.uses import BadUses, Uses
 from shb_common.variables import without_block
 from shb_common.words import counted
 from shb_view.analyser import MOST_LISTED, Analyser, Verdict
@@ -84,19 +81,11 @@ class View(collections.namedtuple("View", "title made pairs groups sections sour
         return [{"name": name, **({} if self.of_run or self.made.is_sample else {"races": races})} for name, races in sorted(found.items())]
 
 
-def are_at(path, sections, stacks):
-    """Of each group whether it has a place of a file of known places."""
-    with damage_of(path):
-        places = known.read(path)
-    origin, names = naming(stacks, set().union(*(section.group.locations() for section in sections)))
-    return [any(is_at(places, origin, names, pair, section.group) for pair in section.group.places()) for section in sections]
-
-
-def is_at(places, origin, names, pair, group):
-    """Whether two lines with one of the group's variables are among some places."""
-    sides = [names.side(origin.location(location)) for location in pair]
-    sides = [side._replace(names=(*side.names, known.written(location))) for side, location in zip(sides, pair)]
-    return any([places.has(sides, name) for name in {*map(without_block, group.variables), *group.names}])
+def are_at(places, section):
+    """Whether a group has one of some places: names of variables by two locations, the lesser first."""
+    group = section.group
+    names = {*map(without_block, group.variables), *group.names}
+    return any(not names.isdisjoint(places.get(pair, ())) for pair in group.places())
 
 
 def make_view(options, progress):
@@ -104,16 +93,15 @@ def make_view(options, progress):
     with contextlib.ExitStack() as stack:
         file = stack.enter_context(open_regular(options.trace))
         gathered = Gathered()
-        made = of_record(options, file, gathered, stack) if options.scan else analysed(options, file, gathered, progress, stack)
+        made = of_record(options, file, gathered, stack) if options.listed else analysed(options, file, gathered, progress, stack)
         with damage_of(options.stacks):
             stacks = Stacks(options.stacks, made.events)
         gathered.name_locals(stacks)
         groups = gathered.groups()
         kinds = Kinds(gathered, stacks)
         count, sections = make_sections(options, kinds, made, Trace(file, progress, made.parts), groups)
-        for name, path in (("is_asked_for", options.only), ("is_behind", options.behind)):
-            if path:
-                sections = [section._replace(**{name: is_there}) for section, is_there in zip(sections, are_at(path, sections, stacks))]
+        sections = [section._replace(is_asked_for=options.only is None or are_at(options.only, section),
+                                     is_behind=are_at(options.behind, section)) for section in sections]
         title = readable(os.fsencode(options.title or os.path.basename(options.trace)))
         pairs = sum(group.count() for group in groups)
         source = Source(options.source, os.fstat(file.fileno()).st_mtime, stacks.sources if options.recorded_source else {})
@@ -140,9 +128,8 @@ def analysed(options, file, gathered, progress, stack):
 def of_record(options, file, gathered, stack):
     """The races of a recorded run with both accesses in one part of the trace, by their numbers there; those that
     `shb places` lists of the trace have schedules."""
-    with damage_of(options.uses):
-        uses = Uses(options.uses)
-    with faults_of(options.scan), open(options.scan, "rb") as listed:
+    uses = options.uses
+    with faults_of(options.listed), open(options.listed, "rb") as listed:
         report = Report(listed)
         races = [(race._replace(first=pair[0], second=pair[1]), accesses) for race, accesses in report.races()
                  for pair in [uses.pair(race.first, race.second)] if pair]
@@ -188,9 +175,7 @@ def damage_of(path):
     """Faults of a file beside the trace are said with its name."""
     try:
         yield
-    except known.BadLine as fault:
-        raise Damaged(f"--only: {fault}") from None
-    except (BadStacks, BadUses) as fault:
+    except BadStacks as fault:
         raise Damaged(f"{readable(os.fsencode(path))} {fault}") from None
 
 
@@ -268,7 +253,7 @@ def make_sections(options, kinds, made, trace, groups):
     counting = Counting(variables, wanted, kinds, made.uses)
     try:
         counting.read(trace, made.events)
-        found = merged_groups(groups, counting.counts, Facts(kinds, "trace" if made.uses is None else "run"))
+        found = merged_groups(groups, counting.uses_of, Facts(kinds, "trace" if made.uses is None else "run"))
         first = sorted(found, key=lambda it: (RANKS[it.fact.form], -(it.group.races() or it.uses.total())))[:MOST_GROUPS]
         sections = [make_section(it, counting, options.unseen) for it in first]
         if options.html or options.all:

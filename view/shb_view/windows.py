@@ -2,7 +2,7 @@
 
 import collections
 
-from shb_view.held import Held, called
+from shb_view.held import Held, Operations
 from shb_view.trace import OPENS, event_of, line_of
 
 SOURCES = {b"acq": b"rel", b"r": b"w"}  # what an operation waits for or sees
@@ -36,26 +36,26 @@ class Moments:
         self.latest = {}  # of a tracked operation: its last event, its thread and its moment
         self.moments = {}
         self.found = {}  # by event: its source, where that is an event of another thread
-        self.held, self.locals = collections.defaultdict(lambda: Held(locals)), locals  # by thread
+        self.held, self.operations = collections.defaultdict(Held), Operations(locals)  # by thread
         self.last = {}  # by thread
 
     def read(self, trace):
-        wanted, tracked, last, end = self.wanted, self.tracked, self.last, max(self.wanted, default=0)
+        wanted, tracked, last, end, operations = self.wanted, self.tracked, self.last, max(self.wanted, default=0), self.operations
         for number, thread, operation, _ in trace.events("reading what comes before"):
             if number in trace.parts:
                 self.latest.clear()
             if number in wanted or operation in tracked:
                 self.note(number, thread, operation)
-            if operation[1] != OPENS:
-                self.held[thread].take(operation, number)
+            if operation[1] != OPENS and operations[operation]:
+                self.held[thread].take(*operations[operation], number)
             last[thread] = number
             if number >= end:
                 break
 
     def note(self, number, thread, operation):
         held = self.held[thread]
-        lock = called(operation[4:-1], self.locals) if operation.startswith(b"rel(") else None
-        moment = Moment(self.last.get(thread, 0), *held.newest(), lock if held.is_last_release(lock) else None)
+        is_acquire, lock = operation[1] != OPENS and self.operations[operation] or (True, None)
+        moment = Moment(self.last.get(thread, 0), *held.newest(), lock if not is_acquire and held.is_last_release(lock) else None)
         if number in self.wanted:
             self.moments[number] = moment
             source, by, its_moment = self.latest.get(self.sources.get(number), (0, thread, None))
