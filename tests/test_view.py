@@ -11,6 +11,7 @@ import random
 import re
 import tempfile
 import types
+import unittest.mock
 
 import judge
 import program
@@ -18,7 +19,7 @@ import shb
 from viewing import EXAMPLES, MADE, made, run, run_here, sections, settings, windows
 
 from shb_common import progress
-from shb_view import command, counting, groups, names
+from shb_view import command, counting, groups, names, view
 
 FORK_JOIN = """\
 fork-join.std: 1 race at 1 place, in 1 group (7 events, 2 threads, 0 locks, 2 variables)
@@ -536,13 +537,17 @@ class Groups(program.Case):
         self.assertEqual([said[-3], said[-1], said[2]], ["", "The report doesn't list all races of the trace; the counts are the report's.",
                                      "1. total: Counter.java:12 writes, Report.java:30 reads without a lock (3 races, 3 places)"])
 
-    def test_two_hundred_groups_are_shown(self):
-        for many, more in ((200, ""), (202, "\nand 2 more groups\n")):
+    def test_two_hundred_groups_are_shown_whole(self):
+        more = "201. x200: f.c:400 and f.c:401 write without a lock (1 race, 1 place)\n" \
+               "202. x201: f.c:402 and f.c:403 write without a lock (1 race, 1 place)\n"
+        for many, more in ((200, ""), (202, more)):
             events = [f"{thread} w x{k} {2 * k + (thread == 'B')}" for k in range(many) for thread in "AB"]
             out = run_here([self.file(trace_of(*events))])[1]
-            self.assertEqual(len(re.findall(r"^\d+\. ", out, re.M)), 200)
+            self.assertEqual(len(re.findall(r"^\d+\. ", out, re.M)), many)
             self.assertTrue(out.startswith(f"t.std: {many} races at {many} places, in {many} groups "))
             self.assertEqual(out.split("races with f.c:399 (1 race)\n")[-1][-len(more or "\n"):] if more else "", more)
+        with unittest.mock.patch.object(view, "MOST_GROUPS", 201):
+            self.assertTrue(run_here([self.file(trace_of(*events))])[1].endswith("lock (1 race, 1 place)\n\nand 1 more group\n"))
 
 
 class Issues(program.Case):

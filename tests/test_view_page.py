@@ -180,9 +180,9 @@ class Pages(program.Case):
         size = (self.folder / "page.html").stat().st_size
         self.assertTrue(2_000_000 < size < 4_500_000, size)
         groups = page.data()["groups"]
-        self.assertEqual((len(page.all("summary")), len(groups)), (200, 200))
+        self.assertEqual((len(page.all("summary")), len(groups)), (250, 250))
         drawn = sum(group is not None for group in groups)
-        self.assertTrue(10 < drawn < 200 and groups[drawn:] == [None] * (200 - drawn), drawn)
+        self.assertTrue(10 < drawn < 200 and groups[drawn:] == [None] * (250 - drawn), drawn)
 
     def test_a_hostile_name_of_the_file(self):
         path = self.folder / "page.html"

@@ -7,6 +7,7 @@ import re
 import shlex
 import urllib.parse
 
+import shb_view
 from shb_common import result, sarif
 from shb_common.places import unknown_places
 from shb_common.programs import pair_of
@@ -77,7 +78,9 @@ def access_of(one, sources):
 
 def index(look, rows):
     """A page with a name that stays: each process with its page and its groups."""
-    text = ["<!doctype html>", '<html lang="en"><meta charset="utf-8"><title>Data races</title>',
+    style = pathlib.Path(shb_view.__file__).with_name("page.css").read_text(encoding="utf-8")
+    text = ["<!doctype html>", '<html lang="en"><meta charset="utf-8">',
+            '<meta name="viewport" content="width=device-width, initial-scale=1">', f"<title>Data races</title><style>{style}</style>",
             f"<h1>{html.escape(shlex.join([look.options.program, *look.options.arguments]))}</h1>",
             f"<p>{counted(count(row for row in rows if not row.is_known), 'unknown place')} with races</p>"]
     for (process, trace), found in look.found.items():

@@ -112,6 +112,7 @@ class Results(recorder.Case):
         text, [page] = (self.folder / "out" / "index.html").read_text(), (self.folder / "out").glob("run*.html")
         self.assertIn(f'<a href="{page.name}">run 1, process ', text)
         self.assertIn("<li>hits: app.c:5 writes without a lock</li>", text)
+        self.assertIn("prefers-color-scheme: dark", text)   # it has the page's style
 
     def test_a_place_of_two_processes_is_in_the_groups_of_both(self):
         self.assertEqual(self.record("-o", "out", self.build(SHARED))[0], 66)

@@ -13,8 +13,12 @@ flat = flat_in(NAME)
 
 
 def issue_lines(view, section):
-    """The group's closest race with its threads, locks and lines of code, and what the trace says of the group."""
+    """The group's closest race with its threads, locks and lines of code, and what the trace says of the group; of one that
+    isn't shown whole that alone."""
     window = section.window
+    if not window:
+        yield from (flat(parts) for parts in told_of(section))
+        return
     one, other = (window.events[access].event for access in window.accesses)
     locations = tuple(sorted((one.location, other.location)))
     races = next(pair.races for pair in section.group.pairs if pair.locations == locations)

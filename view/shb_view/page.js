@@ -111,6 +111,7 @@ function svg(tag, attributes, ...kids) {
   return filled(document.createElementNS("http://www.w3.org/2000/svg", tag), attributes, kids);
 }
 
+const MOST_BESIDE = 3;  // lanes of a picture that stands beside the code: one with more is as wide as the page, and scrolls where that isn't enough
 const NARROW = 44, ROOM = 352;  // of a window in em; of a picture there, so that its texts can still be read
 const cut = (text, most) => text.length > most ? `${text.slice(0, most - 1)}…` : text;
 const cutMiddle = (text, most) => text.length > most ? `${text.slice(0, (most - 1) >> 1)}…${text.slice(-(most >> 1))}` : text;
@@ -164,7 +165,8 @@ function picture(its, sides) {
 
 function pictureFigure(group) {
   const list = group.picture.events.map(([number, , , , , , tip]) => make("li", { value: number }, make("code", null, tip)));
-  return make("figure", { class: "picture" }, make("figcaption", null, make("b", null, "The interleaving"), make("br"), make("span", { class: "faint" },
+  const kind = group.picture.lanes.length > MOST_BESIDE ? "picture full" : "picture";
+  return make("figure", { class: kind }, make("figcaption", null, make("b", null, "The interleaving"), make("br"), make("span", { class: "faint" },
     group.note.split("`").map((words, at) => at % 2 ? make("code", null, words) : words))), make("div", { class: "wide" }, picture(group.picture, group.sides)),
     make("p", { class: "faint" }, "Time runs down; dashed where events are left out. Bars: locks held. Arrows: release to acquire, start, join; dashed: a read sees a write. Behind a line stands the event's number."),
     folded("Its events as text", make("ol", { class: "stack events" }, list)));

@@ -103,7 +103,8 @@ def data(view):
     """What the script draws from. Parts are lists in which names stand in lists of their own."""
     tables, size, groups = Tables(), 0, []
     for section in view.sections:
-        groups.append(group_data(view, section, tables) if size < MOST_BYTES else None)
+        is_drawn = section.window and size < MOST_BYTES
+        groups.append(group_data(view, section, tables) if is_drawn else None)
         size += len(json.dumps(groups[-1]))
     frames = [[told(frame_parts(frame), LINE), frame.in_system] for frame in tables.frames]
     return {"groups": groups, "frames": frames, "stacks": list(tables.stacks)}

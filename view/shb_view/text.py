@@ -7,8 +7,8 @@ from shb_view.groups import common_name
 from shb_view.issue import issue_lines
 from shb_view.names import code_line, columns, padded, short
 from shb_view.stacks import caller_lines, origins
-from shb_view.words import (MOST_SITES, about, accesses_text, bad_words, flat_in, lock_words, notes_of, partner_parts, place, races_text,
-                            share, summary, thread_parts)
+from shb_view.words import (MOST_DETAILED, MOST_SITES, about, accesses_text, bad_words, flat_in, lock_words, notes_of,
+                            partner_parts, place, races_text, share, summary, thread_parts)
 
 NAME = 80  # columns of a name or a location
 LINE = 100  # columns of a line of code
@@ -38,6 +38,9 @@ def text_lines(view, colours, is_whole, has_notes=True):
     if len(chosen) < len(view.sections):
         yield f"Of {counted(len(view.sections), 'group')} {len(chosen):,} are shown, those with a place that is asked for."
     for number, section in chosen:
+        if number > MOST_DETAILED:
+            yield headline(number, section, colours)
+            continue
         yield ""
         yield from section_lines(view, number, section, colours)
         if is_whole:
@@ -51,9 +54,13 @@ def text_lines(view, colours, is_whole, has_notes=True):
     yield from ["", *notes] if notes and view.sections else notes
 
 
-def section_lines(view, number, section, colours):
+def headline(number, section, colours):
     name = flat(common_name(section.group.variables))
-    yield colours.bold(f"{number}. {name}: {flat(section.fact.tag)}") + f" ({races_text(section.group)})"
+    return colours.bold(f"{number}. {name}: {flat(section.fact.tag)}") + f" ({races_text(section.group)})"
+
+
+def section_lines(view, number, section, colours):
+    yield headline(number, section, colours)
     yield from (f"   {flat(parts)}" for parts in about(section))
     for site in section.sites[:MOST_SITES]:
         yield from site_lines(view, section, site, colours)

@@ -27,8 +27,9 @@ from shb_view.source import Source
 from shb_view.stacks import Damaged, perhaps_ordered
 from shb_view.trace import CHANGED, Trace, warnings
 from shb_view.windows import make_windows
+from shb_view.words import MOST_DETAILED
 
-MOST_GROUPS = 200
+MOST_GROUPS = 10_000
 MOST_REPORT = 100_000_000  # bytes of a report with schedules that the view asks for
 BLOCK = 65_536
 NUMBER = 7  # bytes of an event in a schedule, about
@@ -244,8 +245,8 @@ def read_report(given, counts, gathered, progress):
 
 
 def make_sections(options, kinds, made, trace, groups):
-    """How many groups there are, and those that are shown, in the order of their facts and then most races first, or uses of a run; with their windows
-    if these are asked for."""
+    """How many groups there are, and those that are shown, in the order of their facts and then most races first, or uses
+    of a run; the first MOST_DETAILED with their windows if these are asked for."""
     if not groups:
         return 0, []
     wanted = {access for race in (group.closest() for group in groups) for access in (race.first, race.second)}
@@ -257,8 +258,9 @@ def make_sections(options, kinds, made, trace, groups):
         first = sorted(found, key=lambda it: (RANKS[it.fact.form], -(it.group.races() or it.uses.total())))[:MOST_GROUPS]
         sections = [make_section(it, counting, options.unseen) for it in first]
         if options.html or options.all:
-            windows = make_windows(trace, [section.group.closest() for section in sections], counting, made.given.order)
-            sections = [section._replace(window=window) for section, window in zip(sections, windows)]
+            races = [section.group.closest() for section in sections[:MOST_DETAILED]]
+            windows = make_windows(trace, races, counting, made.given.order)
+            sections[:len(races)] = [section._replace(window=window) for section, window in zip(sections, windows)]
     except (IndexError, KeyError):
         raise Refused(CHANGED) from None
     return len(found), sections

@@ -9,6 +9,7 @@ from shb_view.names import by_numbers, short
 
 KINDS = {b"r": "read", b"w": "write", b"a": "atomic write", b"f": "free"}
 VERBS = {b"r": "reads", b"w": "writes", b"a": "writes atomically", b"f": "frees"}
+MOST_DETAILED = 200  # groups that are shown whole; of further ones the headline, the facts and the places are
 MOST_SITES = 20  # lines that are shown of a group
 MOST_LOCKS, MOST_SOME, MOST_PARTNERS, MOST_THREADS = 8, 3, 8, 3  # that are named at a line; MOST_SOME are held at some accesses
 MOST_VARIABLES = 8  # that are named of a group
@@ -122,9 +123,10 @@ def bad_words(view):
 def notes_of(view):
     """What the reader has to know of the report."""
     if view.verdict.is_good and view.of_run:
-        races = [section.window.schedule for section in view.sections]
+        races = [section.window.schedule for section in view.sections if section.window]
         some = f"{len(races) - races.count(None):,} of {counted(len(races), 'race')}" if None in races else "Each race"
-        yield f"{some} that the page shows {'have' if None in races else 'has'} a schedule in the page's trace: `{view.judge}` finds them good."
+        has = "have" if None in races else "has"
+        yield f"{some} that the page shows {has} a schedule in the page's trace: `{view.judge}` finds them good."
     elif view.verdict.is_good:
         yield f"shb check: {view.verdict.words}"
     elif view.verdict.is_good is None and view.made.races and view.verdict.words:
