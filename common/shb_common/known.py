@@ -87,11 +87,6 @@ def line_of_fields(first, second, variable):
     return (b"\\" if line.lstrip(b"\\").startswith(b"#") else b"") + line + b"\n"
 
 
-def line_of(pair, variable):
-    """The line that makes this variable known at these two locations, and nothing else."""
-    return line_of_fields(*map(location_field, pair), written(variable).replace(b"*", b"\\*"))
-
-
 def lasting(variable):
     """The name of a variable as a field, with stars for what differs from run to run."""
     name = written(variable).replace(b"*", b"\\*")

@@ -2,7 +2,8 @@
 
 import side_by_side
 from shb_common import known
-from shb_common.known import BadLine, Known, lasting, line_of, lines_of, matches, pair_of, pieces_of, side_of, words_of_stale
+from shb_common.known import (BadLine, Known, lasting, line_of_fields, lines_of, location_field, matches, pair_of, pieces_of,
+                              side_of, words_of_stale, written)
 from shb_common.programs import Names
 
 FILE = b"""\
@@ -19,6 +20,12 @@ a[0].c:*\ty.\t*
 
 def sides(*pair, functions=None):
     return tuple(side_of(location, (functions or {}).get(location, ())) for location in pair)
+
+
+
+def line_of(pair, variable):
+    """The line that makes this variable known at these two locations, and nothing else."""
+    return line_of_fields(*map(location_field, pair), written(variable).replace(b"*", b"\\*"))
 
 
 class KnownPlaces(side_by_side.Case):
