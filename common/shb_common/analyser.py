@@ -84,8 +84,8 @@ def words_in(said):
 
 
 def places_in(report):
-    """The places of a `Report` that has one race of each variable at each place, as `places --list --variables`
-    writes it: each with its first so many variables."""
+    """The places of a `Report` that has one race of each variable at each place, as `places --list
+    --variables` writes it: each with its first so many variables."""
     found, more = {}, set()
     for race, accesses in report.races():
         place, name = tuple(access.location for access in accesses), accesses[0].name

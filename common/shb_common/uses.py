@@ -41,7 +41,8 @@ class Uses:
             count, word, variable, local, thread, location, stack = fields[1:8]
             if word not in WORDS:
                 raise ValueError
-            self.uses.append(Use(number_of(count), word, variable, local, thread, location, number_of(stack), tuple(fields[8:])))
+            where = variable, local, thread, location
+            self.uses.append(Use(number_of(count), word, *where, number_of(stack), tuple(fields[8:])))
         elif kind == b"event":
             in_page, in_run = map(number_of, fields[1:])
             self.events[in_run] = in_page

@@ -12,7 +12,8 @@ from shb_farm import calls, passes, running, traces
 from shb_farm.limits import memory_for
 from shb_farm.running import METER, End
 
-TOO_LONG = "it is longer than a report with schedules may be of: what is kept is that of `shb places --list`, without schedules"
+TOO_LONG = ("it is longer than a report with schedules may be of: what is kept is that of "
+            "`shb places --list`, without schedules")
 MARKED = "a byte order mark before the first line is part of the first thread's name"
 
 

@@ -57,10 +57,12 @@ def parser_of_words():
     """The words that the command takes. What stands after the program's name belongs to it."""
     parser = Parser("shb-record", ABOUT, NOTES, FAILED, usage=USAGE)
     parser.add_argument("-o", metavar="DIR", dest="folder",
-                        help="the folder of the results (PROGRAM.shb in this folder): for each process with a place its page's trace, the list of its places and a page with "
-                        "its races; places.tsv, places.json, places.sarif and unknown.places; and a list of what was made there. What the "
-                        "list of an earlier call names is replaced, and nothing else. While another call uses DIR, the results go to DIR-2, "
-                        "DIR-3 and so on. The places are those of the whole run, however long it is (shb help places). A page has a "
+                        help="the folder of the results (PROGRAM.shb in this folder): for each process with "
+                        "a place its page's trace, the list of its places and a page with its races; "
+                        "places.tsv, places.json, places.sarif and unknown.places; and a list of what was "
+                        "made there. What the list of an earlier call names is replaced, and nothing else. "
+                        "While another call uses DIR, the results go to DIR-2, DIR-3 and so on. The places "
+                        "are those of the whole run, however long it is (shb help places). A page has a "
                         "trace of its own, which is cut around its races")
     how_often = parser.add_mutually_exclusive_group()
     how_often.add_argument("--runs", metavar="N", type=number(1), help="run it N times, each with another interleaving (1); each place is shown once")

@@ -75,9 +75,9 @@ def check_room(process, most_events):
 
 
 class Conversion:
-    """Turns a record into the run's trace, for `shb places --list`, and where that finds races into the trace of their
-    page. `trace`, `uses` and `stacks` are of that trace, `scan` is the list of places; `numbers` has for the events of
-    a race those of that trace, if it has both in one part."""
+    """Turns a record into the run's trace, for `shb places --list`, and where that finds races into the trace
+    of their page. `trace`, `uses` and `stacks` are of that trace, `scan` is the list of places; `numbers` has
+    for the events of a race those of that trace, if it has both in one part."""
 
     def __init__(self, process, options):
         self.process = process
@@ -91,13 +91,13 @@ class Conversion:
         self.words = [CONVERTER, "--scan", "--only", "/dev/stdin", "--page", self.trace, "--uses", self.uses, "--stacks", self.stacks,
                       *(["--left", self.left] if options.live else []), *self.page_words]
         self.size, self.notes, self.cuts = "", [], []  # known at the end: how much there is, what is said of it, what makes it a part
-        self.numbers, self.used = {}, None  # `used`: what the file of uses has, once the page's trace is there
+        self.numbers, self.used = {}, None  # `used`: what the file of uses has, once there is a page's trace
         self.found = []  # the places of the run, once they are listed
 
     def places(self, listed, choose):
         """Finds the places of the run. Of those that `choose` gives of them the page's trace is there then."""
-        pipes = {"stdin": subprocess.PIPE, "stdout": listed.descriptor}
-        with tempfile.TemporaryFile() as said, subprocess.Popen(self.words, **pipes, stderr=said, **apart()) as ran:
+        pipes = {"stdin": subprocess.PIPE, "stdout": listed.descriptor, **apart()}
+        with tempfile.TemporaryFile() as said, subprocess.Popen(self.words, stderr=said, **pipes) as ran:
             listed.begun()
             try:
                 chosen, fault = [], None
@@ -140,7 +140,8 @@ class Conversion:
                     fault = f"event {number:,} of the page's trace isn't that {of_list}"
                     raise Contradiction(f"{self.process.name}: {fault}")
         if lost:
-            raise Contradiction(f"{self.process.name}: the page's trace lacks {counted(lost, 'event')} {of_list}")
+            fault = f"the page's trace lacks {counted(lost, 'event')} {of_list}"
+            raise Contradiction(f"{self.process.name}: {fault}")
         self.numbers = {race.events: pair for race in races for pair in [uses.pair(*race.events)] if pair}
         self.used = uses
 

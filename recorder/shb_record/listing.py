@@ -16,8 +16,8 @@ class Contradiction(Refused):
 
 
 class Listing:
-    """A running `shb places --list`, which reads from a pipe. `descriptor` is where the trace is to be written; it ends
-    when whoever was started with it has ended, and `begun` was called."""
+    """A running `shb places --list`, which reads from a pipe. `descriptor` is where the trace is to be
+    written; it ends when whoever was started with it has ended, and `begun` was called."""
 
     def __init__(self, room):
         self.text = tempfile.TemporaryFile(dir=room)

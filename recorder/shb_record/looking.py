@@ -226,9 +226,10 @@ class Look:
         _, view = explain(asked(
             conversion.trace, title=f"{process.command} ({process.name}, {self.started})", note=notes,
             about=list(self.meaning()), has_notes=False, recorded_source=True, source=self.options.source,
-            stacks=conversion.stacks, listed=conversion.scan, uses=conversion.used, only=variables_at(unknown),
-            behind=variables_at(one for one in unknown if one.place in looked.behind), shb=ANALYSER, html=page, text=True,
-            unseen=self.modules.calls(process.modules), turns=turns,
+            stacks=conversion.stacks, listed=conversion.scan, uses=conversion.used, text=True, html=page,
+            only=variables_at(unknown),
+            behind=variables_at(one for one in unknown if one.place in looked.behind),
+            unseen=self.modules.calls(process.modules), turns=turns, shb=ANALYSER,
             command=shlex.join([self.options.program, *self.options.arguments])), sys.stderr)
         if not view:
             say_places((one.place, one.variables) for one in unknown)

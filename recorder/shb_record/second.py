@@ -1,6 +1,7 @@
-"""A second look at a process with known races. What follows a racy read in its thread counts as ordered behind the write
-that it saw, so a known race may hide others. `shb places --list` runs once more over the run's trace, without the
-accesses that stand at known places; what it finds besides is real if the known races are harmless."""
+"""A second look at a process with known races. What follows a racy read in its thread counts as ordered
+behind the write that it saw, so a known race may hide others. `shb places --list` runs once more over the
+run's trace, without the accesses that stand at known places; what it finds besides is real if the known races
+are harmless."""
 
 import array
 import bisect
@@ -28,13 +29,18 @@ class Second:
         pipes = {"stdout": subprocess.PIPE, "stderr": subprocess.DEVNULL}
         with listing(room) as listed, subprocess.Popen(conversion.list_words, **pipes, **apart()) as ran:
             try:
-                with contextlib.suppress(BrokenPipeError), open(listed.descriptor, "wb", closefd=False) as out:
-                    self.write_rest(ran.stdout, out)    # if it ended early, the status of `shb` says why
+                with contextlib.suppress(BrokenPipeError):  # if `shb` ended early, its status says why
+                    with open(listed.descriptor, "wb", closefd=False) as out:
+                        self.write_rest(ran.stdout, out)
                 listed.begun()
-                return [place._replace(variables={name: found._replace(events=tuple(map(self.number, found.events)))
-                                                  for name, found in place.variables.items()}) for place in listed.places()]
+                return list(map(self.in_whole, listed.places()))
             finally:
                 ran.kill()
+
+    def in_whole(self, place):
+        """A place with the numbers that its events have in the whole trace."""
+        return place._replace(variables={name: found._replace(events=tuple(map(self.number, found.events)))
+                                         for name, found in place.variables.items()})
 
     def write_rest(self, lines, out):
         kept = 0

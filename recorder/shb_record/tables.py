@@ -59,8 +59,8 @@ def log(look, rows, entries, status):
         with_stacks = [one for one in sides if found and one.get("stacks")]
         accesses = tuple(access_of(one, look.sources[row.example]) for one in with_stacks)
         blamed = next((name for name, one in zip(row.names, sides) if one.get("is_blamed")), None)
-        example = os.fsencode(trace.relative_to(look.results.folder))
-        alerts.append(sarif.Alert(row, without_numbers(found), "", example, accesses, {"process": process}, blamed))
+        example, more = os.fsencode(trace.relative_to(look.results.folder)), {"process": process}
+        alerts.append(sarif.Alert(row, without_numbers(found), "", example, accesses, more, blamed))
     notes = [("note", line) for line in look.meaning()]
     return sarif.log(alerts, sarif.Here(pathlib.Path.cwd()), notes, not look.has_failed and not look.is_cut, status)
 
@@ -80,7 +80,8 @@ def index(look, rows):
     """A page with a name that stays: each process with its page and its groups."""
     style = pathlib.Path(shb_view.__file__).with_name("page.css").read_text(encoding="utf-8")
     text = ["<!doctype html>", '<html lang="en"><meta charset="utf-8">',
-            '<meta name="viewport" content="width=device-width, initial-scale=1">', f"<title>Data races</title><style>{style}</style>",
+            '<meta name="viewport" content="width=device-width, initial-scale=1">',
+            f"<title>Data races</title><style>{style}</style>",
             f"<h1>{html.escape(shlex.join([look.options.program, *look.options.arguments]))}</h1>",
             f"<p>{counted(count(row for row in rows if not row.is_known), 'unknown place')} with races</p>"]
     for (process, trace), found in look.found.items():

@@ -103,7 +103,7 @@ class Results(recorder.Case):
 
     def test_notes_are_said_once_behind_the_races(self):
         said = self.record("--runs", "2", self.build(RACE))[1]
-        note = "are of the accesses that were recorded in the whole run"
+        note = "are of the accesses recorded in the whole run"
         self.assertEqual(said.count(note), 1, said)
         self.assertLess(said.index("1. hits: "), said.index(note))
 

@@ -1,4 +1,5 @@
-"""Schedules of the races that a page shows: `shb places` makes them of the page's trace, and `shb check` judges them."""
+"""Schedules of the races that a page shows: `shb places` makes them of the page's trace, and `shb check`
+judges them."""
 
 import json
 import os
@@ -10,9 +11,10 @@ import recorder
 EXAMPLE = recorder.SOURCES.parent / "examples" / "account.c"
 # Each counter is used by two of the threads, on a line of its own.
 MANY, THREADS = 512, 64
-LINES = "\n".join(f"    if (self == {number % THREADS} || self == {(number + 1) % THREADS}) v[{number}]++;" for number in range(MANY))
+USE = "    if (self == {} || self == {}) v{}++;".format
+LINES = "\n".join(USE(number % THREADS, (number + 1) % THREADS, number) for number in range(MANY))
 WIDE = f"""#include <pthread.h>
-long v[{MANY}];
+long {", ".join(f"v{number}" for number in range(MANY))};
 void *work(void *given) {{
     long self = (long)given;
 {LINES}
@@ -31,9 +33,11 @@ SMALL = "import sys; sys.path[:0] = sys.argv[1:4]; from shb_view import view; vi
 
 class Schedules(recorder.Case):
     def record(self, source=EXAMPLE, shb=recorder.SHB, starts=None):
-        """The status and what was said of a program; places.json; the page, and what its groups are drawn from."""
+        """The status and what was said of a program; places.json; the page, and what its groups are drawn
+        from."""
         program = self.folder / source.stem
-        recorder.must(recorder.call("gcc", "-w", "-g", "-O1", "-fsanitize=thread", "-pthread", source, "-o", program))
+        flags = ["-w", "-g", "-O1", "-fsanitize=thread", "-pthread"]
+        recorder.must(recorder.call("gcc", *flags, source, "-o", program))
         words = [*(starts or [recorder.BUILT / "shb-record"]), "--until-found", "10", "-o", "out", program]
         ran = recorder.call(*words, env={**os.environ, "SHB": str(shb or recorder.SHB)}, cwd=self.folder)
         document = json.loads((self.folder / "out" / "places.json").read_text())
@@ -56,17 +60,21 @@ class Schedules(recorder.Case):
         return recorder.must(recorder.call("sh", "-c", command, cwd=self.folder, env=how)).stdout
 
     def test_the_example(self):
-        """Text and page have the command that makes the schedule and judges it, places.json has the schedule itself."""
+        """Text and page have the command that makes the schedule and judges it, places.json has the schedule
+        itself."""
         status, said, document, page, [drawn] = self.record()
         [group] = document["groups"]
         trace, schedule = self.folder / "out" / group["trace"], group["schedule"]
         command = f"shb places --variables out/{trace.name} | shb check out/{trace.name}"
-        self.assertIn(f"Each race that the page shows has a schedule in the page's trace: `{command}` finds them good.\n", said)
+        words = "Each race that the page shows has a schedule in the page's trace: "
+        self.assertIn(f"shb-record: {words}`{command}` finds them good.\n", said)
         self.assertEqual(drawn["again"][-1], ["its schedule, made again and judged", command])
         self.assertIn("`shb check` found the schedule of race ", drawn["note"])
         self.assertEqual((status, self.judged(command)), (66, b"ok 1\n"))
-        events = recorder.must(recorder.call(recorder.SHB, "check", trace, input=self.report_of(trace, schedule))).stdout
-        self.assertEqual((events, schedule["is_checked"], schedule["length"]), (b"ok 1\n", True, len(schedule["events"])))
+        report = self.report_of(trace, schedule)
+        verdict = recorder.must(recorder.call(recorder.SHB, "check", trace, input=report)).stdout
+        self.assertEqual((verdict, schedule["is_checked"]), (b"ok 1\n", True))
+        self.assertEqual(schedule["length"], len(schedule["events"]))
 
     def report_of(self, trace, schedule):
         """A report of one race, with the schedule that places.json has of it."""
@@ -75,9 +83,10 @@ class Schedules(recorder.Case):
         counts = recorder.must(recorder.call(recorder.SHB, "places", trace)).stdout.splitlines()[1]
         places = [line.split(b"|")[2] for line in (first, second)]
         events = b"".join(b" %d" % event for event in schedule["events"])
-        return b"\n".join([b"shb-report 2", counts, b"races 1", b"places 1", b"place 1: 1", b"at %b" % places[0],
-                           b"and %b" % places[1], b"race 1: %d %d" % tuple(schedule["race"]), b"first %b" % first,
-                           b"second %b" % second, b"schedule %d:%b" % (schedule["length"], events), b"end\n"])
+        race = b"race 1: %d %d" % tuple(schedule["race"])
+        return b"\n".join([b"shb-report 2", counts, b"races 1", b"places 1", b"place 1: 1",
+                           b"at %b\nand %b" % tuple(places), race, b"first %b\nsecond %b" % (first, second),
+                           b"schedule %d:%b" % (schedule["length"], events), b"end\n"])
 
     def test_many_threads_and_groups(self):
         source = self.folder / "wide.c"
@@ -91,7 +100,8 @@ class Schedules(recorder.Case):
 
     def test_a_bad_verdict(self):
         """Nothing is shown in the order of such a schedule, and the status is that of a failed check."""
-        status, said, document, page, [drawn] = self.with_fake("check*", "cat > /dev/null; echo bad race 1; exit 5")
+        made = self.with_fake("check*", "cat > /dev/null; echo bad race 1; exit 5")
+        status, said, document, page, [drawn] = made
         words = "`shb check` finds the schedules of this page bad: bad race 1. None is shown."
         self.assertRegex(said, f"shb-record: run [0-9]+, process [0-9]+: {re.escape(words)}\n")
         self.assertIn(f'<p class="verdict bad"><code>shb check</code>{words[11:]}</p>', page)
@@ -100,12 +110,15 @@ class Schedules(recorder.Case):
 
     def test_why_there_are_no_schedules(self):
         """The places of the run stand: they are those of its own list."""
-        small = [sys.executable, "-c", SMALL, *(recorder.BUILT.parent / name for name in ("recorder", "view", "common"))]
+        parts = [recorder.BUILT.parent / name for name in ("recorder", "view", "common")]
+        small = [sys.executable, "-c", SMALL, *parts]
         for made, words in (
                 (self.record(starts=small), "No schedules were made, since they would take over 100 MB."),
                 (self.with_fake("'places --variables'", "echo no room >&2; exit 4"),
                  "No schedules were made: `shb places --variables` ended with status 4: no room")):
             status, said, document, page, [drawn] = made
             self.assertIn(f"shb-record: {words}\n", said)
-            self.assertIn(words.replace("`shb places --variables`", "<code>shb places --variables</code>"), page)
-            self.assertEqual((status, "schedule" in document["groups"][0], drawn["again"][2:]), (66, False, []))
+            command = "shb places --variables"
+            self.assertIn(words.replace(f"`{command}`", f"<code>{command}</code>"), page)
+            self.assertEqual((status, drawn["again"][2:]), (66, []))
+            self.assertNotIn("schedule", document["groups"][0])

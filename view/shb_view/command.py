@@ -27,14 +27,16 @@ is damaged. SHB=PROGRAM names another `shb`.
 
 A place is a pair of locations that race, that of the first access and that of the second."""
 
-# What is asked for where nothing else is. The last two lines are what `shb-record` hands over of a recorded run: the path of the
-# list of its places; their `Uses`; by two locations the names of the variables that are new there (`only`), and of those found
-# behind known races; the list of turns that runs the interleaving again, and the program's words; what the recorder has to say;
-# and by the name of a function, a file or a module which modules without hooks it calls or is.
-DEFAULTS = {"html": None, "text": False, "json": None, "all": False, "title": None, "source": [], "note": [], "has_notes": True,
-            "stacks": None, "recorded_source": False, "check": False, "report": None, "shb": None,
-            "listed": None, "uses": None, "only": None, "behind": {}, "turns": None, "command": "", "about": [],
-            "unseen": {}}
+# What is asked for where nothing else is. The last two lines are what `shb-record` hands over of a recorded
+# run: the path of the list of its places; their `Uses`; by two locations the names of the variables that are
+# new there (`only`), and of those found behind known races; the list of turns that runs the interleaving
+# again, and the program's words; what the recorder has to say; and by the name of a function, a file or a
+# module which modules without hooks it calls or is.
+DEFAULTS = {"html": None, "text": False, "json": None, "all": False, "title": None, "source": [], "note": [],
+            "has_notes": True, "stacks": None, "recorded_source": False, "check": False, "report": None,
+            "shb": None,
+            "listed": None, "uses": None, "only": None, "behind": {}, "turns": None, "command": "",
+            "about": [], "unseen": {}}
 
 
 def asked(trace, **more):

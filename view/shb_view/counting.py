@@ -131,7 +131,9 @@ class Counting:
             self.writes[variable] = number, thread, location
         elif variable in self.writes:
             self.see(number, variable, thread, location)
-        if self.uses is not None and number not in self.wanted or not self.access_kinds.is_in_life(number, variable):
+        if self.uses is not None and number not in self.wanted:
+            return
+        if not self.access_kinds.is_in_life(number, variable):
             return
         held, stacks = self.held[thread], self.access_kinds.stacks
         if number in self.wanted:
@@ -163,8 +165,8 @@ class Counting:
         counts[kind] = counts.get(kind, 0) + 1
 
     def see(self, number, variable, thread, location):
-        """Takes a read of what a racing write wrote. Of a run one race of a variable at a place is known, and stands for
-        others there."""
+        """Takes a read of what a racing write wrote. Of a run one race of a variable at a place is known, and
+        stands for others there."""
         write, writer, written = self.writes[variable]
         stands = self.uses is not None and writer != thread and (variable, written, location) in self.racing_reads
         if stands or (write, number) in self.reads:
@@ -176,11 +178,12 @@ class Counting:
         groups = {kinds.in_trace(variable): group for variable, group in self.groups.items()}
         for count, word, variable, local, thread, location, stack, locks in self.uses:
             group = groups.get(variable)
-            if group is None or variable.startswith(b"stack.") and variable in kinds.locals and kinds.locals[variable] != local:
+            if group is None or kinds.locals.get(variable, local) != local and variable.startswith(b"stack."):
                 continue
             self.callers[variable, location][stack, not locks] += count
             if locks not in locks_of:
-                locks_of[locks] = tuple(called(lock, kinds.locks) for lock in locks) if len(locks) <= MOST_COUNTED else None
+                named = tuple(called(lock, kinds.locks) for lock in locks)
+                locks_of[locks] = named if len(locks) <= MOST_COUNTED else None
             kind = location, thread, word, locks_of[locks], b"" if word == b"f" else variable
             if word == b"f":
                 block = name_parts(variable)["block"]

@@ -29,7 +29,8 @@ RANKS = {"published": 0, "freed": 0, "plain": 1, "uncounted": 3, "read-lock": 1,
 
 
 class Counts(dict):
-    """Numbers by what they are of; 0 of what isn't there. `collections.Counter` takes ten times as long to be made, and there are many."""
+    """Numbers by what they are of; 0 of what isn't there. `collections.Counter` takes ten times as long to be
+    made, and there are many."""
 
     def __missing__(self, key):
         return 0
@@ -98,11 +99,13 @@ class Site:
         self.writers |= other.writers
         self.bare += other.bare
         self.unknown += other.unknown
-        for mine, its in ((self.accesses, other.accesses), (self.threads, other.threads)):
-            for key, count in its.items():
+        for what in ("accesses", "threads"):
+            mine = getattr(self, what)
+            for key, count in getattr(other, what).items():
                 mine[key] += count
-        for mine, its in ((self.locks, other.locks), (self.reading, other.reading), (self.wrong, other.wrong)):
-            for lock, count in its.items():
+        for what in ("locks", "reading", "wrong"):
+            mine = getattr(self, what)
+            for lock, count in getattr(other, what).items():
                 mine[name(lock)] += count
 
 
@@ -118,8 +121,8 @@ def blamed_of(fact, locations):
 
 
 class Sites:
-    """How a group's variables are used: of each variable its sites by their locations, and how often which frees are of all
-    of them."""
+    """How a group's variables are used: of each variable its sites by their locations, and how often which
+    frees are of all of them."""
 
     def __init__(self, variables=(), frees=()):
         self.variables, self.frees = dict(variables), dict(frees)
@@ -143,7 +146,8 @@ class Sites:
         return Sites({variable: self.variables.get(variable, {})}, self.frees)
 
     def total(self):
-        return sum(self.frees.values()) + sum(site.total() for sites in self.variables.values() for site in sites.values())
+        sites = [site for its in self.variables.values() for site in its.values()]
+        return sum(self.frees.values()) + sum(map(Site.total, sites))
 
 
 def sites_in(counts):
@@ -156,7 +160,8 @@ def sites_in(counts):
 
 
 def joined(uses):
-    """The uses of several groups of one object as those of one group. A free is a free of all its variables."""
+    """The uses of several groups of one object as those of one group. A free is a free of all its
+    variables."""
     found = Sites()
     for one in uses:
         found.variables.update(one.variables)
@@ -224,8 +229,8 @@ def fact_of(sites, locks, whole, published=()):
     of_locks = uncounted(used, whole) if any(site.unknown for site in used) else lock_fact(used, racing, locks, whole)
     if of_locks and of_locks.form == "without" and any(pair.store.kind == b"update" for pair, _ in published):
         published = ()  # beside a lock what is updated is a counter
-    found = (publication(published) or freed_under_lock(sites, racing, locks, whole) or freed(racing, whole) or not_atomic(racing, whole) or of_locks
-             or no_lock(racing, whole))
+    found = (publication(published) or freed_under_lock(sites, racing, locks, whole) or freed(racing, whole)
+             or not_atomic(racing, whole) or of_locks or no_lock(racing, whole))
     if found.form != "published" or not of_locks or of_locks.form != "without":
         return found
     also = {"form": of_locks.form, **of_locks.said}  # either of the two would fix it
@@ -266,9 +271,11 @@ def freed_under_lock(sites, racing, locks, whole):
     if not found:
         return None
     lines = [site for site in racing if site.lacks(found.lock)]
-    warning = [*lines_of(frees), " frees" if len(frees) == 1 else " free", " the block under it: use what was found there in the same section."]
-    return found._replace(said={**found.said, "frees": names_of(frees)}, sentences=[*found.sentences, warning],
-                          remedy=["hold ", *lock_name(found.lock), " at ", *lines_of(lines), ", and as long as the block is used."])
+    warning = [*lines_of(frees), " frees" if len(frees) == 1 else " free",
+               " the block under it: use what was found there in the same section."]
+    name, said = lock_name(found.lock), {**found.said, "frees": names_of(frees)}
+    remedy = ["hold ", *name, " at ", *lines_of(lines), ", and as long as the block is used."]
+    return found._replace(said=said, sentences=[*found.sentences, warning], remedy=remedy)
 
 
 def freed(racing, whole):
@@ -285,8 +292,8 @@ def freed(racing, whole):
     after = [site for site in racing if site.location in found and not site.accesses[b"f"]]
     said = {"frees": names_of(frees), "uses": list(map(text, used)), "after": names_of(after)}
     at = listed([[place(location)] for location in used], MOST_NAMED)
-    remedy = ["don't use it at ", *at, " once it may be freed at ", *lines_of(frees), ", or free it after that use."]
-    remedy = remedy if used else ["free it once."]
+    late = ["don't use it at ", *at, " once it may be freed at ", *lines_of(frees), ", or free it after that."]
+    remedy = late if used else ["free it once."]
     if not after:
         return Fact("freed", said, ["freed at " if used else "freed twice at ", *lines_of(frees), " while in use" if used else ""], [sentence], remedy)
     sentence += [" The use at ", *lines_of(after), " came after it here: a use after free."]
@@ -310,8 +317,8 @@ def uncounted(sites, whole):
 
 
 def by_weight(sites):
-    """The locks that are held at some lines, those that more lines hold at each access first, then those that more accesses
-    hold; and of those that lines hold at each access how many do."""
+    """The locks that are held at some lines, those that more lines hold at each access first, then those that
+    more accesses hold; and of those that lines hold at each access how many do."""
     holding, guarded = Counts(), Counts()
     for site in sites:
         total = site.total()
@@ -320,11 +327,14 @@ def by_weight(sites):
             guarded[lock] += its
             if its == total:
                 holding[lock] += 1
-    return sorted(guarded, key=lambda lock: (-holding[lock], -guarded[lock], not isinstance(lock, Own), lock)), holding
+    def weight(lock):
+        return -holding[lock], -guarded[lock], not isinstance(lock, Own), lock
+    return sorted(guarded, key=weight), holding
 
 
 def lock_fact(sites, racing, locks, whole):
-    """What is held at the lines, by the first rule that a lock fits: of each rule those alone are tried that it can be about."""
+    """What is held at the lines, by the first rule that a lock fits: of each rule those alone are tried that
+    it can be about."""
     names, holding = by_weight(sites)
     wrong = {lock for site in racing for lock, count in site.wrong.items() if count}
     for rule, its in ((under_read_lock, wrong), (without, holding), (sometimes, set(names))):
@@ -372,8 +382,8 @@ def without(sites, racing, lock, locks, whole):
 
 def is_beside(locks, variables):
     """Whether each variable's lock is a member of the object that the variable is a member of."""
-    objects = {variable: object_in(variable) for variable in variables}
-    return all(its and variable in locks and object_in(locks[variable]) == its for variable, its in objects.items())
+    pairs = [(object_in(variable), object_in(locks.get(variable, b""))) for variable in variables]
+    return all(of_variable and of_variable == of_lock for of_variable, of_lock in pairs)
 
 
 def object_in(name):
@@ -384,9 +394,9 @@ def object_in(name):
 
 
 def is_rule(lacking, holding, variables, lock, is_member):
-    """Whether lines that hold a lock say of those that lack it that they should: each variable is used with it, what some
-    readers alone hold is a rule if it is a member of the variable's object (`is_member`), and the others hold no lock, or
-    hold this one at times, or are fewer."""
+    """Whether lines that hold a lock say of those that lack it that they should: each variable is used with
+    it, what some readers alone hold is a rule if it is a member of the variable's object (`is_member`), and
+    the others hold no lock, or hold this one at times, or are fewer."""
     holders = set().union(*(site.variables for site in holding))
     if not lacking or not holding or not variables <= holders:
         return False
@@ -413,7 +423,8 @@ def verb_of(sites):
 
 def sometimes(sites, racing, lock, locks, whole):
     """A lock that racing lines hold at some accesses, and no line at each."""
-    some = [site for site in racing if site.lacks(lock) and site.guarded(lock) and site.writes() and not holds_another(site, lock)]
+    some = [site for site in racing if site.lacks(lock) and site.guarded(lock) and site.writes()
+            and not holds_another(site, lock)]
     if not some:
         return None
     counts = [[f"{site.guarded(lock):,} of {counted(site.total(), 'access', 'accesses')} at ", place(site.location)] for site in some]
@@ -425,8 +436,8 @@ def sometimes(sites, racing, lock, locks, whole):
 
 
 def holds_another(site, lock):
-    """Whether the accesses of a line that don't hold a lock hold others whose names differ from it by numbers alone, as
-    each object's or each call's own."""
+    """Whether the accesses of a line that don't hold a lock hold others whose names differ from it by numbers
+    alone, as each object's or each call's own."""
     kind = DIGITS.sub(b"", lock)
     alike = [one for one in {*site.locks, *site.reading} if DIGITS.sub(b"", one) == kind]
     return len(alike) > 1 and sum(map(site.guarded, alike)) >= site.total()
@@ -466,8 +477,10 @@ def no_lock(racing, whole):
     sentence = [f"In this {whole} no lock is held at any access; {count} ", "writes, at " if len(writers) == 1 else "write, at ", *lines_of(writing), "."]
     said = {"writes": names_of(writing), "writers": sorted(map(text, writers))}
     is_one = len(set().union(*(site.variables for site in racing))) == 1
-    remedy = [FLAG * is_one + "hold one lock at ", *lines_of(racing), ", or order them by a join, or by a release and an acquire."]
-    return Fact("no-lock", said, [*lines_of(writing), f" {verb}", *also, " without a lock"], [sentence], remedy)
+    remedy = [FLAG * is_one + "hold one lock at ", *lines_of(racing),
+              ", or order them by a join, or by a release and an acquire."]
+    tag = [*lines_of(writing), f" {verb}", *also, " without a lock"]
+    return Fact("no-lock", said, tag, [sentence], remedy)
 
 
 def by_variable(locks, lock):

@@ -12,11 +12,14 @@ from shb_view.words import Code, listed
 MOST_NAMED = 3  # variables in a sentence
 
 
-class Section(collections.namedtuple("Section", "group uses sites fact window callers seen unseen is_behind is_asked_for",
-                                     defaults=(None, {}, (), (), False, True))):
-    """A group with its uses, its lines and its fact, and what else is shown of it: a race with what comes before it (`window`); by racing line
-    the stacks of its racing accesses, as `callers_of` gives them, each with how many have it; the pairs of lines of races where the second
-    reads what the first wrote (`seen`); the modules without hooks that may order its accesses (`unseen`). `is_behind` says that it was found
+SECTION = "group uses sites fact window callers seen unseen is_behind is_asked_for"
+
+
+class Section(collections.namedtuple("Section", SECTION, defaults=(None, {}, (), (), False, True))):
+    """A group with its uses, its lines and its fact, and what else is shown of it: a race with what comes
+    before it (`window`); by racing line the stacks of its racing accesses, as `callers_of` gives them, each
+    with how many have it; the pairs of lines of races where the second reads what the first wrote (`seen`);
+    the modules without hooks that may order its accesses (`unseen`). `is_behind` says that it was found
     behind known races; groups that aren't asked for are in the page alone."""
 
 
@@ -50,15 +53,19 @@ class Facts:
             return ()
         for variable, one in alone.items():
             alike.setdefault((one.fact.form, str(one.fact.tag)), []).append(variable)
-        together = [self.of_all(part_of(found.group, sum((names[one] for one in its), []), self.kinds), joined(map(found.uses.of, its)))
-                    for its in alike.values()]
+        together = []
+        for its in alike.values():
+            part = part_of(found.group, sum((names[one] for one in its), []), self.kinds)
+            together.append(self.of_all(part, joined(map(found.uses.of, its))))
         are_alike = all(one.fact.form == form for one, (form, _) in zip(together, alike))
         return sorted(together if are_alike else alone.values(), key=lambda one: RANKS[one.fact.form])
 
     def alone(self, found, variable, names):
-        """What holds of one of a group's variables, in this group and in one that it becomes a part of: only frees are of all variables."""
+        """What holds of one of a group's variables, in this group and in one that it becomes a part of: only
+        frees are of all variables."""
         if found.uses.frees or variable not in self.known:
-            self.known[variable] = self.of_all(part_of(found.group, names, self.kinds), found.uses.of(variable))
+            part = part_of(found.group, names, self.kinds)
+            self.known[variable] = self.of_all(part, found.uses.of(variable))
         return self.known[variable]
 
     def mixed(self, parts):
@@ -98,5 +105,10 @@ def merged_groups(groups, uses_of, facts):
         uses = tuple((use.name, use.location) for use in one.fact.uses)
         key = (thing, one.fact.form, one.fact.lock, uses, racing) if thing and one.fact.form != "mixed" else number
         found.setdefault(key, []).append(one)
-    return [parts[0] if len(parts) == 1 else facts.of(Group(*(sum(fields, ()) for fields in zip(*(part.group for part in parts)))),
-                                                      joined(part.uses for part in parts)) for parts in found.values()]
+    return [parts[0] if len(parts) == 1 else facts.of(*as_one(parts)) for parts in found.values()]
+
+
+def as_one(parts):
+    """Several groups as one, and how its variables are used."""
+    fields = zip(*(part.group for part in parts))
+    return Group(*(sum(its, ()) for its in fields)), joined(part.uses for part in parts)

@@ -43,7 +43,8 @@ class Group(collections.namedtuple("Group", "pairs variables names")):
         return {location for pair in self.pairs for location in pair.locations}
 
     def closest(self):
-        """The listed race whose events are closest in the trace, the first of these; one with a schedule if there is one."""
+        """The listed race whose events are closest in the trace, the first of these; one with a schedule if
+        there is one."""
         return min((pair.closest for pair in self.pairs), key=shown_first)
 
     def places(self):

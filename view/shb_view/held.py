@@ -24,8 +24,9 @@ def called(lock, locals):
 
 
 class Operations(dict):
-    """By an operation of the trace: whether it is an acquire, and its lock as the program has it; None for what is no acquire or release of a
-    lock that the program has. `locals` has the names of locks on stacks."""
+    """By an operation of the trace: whether it is an acquire, and its lock as the program has it; None for
+    what is no acquire or release of a lock that the program has. `locals` has the names of locks on
+    stacks."""
 
     def __init__(self, locals=()):
         super().__init__()

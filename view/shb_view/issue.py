@@ -13,8 +13,8 @@ flat = flat_in(NAME)
 
 
 def issue_lines(view, section):
-    """The group's closest race with its threads, locks and lines of code, and what the trace says of the group; of one that
-    isn't shown whole that alone."""
+    """The group's closest race with its threads, locks and lines of code, and what the trace says of the
+    group; of one that isn't shown whole that alone."""
     window = section.window
     if not window:
         yield from (flat(parts) for parts in told_of(section))
@@ -66,7 +66,8 @@ def order_text(view, window):
     numbers = [f"{view.made.in_run[access]:,}" for access in window.accesses if access in view.made.in_run]
     of_run = f"In the run the accesses are events {' and '.join(numbers)}" if numbers else ""
     if window.schedule is None:
-        return f"{of_run or 'No schedule of this race is at hand'}: events are shown in the order of the trace."
+        of_run = of_run or "No schedule of this race is at hand"
+        return f"{of_run}: events are shown in the order of the trace."
     of = f"`shb check` found the schedule of race {window.race.number} good" if view.verdict.is_good else (
         f"`shb places` has a schedule of it, race {window.race.number}")
     its = counted(window.schedule.length, "event") + " of the page's trace" * view.of_run

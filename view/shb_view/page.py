@@ -18,8 +18,9 @@ from shb_view.names import code_line, readable, short
 from shb_view.picture import picture
 from shb_view.source import excerpt
 from shb_view.stacks import frame_parts, origins
-from shb_view.words import (VERBS, MOST_SITES, NO_LOCK, Code, about, accesses_text, bad_words, listed, lock_parts, lock_words, notes_of, partner_parts, place,
-                            share, summary, thread_parts)
+from shb_view.words import (VERBS, MOST_SITES, NO_LOCK, Code, about, accesses_text, bad_words, listed,
+                            lock_parts, lock_words, notes_of, partner_parts, place, share, summary,
+                            thread_parts)
 
 HERE = pathlib.Path(__file__).resolve().parent
 NAME, LINE = 80, 240  # columns
@@ -63,7 +64,8 @@ def island(found):
 
 
 def header(view):
-    verdict = [element("p", with_commands(bad_words(view)), class_="verdict bad")] if view.verdict.is_good is False else []
+    bad = [bad_words(view)] * (view.verdict.is_good is False)
+    verdict = [element("p", with_commands(words), class_="verdict bad") for words in bad]
     races, size = summary(view)
     notes = [element("p", with_commands(note), class_="verdict good" if view.verdict.is_good and not number else "faint")
              for number, note in enumerate(notes_of(view))]
@@ -154,16 +156,18 @@ def function_words(head, frames, location):
 
 
 def again(view, section):
-    """Commands that run the interleaving again, alone and in a debugger that stops at the accesses; and the one that makes
-    its schedule again and judges it. Each with what it is."""
-    judged = [["its schedule, made again and judged", view.judge]] if view.judge and section.window.schedule else []
+    """Commands that run the interleaving again, alone and in a debugger that stops at the accesses; and the
+    one that makes its schedule again and judges it. Each with what it is."""
+    has_schedule = bool(view.judge and section.window.schedule)
+    judged = [["its schedule, made again and judged", view.judge]] * has_schedule
     if not view.turns:
         return judged
     first = f"shb-record --replay {shlex.quote(view.turns)}"
     lines = dict.fromkeys(section.window.events[access].event.location for access in section.window.accesses)
     stops = [f"-ex {shlex.quote('break ' + readable(line))}" for line in lines if line_of(line)]
+    in_debugger = " ".join([first, "gdb", *stops, "-ex run --args", view.command])
     return [["with the same turns of the threads", f"{first} {view.command}"],
-            ["in a debugger that stops at the two lines", " ".join([first, "gdb", *stops, "-ex run --args", view.command])], *judged]
+            ["in a debugger that stops at the two lines", in_debugger], *judged]
 
 
 def other_stacks(section, shown, tables):

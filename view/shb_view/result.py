@@ -15,7 +15,8 @@ def document(view):
     pairs = [(number, section, pair) for number, section in enumerate(view.sections, 1) for pair in section.group.pairs]
     origin, names = naming(view.stacks, {location for _, _, pair in pairs for location in pair.locations})
     places = [{**entry(view, section, pair, origin, names), "group": number} for number, section, pair in pairs]
-    summary = {**({} if view.of_run else {"races": view.made.races}), "places": view.pairs, "groups": view.groups, **view.made.counts._asdict()}
+    races = {} if view.of_run else {"races": view.made.races}
+    summary = {**races, "places": view.pairs, "groups": view.groups, **view.made.counts._asdict()}
     notes = [*view.notes, *notes_of(view), *view.about]
     return result.document("shb-view", summary, places, title=view.title, notes=notes, groups=[group_entry(view, section) for section in view.sections])
 
@@ -26,7 +27,9 @@ def entry(view, section, pair, origin, names):
     blamed = blamed_of(section.fact, pair.locations)
     for location in pair.locations:
         its = origin.location(location)
-        found = {**result.access(names.name(its), its, location), **({"is_blamed": True} if location == blamed else {})}
+        found = result.access(names.name(its), its, location)
+        if location == blamed:
+            found["is_blamed"] = True
         code = view.source.code(location)
         if code is not None:
             found["code"] = result.text(code)
@@ -34,7 +37,8 @@ def entry(view, section, pair, origin, names):
             found.update(site_entry(sites[location]))
         found["stacks"] = [stack_entry(frames, count) for (frames, _), count in section.callers.get(location, ())[:MOST_STACKS] if frames]
         accesses.append(found)
-    return {"places": len(pair.orders), "accesses": accesses, "variables": view.variables(pair), **({} if view.of_run else {"races": pair.races}),
+    return {"places": len(pair.orders), "accesses": accesses, "variables": view.variables(pair),
+            **({} if view.of_run else {"races": pair.races}),
             "headline": flat(section.fact.tag), "remedy": flat(section.fact.remedy),
             "facts": [flat(parts) for parts in told_of(section)]}
 
@@ -44,7 +48,8 @@ def group_entry(view, section):
     names, locals = section.group.names, view.kinds.locals
     unseen = {"perhaps_ordered_by": list(map(result.text, section.unseen))} if section.unseen else {}
     return {"form": section.fact.form, "group": [result.text(name) for name in names], **section.fact.said, **unseen,
-            **schedule_entry(view, section.window), "locals": {result.text(name): result.text(locals[name]) for name in names if name in locals}, "all_races": races_looked_at(section.group, view.kinds),
+            **schedule_entry(view, section.window), "all_races": races_looked_at(section.group, view.kinds),
+            "locals": {result.text(name): result.text(locals[name]) for name in names if name in locals},
             "pairs": [list(map(result.text, pair)) for pair in sorted(section.group.places())]}
 
 
@@ -52,7 +57,8 @@ def schedule_entry(view, window):
     """The schedule of the race that is shown."""
     if not window or not window.schedule:
         return {}
-    return {"schedule": {"race": window.accesses, **window.schedule._asdict(), "is_checked": bool(view.verdict.is_good)}}
+    is_checked = {"is_checked": bool(view.verdict.is_good)}
+    return {"schedule": {"race": window.accesses, **window.schedule._asdict(), **is_checked}}
 
 
 def site_entry(site):

@@ -7,8 +7,8 @@ from shb_view.groups import common_name
 from shb_view.issue import issue_lines
 from shb_view.names import code_line, columns, padded, short
 from shb_view.stacks import caller_lines, origins
-from shb_view.words import (MOST_DETAILED, MOST_SITES, about, accesses_text, bad_words, flat_in, lock_words, notes_of,
-                            partner_parts, place, races_text, share, summary, thread_parts)
+from shb_view.words import (MOST_DETAILED, MOST_SITES, about, accesses_text, bad_words, flat_in, lock_words,
+                            notes_of, partner_parts, place, races_text, share, summary, thread_parts)
 
 NAME = 80  # columns of a name or a location
 LINE = 100  # columns of a line of code
@@ -74,7 +74,8 @@ def site_lines(view, section, site, colours):
     """A line that uses the variables."""
     location = "(further lines)" if site.location is None else flat([place(site.location)])
     by = flat([" by ", *thread_parts(site)]) if site.location is not None else ""
-    yield f"   {colours.red(location) if site.partners else location}: {accesses_text(site, not view.of_run)}{by}"
+    location = colours.red(location) if site.partners else location
+    yield f"   {location}: {accesses_text(site, not view.of_run)}{by}"
     code, source = view.source.code(site.location), view.source.place(site.location) if site.location else None
     if code is not None:
         yield f"     | {code_line(code, LINE)}"

@@ -43,8 +43,8 @@ class Given(collections.namedtuple("Given", "name file verdict places")):
     """A report to be shown. `places` has how many races each place has, where the report lists one race of each place."""
 
     def order(self, race, events):
-        """Some events in the order of a race's schedule, with that schedule, if `shb` made the report or `check` found it good;
-        else as they are."""
+        """Some events in the order of a race's schedule, with that schedule, if `shb` made the report or
+        `check` found it good; else as they are."""
         is_known = self.verdict.is_good or self.verdict is OWN
         return in_order(self.file, race, events) if is_known and race.schedule is not None else (events, None)
 
@@ -53,16 +53,19 @@ NO_REPORT = Given("", None, OWN, None)
 
 
 class Subject(collections.namedtuple("Subject", "given counts races listed is_sample events uses in_run parts", defaults=({}, ()))):
-    """The races of a trace with so many events: how many it has, and how many of these a given report has. Of a sample (`is_sample`) one race
-    of each variable at each place is known. Of a recorded run too, and they aren't counted; it has the `uses` in the run,
-    and `counts` are the run's. `in_run` has by an event of the trace that of the run, of those that race; at `parts`
-    parts of the trace begin."""
+    """The races of a trace with so many events: how many it has, and how many of these a given report has. Of
+    a sample (`is_sample`) one race of each variable at each place is known. Of a recorded run too, and they
+    aren't counted; it has the `uses` in the run, and `counts` are the run's. `in_run` has by an event of the
+    trace that of the run, of those that race; at `parts` parts of the trace begin."""
 
 
-class View(collections.namedtuple("View", "title made pairs groups sections source notes about stacks kinds turns command judge")):
-    """All that is shown. `pairs` and `groups` are how many there are, `sections` those that are shown. `notes` are what the
-    caller said of the trace, `about` what it said of the recorder. `judge` is the command that makes the schedules of a
-    recorded run's page again and judges them, or nothing."""
+VIEW = "title made pairs groups sections source notes about stacks kinds turns command judge"
+
+
+class View(collections.namedtuple("View", VIEW)):
+    """All that is shown. `pairs` and `groups` are how many there are, `sections` those that are shown.
+    `notes` are what the caller said of the trace, `about` what it said of the recorder. `judge` is the
+    command that makes the schedules of a recorded run's page again and judges them, or nothing."""
 
     @property
     def of_run(self):
@@ -79,7 +82,9 @@ class View(collections.namedtuple("View", "title made pairs groups sections sour
             for name, races in self.kinds.gathered.variables.get(place, {}).items():
                 name = text(without_block(self.kinds.name(name)))
                 found[name] = found.get(name, 0) + races
-        return [{"name": name, **({} if self.of_run or self.made.is_sample else {"races": races})} for name, races in sorted(found.items())]
+        if self.of_run or self.made.is_sample:
+            return [{"name": name} for name in sorted(found)]
+        return [{"name": name, "races": races} for name, races in sorted(found.items())]
 
 
 def are_at(places, section):
@@ -94,7 +99,8 @@ def make_view(options, progress):
     with contextlib.ExitStack() as stack:
         file = stack.enter_context(open_regular(options.trace))
         gathered = Gathered()
-        made = of_record(options, file, gathered, stack) if options.listed else analysed(options, file, gathered, progress, stack)
+        made = (of_record(options, file, gathered, stack) if options.listed
+                else analysed(options, file, gathered, progress, stack))
         with damage_of(options.stacks):
             stacks = Stacks(options.stacks, made.events)
         gathered.name_locals(stacks)
@@ -127,8 +133,8 @@ def analysed(options, file, gathered, progress, stack):
 
 
 def of_record(options, file, gathered, stack):
-    """The races of a recorded run with both accesses in one part of the trace, by their numbers there; those that
-    `shb places` lists of the trace have schedules."""
+    """The races of a recorded run with both accesses in one part of the trace, by their numbers there; those
+    that `shb places` lists of the trace have schedules."""
     uses = options.uses
     with faults_of(options.listed), open(options.listed, "rb") as listed:
         report = Report(listed)
@@ -145,8 +151,9 @@ def of_record(options, file, gathered, stack):
 
 
 def schedules(options, file, races, events, stack):
-    """The report of `shb places` on the trace of a recorded run's page, as `shb check` judges it, and its races by their
-    events: those of each variable at each place, or of each place alone if these would be too long."""
+    """The report of `shb places` on the trace of a recorded run's page, as `shb check` judges it, and its
+    races by their events: those of each variable at each place, or of each place alone if these would be too
+    long."""
     places = {tuple(access.location for access in accesses) for _, accesses in races}
     most = MOST_REPORT // (events * NUMBER)
     if len(places) > most:
@@ -245,8 +252,8 @@ def read_report(given, counts, gathered, progress):
 
 
 def make_sections(options, kinds, made, trace, groups):
-    """How many groups there are, and those that are shown, in the order of their facts and then most races first, or uses
-    of a run; the first MOST_DETAILED with their windows if these are asked for."""
+    """How many groups there are, and those that are shown, in the order of their facts and then most races
+    first, or uses of a run; the first MOST_DETAILED with their windows if these are asked for."""
     if not groups:
         return 0, []
     wanted = {access for race in (group.closest() for group in groups) for access in (race.first, race.second)}
@@ -255,12 +262,12 @@ def make_sections(options, kinds, made, trace, groups):
     try:
         counting.read(trace, made.events)
         found = merged_groups(groups, counting.uses_of, Facts(kinds, "trace" if made.uses is None else "run"))
-        first = sorted(found, key=lambda it: (RANKS[it.fact.form], -(it.group.races() or it.uses.total())))[:MOST_GROUPS]
-        sections = [make_section(it, counting, options.unseen) for it in first]
+        found.sort(key=lambda it: (RANKS[it.fact.form], -(it.group.races() or it.uses.total())))
+        sections = [make_section(it, counting, options.unseen) for it in found[:MOST_GROUPS]]
         if options.html or options.all:
             races = [section.group.closest() for section in sections[:MOST_DETAILED]]
             windows = make_windows(trace, races, counting, made.given.order)
-            sections[:len(races)] = [section._replace(window=window) for section, window in zip(sections, windows)]
+            sections[:len(races)] = [one._replace(window=window) for one, window in zip(sections, windows)]
     except (IndexError, KeyError):
         raise Refused(CHANGED) from None
     return len(found), sections

@@ -40,7 +40,8 @@ class Moments:
         self.last = {}  # by thread
 
     def read(self, trace):
-        wanted, tracked, last, end, operations = self.wanted, self.tracked, self.last, max(self.wanted, default=0), self.operations
+        wanted, tracked, last, operations = self.wanted, self.tracked, self.last, self.operations
+        end = max(wanted, default=0)
         for number, thread, operation, _ in trace.events("reading what comes before"):
             if number in trace.parts:
                 self.latest.clear()
@@ -55,7 +56,8 @@ class Moments:
     def note(self, number, thread, operation):
         held = self.held[thread]
         is_acquire, lock = operation[1] != OPENS and self.operations[operation] or (True, None)
-        moment = Moment(self.last.get(thread, 0), *held.newest(), lock if not is_acquire and held.is_last_release(lock) else None)
+        freed = lock if not is_acquire and held.is_last_release(lock) else None
+        moment = Moment(self.last.get(thread, 0), *held.newest(), freed)
         if number in self.wanted:
             self.moments[number] = moment
             source, by, its_moment = self.latest.get(self.sources.get(number), (0, thread, None))
@@ -67,7 +69,8 @@ class Moments:
 
 
 def make_windows(trace, races, counting, order):
-    """A window for each race. `order` gives some events in the order of a race's schedule, and that schedule."""
+    """A window for each race. `order` gives some events in the order of a race's schedule, and that
+    schedule."""
     accesses = {access: event_of(line).thread for race in races
                 for access, line in ((race.first, race.first_line), (race.second, race.second_line))}
     before = {event for access in accesses for event in counting.noted[access].before}

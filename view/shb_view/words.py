@@ -86,7 +86,8 @@ def lock_words(site):
 
 
 def accesses_text(site, is_counted):
-    """How often a line reads, writes and frees; of a recorded run, whose repeats are omitted, that it does."""
+    """How often a line reads, writes and frees; of a recorded run, whose repeats are omitted, that it
+    does."""
     kinds = [word for word in KINDS if site.accesses[word]]
     words = [counted(site.accesses[word], KINDS[word]) if is_counted else f"{KINDS[word]}s" for word in kinds]
     return "".join(listed([[its] for its in words], len(KINDS)))
@@ -124,9 +125,9 @@ def notes_of(view):
     """What the reader has to know of the report."""
     if view.verdict.is_good and view.of_run:
         races = [section.window.schedule for section in view.sections if section.window]
-        some = f"{len(races) - races.count(None):,} of {counted(len(races), 'race')}" if None in races else "Each race"
-        has = "have" if None in races else "has"
-        yield f"{some} that the page shows {has} a schedule in the page's trace: `{view.judge}` finds them good."
+        has = f"{len(races) - races.count(None):,} of {counted(len(races), 'race')} on the page have"
+        has = has if None in races else "Each race that the page shows has"
+        yield f"{has} a schedule in the page's trace: `{view.judge}` finds them good."
     elif view.verdict.is_good:
         yield f"shb check: {view.verdict.words}"
     elif view.verdict.is_good is None and view.made.races and view.verdict.words:
@@ -136,8 +137,9 @@ def notes_of(view):
     elif not view.made.races:
         yield "Any two conflicting accesses are ordered in this trace. A run with another interleaving may have races."
     if view.sections and view.stacks.numbers:
-        yield ("Numbers as 6 of 7 are of the accesses that were recorded in the whole run: repeats are omitted." if view.of_run
-               else "Counts are those of the trace. The recorder omits repeats: a loop may count as two accesses.")
+        yield ("Numbers as 6 of 7 are of the accesses recorded in the whole run: repeats are omitted."
+               if view.of_run else
+               "Counts are those of the trace. The recorder omits repeats: a loop may count as two accesses.")
     if view.made.listed < view.made.races:
         yield "The report doesn't list all races of the trace; the counts are the report's."
     if view.made.is_sample:
