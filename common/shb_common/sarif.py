@@ -34,10 +34,8 @@ FOUND, RELATIVE, ABSOLUTE, NAME = range(4)      # what is known of a location, f
 MOST_NAMED = 3          # variables in a message
 
 
-ALERT = "row facts seen example accesses properties blamed"
-
-
-class Alert(collections.namedtuple("Alert", ALERT, defaults=(None,))):
+class Alert(collections.namedtuple("Alert", "row facts seen example accesses properties blamed",
+                                   defaults=(None,))):
     """A place for review. `facts` is what is known of its locks, `seen` where it was seen, both as sentences;
     `example` is the path of a trace that has it, from the folder of the traces; `accesses` are those of a
     race there with their call stacks; `properties` are further facts; `blamed` is the name of the location

@@ -58,10 +58,6 @@ class Listing:
                 out.write(part)
 
 
-@contextlib.contextmanager
 def listing(room):
-    its = Listing(room)
-    try:
-        yield its
-    finally:
-        its.close()
+    """The same, closed at the end of a block."""
+    return contextlib.closing(Listing(room))

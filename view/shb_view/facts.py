@@ -292,7 +292,8 @@ def freed(racing, whole):
     after = [site for site in racing if site.location in found and not site.accesses[b"f"]]
     said = {"frees": names_of(frees), "uses": list(map(text, used)), "after": names_of(after)}
     at = listed([[place(location)] for location in used], MOST_NAMED)
-    late = ["don't use it at ", *at, " once it may be freed at ", *lines_of(frees), ", or free it after that."]
+    late = ["don't use it at ", *at, " once it may be freed at ", *lines_of(frees),
+            ", or free it after that use."]
     remedy = late if used else ["free it once."]
     if not after:
         return Fact("freed", said, ["freed at " if used else "freed twice at ", *lines_of(frees), " while in use" if used else ""], [sentence], remedy)

@@ -59,10 +59,8 @@ class Subject(collections.namedtuple("Subject", "given counts races listed is_sa
     trace that of the run, of those that race; at `parts` parts of the trace begin."""
 
 
-VIEW = "title made pairs groups sections source notes about stacks kinds turns command judge"
-
-
-class View(collections.namedtuple("View", VIEW)):
+class View(collections.namedtuple("View", "title made pairs groups sections source notes about stacks kinds "
+                                          "turns command judge")):
     """All that is shown. `pairs` and `groups` are how many there are, `sections` those that are shown.
     `notes` are what the caller said of the trace, `about` what it said of the recorder. `judge` is the
     command that makes the schedules of a recorded run's page again and judges them, or nothing."""
