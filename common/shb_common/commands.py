@@ -2,9 +2,9 @@
 
 import argparse
 import os
-import sys
 
 from shb_common.printable import printable
+from shb_common.standard import tell
 from shb_common.version import installed, version
 
 COLUMNS = 80
@@ -40,8 +40,8 @@ class Parser(argparse.ArgumentParser):
         return super().format_help()
 
     def error(self, message):
-        self.print_usage(sys.stderr)
-        self.exit(self.status, f"{self.prog}: {printable(os.fsencode(message))}\n")
+        tell(f"{self.format_usage()}{self.prog}: {printable(os.fsencode(message))}")
+        self.exit(self.status)
 
     def parsed(self, words):
         """The options of these words."""

@@ -1,4 +1,4 @@
-"""Which Python the commands need. An older one can read this file and the commands' own, and says so."""
+"""Which Python the commands need. An older one, or one without its whole library, can read this file and the commands' own, and says so."""
 
 import sys
 
@@ -6,7 +6,17 @@ NEEDED = (3, 8)
 
 
 def need(command, status):
-    """Ends the command with this status if this Python is too old for it."""
-    if sys.version_info < NEEDED:
-        sys.stderr.write("%s: Python %d.%d or later is needed, and this is %d.%d\n" % ((command,) + NEEDED + sys.version_info[:2]))
+    """Ends the command with this status if this Python is too old for it, or lacks a module of Python's library that it imports later."""
+    def end(why):
+        sys.stderr.write("%s: %s\n" % (command, why))
         sys.exit(status)
+
+    def told(kind, fault, trace):
+        missing = getattr(fault, "name", None)
+        if not issubclass(kind, ImportError) or not missing or missing.startswith("shb_"):
+            return sys.__excepthook__(kind, fault, trace)
+        end("this Python lacks its module `%s`: install all of Python (Debian's python3, not python3-minimal alone)" % missing)
+
+    if sys.version_info < NEEDED:
+        end("Python %d.%d or later is needed, and this is %d.%d" % (NEEDED + sys.version_info[:2]))
+    sys.excepthook = told

@@ -22,6 +22,14 @@ def open_standard_files():
     return is_open
 
 
+def tell(text):
+    """Prints a text on standard error. A fault of that is passed over, as `shb` does: the status still says what was found."""
+    try:
+        print(text, file=sys.stderr, flush=True)
+    except OSError:
+        sys.stderr = open(os.devnull, "w", encoding="utf-8")
+
+
 def leave_standard_output():
     """After a fault of standard output: else Python tries again at its end, in words and with a status of its own."""
     os.dup2(os.open(os.devnull, os.O_WRONLY), sys.stdout.fileno())

@@ -1,5 +1,6 @@
 """SIGINT and SIGTERM while a command makes its results."""
 
+import contextlib
 import os
 import signal
 import time
@@ -33,7 +34,8 @@ class Stops:
         self.is_late = number == signal.SIGALRM
         if self.first is None:
             self.note(number, time.monotonic())
-            os.write(2, self.say(signal.Signals(number).name).encode())  # print may be in the middle of another line
+            with contextlib.suppress(OSError):
+                os.write(2, self.say(signal.Signals(number).name).encode())  # print may be in the middle of another line
             return
         if number == self.first == signal.SIGTERM and time.monotonic() < self.since + SAME_SECONDS:
             return

@@ -22,7 +22,8 @@ WANTED = ([f"bin/{name}" for name in COMMANDS]
 SHARED = ("bin/shb", "share/man/man1/shb", "share/bash-completion/completions/shb", "share/zsh/site-functions/_shb",
           "share/fish/vendor_completions.d/shb")
 OWN = ("lib/shb/", "share/doc/shb/")
-STATUSES = {"shb-farm": 4, "shb-record": 125, "shb-view": 2}     # where a command can do nothing
+STATUSES = {"shb-farm": 4, "shb-fix": 4, "shb-record": 125, "shb-view": 2}     # where a command can do nothing
+LACKED = "array ctypes fcntl gzip html json lzma mmap resource shlex shutil unicodedata zlib".split()   # modules that python3-minimal lacks
 
 
 class Tree(installing.Case):
@@ -128,6 +129,14 @@ class Tree(installing.Case):
             ran = installing.subprocess.run([sys.executable, "-B", "-c", script], stdout=installing.subprocess.PIPE, stderr=installing.subprocess.PIPE)
             said = f"{command}: Python 3.8 or later is needed, and this is 3.7\n"
             self.assertEqual((ran.returncode, ran.stdout, ran.stderr.decode()), (status, b"", said))
+
+    def test_a_python_without_its_whole_library_is_said(self):
+        (self.folder / "sitecustomize.py").write_text(f"import sys\nsys.modules.update(dict.fromkeys({LACKED}))\n")
+        for command, status in STATUSES.items():
+            ran = installing.subprocess.run([sys.executable, "-B", self.prefix / "bin" / command, "--version"], capture_output=True,
+                                            env={"PYTHONPATH": str(self.folder)})
+            self.assertEqual((ran.returncode, ran.stdout), (status, b""), ran.stderr)
+            self.assertRegex(ran.stderr.decode(), rf"\A{command}: this Python lacks its module `\w+`: install all of Python \(.*\)\n\Z")
 
     def test_a_farm_scans_a_long_trace(self):
         self.need("python3", os.defpath)
