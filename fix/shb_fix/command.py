@@ -7,24 +7,27 @@ import sys
 import tempfile
 
 from shb_common.commands import Parser
-from shb_common.standard import leave_standard_output, open_standard_files, words_of
-from shb_common.words import counted
+from shb_common.standard import leave_standard_output, open_standard_files, tell, words_of
 from shb_fix import lines, locks, threads
 from shb_fix.events import Repairs
 
 ABOUT = """\
-Repairs a trace of another tool so that `shb` reads it, writes it to standard output, and
-lists each repair on standard error. A repair is a guess about the program: read the list.
-Some add order (a lock that is released, a fork that is moved), which can hide a race. A
-dropped line can lose one.
+Writes a trace of another tool to standard output so that `shb` reads it.
 
-It knows r, w, acq, rel, fork and join in other spellings, and makes locks of vr, vw
-(volatile or atomic accesses), rdlock, rdunlock, wrlock, wrunlock, wait and notify. A trace
-may have any length: it is read line by line, several times. A pipe is copied to a file
-first."""
+What is only written in another form is translated, and counted in one line: r, w, acq, rel,
+fork and join in other spellings, and vr, vw (volatile or atomic accesses), rdlock, rdunlock,
+wrlock, wrunlock, wait and notify, of which it makes locks.
+
+What `shb` refuses otherwise is repaired, and each repair is listed on standard error. A
+repair is a guess about the program: read the list. It says which ones add order (a lock that
+is released, a fork that is moved), since that can hide a race. A dropped line can lose one.
+
+A trace may have any length: it is read line by line, several times. A pipe is copied to a
+file first."""
 STATUS = """\
-Exit status: 0 nothing had to be repaired; 1 the trace was repaired; 2 no line is an event, so
-nothing was written; 3 wrong command line; 4 a file can't be read or written."""
+Exit status: 0 nothing was repaired; 1 the trace was repaired; 2 it is no trace: no line is an
+event, or it is a report, or packed; nothing was written; 3 wrong command line; 4 a file can't
+be read or written."""
 
 
 def arguments(words):
@@ -79,37 +82,33 @@ def repaired(trace, repairs):
     return itertools.chain(sections.begun, trace.read(repairs)[0])
 
 
-def say(repairs, quiet):
-    count = sum(repairs.counts.values())
-    if not quiet:
-        for line in repairs.lines():
-            print(line, file=sys.stderr)
-    print(f"shb-fix: {counted(count, 'repair')}", file=sys.stderr)
-
-
 def fix(file, options, repairs):
-    """Writes a repaired trace, and answers with the status."""
-    trace = Trace(file, repairs)
-    if repairs.counts and not trace.count:
-        print(f"shb-fix: no line is an event: this is no trace{lines.kind_of(file)}", file=sys.stderr)
+    """Writes a repaired trace, and gives the status."""
+    other = lines.kind_of(file)
+    trace = None if other else Trace(file, repairs)
+    if other or repairs.counts and not trace.count:
+        tell(f"shb-fix: {other or lines.no_event(file)}")
         return 2
     try:
         sys.stdout.buffer.writelines(event.text() for event in repaired(trace, repairs))
         sys.stdout.buffer.flush()
     except OSError as fault:
         leave_standard_output()
-        print(f"shb-fix: cannot write: {words_of(fault)}", file=sys.stderr)
+        tell(f"shb-fix: cannot write: {words_of(fault)}")
         return 4
-    say(repairs, options.quiet)
+    tell("\n".join([*([] if options.quiet else repairs.lines()), f"shb-fix: {repairs.summary()}"]))
     return 1 if repairs.counts else 0
 
 
 def main(words):
-    open_standard_files()
+    is_open = open_standard_files()
     options = arguments(words)
+    if not is_open:
+        tell("shb-fix: cannot write: standard output is closed")
+        return 4
     try:
         with opened(options.trace) as file:
             return fix(file, options, Repairs())
     except OSError as fault:
-        print(f"shb-fix: {words_of(fault)}", file=sys.stderr)
+        tell(f"shb-fix: {words_of(fault)}")
         return 4

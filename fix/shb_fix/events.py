@@ -2,6 +2,8 @@
 
 import collections
 
+from shb_common.words import counted
+
 OWN = "#"   # a repaired name is the old one, this sign and a word
 
 
@@ -20,18 +22,25 @@ class Event(collections.namedtuple("Event", "line thread word name location")):
 
 
 class Repairs:
-    """What was done, by line: of repairs that are alike the first ones are kept, and all are counted."""
+    """What was done. Guesses are noted by line: of those that are alike the first ones are kept, and all are counted. What is merely
+    written in another form is counted alone."""
 
     MOST = 20
+    ADDS_ORDER = "; this adds order, which can hide a race"
 
     def __init__(self):
-        self.kept, self.counts = [], collections.Counter()
+        self.kept, self.counts, self.translated, self.ordering = [], collections.Counter(), collections.Counter(), 0
 
-    def note(self, line, kind, words):
+    def note(self, line, kind, words, adds_order=False):
         """Notes a repair of a line. `kind` says which repairs are alike."""
         self.counts[kind] += 1
+        self.ordering += adds_order
         if self.counts[kind] <= self.MOST:
-            self.kept.append((line, words))
+            self.kept.append((line, words + self.ADDS_ORDER * adds_order))
+
+    def translate(self, what):
+        """Counts an event that has another form now; `what` names its form, of one and of several."""
+        self.translated[what] += 1
 
     def lines(self):
         """A line for each repair that was kept, and one for each kind of which there are more."""
@@ -39,3 +48,10 @@ class Repairs:
         for kind, count in sorted(self.counts.items()):
             if count > self.MOST:
                 yield f"{count - self.MOST} more lines: {kind}"
+
+    def summary(self):
+        """How much was done, in one line."""
+        forms = ", ".join(counted(count, *what) for what, count in sorted(self.translated.items()))
+        ordering = f", {self.ordering:,} of which {'adds' if self.ordering == 1 else 'add'} order"
+        repairs = counted(sum(self.counts.values()), "repair") + ordering * bool(self.ordering)
+        return f"{forms} translated; {repairs}" if forms else repairs

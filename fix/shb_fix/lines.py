@@ -1,17 +1,19 @@
 """From lines to events: marks, blanks, comments and other spellings."""
 
 from shb_common.printable import printable
-from shb_common.refused import BEGINNINGS, MARK
+from shb_common.refused import BEGINNINGS, MARK, hint_of
 from shb_fix.events import Event
 
 NAMED = {b"r", b"w", b"acq", b"rel", b"fork", b"join"}
-MARKS = {b"begin", b"end"}
+MARKS = {b"begin", b"end", b"branch"}
 FOREIGN = {b"vr", b"vw", b"rdlock", b"wrlock", b"rdunlock", b"wrunlock", b"wait", b"notify", b"notifyall"}
 SPELLINGS = {
     b"read": b"r", b"write": b"w", b"lock": b"acq", b"acquire": b"acq", b"enter": b"acq", b"unlock": b"rel", b"release": b"rel",
     b"exit": b"rel", b"start": b"fork", b"enterbegin": b"begin", b"volatile_read": b"vr", b"volatile_write": b"vw", b"rd": b"r", b"wr": b"w",
 }
+SPELLING, BRANCH = ("other spelling",), ("branch", "branches")     # forms that are translated
 COLUMNS = 60        # of a line that is quoted
+FORM = "a line is THREAD|OPERATION|LOCATION, such as T1|w(x)|a.c:3"
 
 
 def event_of(number, text, repairs):
@@ -27,9 +29,12 @@ def event_of(number, text, repairs):
         return None
     event = Event(number, fields[0], word, name, fields[2] if len(fields) > 2 else None)
     if word != said:
-        repairs.note(number, "an operation is spelled otherwise", f"`{printable(said, COLUMNS)}` is `{word.decode()}` now")
+        repairs.translate(SPELLING)
     if event._replace(word=said).text().rstrip(b"\n") != text:
         repairs.note(number, "blanks", "blanks were dropped")
+    if word == b"branch":   # of RAPID's: it orders nothing
+        repairs.translate(BRANCH)
+        return event.like(b"begin", b"branch")
     return event
 
 
@@ -50,7 +55,14 @@ def events_of(file, repairs):
 
 
 def kind_of(file):
-    """What a file is that has no event, where its beginning shows it."""
+    """What a file is that is no trace, if its beginning shows it."""
     file.seek(0)
     start = file.read(max(map(len, BEGINNINGS)))
-    return next((f": {hint}" for beginning, hint in BEGINNINGS.items() if beginning != MARK and start.startswith(beginning)), "")
+    return next((hint for beginning, hint in BEGINNINGS.items() if beginning != MARK and start.startswith(beginning)), "")
+
+
+def no_event(file):
+    """What is printed for a file without an event: its first line, and what may be wrong with that."""
+    file.seek(0)
+    line = next(filter(None, (line.rstrip(b"\r\n") for line in file)), b"")
+    return f"no line is an event; the first is `{printable(line, COLUMNS)}`: {hint_of(line) or FORM}"

@@ -6,50 +6,56 @@ from shb_fix.events import Event, OWN
 
 VOLATILE, READER = OWN.encode() + b"volatile.", OWN.encode() + b"reader."
 
-# The repairs of volatile accesses: which are alike, and what is printed.
-READ = "a volatile read", "a volatile read: it acquires the locks of the writes before it"
-WRITE = "a volatile write", "a volatile write: it has a lock of its own for each thread that reads it later"
-LOST_READ = "a volatile read that orders nothing", "a volatile read after no new write of another thread orders nothing: dropped"
-LOST_WRITE = "a volatile write that orders nothing", "a volatile write that no other thread reads later orders nothing: dropped"
+# Forms that are translated, of one event and of several.
+ACCESS, READ_LOCK, WRITE_LOCK, WAIT, NOTIFY = (("volatile access", "volatile accesses"), ("reader lock",), ("writer lock",), ("wait",), ("notification",))
 
 
 class Uses:
-    """What the repairs of locks have to know of a whole trace: for each volatile variable the last line at which each thread reads
-    it, and for each reader-writer lock its readers, in the order in which they come."""
+    """What has to be known of a whole trace: for each volatile write the threads that read the variable before its thread writes it again,
+    since what a thread wrote earlier comes with its newest write; and for each reader-writer lock its readers, in the order in which
+    they come."""
 
     def __init__(self):
-        self.last_reads, self.readers = collections.defaultdict(dict), collections.defaultdict(dict)
+        self.takers, self.readers = collections.defaultdict(list), collections.defaultdict(dict)
+        self.newest, self.last_reads = collections.defaultdict(dict), {}    # by variable: the line of each thread's newest write, the oldest first
 
     def note(self, event):
-        if event.word == b"vr":
-            self.last_reads[event.name][event.thread] = event.line
+        if event.word == b"vw":
+            self.newest[event.name].pop(event.thread, None)
+            self.newest[event.name][event.thread] = event.line
+        elif event.word == b"vr":
+            self.note_read(event)
         elif event.word == b"rdlock":
             self.readers[event.name][event.thread] = None
 
-    def later_readers(self, event):
-        """The other threads that read the variable of a volatile write later."""
-        reads = self.last_reads.get(event.name, {})
-        return sorted(thread for thread, line in reads.items() if thread != event.thread and line > event.line)
+    def note_read(self, event):
+        """A read takes each other thread's newest write that its own thread hasn't taken before."""
+        before = self.last_reads.get((event.name, event.thread), 0)
+        self.last_reads[event.name, event.thread] = event.line
+        for writer, line in reversed(self.newest[event.name].items()):
+            if line < before:
+                break
+            if writer != event.thread:
+                self.takers[line].append(event.thread)
 
 
 def with_volatiles(events, uses, repairs):
     """What a thread did before a volatile write comes before what another one does after a later read of the variable, and nothing
-    else is ordered: a write takes and gives back a lock of its own for each such reader, which takes it at its next read."""
+    else is ordered: a write takes and gives back a lock of its own for each thread that takes it, which does so at its next read."""
     given, writes = collections.defaultdict(list), 0
     for event in events:
         if event.word == b"vr":
             locks = given.pop((event.name, event.thread), [])
-            repairs.note(event.line, *(READ if locks else LOST_READ))
         elif event.word == b"vw":
-            readers = uses.later_readers(event)
+            readers = sorted(uses.takers.get(event.line, ()))
             locks = [b"%s%s%d.%s" % (event.name, VOLATILE, writes, reader) for reader in readers]
             writes += 1
             for reader, lock in zip(readers, locks):
                 given[event.name, reader].append(lock)
-            repairs.note(event.line, *(WRITE if locks else LOST_WRITE))
         else:
             yield event
             continue
+        repairs.translate(ACCESS)
         for lock in locks:
             yield event.like(b"acq", lock)
             yield event.like(b"rel", lock)
@@ -63,11 +69,11 @@ def with_waits(events, repairs):
         if event.thread in waiting:
             yield waiting.pop(event.thread)
         if event.word == b"wait":
-            repairs.note(event.line, "waits", "a wait releases the lock here, and acquires it before the thread's next event")
+            repairs.translate(WAIT)
             waiting[event.thread] = event.like(b"acq", event.name)
             yield event.like(b"rel", event.name)
         elif event.word in (b"notify", b"notifyall"):
-            repairs.note(event.line, "notifies", "a notification orders nothing by itself: dropped")
+            repairs.translate(NOTIFY)
         else:
             yield event
 
@@ -78,7 +84,7 @@ def with_reader_locks(events, uses, repairs):
     for event in events:
         held = (event.thread, event.name)
         if event.word == b"rdlock":
-            repairs.note(event.line, "takes a lock for reading", "the reader has a lock of its own, which writers take too")
+            repairs.translate(READ_LOCK)
             reading[held] += 1
             yield event.like(b"acq", event.name + READER + event.thread)
         elif event.word == b"rdunlock" or event.word == b"rel" and reading[held]:
@@ -87,7 +93,7 @@ def with_reader_locks(events, uses, repairs):
         elif event.word in (b"wrlock", b"acq", b"wrunlock", b"rel"):
             takes = event.word in (b"wrlock", b"acq")
             if event.word == b"wrlock":
-                repairs.note(event.line, "takes a lock for writing", "the writer takes the locks of all readers too")
+                repairs.translate(WRITE_LOCK)
             each = [event.name] + [event.name + READER + reader for reader in uses.readers.get(event.name, ())]
             yield from (event.like(b"acq" if takes else b"rel", name) for name in (each if takes else each[::-1]))
         else:
@@ -112,7 +118,7 @@ class Sections:
         if event.name in self.known or event.thread in self.forked:
             self.repairs.note(event.line, "releases a lock that it doesn't hold", "the thread doesn't hold this lock: dropped")
             return False
-        self.repairs.note(event.line, "releases a lock that was held when the log began", "the lock was held when the log began: its holder takes it before the first line")
+        self.repairs.note(event.line, "releases a lock that was held when the log began", "the lock was held when the log began: its holder takes it before the first line", True)
         self.begun.append(Event(0, event.thread, b"acq", event.name, event.location))
         self.holder[event.name], self.depth[event.name] = event.thread, 1
         return True
@@ -122,10 +128,10 @@ class Sections:
         if event.word == b"join":
             held = [lock for lock, holder in self.holder.items() if holder == event.name]
             for _ in held:
-                self.repairs.note(event.line, "joins a thread that holds a lock", "the thread holds a lock, and its release wasn't logged: it is released right before")
+                self.repairs.note(event.line, "joins a thread that holds a lock", "the thread holds a lock, and its release wasn't logged: it is released right before", True)
             return [it for lock in held for it in self.released(lock, event.location)]
         if event.word == b"acq" and self.holder.get(event.name) not in (None, event.thread):
-            self.repairs.note(event.line, "acquires a lock that another thread holds", "another thread holds this lock, and its release wasn't logged: it is released right before")
+            self.repairs.note(event.line, "acquires a lock that another thread holds", "another thread holds this lock, and its release wasn't logged: it is released right before", True)
             return self.released(event.name, event.location)
         return []
 

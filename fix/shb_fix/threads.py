@@ -80,7 +80,7 @@ def with_early_forks(events, repairs):
                 continue
             moved[fork] = earlier.get(events[place], events[place].line)
             before[place].append(fork)
-            repairs.note(fork.line, "was logged late", "the fork came after the first event of its thread, and was moved before it")
+            repairs.note(fork.line, "was logged late", "the fork came after the first event of its thread, and was moved before it", True)
         events = [it for k, event in enumerate(events) for it in [*before.get(k, ()), *([] if event in late else [event])]]
         late = late_forks(events)
     return events, moved
