@@ -27,7 +27,12 @@ def tell(text):
     try:
         print(text, file=sys.stderr, flush=True)
     except OSError:
-        sys.stderr = open(os.devnull, "w", encoding="utf-8")
+        leave_standard_error()
+
+
+def leave_standard_error():
+    """What is still said is lost. Programs that are started later have the old one."""
+    sys.stderr = open(os.devnull, "w", encoding="utf-8")
 
 
 def leave_standard_output():
@@ -45,15 +50,16 @@ def faults_of(name):
 
 
 def write_texts(texts, out):
-    """Writes texts to standard output or error one after the other, whatever signs they have."""
+    """Writes texts to standard output or error one after the other, whatever signs they have. A fault of standard error is passed over."""
     out.reconfigure(errors="backslashreplace")
     try:
-        with faults_of("standard output" if out is sys.stdout else "standard error"):
+        with faults_of("standard output"):
             out.writelines(texts)
             out.flush()
     except OSError:
-        if out is sys.stdout:
-            leave_standard_output()
+        if out is not sys.stdout:
+            return leave_standard_error()
+        leave_standard_output()
         raise
 
 

@@ -16,7 +16,7 @@ from shb_common.commands import Parser, number
 from shb_common.faults import Refused
 from shb_common.limits import MOST_EVENTS
 from shb_common.printable import printable
-from shb_common.standard import words_of
+from shb_common.standard import open_standard_files, words_of
 from shb_common.stops import Stops
 from shb_common.words import counted
 from shb_record.looking import Look
@@ -29,6 +29,8 @@ from shb_record.tables import tables_of
 MOST_PASSED, WAIT = 8, 10  # known races that are named; seconds
 RACES, STALE, CUT, FAILED, CANNOT_RUN, NOT_THERE = 66, 67, 124, 125, 126, 127
 BECOME_PARENT_OF_ORPHANS = 36  # of prctl
+# Numbers of the environment that the recorder reads, each with the least.
+SETTINGS = {"SHB_SEED": 0, "SHB_SLICE": 1, "SHB_CELLS": 0, "SHB_RECORDS": 1, "SHB_STALL": 1, "SHB_SEGMENT": 1}
 USAGE = "shb-record [OPTION].. [--] PROGRAM [ARGUMENT].."
 ABOUT = f"""\
 Runs a program that was compiled with `-fsanitize=thread -g`, records it and every process
@@ -83,7 +85,7 @@ def parser_of_words():
     parser.add_argument("--source", metavar="DIR", action="append", default=[],
                         help="look for source files below this folder too; may be given again. Those of the debug information are found without it")
     parser.add_argument("--strip", metavar="DIR", help="name files below this folder by their paths from it (shb-std --help)")
-    parser.add_argument("--window", metavar="N", type=number(0), default=MOST_EVENTS,
+    parser.add_argument("--window", metavar="N", type=number(1), default=MOST_EVENTS,
                         help="the most events of a page's trace (%(default)s)")
     parser.add_argument("--wait", metavar="N", type=number(0),
                         help=f"wait up to N seconds for processes that outlive the program ({WAIT}), and for those that SIGINT or SIGTERM "
@@ -113,10 +115,9 @@ def arguments(words):
 
 def completed(options):
     """The options with what is read of the environment and of files."""
-    try:
-        options.seed = number(0)(os.environ.get("SHB_SEED") or "1")
-    except argparse.ArgumentTypeError as fault:
-        raise Refused(f"SHB_SEED: {fault}") from None
+    check_settings()
+    check_folders(options)
+    options.seed = int(os.environ.get("SHB_SEED", "1"))
     options.show, options.wait = options.wait, WAIT if options.wait is None else options.wait
     options.runs, options.until_found = options.runs or options.until_found or 1, bool(options.until_found)
     if options.replay:
@@ -124,6 +125,38 @@ def completed(options):
         options.turns = turns.read(options.replay)
     options.known = known.given(options.known_path, say)
     return options
+
+
+def check_settings():
+    """Refuses a setting that the recorder would read as another one."""
+    for name, least in SETTINGS.items():
+        try:
+            number(least)(os.environ.get(name, "1"))
+        except argparse.ArgumentTypeError as fault:
+            raise Refused(f"{name}: {fault}, not `{os.environ[name]}`") from None
+    if os.environ.get("SHB_STACKS", "1") not in ("0", "1"):
+        raise Refused(f"SHB_STACKS: it takes 0 or 1, not `{os.environ['SHB_STACKS']}`")
+
+
+def check_folders(options):
+    """Refuses folders that aren't there, but the path of one on the machine that compiled the program."""
+    for name, folder in [("--source", folder) for folder in options.source] + [("--strip", options.strip or "/")]:
+        if not os.path.isdir(folder) and not (name == "--strip" and os.path.isabs(folder)):
+            raise Refused(f"{name}: {folder} isn't a folder")
+
+
+def check_program(name):
+    """Gives the status if the program can't be run, and says why."""
+    if shutil.which(name):
+        return None
+    if not os.path.exists(name):
+        say(f"{name}: not found")
+        return NOT_THERE
+    if "/" not in name and shutil.which(f"./{name}"):
+        say(f"{name}: not on the PATH; ./{name} names the one in this folder")
+        return NOT_THERE
+    say(f"{name}: can't be run: {os.strerror(errno.EISDIR if os.path.isdir(name) else errno.EACCES)}")
+    return CANNOT_RUN
 
 
 def record(options):
@@ -237,14 +270,12 @@ def logged(path):
 
 
 def main(words):
+    open_standard_files()
     try:
         options = completed(arguments(words))
-        if not shutil.which(options.program):
-            if not os.path.exists(options.program):
-                say(f"{options.program}: not found")
-                return NOT_THERE
-            why = errno.EISDIR if os.path.isdir(options.program) else errno.EACCES
-            raise CannotRun(f"{options.program}: can't be run: {os.strerror(why)}")
+        status = check_program(options.program)
+        if status:
+            return status
         check_parts()
         with logged(options.log):
             return record(options)

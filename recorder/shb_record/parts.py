@@ -3,11 +3,11 @@
 import os
 import pathlib
 import shutil
-import sys
 import time
 
 from shb_common.faults import Refused
 from shb_common.printable import printable
+from shb_common.standard import tell
 
 HERE = pathlib.Path(__file__).resolve().parents[1]
 
@@ -35,7 +35,7 @@ def check_parts():
 def say(line=""):
     """Prints a line on standard error. What doesn't print in it, as an escape of a path, is escaped."""
     shown = printable(str(line).encode("utf-8", "surrogateescape"))
-    print(f"shb-record: {shown}" if line else "", file=sys.stderr, flush=True)
+    tell(f"shb-record: {shown}" if line else "")
 
 
 def now():

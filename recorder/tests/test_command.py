@@ -277,6 +277,36 @@ int main(int count, char **words) {
             status, _, said = self.record(*words)
             self.assertEqual((status, reason in said), (wanted, True), said)
 
+    def test_a_program_of_this_folder_is_named(self):
+        self.program()
+        said = "shb-record: status: not on the PATH; ./status names the one in this folder\n"
+        self.assertEqual(self.record("status"), (127, "", said))
+
+    def test_wrong_values_are_refused_before_the_program_runs(self):
+        """And before results of an earlier call are deleted."""
+        program = self.program()
+        self.record(program, "0", "race")
+        names = self.names()
+        words = ((("--window", "0"), "--window: it takes a number from 1"), (("--source", "sorce"), "--source: sorce isn't a folder"),
+                 (("--strip", "sorce"), "--strip: sorce isn't a folder"), (("--replay", program), "is no list of turns"))
+        settings = (("SHB_RECORDS", "abc", "it takes a number from 1"), ("SHB_CELLS", "O", "it takes a number from 0"),
+                    ("SHB_SLICE", "0", "it takes a number from 1"), ("SHB_STALL", "0", "it takes a number from 1"),
+                    ("SHB_SEGMENT", "x", "it takes a number from 1"), ("SHB_SEED", "abc", "it takes a number from 0"),
+                    ("SHB_STACKS", "2", "it takes 0 or 1"))
+        calls = [(options, {}, why) for options, why in words]
+        calls += [((), {name: value}, f"shb-record: {name}: {why}, not `{value}`\n") for name, value, why in settings]
+        for options, more, why in calls:
+            status, out, said = self.record(*options, program, "0", **more)
+            self.assertEqual((status, out, why in said, self.names()), (125, "", True, names), (options, more, said))
+        self.assertEqual(self.record("--strip", "/of/another/machine", program, "0")[0], 0)
+
+    def test_standard_error_that_is_closed_or_full(self):
+        """The status says what was found, and the results are there."""
+        for words in ("2>&-", "2>/dev/full", "2>/dev/full >&- <&-"):
+            status, _, _ = self.record("-c", f'"$@" {words}', "sh", recorder.BUILT / "shb-record", self.program(), "0", "race", command="sh")
+            self.assertEqual((status, "places.json" in self.names()), (66, True), words)
+            shutil.rmtree(self.folder / "status.shb")
+
     def test_what_the_system_cannot_start_leaves_no_results(self):
         text = self.folder / "text"
         text.write_text("no program")
@@ -889,10 +919,6 @@ int main(int count, char **words) {
         status, out, said = self.record(self.program(), "0", SHB="/nowhere/shb")
         self.assertEqual((status, out), (125, ""))
         self.assertIn("there is no analyser at /nowhere/shb; in a checkout `make build` makes it", said)
-
-    def test_a_seed_that_is_no_number(self):
-        status, out, said = self.record(self.program(), "0", SHB_SEED="abc")
-        self.assertEqual((status, out, said), (125, "", "shb-record: SHB_SEED: it takes a number from 0\n"))
 
     def test_help(self):
         for word in ("-h", "--help"):
