@@ -35,8 +35,8 @@ USAGE = "shb-record [OPTION].. [--] PROGRAM [ARGUMENT].."
 ABOUT = f"""\
 Runs a program that was compiled with `-fsanitize=thread -g`, records it and every process
 that it starts, and explains the data races of the run on standard error. Programs built by
-gcc need nothing else. clang links a library of its own;
-link with -fno-sanitize-link-runtime -L{LIBRARY} -ltsan.
+gcc need nothing else. clang links a library of its own: link with
+-fno-sanitize-link-runtime -L{LIBRARY} -ltsan.
 
 A place is a pair of locations that race, that of the first access and that of the second,
 each of its own program's source file."""
@@ -44,8 +44,8 @@ NOTES = """\
 The environment's SHB names another analyser. SHB_SEED, SHB_SLICE, SHB_CELLS, SHB_RECORDS and SHB_STALL are the
 recorder's (docs/RECORDER.md).
 
-SIGINT and SIGTERM end the program, are passed on to it unless the terminal did so, and end the runs; what
-was recorded is shown. Another one ends that at once, and records that weren't shown are kept.
+The first SIGINT or SIGTERM stops the program, which it is passed on to unless the terminal did so, and shows
+what was recorded. A second one ends shb-record at once, and keeps the records that weren't shown.
 
 Exit status: 125 if a check failed, whatever else was found; 66 if there is a race of a variable that isn't known at
 its place, whatever the program's own status was; 67 with --fail-on-stale if there is none, and a line of known places
@@ -70,9 +70,9 @@ def parser_of_words():
     how_often.add_argument("--runs", metavar="N", type=number(1), help="run it N times, each with another interleaving (1); each place is shown once")
     how_often.add_argument("--until-found", metavar="N", type=number(1),
                            help="run it at most N times, and end after the first run with a race that isn't known")
-    how_often.add_argument("--live", action="store_true", help="for a program that runs on: each place is shown while it runs, once. The record is in "
-                           "segments, of which the oldest are dropped where they come too fast, so memory and disk are bounded. What races over the bounds "
-                           "of segments is missed (SHB_SEGMENT=N has N records in one)")
+    how_often.add_argument("--live", action="store_true", help="for a program that runs on: each place is shown while it runs, once. "
+                           "The run is recorded in segments. If they come faster than they can be analysed, the oldest are dropped, so "
+                           "memory and disk are bounded. A race between two segments is missed (SHB_SEGMENT=N: N records in one)")
     parser.add_argument("--replay", metavar="RUN.turns",
                         help="run it with the order of turns of an earlier run, as long as that fits. A run with a place that isn't known leaves the "
                         "list in the folder of its results. If the list is left, it prints after how many turns; from there on the run is like any other")

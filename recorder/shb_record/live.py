@@ -72,7 +72,7 @@ class Live(Look):
         for path in self.files():
             self.take(path)
         if not self.segments:
-            raise Refused(f"{self.options.program} left no record: {cause(self.options.program)}")
+            raise Refused(f"{self.options.program} left no record. {cause(self.options.program)}")
         if self.dropped:
             self.is_cut = True
 

@@ -47,7 +47,7 @@ class Look:
         """Looks at the processes of a run; one that can't be looked at doesn't keep others from being shown."""
         found = list(processes(self.results.work, number))
         if not found:
-            raise Refused(f"{self.options.program} left no record: {cause(self.options.program)}")
+            raise Refused(f"{self.options.program} left no record. {cause(self.options.program)}")
         self.runs.append([])
         looked = self.look_at(found)
         for process in found:

@@ -26,7 +26,8 @@ class Results:
         try:
             self.folder, self.list = unused_folder(folder)
         except OSError as fault:
-            raise Refused(f"the results can't be put into {folder} ({fault.strerror}): -o names another folder") from None
+            why = "it is a file" if folder.is_file() else fault.strerror
+            raise Refused(f"the results can't be put into {folder}: {why}; name another folder with -o") from None
         self.names = []     # of what is made
         spared = self.remove_earlier(spared)
         self.list.truncate(0)
@@ -48,14 +49,14 @@ class Results:
         kept = [name for name in names if spared and re.fullmatch(OURS, name) and is_same(self.folder / name, spared)]
         removed = [name for name in reversed(names) if re.fullmatch(OURS, name) and name not in kept and remove(self.folder / name)]
         if removed:
-            say(f"{self.folder}: the results of an earlier call are replaced{first[len(LIST_BEGIN):]}")
+            say(f"replacing the results in {self.folder}, made{first[len(LIST_BEGIN):]}")
         return kept
 
     def path(self, name, is_there=False):
         """The path of a file or folder that is to be made. What is there already isn't ours, and stays."""
         path = self.folder / name
         if os.path.lexists(path) and not is_there:
-            raise Refused(f"{path} is there, and shb-record didn't make it; -o names another folder")
+            raise Refused(f"{path} is there, and shb-record didn't make it; name another folder with -o")
         self.list.write(f"{name}\n")
         self.list.flush()
         self.names.append(name)

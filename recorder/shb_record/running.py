@@ -4,6 +4,7 @@ import contextlib
 import mmap
 import os
 import pathlib
+import shlex
 import shutil
 import signal
 import subprocess
@@ -118,21 +119,23 @@ MARKS = {b"Go build ID": "Go", b"/rustc/": "Rust"}  # that compilers leave in a 
 
 
 def cause(program):
-    """Why the program left no record, as its file tells."""
-    path = shutil.which(program)
-    with open(path, "rb") as file:
+    """Why the program left no record, as its file tells, in sentences."""
+    with open(shutil.which(program), "rb") as file:
         if file.read(4) != b"\x7fELF":
-            return "no program that it started was compiled with -fsanitize=thread"
+            return "No program that it started was compiled with -fsanitize=thread."
         with mmap.mmap(file.fileno(), 0, access=mmap.ACCESS_READ) as content:
             has_hooks, has_library = content.find(b"__tsan_init") >= 0, content.find(b"libtsan.so") >= 0
             languages = [language for mark, language in MARKS.items() if content.find(mark) >= 0]
     if not has_hooks:
-        return ("neither it nor a program that it started was compiled with -fsanitize=thread, or that one was started without this "
-                f"command's environment (SHB_RECORD, LD_LIBRARY_PATH); if a plug-in of it was, run `shb-record env LD_PRELOAD={PRELOADED} PROGRAM`")
+        words = shlex.join(["shb-record", "env", f"LD_PRELOAD={PRELOADED}", program])
+        return (f"Was it compiled and linked with -fsanitize=thread? If only a plug-in was, run `{words}`. "
+                "If it starts such a program, it must pass on SHB_RECORD and LD_LIBRARY_PATH.")
     if not has_library and languages:
-        return f"it has code in {languages[0]}, whose compiler links ThreadSanitizer's own library; C and C++ programs are recorded"
+        return f"It has code in {languages[0]}, whose compiler links ThreadSanitizer's own library. C and C++ programs are recorded."
     if not has_library:
-        return ("ThreadSanitizer's own library is linked into it (by clang, or by gcc with -static-libtsan); with clang "
-                f"link with -fno-sanitize-link-runtime -L{LIBRARY} -ltsan")
-    return ("the recorder's library wasn't loaded (the program has rights of another user, or a search path of its own), "
-            "or couldn't write (then it said so above)")
+        return ("ThreadSanitizer's own library is linked into it (by clang, or by gcc with -static-libtsan). With clang "
+                f"link with -fno-sanitize-link-runtime -L{LIBRARY} -ltsan.")
+    if not os.path.isdir("/proc/self"):
+        return "There is no /proc here: mount it."
+    return ("The recorder's library couldn't write (then it said so above), or it wasn't loaded: the program has rights of another "
+            "user, or a search path of its own.")

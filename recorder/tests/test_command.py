@@ -317,7 +317,7 @@ int main(int count, char **words) {
 
     def test_results_that_cannot_be_put_anywhere(self):
         (self.folder / "file").touch()
-        said = f"shb-record: the results can't be put into {self.folder}/file (File exists): -o names another folder\n"
+        said = f"shb-record: the results can't be put into {self.folder}/file: it is a file; name another folder with -o\n"
         self.assertEqual(self.record("-o", "file", "true"), (125, "", said))
 
     def test_what_leaves_no_record_leaves_no_results(self):
@@ -537,7 +537,7 @@ int main(int count, char **words) {
             self.assertIn(count, counts)
 
     def test_no_record_has_a_likely_cause(self):
-        for compiled, cause in (((), "was compiled with -fsanitize=thread"),
+        for compiled, cause in (((), "/status left no record. Was it compiled and linked with -fsanitize=thread? If only a plug-in was, run"),
                                 (("-fsanitize=thread", "-static-libtsan"), "ThreadSanitizer's own library is linked into it")):
             status, _, said = self.record(self.program(sanitized=compiled), "0")
             self.assertEqual(status, 125)
@@ -545,9 +545,16 @@ int main(int count, char **words) {
         mark = self.folder / "mark.c"
         mark.write_text('__attribute__((used)) const char mark[] = "Go build ID: \\"x\\"";')
         status, _, said = self.record(self.program("status.c", mark, sanitized=("-fsanitize=thread", "-static-libtsan")), "0")
-        self.assertEqual((status, "it has code in Go, whose compiler links ThreadSanitizer's own library" in said), (125, True), said)
+        self.assertEqual((status, "It has code in Go, whose compiler links ThreadSanitizer's own library" in said), (125, True), said)
         status, _, said = self.record("sh", "-c", "true")
-        self.assertEqual((status, "neither it nor a program that it started was compiled" in said), (125, True))
+        self.assertEqual((status, "run `shb-record env LD_PRELOAD=libtsan.so.2 sh`. If it starts such a program, it must pass on" in said), (125, True))
+
+    def test_no_proc_is_the_cause_where_there_is_none(self):
+        if os.getuid() or subprocess.run(["unshare", "--mount", "true"], stderr=subprocess.DEVNULL).returncode:
+            self.skipTest("only who may mount folders can hide /proc")
+        status, _, said = self.record("--mount", "sh", "-c", 'mount -t tmpfs tmpfs /proc && exec "$@"', "sh", recorder.BUILT / "shb-record",
+                                      self.program(), "0", command="unshare")
+        self.assertEqual((status, said.count("There is no /proc here: mount it."), "rights of another user" in said), (125, 1, False), said)
 
     def test_clang_with_a_library_of_its_own(self):
         """What gcc takes, -B, has clang link ThreadSanitizer's library all the same."""
@@ -631,8 +638,7 @@ int main(int count, char **words) {
         self.assertEqual(self.names(), [*TABLES, "run1.N.html", "run1.N.rec", "run1.N.scan", "run1.N.stacks",
                                         "run1.N.std", "run1.N.turns", "run1.N.uses", "unknown.places"])
         _, _, said = self.record(program, "0")
-        self.assertRegex(said, rf"(?m)^shb-record: {self.folder}/status.shb: the results of an earlier call are replaced on \S+ \S+, for: "
-                         rf"{program} 0 race$")
+        self.assertRegex(said, rf"(?m)^shb-record: replacing the results in {self.folder}/status.shb, made on \S+ \S+, for: {program} 0 race$")
         self.assertEqual(self.names(), [*TABLES, "unknown.places"])
 
     def test_files_that_it_did_not_make_stay(self):

@@ -136,7 +136,7 @@ class Live(recorder.Case):
 
     def test_a_program_without_hooks(self):
         ran = recorder.call(recorder.BUILT / "shb-record", "--live", "true", cwd=self.folder, env={**os.environ, "SHB": str(recorder.SHB)})
-        self.assertEqual((ran.returncode, b"true left no record: neither it nor a program that it started was compiled" in ran.stderr), (125, True), ran.stderr)
+        self.assertEqual((ran.returncode, b"true left no record. Was it compiled and linked with" in ran.stderr), (125, True), ran.stderr)
 
     def test_words_that_do_not_go_together(self):
         for words in (["--keep"], ["--replay", "x.turns"], ["--runs", "2"], ["--until-found", "2"]):
