@@ -15,7 +15,7 @@ import re
 from shb_common.faults import Refused
 from shb_common.files import read_at_most
 from shb_common.printable import printable
-from shb_common.refused import MARK
+from shb_common.refused import BEGINNINGS, LONGEST, MARK
 
 STAR = re.compile(rb"(?<!\\)\*")
 MOST_BYTES = 64 << 20       # of a file of known places
@@ -23,6 +23,12 @@ MOST_OFFSETS = 4            # of one block or object, that are written one by on
 MOST_STALE = 20             # lines that are said to match nothing
 CALL = b"()"
 FORM = "a place is two locations or functions and a variable, with tabs between them"
+# What other files have instead, and what helps.
+FOREIGN = {
+    re.compile(rb"(race|race_top|called_from_lib|thread|mutex|signal|deadlock):"):
+        "ThreadSanitizer's `race:NAME` is written `*:NAME()`, `*`, `*` if NAME is a function, and `*NAME:*`, `*`, `*` if it is a file",
+    re.compile(rb"[^\t]* [^\t]*"): "it has blanks",
+}
 # What differs from run to run in the name of a variable: the line and the number of a block, a thread's stack, an index, an address.
 BLOCK = re.compile(rb"(.+):[0-9]+#[0-9]+((?:\+[0-9]+)?)", re.S)
 STACK = re.compile(rb"stack\..+-0x[0-9a-f]+", re.S)
@@ -203,6 +209,9 @@ class Known:
 
     def __init__(self, text=b""):
         self.lines, self.exact, self.patterns, self.found, self.used = [], {}, [], {}, set()
+        other = next((hint for start, hint in BEGINNINGS.items() if start != MARK and text.startswith(start)), None)
+        if other:
+            raise BadLine(f"line 1: {other}")
         for number, line in enumerate(text[len(MARK) if text.startswith(MARK) else 0:].split(b"\n"), 1):
             line = line[:-1] if line.endswith(b"\r") else line
             if line and not line.startswith(b"#"):
@@ -211,7 +220,8 @@ class Known:
     def add(self, line, number):
         fields = (line[1:] if line.lstrip(b"\\").startswith(b"#") else line).split(b"\t")
         if len(fields) not in (2, 3):
-            raise BadLine(f"line {number}: {FORM}")
+            hint = next((f": {hint}" for pattern, hint in FOREIGN.items() if pattern.match(line)), "")
+            raise BadLine(f"line {number}: {FORM}; this is `{printable(line, LONGEST)}`{hint}")
         sides = tuple(map(side_in, fields[:2]))
         self.lines.append(Line(number, line, sides, pieces_of(fields[2]) if len(fields) == 3 else None))
         if all(len(pieces) == 1 for _, pieces in sides):

@@ -143,10 +143,28 @@ class KnownPlaces(side_by_side.Case):
         self.expect(False, (b"# A comment, and an empty line", b""), (b"", b""))
 
     def test_lines_that_are_none(self):
-        for text, number in ((b"a\n", 1), (b"# x\n\na\tb\tc\td\n", 3), (b"a\tb\n \n", 2)):
+        for text, number, line in ((b"a\n", 1, "a"), (b"# x\n\na\tb\tc\td\n", 3, r"a\tb\tc\td"), (b"a\tb\na:1\x07\n", 2, r"a:1\x07")):
             with self.assertRaises(BadLine) as refused:
                 Known(text)
-            self.assertEqual(str(refused.exception), f"line {number}: a place is two locations or functions and a variable, with tabs between them")
+            form = "a place is two locations or functions and a variable, with tabs between them"
+            self.assertEqual(str(refused.exception), f"line {number}: {form}; this is `{line}`")
+
+    def test_suppressions_of_thread_sanitizer(self):
+        """What is told to be written instead is right: a function, and a file."""
+        with self.assertRaises(BadLine) as refused:
+            Known(b"race:pay\n")
+        self.assertTrue(str(refused.exception).endswith(
+            "; this is `race:pay`: ThreadSanitizer's `race:NAME` is written `*:NAME()`, `*`, `*` if NAME is a function, and `*NAME:*`, `*`, `*` "
+            "if it is a file"), refused.exception)
+        for line, wanted in ((b"*:pay()\t*\t*\n", True), (b"*account.c:*\t*\t*\n", True), (b"*:fee()\t*\t*\n", False), (b"*bank.c:*\t*\t*\n", False)):
+            place = sides(b"src/account.c:8", b"log.c:3", functions={b"src/account.c:8": [b"src/account.c:pay()"]})
+            self.assertEqual(Known(line).has(place, b"balance"), wanted, line)
+
+    def test_files_that_are_something_else(self):
+        for text, said in (("a\tb\tx\n".encode("utf-16"), "the file is UTF-16: save it as UTF-8"), (b"\x1f\x8b\x08", "the file is packed by gzip: unpack it first")):
+            with self.assertRaises(BadLine) as refused:
+                Known(text)
+            self.assertEqual(str(refused.exception), f"line 1: {said}")
 
     def test_ends_of_lines(self):
         for text in (b"a\tb\tx", b"a\tb\tx\n", b"a\tb\tx\r\n", b"\xef\xbb\xbfa\tb\tx\r\n", b"\r\n# c\r\nb\ta\tx"):

@@ -42,7 +42,7 @@ def read(path):
     with open_regular(path) as file:
         text = file.read(MOST_BYTES)
     try:
-        found = json.loads(text)
+        found = parsed(text)
         if found["form"] != result.FORM or found["version"] != result.VERSION:
             raise ValueError(f"it isn't of form {result.FORM}, version {result.VERSION}")
         return [(keys_of_entry(entry), [*(access["location"] for access in entry["accesses"]), ", ".join(one["name"] for one in entry["variables"])])
@@ -50,6 +50,13 @@ def read(path):
     except (ValueError, KeyError, TypeError, AttributeError, RecursionError) as fault:
         said = str(fault) if isinstance(fault, ValueError) else "a part of it is missing, or of another kind"
         raise Refused(f"{printable(os.fsencode(path))}: {said}") from None
+
+
+def parsed(text):
+    try:
+        return json.loads(text)
+    except ValueError:
+        raise ValueError(f"this is no {NAME} of `shb-farm` or `shb-record`") from None
 
 
 def keys_of_entry(entry):

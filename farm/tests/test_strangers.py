@@ -140,7 +140,8 @@ class Facts(farm.Case):
     def test_an_earlier_result_that_is_none(self):
         self.trace("race.std", RACE)
         path = self.folder / "old.json"
-        for text, said in ((b"", "Expecting value"), (b"{}", "a part of it is missing"), (b"[1]", "a part of it is missing"), (b"\xff", "codec can't decode"),
+        none = "this is no places.json of `shb-farm` or `shb-record`\n"
+        for text, said in ((b"", none), (b"int main;", none), (b"{}", "a part of it is missing"), (b"[1]", "a part of it is missing"), (b"\xff", none),
                            (b'{"form": "shb-places", "version": 2, "places": []}', "it isn't of form shb-places, version 1"), (b"[" * 100_000, "a part of it"),
                            (b'{"form": "shb-places", "version": 1, "places": [{"accesses": 3}]}', "a part of it is missing")):
             path.write_bytes(text)
