@@ -3,15 +3,15 @@
 import json
 import os
 import pathlib
-import sys
 
 from shb_common import known, result, stacks
 from shb_common.printable import printable
 from shb_common.programs import Origin
 from shb_common.report import BadReport, Report
 from shb_common.sarif import Access
+from shb_common.standard import tell
 from shb_farm import passes
-from shb_farm.traces import SUFFIXES
+from shb_farm.traces import LEADS_OUT, SUFFIXES, is_below
 
 MOST_FOUND = 64 << 20   # bytes of what the view says of a trace
 
@@ -19,12 +19,16 @@ MOST_FOUND = 64 << 20   # bytes of what the view says of a trace
 class Calls:
     """What is known of the calls in the traces of a folder."""
 
-    def __init__(self, folder):
-        self.folder, self.damaged = folder, set()
+    def __init__(self, folder, links):
+        self.folder, self.links, self.damaged = folder, links, set()
+
+    def path_of(self, name):
+        """The file of stacks of a trace; None where there is none that is read."""
+        return file_of(self.folder, name, self.links, self.pass_over)
 
     def origin_of(self, name):
         """Where the locations of a trace come from, as its own call stacks say."""
-        path = file_of(self.folder, name)
+        path = self.path_of(name)
         try:
             return Origin(stacks.Tables(path)) if path else Origin()
         except (stacks.BadStacks, OSError) as fault:
@@ -35,16 +39,16 @@ class Calls:
         if path not in self.damaged:
             self.damaged.add(path)
             said = fault.strerror if isinstance(fault, OSError) else fault
-            print(f"shb-farm: {printable(os.fsencode(path))}: {said}; its call stacks are left out", file=sys.stderr)
+            tell(f"shb-farm: {printable(os.fsencode(path))}: {said}; its call stacks are left out")
 
     def accesses_of(self, rows, out):
         """By the key of each row whose example has stacks and a report: the two accesses of a race there."""
         by_example, found = {}, {}
         for row in rows:
-            if row.report.endswith(".report") and file_of(self.folder, row.example):
+            if row.report.endswith(".report") and self.path_of(row.example):
                 by_example.setdefault((row.example, row.report), []).append(row)
         for (example, report), their_rows in by_example.items():
-            path = file_of(self.folder, example)
+            path = self.path_of(example)
             try:
                 accesses = accesses_in(pathlib.Path(out) / report, {pair_in(row) for row in their_rows}, path)
             except (stacks.BadStacks, BadReport, OSError) as fault:
@@ -54,11 +58,20 @@ class Calls:
         return found
 
 
-def file_of(folder, name):
-    """The file of stacks of a trace; None where there is none. What isn't in the folder is no part of it."""
+def file_of(folder, name, links, pass_over=lambda path, why: None):
+    """The file of stacks of a trace; None where there is none. As with traces, what isn't in the folder is no part of it unless `links`
+    says so, and a device or a FIFO is none: `pass_over` is told."""
     stem = next((name[:-len(suffix)] for suffix in SUFFIXES if name.endswith(suffix)), name)
     path = os.path.join(folder, stem + ".stacks")
-    return path if os.path.isfile(path) else None
+    if not os.path.lexists(path):
+        return None
+    if not links and not is_below(os.path.realpath(path), os.path.realpath(folder)):
+        pass_over(path, LEADS_OUT)
+    elif not os.path.isfile(path):
+        pass_over(path, "it isn't a regular file")
+    else:
+        return path
+    return None
 
 
 def pair_in(row):

@@ -12,7 +12,8 @@ import traceback
 from shb_common import known
 from shb_common.commands import Parser, number
 from shb_common.faults import Refused
-from shb_common.standard import open_standard_files, words_of, write_texts
+from shb_common.standard import open_standard_files, tell, words_of, write_texts
+from shb_common.words import counted
 from shb_farm import engines, limits, merging, outcomes, passes, since, tables, traces
 from shb_farm.calls import Calls
 from shb_farm.sources import Sources
@@ -46,7 +47,7 @@ Known places:
   sign itself. A line with two fields applies to every variable. Empty lines,
   and lines that begin with #, are skipped; \\# begins a field with this sign.
   Functions are known if the recorder's NAME.stacks is beside NAME.std. Lines
-  that match nothing are reported.
+  that match nothing are reported, unless a trace has no list of places.
 
 Exit status:
   The first that applies:
@@ -189,6 +190,8 @@ def report_of(work, name, ending):
 
 def run(options):
     """Runs the farm, writes its tables, and gives the status."""
+    if traces.is_below(os.path.realpath(options.traces), os.path.realpath(options.out)):
+        raise Refused(f"{options.out}: TRACES is this folder or below it; name another OUT, which may be below TRACES")
     if options.source and not os.path.isdir(options.source):
         raise Refused(f"{options.source}: no such folder of sources")
     known_places, earlier = known.given(options.known, engines.say), since.read(options.since) if options.since else None
@@ -198,20 +201,23 @@ def run(options):
         names, outside = traces.names_in(work.traces, work.out, work.links)
         if not names:
             raise Refused(f"{options.traces}: there is no trace in this folder and below (NAME.std, NAME.std.gz or NAME.std.xz)")
-        endings, calls = run_passes(options, work, names, outside), Calls(work.traces)
+        endings, calls = run_passes(options, work, names, outside), Calls(work.traces, work.links)
         rows, files = merging.rows_of(endings, known_places, calls)
         rows = with_reports(options, work, rows)
         found = found_of(options, rows, endings, known_places, len(calls.damaged), earlier)
         for words in known.words_of_stale(found.stale, files):
             engines.say(f"{options.known}, {words}")
+        unseen = merging.unseen(endings)
+        if options.known and unseen:
+            engines.say(f"{options.known}: which lines are stale isn't known: {counted(unseen, 'trace')} without a list of places")
         write_texts([tables.write(pathlib.Path(work.out), room, found, Sources(options.source), calls)], sys.stdout)
         return found.status
 
 
 def found_of(options, rows, endings, known_places, damaged, earlier):
-    """All that was found. Where a trace is missing it isn't known which known places are stale."""
+    """All that was found. If the places of a trace aren't known, it isn't known either which lines of the known places are stale."""
     compared = None if earlier is None else since.compared(options.since, earlier, rows)
-    stale = known_places.stale()
+    stale = [] if merging.unseen(endings) else known_places.stale()
     facts = merging.facts_of(rows, endings, len(stale), damaged, compared)
     return tables.Found(rows, endings, facts, stale, compared, merging.status_of(facts, options.fail_on_stale))
 
@@ -229,5 +235,5 @@ def main(words):
         return 130
     except Exception:
         said = traceback.format_exc().rstrip()      # 1, with which Python would end, says that there is an unknown place
-    print(f"shb-farm: {said}", file=sys.stderr)
+    tell(f"shb-farm: {said}")
     return 4

@@ -16,6 +16,7 @@ import time
 from shb_common.children import end_with
 from shb_common.faults import Refused
 from shb_common.progress import Progress
+from shb_common.standard import tell
 from shb_common.words import counted
 from shb_farm import limits, passes
 
@@ -161,4 +162,4 @@ def run_pass(work, options):
 
 
 def say(text):
-    print(f"shb-farm: {text}", file=sys.stderr, flush=True)
+    tell(f"shb-farm: {text}")

@@ -17,7 +17,7 @@ sys.path[:0] = [str(HOME), str(HOME.parent / "common")]     # installed, all pac
 
 from shb_common.children import end_with
 from shb_common.files import open_regular, put
-from shb_common.standard import words_of
+from shb_common.standard import tell, words_of
 from shb_farm import outcomes, passes, reports, running, traces
 from shb_farm.outcomes import Cost
 from shb_farm.running import METER
@@ -43,7 +43,7 @@ def make_outcome(work, name):
             new = outcomes.Outcome(name, work.program, checksum, stamp, Cost(METER.seconds, METER.kib, METER.text), end.kind, end.words, places)
     put(place, outcomes.text_of(new), work.room)
     if new.kind == "failed":
-        print(f"shb-farm: {name}: {new.words}", file=sys.stderr)
+        tell(f"shb-farm: {name}: {new.words}")
     return new.kind
 
 
@@ -68,7 +68,7 @@ def main(words):
             kind = make_outcome(work, name)
         except (OSError, running.NotHere) as fault:
             kind = "failed"
-            print(f"shb-farm: {name}: {words_of(fault)}", file=sys.stderr)
+            tell(f"shb-farm: {name}: {words_of(fault)}")
         with open(pathlib.Path(work.room) / passes.DONE, "ab") as done:
             done.write(b".")    # counted by who watches the pass
         if kind == "failed":

@@ -76,6 +76,11 @@ def facts_of(rows, endings, stale, damaged, since):
     return {**facts, **({} if since is None else {"new": since.new, "gone": len(since.gone), "same": since.same})}
 
 
+def unseen(endings):
+    """How many traces have places that nobody has seen: those without an outcome, and those that their limits didn't suffice for."""
+    return sum(ending.kind in ("missing", "memory", "time", "size") for ending in endings.values())
+
+
 def status_of(facts, fails_on_stale):
     """The exit status: the first of these that applies."""
     if facts["missing"] or facts["unreported"]:

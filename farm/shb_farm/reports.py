@@ -115,7 +115,7 @@ def place_of(place):
 
 def put_found(work, trace, report, name):
     """Has the view say what is known of the places of a report. Where it fails, that is left out."""
-    stacks = calls.file_of(work.traces, name)
+    stacks = calls.file_of(work.traces, name, work.links)
     path = passes.found_path(work.out, name)
     path.parent.mkdir(parents=True, exist_ok=True)
     words = [*started_by(work.view), "--shb", work.shb, "--json", str(path), *(["--stacks", stacks] if stacks else []), f"/dev/fd/{trace.fileno()}", report]

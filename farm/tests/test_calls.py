@@ -1,5 +1,6 @@
 """The call stacks beside traces: places by functions, and the ways to the accesses in the log."""
 
+import os
 import struct
 
 from farm import RACE
@@ -47,6 +48,22 @@ class Calls(Base):
         (self.traces / "app.stacks").unlink()
         self.assertEqual(self.farm("--known", known).status, 1)
         self.assertEqual(self.unknown(), b"a.c:15\ta.c:17\tx\n")
+
+    def test_stacks_that_are_no_file_of_the_folder(self):
+        """A link that leads out is followed with --links alone, as that of a trace; a FIFO isn't waited for."""
+        self.trace("app.std", TRACE)
+        outside = self.folder / "elsewhere"
+        outside.write_bytes(stacks())
+        path = self.traces / "app.stacks"
+        path.symlink_to(outside)
+        said = f"shb-farm: {path}: it is a link that leads out of the folder; --links follows it; its call stacks are left out\n"
+        self.assertIn(said, self.farm().err)
+        self.assertEqual(self.unknown(), b"a.c:5\ta.c:7\tx\n")
+        self.assertEqual(self.farm("--known", self.known(self.unknown())).status, 6)
+        self.assertEqual((self.farm("--links").err, self.unknown()), ("", b"# a.c:5\ta.c:7\n" + FUNCTIONS))
+        path.unlink()
+        os.mkfifo(path)
+        self.assertIn("app.stacks: it isn't a regular file; its call stacks are left out\n", self.farm().err)
 
     def test_functions_are_of_the_own_trace(self):
         """What another trace says of the line makes no place known: here it was in a known function there."""

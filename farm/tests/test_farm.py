@@ -235,6 +235,15 @@ class Names(farm.Case):
         answer = self.farm("--links")
         self.assertEqual((answer.status, list(self.ends())), (1, ["nightly/deep/race.std", "plain/clean.std"]), answer.err)
 
+    def test_results_beside_the_traces_are_refused(self):
+        """And nothing is written there."""
+        self.trace("below/race.std", RACE)
+        for out in (self.traces, self.traces / "below" / "..", self.folder):
+            answer = self.farm(out=out)
+            self.assertEqual((answer.status, answer.err), (4, f"shb-farm: {out}: TRACES is this folder or below it; name another OUT, which may be below TRACES\n"))
+        self.assertEqual(sorted(path.name for path in self.folder.rglob("*")), ["below", "race.std", "traces"])
+        self.assertEqual(self.farm(out=self.traces / "out").status, 1)
+
     def test_links_that_lead_out_are_refused(self):
         """They aren't read: of a stranger's archive any file could be shown."""
         far = self.folder / "far"

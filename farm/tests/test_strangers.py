@@ -77,6 +77,20 @@ class Variables(farm.Case):
             self.assertEqual((answer.status, f"shb-farm: {known}, line 2: no race matched `9999\\t8888\\tx`\n" in answer.err), (wanted, True), answer.err)
             self.assertIn("stale\t1\n", (self.out / "facts.tsv").read_text())
 
+    def test_no_line_is_stale_while_places_are_not_known(self):
+        """Of a trace without an outcome, and of one that ran out of memory."""
+        self.trace("race.std", RACE)
+        self.trace("b.std", b"T1|w(y)|k.c:1\nT2|w(y)|k.c:2\n")
+        known = self.known(b"a.c:1\tb.c:2\tx\nk.c:1\tk.c:2\ty\n")
+        said = f"shb-farm: {known}: which lines are stale isn't known: 1 trace without a list of places\n"
+        for how, kind, status in (("exit 9", "missing", 2), ("echo out of memory >&2; exit 4", "memory", 5)):
+            shb = self.script("failing", f"cat > {self.folder}/$$\ngrep -q k.c {self.folder}/$$ && {{ {how}; }}\nexec {farm.SHB} \"$@\" < {self.folder}/$$\n")
+            answer = self.farm("--fail-on-stale", "--known", known, "--memory", "256", shb=shb, out=self.folder / kind)
+            self.assertEqual((self.ends(self.folder / kind)["b.std"][0], answer.status), (kind, status), answer.err)
+            self.assertEqual((said in answer.err, "no race matched" in answer.err), (True, False), answer.err)
+            self.assertIn("stale\t0\n", (self.folder / kind / "facts.tsv").read_text())
+        self.assertEqual(self.farm("--fail-on-stale", "--known", known).status, 0)
+
     def test_a_location_that_looks_like_a_function(self):
         """Copied from the unknown places it makes itself known alone."""
         self.trace("hostile.std", b"T1|w(q)|u.c:brand_new()\nT2|w(q)|u.c:brand_new()\n")
