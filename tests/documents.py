@@ -30,6 +30,7 @@ OUTSIDE = {
     "names of ThreadSanitizer's that the recorder leaves out": "__interceptor_* __sanitizer_syscall_pre_* _post_*",
     "others of these, and one that it makes by macros": "__tsan_default_suppressions __tsan_read4_pc",
     "a descriptor": "fd5",
+    "a service": "gitlab",
 }
 
 # Files and folders that commands make, and files of the reader's own.
@@ -39,11 +40,11 @@ MADE = {
     "make dist": "PROVED.md",
     "rt": "out",
     "shb-record, shb-farm": "made-by-shb-record.txt places.txt runN.PROCESS.std",
-    "the reader's own": "app.std app.report configure util.c",
+    "the reader's own": "app app.std app.report configure races.yml util.c",
 }
 
 # The most lines of a document, and the most words of a sentence in it.
-LENGTHS = {"README.md": (150, 25), "docs/GUIDE.md": (200, 25), "docs/RECORDER.md": (240, 35), "recorder/README.md": (70, 35)}
+LENGTHS = {"README.md": (110, 25), "docs/GUIDE.md": (245, 25), "docs/RECORDER.md": (240, 35), "recorder/README.md": (70, 35)}
 MOST_OF_PARAGRAPH = 80      # words of a paragraph or an item; tables and code are none
 MOST_OF_ALL = 34000         # words of docs/*.md and READMEs together, as `wc -w` counts
 
@@ -225,7 +226,7 @@ PLANTED = (
     "`docs/OTHER.md`", "[one](docs/B.md)", "[a](docs/A.md#second)", "`abcdef1`", "`src/read.rt` (3 lines)",
     "| `one/src/read.rt` | 1 |", "1 files, 3 lines:\n\n| `one/src/read.rt` | 2 |\n", "    crates/three/src\n",
     "    read_some\n\n`read_some`", "```\nread_some\n```\n\n`read_some`",
-    "a.\n" * 150, "One.\n- " + "word " * 25 + "end. More.", "| `read_all` | " + "word, " * 26 + "|",
+    "a.\n" * 111, "One.\n- " + "word " * 25 + "end. More.", "| `read_all` | " + "word, " * 26 + "|",
     "One.\n\n" + "Two words. " * 40 + "\nThree.\n", "1. " + "Two words. " * 40,
 )
 RIGHT = (
@@ -233,7 +234,7 @@ RIGHT = (
     "[one](docs/A.md#the-first-one)", "`1234567`", "`src/read.rt` (2 lines)", "[x](https://x.y/z)",
     "1 files, 2 lines:\n\n| `one/src/read.rt` | 2 |\n", "    read_some crates/two/src\n", "```\nread_some\n```\n",
     "One.\n\n" + "Two words. " * 40 + "\n\n- Three.\n- Four.\n", "| " + "Two words. " * 50 + " |\n",
-    "a. a\n\n" * 74, "One.\n- " + "word " * 24 + "end. More.", "| " + "word " * 20 + "| " + "word " * 20 + "|", "    " + "word " * 40 + "\n",
+    "a. a\n\n" * 54, "One.\n- " + "word " * 24 + "end. More.", "| " + "word " * 20 + "| " + "word " * 20 + "|", "    " + "word " * 40 + "\n",
 )
 
 
@@ -245,6 +246,8 @@ def failed_tests():
             (root / path).parent.mkdir(parents=True, exist_ok=True)
             (root / path).write_text(text)
         repository = Repository(root, sorted(FILES), lambda name: name == "1234567")
+        if faults_of_trusted("one: itoa\n", "### Trusted\n`itoa`\n") or not faults_of_trusted("one: itoa\n", "`itoa`\n### Trusted\n\n## B\n`itoa`"):
+            yield "the list of crates"
         for text in PLANTED + RIGHT:
             (root / "README.md").write_text(text + "\n")
             if bool(faults_of(repository, "README.md")) != (text in PLANTED):
@@ -267,17 +270,26 @@ def faults_of_all(repository):
     return [f"{count:,} words, more than {MOST_OF_ALL:,}"] if count > MOST_OF_ALL else []
 
 
+def faults_of_trusted(crates, text):
+    """The kit's crates that crates.txt has, and the list of what is trusted hasn't."""
+    lines = [line.partition(":") for line in crates.splitlines()]
+    own = {name.split()[0] for name, _, _ in lines if name.split()}
+    section = text.partition("### Trusted\n")[2].partition("\n#")[0]
+    return [f"not among what is trusted: {name}" for name in sorted({word for _, _, used in lines for word in used.split()} - own) if f"`{name}`" not in section]
+
+
 def main():
     listed = git("ls-files", "-z", "--cached", "--others", "--exclude-standard").stdout.split("\0")
     repository = Repository(ROOT, [path for path in listed if path and (ROOT / path).is_file()], is_commit)
     wrong = {text: ["the test of this script"] for text in failed_tests()}
     wrong["docs/*.md and READMEs together"] = faults_of_all(repository)
     wrong.update((document, faults_of(repository, document)) for document in repository.documents)
+    wrong["crates.txt"] = faults_of_trusted((ROOT / "crates.txt").read_text(), (ROOT / "docs/GUARANTEES.md").read_text())
     for name, faults in wrong.items():
         for fault in faults:
             print(f"{name}: {fault}")
     failed = sum(bool(faults) for faults in wrong.values())
-    print(f"{len(PLANTED) + len(RIGHT) + 1 + len(repository.documents) - failed} passed, {failed} failed")
+    print(f"{len(PLANTED) + len(RIGHT) + 2 + len(repository.documents) - failed} passed, {failed} failed")
     return 1 if failed or not repository.documents else 0
 
 
