@@ -140,6 +140,22 @@ class Followed(installing.Case):
         self.follow("Debian", "unshare", "--mount", "sh", "-c", INSTALLED, "sh", over, package, self.work)
 
 
+class Recipes(installing.Case):
+    def test_the_recipes_for_ci(self):
+        """Of both services: what they run is the same, with an empty file of known places and a program with a race."""
+        found = re.findall(r"^ +- (?:run: )?(make CFLAGS.*|shb-record .*)$", GUIDE, re.M)
+        self.assertEqual((len(found), found[:2]), (4, found[2:]))
+        (self.folder / "Makefile").write_text("app: account.c\n\tcc $(CFLAGS) -c account.c && cc $(LDFLAGS) account.o -o app\n")
+        shutil.copy(TOP / "examples/account.c", self.folder)
+        (self.folder / "known.places").touch()
+        how = {"cwd": self.folder, "env": {"PATH": f"{installing.installed()}/bin:{os.defpath}"}}
+        call("sh", "-c", found[0], **how)
+        call("sh", "-c", found[1], status=66, **how)
+        shutil.copy(self.folder / "races/unknown.places", self.folder / "known.places")
+        call("sh", "-c", found[1], **how)
+        self.assertIn('"uri":"account.c"', (self.folder / "races/places.sarif").read_text().replace('": "', '":"'))
+
+
 class Extracted(installing.Case):
     def test_commands_of_a_block(self):
         found = list(commands("one  # status 66: a race\ncat <<'END'\na\nEND\ntwo\n"))
