@@ -1,4 +1,4 @@
-"""What every part of a command answers where something can't be done."""
+"""What every part of a command raises if something can't be done."""
 
 
 class Refused(Exception):

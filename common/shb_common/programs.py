@@ -68,7 +68,7 @@ def normal(path):
 
 
 def is_end(name, path):
-    """Whether a path is this name, or ends with it behind a bar."""
+    """Whether a path is this name, or ends with it after a slash."""
     return bool(path) and (path == name or path.endswith(b"/" + name))
 
 

@@ -43,7 +43,7 @@ def entries_of(trace, places):
 
 
 def entry_of(entries, row):
-    """Of these entries that of a row, nothing where there is none."""
+    """The entry of a row among these; nothing if there is none."""
     return entries.get((row.example, frozenset(map(text, row.texts))), {})
 
 

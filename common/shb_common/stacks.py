@@ -60,7 +60,7 @@ class AtomicUse(collections.namedtuple("AtomicUse", "event name thread location 
 
 
 class Tables:
-    """Of a file of stacks what names places; without a path nothing."""
+    """What names places in a file of stacks; nothing without a path."""
 
     def __init__(self, path=None):
         self.functions = {}  # by location those that it lies in, without parameters and arguments of templates
@@ -182,7 +182,7 @@ class Stacks(Tables):
 
 
 def events_in(file):
-    """The number of events of an open file of stacks; it stands behind its first line then."""
+    """The number of events of an open file of stacks; the next read begins after its first line."""
     begin = BEGIN.fullmatch(file.read(BEGIN_BYTES))
     if not begin or BEGIN_BYTES + NUMBER_BYTES * int(begin[1]) > os.fstat(file.fileno()).st_size:
         raise BadStacks(OTHER)
@@ -241,7 +241,7 @@ def use_of(text):
     return use, order
 
 
-# Of each kind of line what stands between its fields (None: blanks), and what reads each. A stack has further numbers, its frames.
+# What is between the fields of each kind of line (None: blanks), and what reads each. A stack has further numbers, its frames.
 FORMS = {b"frame": (b"\t", bytes, bytes), b"system-frame": (b"\t", bytes, bytes), b"thread": (b"\t", bytes, whole),
          b"stack": (None, whole, whole), b"block": (None, whole, whole), b"free": (None, whole, whole), b"use": (b"\t", whole, bytes, bytes, bytes, use_of),
          b"source": (b"\t", bytes, bytes), b"line": (b"\t", bytes, sum_of), b"local": (b"\t", whole, bytes, bytes)}

@@ -3,7 +3,7 @@
 import collections
 import re
 
-# A member of a block's type, with the block behind it where a trace has several of the type.
+# A member of a block's type, followed by the block if a trace has several of the type.
 IN_BLOCK = re.compile(rb"(.+?) of .+(?::[0-9]+|\+0x[0-9a-f]+)#[0-9]+", re.S)
 MOST_VARIABLES = 1_000  # of a place, that are kept
 

@@ -65,7 +65,7 @@ class Trace:
         return self.file
 
     def read(self, repairs):
-        """The repaired events, and the state of the locks behind them."""
+        """The repaired events, and the state of the locks after them."""
         unnoted = Repairs()
         read = itertools.takewhile(lambda event: event.line <= self.count, lines.events_of(self.from_start(), unnoted))
         events = self.plan.followed(threads.named_apart(read, unnoted))

@@ -57,7 +57,7 @@ def without_timed_joins(lives, repairs):
 
 
 def late_forks(events):
-    """The forks that stand behind an event or a join of their thread, with the place of the first of these."""
+    """The forks that come after an event or a join of their thread, with the place of the first of these."""
     first = {}
     for k, event in enumerate(events):
         first.setdefault(event.thread, k)
@@ -67,7 +67,7 @@ def late_forks(events):
 
 
 def with_early_forks(events, repairs):
-    """A fork that stands behind an event of its thread was logged late: it is moved before the first one. That may bring the
+    """A fork that comes after an event of its thread was logged late: it is moved before the first one. That may bring the
     forking thread's own fork to be late. A fork that would be moved twice is dropped: two threads can't fork each other. The
     second answer has the line before which each moved fork stands."""
     events, moved = list(events), {}

@@ -41,7 +41,7 @@ def version():
 
 
 def author():
-    """Of the last commit, as mail has it."""
+    """The author of the last commit, as mail has it."""
     return git("log", "-1", "--format=%an <%ae>").strip()
 
 
