@@ -18,7 +18,8 @@ void use_limits_of_scan(void) {
 }
 
 /* number: in state.c, from its first event on */
-static struct { char name[THREAD_BYTES + WIDE]; u32 length, number; u64 epoch; } threads[THREADS];
+static struct { char name[THREAD_BYTES + WIDE]; u32 length, number; u64 epoch; } *threads;
+TABLE(threads, THREADS)
 
 void begin_events(void) {
     for (u32 t = 0; t < thread_bound(); t = next_thread(t)) threads[t].number = threads[t].epoch = 0;

@@ -45,7 +45,8 @@ static void find_sharing(u64 i) {
     if (!is_of_stack(operation_of(i)) && means_access(i)) note_record(i);
 }
 
-static u32 forked_by[THREADS];         /* plus one */
+static u32 *forked_by;                 /* plus one */
+TABLE(forked_by, THREADS)
 static u64 events_of_run;              /* known before the page's trace is written, if that of the run was */
 
 /* Who joins a thread comes after who forked it only by an event in between. */

@@ -88,7 +88,8 @@ static void add_waiter(object *o, u32 t) {
 /* ---- memory orders: who takes what from whom; the same in the third and the fourth pass ---- */
 typedef void (*handing)(object *o, u32 version, u32 taker, u64 caller);
 typedef struct { u32 object, version; } note;
-static struct { note *notes; u64 count, capacity; int fenced; } fences[THREADS];   /* fenced: by a release fence */
+static struct { note *notes; u64 count, capacity; int fenced; } *fences;   /* fenced: by a release fence */
+TABLE(fences, THREADS)
 int has_fences;
 
 /* What t gave before, and what it has taken, is in what it gives now. */
@@ -110,7 +111,8 @@ static void take_gifts(object *o, u32 t, int by_lock, handing hand, u64 caller) 
     *seen_by(o, t) = o->version;
 }
 
-static struct { u64 record, object; } last_of[THREADS];      /* the object that a thread gave something by its last record, which is that; plus one */
+static struct { u64 record, object; } *last_of;              /* the object that a thread gave something by its last record, which is that; plus one */
+TABLE(last_of, THREADS)
 
 void note_record(u64 i) {
     u32 t = thread_of(i);
@@ -288,7 +290,8 @@ static which by_thread(u32 version, u32 t) { return (which){'<', version, t}; }
    by locks of their own. Such a lock is acquired in the trace right before its thread's
    next event, if there is one until the release: so each lock that is held at an access in the trace is there. ---- */
 typedef struct { u64 caller; u32 object, stack; which lock; uint8_t written; } hold;
-static struct { hold *list; u64 count, capacity, unwritten, sum; } held[THREADS];
+static struct { hold *list; u64 count, capacity, unwritten, sum; } *held;
+TABLE(held, THREADS)
 
 static void forget_holds(void) {
     for (u32 t = 0; t < thread_bound(); t = next_thread(t)) held[t].count = held[t].unwritten = held[t].sum = 0;

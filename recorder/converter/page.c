@@ -184,7 +184,8 @@ void note_part(u64 in_page) {
 /* ---- the locks that a thread holds, those that the program has ---- */
 typedef struct { u64 key, depth; } held_key;
 typedef struct { u64 first, count; } lock_set;               /* of `set_keys` */
-static struct { held_key *keys; u64 count, capacity, sum; u32 set; } threads[THREADS];       /* set: its number plus one, if known */
+static struct { held_key *keys; u64 count, capacity, sum; u32 set; } *threads;       /* set: its number plus one, if known */
+TABLE(threads, THREADS)
 static lock_set *sets;
 static u64 *set_keys, set_count, set_capacity, set_key_count, set_key_capacity;
 static map set_map;

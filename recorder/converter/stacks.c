@@ -68,7 +68,8 @@ int with_stacks;
 static int has_calls;
 static FILE *file;
 static const char *path;
-static calls_of_thread stacks[THREADS];
+static calls_of_thread *stacks;
+TABLE(stacks, THREADS)
 static u64 told_way, has_way;          /* of which record; the passes pass over some */
 static context *contexts;
 static u64 context_count, context_capacity;
@@ -79,7 +80,8 @@ static u32 buffer[NODES_AT_ONCE];
 static u64 buffered;
 static u32 *block_nodes;
 static u64 block_count, block_capacity;
-static u32 thread_nodes[THREADS];
+static u32 *thread_nodes;
+TABLE(thread_nodes, THREADS)
 static struct { u64 first, last; } *frees;
 static u64 free_count, free_capacity;
 static FILE *lines;                    /* of atomics and locals, in memory */

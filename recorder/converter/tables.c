@@ -38,6 +38,12 @@ void *zeroed(size_t count, size_t size) {
     return in_large_pages(p, count * size);
 }
 
+void *mapped(size_t count, size_t size) {
+    void *p = mmap(0, count * size, PROT_READ | PROT_WRITE, MAP_PRIVATE | MAP_ANONYMOUS | MAP_NORESERVE, -1, 0);
+    if (p == MAP_FAILED) die("there are too few addresses for its tables, which take 440 MB of them (ulimit -v)");
+    return p;
+}
+
 void *grown(void *array, u64 count, u64 *capacity, size_t size) {
     if (count < *capacity) return array;
     *capacity = *capacity ? *capacity * 2 : 64;

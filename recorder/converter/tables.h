@@ -14,6 +14,9 @@ extern int failed_status;
 void die(const char *format, ...) __attribute__((noreturn, format(printf, 1, 2)));
 void bad_words(const char *which, const char *why) __attribute__((noreturn));    /* the command line is wrong */
 void *zeroed(size_t count, size_t size);
+/* A long table that is there from the start: what isn't used of it takes addresses alone. */
+void *mapped(size_t count, size_t size);
+#define TABLE(name, count) static __attribute__((constructor)) void map_##name(void) { (name) = mapped((count), sizeof *(name)); }
 void *grown(void *array, u64 count, u64 *capacity, size_t size);
 #define GROW(array, count, capacity) ((array) = grown((array), (count), &(capacity), sizeof *(array)))  /* by one */
 u32 map_find(const map *m, u64 a, u64 b);                    /* 0: it isn't there */

@@ -21,6 +21,12 @@ class Failures(recorder.Case):
             ran = recorder.must(recorder.call(program, env=recorder.settings(path)))
             self.assertIn(reason + b"; the program runs unrecorded", ran.stderr)
 
+    def test_a_limit_of_the_converters_addresses(self):
+        few = (300 << 20, 300 << 20)
+        ran = recorder.call(recorder.BUILT / "shb-std", "--version", preexec_fn=lambda: resource.setrlimit(resource.RLIMIT_AS, few))
+        said = b"shb-std: there are too few addresses for its tables, which take 440 MB of them (ulimit -v)\n"
+        self.assertEqual((ran.returncode, ran.stderr), (2, said))
+
     def test_a_limit_of_the_size_of_files(self):
         program, path = self.program("mutex_ok.c"), self.folder / "app.rec"
         for blocks, refused in ((900, True), (40000, False)):  # of 512 or 1,024 bytes
