@@ -27,3 +27,4 @@ tar -c --exclude=out --exclude=must-fail --exclude=shb_orders --exclude=shb_cloc
 (cd "$room" && rt ci)
 mkdir -p bin
 cp "$room/crates/shb/out/shb" bin/shb
+sha256sum < bin/shb > bin/shb.sum      # a package says of this program alone that it was built here

@@ -8,7 +8,7 @@ import subprocess
 import side_by_side
 
 TOP = pathlib.Path(__file__).resolve().parent.parent
-TOOLS = ("cat", "cp", "dirname", "find", "grep", "make", "mkdir", "mktemp", "rm", "sh", "tar")
+TOOLS = ("cat", "cp", "dirname", "find", "grep", "make", "mkdir", "mktemp", "rm", "sh", "sha256sum", "tar")
 LOGIC = re.search(r"^logic=([0-9a-f]{16})$", (TOP / "build.sh").read_text(), re.M)[1]
 KIT = """\
 #!/bin/sh

@@ -70,7 +70,7 @@ def packaged(options, made, prefix, library, strip=lambda made: None):
     name, commit, seconds = sources.version()
     tree.make(made, options.shb, prefix, library, files, name, sources.day(seconds))
     strip(made)
-    (made / "share/doc/shb/PROVED.md").write_text(package.proved_text(made, name, commit, seconds))
+    (made / "share/doc/shb/PROVED.md").write_text(package.proved_text(made, options.shb, name, commit, seconds))
     return name, seconds
 
 

@@ -19,15 +19,19 @@ LOGIC = re.compile(r"^logic=([0-9a-f]+)$", re.M)    # in build.sh
 PROVED = """\
 # shb {version}
 
-Made from commit {commit} of {date}. `bin/shb` (SHA-256 {checksum}) was built
-by the Rattle kit (logic {logic}), which builds a crate only after all its proofs passed.
+Made from commit {commit} of {date}. `bin/shb` (SHA-256 {checksum}) {origin}
 The other commands aren't part of what is proved. [docs/GUARANTEES.md](docs/GUARANTEES.md) says what is proved,
 and on what it rests.
 
 The commands need Linux on x86-64, a processor of level x86-64-v{level} or higher, for which shb is built, and
 glibc {glibc} or later, the highest version of a symbol that their files ask for. shb-farm and shb-view need Python 3.8 or later too,
-shb-record also gcc and libdw.so.1 of elfutils (Debian's libdw1).
+shb-record also libdw.so.1 of elfutils (Debian's libdw1). A program that it records has to be compiled by gcc or clang, which may
+be on another machine.
 """
+BUILT = """was built
+by the Rattle kit (logic {logic}), which builds a crate only after all its proofs passed."""
+NAMED = """was named by
+who made this package (SHB=), and not compared with a build by the Rattle kit (logic {logic}): that it is proved is their word."""
 
 CONTROL = """\
 Package: shb
@@ -75,12 +79,22 @@ find "$DPKG_ROOT/usr/lib/shb" -type d -name __pycache__ -exec rm -rf {} +
 """
 
 
-def proved_text(tree, name, commit, seconds):
-    """By which commit and kit the program was proved, and what the commands need."""
-    logic = LOGIC.search((TOP / "build.sh").read_text())[1]
-    checksum = hashlib.sha256((tree / "bin/shb").read_bytes()).hexdigest()
+def checksum_of(path):
+    return hashlib.sha256(path.read_bytes()).hexdigest()
+
+
+def is_built_here(shb):
+    """Whether a program is the one that build.sh made."""
+    built = TOP / "bin/shb.sum"
+    return built.exists() and built.read_text().split()[:1] == [checksum_of(shb)]
+
+
+def proved_text(tree, shb, name, commit, seconds):
+    """By which commit and kit the program was proved, as far as that is known, and what the commands need. `shb` is what the tree's
+    program was made of."""
+    origin = (BUILT if is_built_here(shb) else NAMED).format(logic=LOGIC.search((TOP / "build.sh").read_text())[1])
     paths = [tree / name for name in files_in(tree)]
-    return PROVED.format(version=name, commit=commit, date=day(seconds), checksum=checksum, logic=logic,
+    return PROVED.format(version=name, commit=commit, date=day(seconds), checksum=checksum_of(tree / "bin/shb"), origin=origin,
                          level=machine.level_of(tree / "bin/shb"), glibc=machine.glibc_of(paths))
 
 

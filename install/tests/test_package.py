@@ -43,10 +43,25 @@ class Package(installing.Case):
         checksum = call("sha256sum", installing.SHB).split()[0]
         for wanted in (f"commit {commit} of 2026-01-02", checksum, f"(logic {LOGIC})", "(docs/GUARANTEES.md)"):
             self.assertIn(wanted, proved)
+        self.assertIn("was named by\nwho made this package (SHB=), and not compared with a build by the Rattle kit", proved)
+        self.assertNotIn("passed", proved)
         self.assertEqual((unpacked / "README.md").read_text(), README.read_text())
         links = re.findall(r"\]\(([^)#:]+)[)#]", README.read_text())
         self.assertEqual([name for name in links if not (unpacked / name).exists()], [])
         call("sha256sum", "--check", f"{package.name}.sha256", cwd=copy)
+
+    def test_a_program_that_was_built_here(self):
+        """By the sum that build.sh leaves, also where the package has the program stripped."""
+        copy = self.clone()
+        (copy / "bin").mkdir()
+        checksum = call("sha256sum", installing.SHB).split()[0]
+        for left, wanted in ((checksum, "only after all its proofs passed"), ("0" * 64, "was named by\nwho made this package")):
+            (copy / "bin/shb.sum").write_text(f"{left}  -\n")
+            call("make", "-s", "-C", copy, "deb", f"SHB={installing.SHB}")
+            [package] = copy.glob("*.deb")
+            call("dpkg", "-x", package, copy / left)
+            self.assertIn(wanted, (copy / left / "usr/share/doc/shb/PROVED.md").read_text())
+            package.unlink()
 
     def debian(self, folder):
         """A package of Debian that is made in a copy of the repository."""
