@@ -77,7 +77,7 @@ def packaged(options, made, prefix, library, strip=lambda made: None):
 def dist(options):
     with tempfile.TemporaryDirectory() as room:
         made = pathlib.Path(room)
-        name, seconds = packaged(options, made, "PREFIX", "libtsan.so.2")
+        name, seconds = packaged(options, made, "/path/to/shb", "libtsan.so.2")
         for path in sorted((made / "share/doc/shb").iterdir()):     # the documents' links lead somewhere from the top too
             (made / path.name).symlink_to(f"share/doc/shb/{path.name}")
         top = f"shb-{name}-x86_64-linux"

@@ -16,13 +16,13 @@ def page(help_, version, date, others):
     lines = [f'.TH {name.upper()} 1 "{date}" "shb {version}" "shb"', ".SH NAME", rf"{roff(name)} \- {roff(help_.about)}",
              ".SH SYNOPSIS", ".nh", roff(help_.usage).replace("\\-", "-").replace("-", "\\-"), ".ad l", ".SH DESCRIPTION"]
     free = [paragraph for head, body in help_.parts if not head for paragraph in paragraphs(body)]
-    lines += [line for paragraph in free if not paragraph[0].startswith(EXIT_STATUS) for line in [*as_text(paragraph), ".PP"]]
+    lines += as_texts([paragraph for paragraph in free if not paragraph[0].startswith(EXIT_STATUS)])
     for head, body in help_.parts:
         if head.lower() in OPTIONS:
             lines += [".SH OPTIONS", *options(help_)]
         elif head:
             lines += [".SH " + roff("ARGUMENTS" if head == ARGUMENTS else head.upper())]
-            lines += [line for paragraph in paragraphs(body) for line in [*as_text(textwrap.dedent("\n".join(paragraph)).splitlines()), ".PP"]]
+            lines += as_texts([textwrap.dedent("\n".join(paragraph)).splitlines() for paragraph in paragraphs(body)])
     for first, *rest in (paragraph for paragraph in free if paragraph[0].startswith(EXIT_STATUS)):
         lines += [".SH EXIT STATUS", *as_text([first[len(EXIT_STATUS):].strip(), *rest])]
     if others:
@@ -37,6 +37,11 @@ def paragraphs(body):
 
 def name_of(command):
     return command.replace(" ", "-")
+
+
+def as_texts(found):
+    """Paragraphs, with a break between each two."""
+    return [line for number, paragraph in enumerate(found) for line in [*[".PP"] * bool(number), *as_text(paragraph)]]
 
 
 def as_text(lines):

@@ -169,6 +169,12 @@ class Pages(installing.Case):
                                             stderr=installing.subprocess.PIPE, env={**os.environ, "LC_ALL": "C.UTF-8"})
             self.assertEqual((ran.returncode, ran.stderr), (0, b""), page)
 
+    def test_no_break_is_empty_and_a_name_is_short(self):
+        for path in (installing.installed() / "share/man/man1").glob("*.1"):
+            text = path.read_text()
+            self.assertNotRegex(text, r"(?m)^\.PP\n(?:\.SH|\.PP|\Z)", path.name)
+            self.assertLess(len(re.search(r"^\.SH NAME\n(.*)$", text, re.M)[1].split()), 20, path.name)
+
     def test_its_name_is_found(self):
         self.need("lexgrog")
         for page in (self.prefix / "share/man/man1").iterdir():

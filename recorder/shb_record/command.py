@@ -33,8 +33,10 @@ BECOME_PARENT_OF_ORPHANS = 36  # of prctl
 SETTINGS = {"SHB_SEED": 0, "SHB_SLICE": 1, "SHB_CELLS": 0, "SHB_RECORDS": 1, "SHB_STALL": 1, "SHB_SEGMENT": 1}
 USAGE = "shb-record [OPTION].. [--] PROGRAM [ARGUMENT].."
 ABOUT = f"""\
-Runs a program that was compiled with `-fsanitize=thread -g`, records it and every process
-that it starts, and explains the data races of the run on standard error. Programs built by
+Runs and records a program, and explains its data races.
+
+The program has to be compiled with `-fsanitize=thread -g`. Every process that it starts is
+recorded too, and the races of the run are explained on standard error. Programs built by
 gcc need nothing else. clang links a library of its own: link with
 -fno-sanitize-link-runtime -L{LIBRARY} -ltsan.
 
