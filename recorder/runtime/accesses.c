@@ -36,7 +36,24 @@ static void note_write(void *p, uint64_t size, uint64_t caller) {
     leave(t);
 }
 
+int hold_range(enum operation operation, uint64_t address, uint64_t size, uint64_t caller) {
+    thread *t = self;
+    uint64_t *words[MOST_CELLS], end = address + size;
+    if (!t || !t->limit || t->inside || size > MOST_RANGE) return 0;
+    t->inside = 1;
+    KEEP_ORDER();
+    uint64_t where_from = caller & LOW_48_BITS;              /* a program may name any */
+    uint64_t what = what_of_use(where_from | (uint64_t)operation << 48 | size_in_last(size) << 54, address);
+    int count = is_usual(t, end - 1) ? words_of_range(t->serial, (cell_use){what, t->kind}, address, end, words) : 0;
+    int is_held = count && hold_quickly(t, words[0], operation, what);
+    for (int k = 1; is_held && k < count; k++) *words[k] = *words[0];
+    end_quick_hook(t);
+    if (t->deferred) deliver_deferred(t);
+    return is_held;
+}
+
 __attribute__((noinline)) void note_access(enum operation operation, uint64_t address, uint64_t size, uint64_t caller) {
+    if (address % GRAIN + size > GRAIN && hold_range(operation, address, size, caller)) return;
     if (operation == OP_READ) note_read((void *)address, size, caller);
     else note_write((void *)address, size, caller);
 }
@@ -55,8 +72,8 @@ void hold_elsewhere(thread *t, cell *c, uint64_t what, uint64_t address) {
     PUBLIC void __tsan_##kind##read##n(void *p) { hook(OP_READ, (uint64_t)p, n, CALLER); } \
     PUBLIC void __tsan_##kind##write##n(void *p) { hook(OP_WRITE, (uint64_t)p, n, CALLER); }
 #define ACCESSES_AT(n) \
-    PUBLIC void __tsan_read##n##_pc(void *p, void *at) { note_read(p, n, (uint64_t)at); } \
-    PUBLIC void __tsan_write##n##_pc(void *p, void *at) { note_write(p, n, (uint64_t)at); }
+    PUBLIC void __tsan_read##n##_pc(void *p, void *at) { note_access(OP_READ, (uint64_t)p, n, (uint64_t)at); } \
+    PUBLIC void __tsan_write##n##_pc(void *p, void *at) { note_access(OP_WRITE, (uint64_t)p, n, (uint64_t)at); }
 #define ACCESSES_OF(n) \
     ACCESSES(, n) ACCESSES(volatile_, n) ACCESSES(unaligned_, n) ACCESSES(unaligned_volatile_, n) ACCESSES_AT(n)
 ACCESSES_OF(1)
@@ -65,22 +82,22 @@ ACCESSES_OF(4)
 ACCESSES_OF(8)
 ACCESSES_OF(16)
 
-PUBLIC void __tsan_read_range(void *p, unsigned long size) { note_read(p, size, CALLER); }
-PUBLIC void __tsan_write_range(void *p, unsigned long size) { note_write(p, size, CALLER); }
-PUBLIC void __tsan_read_range_pc(void *p, unsigned long size, void *at) { note_read(p, size, (uint64_t)at); }
-PUBLIC void __tsan_write_range_pc(void *p, unsigned long size, void *at) { note_write(p, size, (uint64_t)at); }
-PUBLIC void __tsan_vptr_read(void **p) { note_read(p, 8, CALLER); }
-PUBLIC void __tsan_vptr_update(void **p, void *value) { if (*p != value) note_write(p, 8, CALLER); }
+PUBLIC void __tsan_read_range(void *p, unsigned long size) { note_access(OP_READ, (uint64_t)p, size, CALLER); }
+PUBLIC void __tsan_write_range(void *p, unsigned long size) { note_access(OP_WRITE, (uint64_t)p, size, CALLER); }
+PUBLIC void __tsan_read_range_pc(void *p, unsigned long size, void *at) { note_access(OP_READ, (uint64_t)p, size, (uint64_t)at); }
+PUBLIC void __tsan_write_range_pc(void *p, unsigned long size, void *at) { note_access(OP_WRITE, (uint64_t)p, size, (uint64_t)at); }
+PUBLIC void __tsan_vptr_read(void **p) { hook(OP_READ, (uint64_t)p, 8, CALLER); }
+PUBLIC void __tsan_vptr_update(void **p, void *value) { if (*p != value) hook(OP_WRITE, (uint64_t)p, 8, CALLER); }
 
 /* A program may have these do an access that isn't aligned. */
 #define UNALIGNED(bits) \
     typedef uint##bits##_t __attribute__((aligned(1))) unaligned##bits; \
     PUBLIC uint##bits##_t __sanitizer_unaligned_load##bits(const void *p) { \
-        note_read(p, bits / 8, CALLER); \
+        note_access(OP_READ, (uint64_t)p, bits / 8, CALLER); \
         return *(const volatile unaligned##bits *)p; \
     } \
     PUBLIC void __sanitizer_unaligned_store##bits(void *p, uint##bits##_t value) { \
-        note_write(p, bits / 8, CALLER); \
+        note_access(OP_WRITE, (uint64_t)p, bits / 8, CALLER); \
         *(volatile unaligned##bits *)p = value; \
     }
 UNALIGNED(16)

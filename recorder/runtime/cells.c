@@ -41,7 +41,6 @@ enum { MOST_USES = USE_SLOTS / 4 * 3, MOST_OF_READERS = MOST_USES / 2 };     /* 
 enum { CHUNK_BYTES = 4 << 20, CHUNKS = 1 << 14 };            /* memory is asked for in chunks */
 enum { REGION_BYTES = sizeof(cell_region), PAGE_BYTES = CELLS_OF_PAGE * sizeof(cell) };
 enum { REGIONS_BYTES = REGIONS * sizeof(cell_region *), USES_BYTES = USE_SLOTS * sizeof(cell_use) };
-enum { MOST_RANGE = ((1 << GRAINS_BEFORE) - 1) * GRAIN };
 
 int has_cells;
 cell_region **cell_regions;
@@ -391,31 +390,46 @@ static void use_range(uint32_t serial, uint16_t number, uint64_t address, uint64
     }
 }
 
-static cell_use use_at(struct record r, uint64_t kind, uint64_t at) {
-    uint64_t address = r.where & LOW_48_BITS;
-    return (cell_use){what_of_use(r.what, address), kind | (at / GRAIN - address / GRAIN)};
+/* The word of a use that a cell has already, most are where the search for it begins; or null. */
+static inline uint64_t *known_word(cell *c, cell_use use) {
+    uint32_t slot = slot_of_use(use.what, use.from);
+    return is_same(cell_uses[slot], use) ? find_word(c, slot) : 0;
 }
 
-/* Is the cell there in its first phase, of this thread, with a key for this? */
-static int may_hold(uint64_t address, uint32_t serial, cell_use use) {
-    cell_page *page = page_at(address, 1);
-    cell *c = cell_in(page, address);
-    uint32_t number = number_of_use(use);
-    if (!c || !number) return 0;
-    if (c->owner ? c->owner != serial || !c->is_first : is_freed(page, address)) return 0;
-    return find_word(c, number) || has_free_key(c);
+/* Of one that the cell gets, if it hasn't it; null if it isn't in a first phase, or has no room. */
+static uint64_t *new_word(cell *c, cell_use use) {
+    uint32_t number = c->is_first ? number_of_use(use) : 0;
+    uint64_t *word = number ? find_word(c, number) : 0;
+    return !word && number && has_free_key(c) ? insert_key(c, number, 0) : word;
 }
 
-/* It is held back where each of its cells can: so it is whole when one of them puts it. */
+static inline __attribute__((always_inline))
+int words_in_cells(uint32_t serial, cell_use use, uint64_t address, uint64_t end, uint64_t **words, uint64_t *word_in(cell *, cell_use)) {
+    int count = 0;
+    cell *c = 0;
+    uint64_t at = address / GRAIN * GRAIN;
+    if (end - at > MOST_RANGE) return 0;
+    for (; at < end; at += GRAIN, c++, use.from++) {
+        if (!count || at % CELL_PAGE == 0) c = find_cell(at);
+        words[count] = c && c->owner == serial ? word_in(c, use) : 0;
+        if (!words[count++]) return 0;
+    }
+    return count;
+}
+
+int words_of_range(uint32_t serial, cell_use use, uint64_t address, uint64_t end, uint64_t **words) {
+    return words_in_cells(serial, use, address, end, words, known_word);
+}
+
+/* It is held back if each of its cells can: so it is whole when one of them puts it. */
 static int hold_in_several(uint32_t serial, struct record r, uint64_t end, uint64_t kind, uint64_t word) {
-    uint64_t address = r.where & LOW_48_BITS;
-    int is_held = word && end - address / GRAIN * GRAIN <= MOST_RANGE;
-    for (uint64_t at = address; at < end && is_held; at = at / GRAIN * GRAIN + GRAIN)
-        is_held = may_hold(at, serial, use_at(r, kind, at));
+    uint64_t address = r.where & LOW_48_BITS, *words[MOST_CELLS];
+    cell_use use = {what_of_use(r.what, address), kind};
     use_range(serial, r.where >> 48, address, end);
-    for (uint64_t at = address; at < end && is_held; at = at / GRAIN * GRAIN + GRAIN)
-        hold_in_cell(find_cell(at), at, use_at(r, kind, at), word);
-    return is_held;
+    int count = word ? words_in_cells(serial, use, address, end, words, new_word) : 0;
+    if (count && *words[0] + 1 == word) return IS_HELD_ALREADY;
+    for (int k = 0; k < count; k++) *words[k] = word;
+    return count ? IS_HELD : 0;
 }
 
 /* Those that are zeros stay so: most blocks are new again before another thread comes. */

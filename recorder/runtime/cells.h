@@ -89,6 +89,10 @@ int hold_back(uint32_t serial, struct record r, uint64_t bytes, uint64_t kind, u
 /* The word of a use in a cell, by its owner or one of its readers: it is held back by a new word. Null where it may not be, where that needs
    a record or memory, or the use has no number yet. */
 uint64_t *word_of_use(cell *c, uint64_t address, uint32_t serial, uint16_t number, cell_use use);
+/* The words of an access of several cells, whose use in the first one this is, if each has it: how many, or 0. Then all are in their first
+   phase, and it is held back by a new word in each. */
+enum { MOST_RANGE = ((1 << GRAINS_BEFORE) - 1) * GRAIN, MOST_CELLS = MOST_RANGE / GRAIN };
+int words_of_range(uint32_t serial, cell_use use, uint64_t address, uint64_t end, uint64_t **words);
 /* The program's, or a test's: records what was held back, with its word. */
 void put_late(struct record r, uint64_t word);
 

@@ -38,11 +38,12 @@ static inline int may_be_quick(const thread *t, uint64_t address, uint64_t size)
     return t && t->limit && size <= GRAIN && address % GRAIN <= GRAIN - size;
 }
 
-/* Null where the hook isn't quick. */
-static inline cell *usual_cell(const thread *t, uint64_t address) {
-    int is_usual = t->steps < t->limit && t == quick_holder && is_numbered(t->in) && address < CELL_ADDRESSES;
-    return is_usual ? find_cell(address) : 0;
+static inline int is_usual(const thread *t, uint64_t address) {
+    return t->steps < t->limit && t == quick_holder && is_numbered(t->in) && address < CELL_ADDRESSES;
 }
+
+/* Null where the hook isn't quick. */
+static inline cell *usual_cell(const thread *t, uint64_t address) { return is_usual(t, address) ? find_cell(address) : 0; }
 
 /* The word of a use in a cell of the thread's, or of readers; null where it isn't in the line in which most are. */
 static inline uint64_t *word_near(const thread *t, cell *c, enum operation operation, uint64_t what) {

@@ -116,13 +116,18 @@ DELETES(_ZdlPvSt11align_val_t) DELETES(_ZdaPvSt11align_val_t) DELETES(_ZdlPvmSt1
 DELETES(_ZdlPvSt11align_val_tRKSt9nothrow_t) DELETES(_ZdaPvSt11align_val_tRKSt9nothrow_t)
 
 /* ---- ranges: never yields, for this may be the tail of a structure's copy ---- */
-static void note_copy(void *to, const void *from, size_t n, uint64_t caller) {
-    thread *t = others && n && instrumented(caller) ? enter(NEVER_YIELD) : 0;
+static void note_part(enum operation operation, const void *p, size_t n, uint64_t caller) {
+    thread *t = hold_range(operation, (uint64_t)p, n, caller) ? 0 : enter_access(NEVER_YIELD);
     if (!t) return;
-    if (from) put(t, OP_READ, from, n, caller);
-    put(t, OP_WRITE, to, n, caller);
-    end_copy(t);
+    put(t, operation, p, n, caller);
     leave(t);
+}
+
+static void note_copy(void *to, const void *from, size_t n, uint64_t caller) {
+    if (!others || !n || !instrumented(caller)) return;
+    if (from) note_part(OP_READ, from, n, caller);
+    note_part(OP_WRITE, to, n, caller);
+    if (self) end_copy(self);
 }
 
 static void copy_up(void *to, const void *from, size_t n) {

@@ -24,7 +24,8 @@
 #include <unistd.h>
 #include "runtime.h"
 
-#define TURNS_MAGIC "shb-turns 2\n"
+#define ANY_TURNS "shb-turns "
+#define TURNS_MAGIC ANY_TURNS "3\n"     /* another number where steps are counted otherwise */
 enum { HEADER = 4096, STEP_BYTES = 1 << 20, MOST_BYTES = 128 << 20, FEW = 1 << 15 };
 
 #define UNUSUAL (1ull << 47)
@@ -192,8 +193,10 @@ static const char *mapped(const char *path, uint64_t *bytes) {
 void begin_replay(const char *path) {
     uint64_t bytes;
     const char *list = mapped(path, &bytes);
-    if (!list || strncmp(list, TURNS_MAGIC "command ", strlen(TURNS_MAGIC "command ")) || !memchr(list, 0, HEADER)) {
-        tell("shb recorder: %s is no list of turns (RUN.turns)\n", path);
+    int is_list = list && memchr(list, 0, HEADER) && !strncmp(list, ANY_TURNS, strlen(ANY_TURNS));
+    if (!is_list || strncmp(list, TURNS_MAGIC "command ", strlen(TURNS_MAGIC "command "))) {
+        tell(is_list ? "shb recorder: %s is not followed: another version of the recorder wrote it\n"
+                     : "shb recorder: %s is no list of turns (RUN.turns)\n", path);
         return;
     }
     due = (const uint64_t *)(list + HEADER);

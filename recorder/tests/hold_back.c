@@ -46,11 +46,22 @@ static uint64_t bytes_of(uint64_t i) {
     return operation <= OP_WRITE || operation == OP_ALLOC || operation == OP_START ? size_of(i) : 1;
 }
 
+static int is_range_held_quickly(uint64_t i, uint64_t bytes, uint64_t kind, uint64_t word) {
+    uint64_t address = in[i].where & LOW_48_BITS, *words[MOST_CELLS];
+    cell_use use = {what_of_use(in[i].what, address), kind};
+    int count = word ? words_of_range(serials[in[i].where >> 48], use, address, address + bytes, words) : 0;
+    for (int k = 0; k < count; k++) *words[k] = word;
+    held_there += count != 0;
+    return count != 0;
+}
+
 /* As a quick hook holds it back. */
 static int is_held_quickly(uint64_t i, uint64_t bytes, uint64_t kind, uint64_t word) {
     uint64_t address = in[i].where & LOW_48_BITS;
     int is_plain = operation_of(in[i]) == OP_READ || operation_of(in[i]) == OP_WRITE;
-    cell *c = is_plain && address / GRAIN == (address + bytes - 1) / GRAIN ? find_cell(address) : 0;
+    int is_in_one = address / GRAIN == (address + bytes - 1) / GRAIN;
+    if (is_plain && bytes && !is_in_one) return is_range_held_quickly(i, bytes, kind, word);
+    cell *c = is_plain && is_in_one ? find_cell(address) : 0;
     uint16_t number = in[i].where >> 48;
     cell_use use = {what_of_use(in[i].what, address), c ? kind_in(c, in[i].what, kind, reader_of(serials[number], number)) : 0};
     uint64_t *held = c && word ? word_of_use(c, address, serials[number], number, use) : 0;

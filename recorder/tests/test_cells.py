@@ -110,10 +110,18 @@ CASES = {  # what a record has behind FORKS, and what is left of it
     "a lock": ([write(1, 0x201), entry(2, "LOCK", X, 0x205)], [late(2, 1, write(1, 0x201)), entry(2, "LOCK", X, 0x205)]),
     "a range over two cells": (
         [*[write(1, 0x201, X, 16)] * 2, write(2, 0x204, X + 8), write(2, 0x205)],
-        [late(2, 1, write(1, 0x201, X, 16)), write(2, 0x204, X + 8), late(2, 1, write(1, 0x201, X, 16)), write(2, 0x205)]),
+        [late(2, 2, write(1, 0x201, X, 16)), write(2, 0x204, X + 8), late(2, 2, write(1, 0x201, X, 16)), write(2, 0x205)]),
     "a range that was used by another thread": (
         [write(2, 0x204), write(1, 0x201, X, 16), write(1, 0x201, X, 16)],
         [late(2, 1, write(2, 0x204)), write(1, 0x201, X, 16), write(1, 0x201, X, 16)]),
+    "a range again and again": (
+        [*[write(1, 0x201, X + 4, 16)] * 4, read(1, 0x202, X + 8), write(1, 0x201, X + 4, 16), write(2, 0x204, X + 16)],
+        [late(2, 5, write(1, 0x201, X + 4, 16)), write(2, 0x204, X + 16)]),
+    "a range of which another thread has a cell": (
+        [*[write(1, 0x201, X, 24)] * 2, read(2, 0x204, X + 16), write(1, 0x201, X, 24)],
+        [late(2, 2, write(1, 0x201, X, 24)), read(2, 0x204, X + 16), write(1, 0x201, X, 24)]),
+    "a range that another thread has": (
+        [write(2, 0x201, X, 16), write(1, 0x201, X, 16)], [*[late(2, 1, write(2, 0x201, X, 16))] * 2, write(1, 0x201, X, 16)]),
     "a page that one thread has": (
         [write(1, 0x201, PAGE, 4096), read(1, 0x202, PAGE + 8), read(1, 0x202, PAGE + 8), read(2, 0x204, PAGE + 8)],
         [write(1, 0x201, PAGE, 4096), late(4, 2, read(1, 0x202, PAGE + 8)), read(2, 0x204, PAGE + 8)]),
@@ -179,7 +187,7 @@ FAULTS = {  # to plant: the file, what stands there, and what in its place
     "the position is that of the first use": ("cells.c", "    if (held) *held = word;\n", ""),
     "the position is where it is recorded": ("hold_back.c", "{word & POSITIONS, ", "{written << ORDER_BITS | 1, "),
     "bytes of a cell are one use": (
-        "cells.c", "cell_use use = {what_of_use(r.what, address),", "cell_use use = {r.what,"),
+        "cells.c", "{what_of_use(r.what, address), kind | ", "{r.what, kind | "),
     "calls from two places are one use": ("cells.c", "    use.from = kind;\n", "    use.from = 0;\n"),
     "calls from two places are one use of a reader": (
         "cells.c", "kind | reader_of(serial, r.where >> 48)};", "reader_of(serial, r.where >> 48)};"),
@@ -195,7 +203,6 @@ FAULTS = {  # to plant: the file, what stands there, and what in its place
         "cells.c", "page->is_first = !cells && !page->is_whole && !has_freed(page);", "page->is_first = 1;"),
     "a page that was freed begins with a first phase": ("cells.c", " && !has_freed(page)", ""),
     "a cell that was freed begins with a first phase": ("cells.c", "is_first = !c->owner && !is_freed(page, address)", "is_first = !c->owner"),
-    "a range is held back where it was freed": ("cells.c", ": is_freed(page, address)) return 0", ": 0) return 0"),
     "a free leaves what nobody used": ("cells.c", "        page->freed[w] |= bits & ~page->used[w];\n", ""),
     "a free is of what nobody used alone": (
         "cells.c", "used = bits & page->used[w]; used; used &= used - 1) {\n            unsigned", "used = 0; used; used &= used - 1) {\n            unsigned"),
@@ -208,7 +215,7 @@ FAULTS = {  # to plant: the file, what stands there, and what in its place
     "a page is whole for ever": ("cells.c", "    page->is_whole = 0;\n}\n\n/* Now", "}\n\n/* Now"),
     "a new block leaves its page whole": ("cells.c", "        if (page->is_whole) page->is_whole = 0;\n", ""),
     "a thread with the number of a joined one is the same": ("hold_back.c", "serials[address] = ++last_serial", "last_serial++"),
-    "a range is held back in a later phase": ("cells.c", "c->owner != serial || !c->is_first :", "c->owner != serial :"),
+    "a range is held back in a later phase": ("cells.c", "c->is_first ? number_of_use(use) : 0;", "number_of_use(use);"),
     "readers are one": ("cells.c", "kind | reader_of(serial, r.where >> 48)};", "kind | reader_of(1, 1)};"),
     "a write leaves a phase of reads": ("cells.c", "    if (!is_read(use.what)) c->is_only_read = 0;\n", ""),
     "a free or a range leaves a phase of reads": ("cells.c", "    c->is_only_read = 0;\n}", "}"),
@@ -217,6 +224,12 @@ FAULTS = {  # to plant: the file, what stands there, and what in its place
     "a use is new in a quick hook of a later phase": ("cells.c", "!c->is_first || is_full(c)) return 0;", "is_full(c)) return 0;"),
     "a write in a quick hook leaves a phase of reads": ("cells.c", "    if (!is_read(cell_uses[use].what)) c->is_only_read = 0;\n", ""),
     "a quick hook takes another thread's cell": ("cells.c", "if (c->owner != serial || !c->is_first", "if (!c->is_first"),
+    "a range that is repeated keeps its first position": ("cells.c", "k < count; k++) *words[k] = word;", "k < 0; k++) *words[k] = word;"),
+    "a range is repeated in cells that another thread has": ("cells.c", "c && c->owner == serial ? word_in", "c ? word_in"),
+    "a range is repeated where its first cell has it": (
+        "cells.c", "        if (!words[count++]) return 0;", "        if (words[count]) count++;"),
+    "a range is counted once more than it was held back": (
+        "cells.c", "    if (count && *words[0] + 1 == word) return IS_HELD_ALREADY;\n", ""),
     "a table grows without its keys": (
         "cells.c", "        if (*key_at(c, k).use) insert_key(&grown, *key_at(c, k).use, *key_at(c, k).word);\n", "        ;\n"),
     "the context is that of the first use": ("cells.c", "*held = word;", "*held = (*held & ~POSITIONS) | (word & POSITIONS);"),

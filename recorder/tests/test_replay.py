@@ -136,6 +136,18 @@ class Replays(recorder.Case):
             status, said = self.record("--replay", other, program)
             self.assertEqual((status, len(said.splitlines())), (125, 1), said)
 
+    def test_a_list_of_another_version(self):
+        """It may count steps otherwise. The program runs all the same."""
+        program, path = self.program(), self.folder / "old.turns"
+        self.run_it("first", 5, program)
+        content = (self.folder / "first.turns").read_bytes()
+        self.assertRegex(content, rb"\Ashb-turns \d+\n")
+        path.write_bytes(b"shb-turns 2\n" + content.partition(b"\n")[2])
+        said, _ = self.run_it("again", 5, program, replay="old")
+        self.assertEqual(said, f"shb recorder: {path} is not followed: another version of the recorder wrote it\n")
+        status, said = self.record("--replay", path, "-o", "refused", program)
+        self.assertEqual((status, said), (125, f"shb-record: {path} is not followed: another version of the recorder wrote it\n"))
+
     def test_a_list_of_another_program(self):
         self.run_it("first", 5, self.program("prodcons.c"))
         status, said = self.record("--replay", self.folder / "first.turns", self.program())
