@@ -1,5 +1,6 @@
 /* Functions that give, take, copy or fill memory. */
 #define _GNU_SOURCE
+#include <dlfcn.h>
 #include <errno.h>
 #include <stdarg.h>
 #include <stdlib.h>
@@ -14,28 +15,39 @@ void *__libc_memalign(size_t, size_t);
 void __libc_free(void *);
 
 /* ---- a new block is new variables; a free is a write. A thread may have slept in the call before; one that code without hooks calls
-   may have a lock that nobody sees, so there the turn isn't given up. by: whose call it is ---- */
-static void *note_block(void *p, size_t size, uint64_t caller, uint64_t by) {
-    thread *t = p ? enter(instrumented(by) ? MAY_YIELD : YIELDS_BY_LIST) : 0;
+   may have a lock that nobody sees, so there the turn isn't given up ---- */
+void *allocated(void *p, size_t size, uint64_t caller) {
+    thread *t = p ? enter(instrumented(caller) ? MAY_YIELD : YIELDS_BY_LIST) : 0;
     if (!t) return p;
     put(t, OP_ALLOC, p, size ? size : 1, caller);
     leave(t);
     return p;
 }
 
-static uint64_t origin(uint64_t caller) { return self && self->new_caller ? self->new_caller : caller; }
+/* The blocks are the C library's, whatever allocator the program or another library has. */
+static size_t (*usable_size)(void *);
+__attribute__((constructor(101))) static void know_usable_size(void) {
+    void *c_library = dlopen("libc.so.6", RTLD_LAZY | RTLD_NOLOAD);
+    if (c_library) usable_size = (size_t (*)(void *))dlsym(c_library, "malloc_usable_size");
+}
 
-void *allocated(void *p, size_t size, uint64_t caller) { return note_block(p, size, origin(caller), origin(caller)); }
+PUBLIC size_t malloc_usable_size(void *p) {
+    if (!usable_size) know_usable_size();
+    return usable_size ? usable_size(p) : 0;
+}
 
-/* An allocator of the program's own, below a `new`, may have a lock when it asks for memory. */
-static void *mapped(void *p, size_t size, uint64_t caller) { return note_block(p, size, origin(caller), caller); }
+/* As many bytes of a block are written by its free. */
+static size_t bytes_freed(void *p) {
+    enum { MOST_FREED = 1024 };
+    size_t usable = usable_size ? usable_size(p) : 1;
+    return usable < MOST_FREED ? usable : MOST_FREED;
+}
 
 /* What uninstrumented code frees, it may have ordered by means that nobody sees. */
 static void will_free(void *p, uint64_t caller) {
-    if (!p || !others || !instrumented(caller)) return;
-    thread *t = enter(MAY_YIELD);
+    thread *t = p && others && instrumented(caller) ? enter(MAY_YIELD) : 0;
     if (!t) return;
-    put(t, OP_FREE, p, 0, caller);
+    put(t, OP_FREE, p, bytes_freed(p), caller);
     leave(t);
 }
 
@@ -65,7 +77,7 @@ PUBLIC int posix_memalign(void **result, size_t a, size_t n) {
 
 PUBLIC void *mmap(void *at, size_t n, int protection, int flags, int f, off_t offset) {
     void *p = (void *)syscall(SYS_mmap, at, n, protection, flags, f, offset);
-    return p == MAP_FAILED || protection == PROT_NONE ? p : mapped(p, n, CALLER);
+    return p == MAP_FAILED || protection == PROT_NONE ? p : allocated(p, n, CALLER);
 }
 PUBLIC void *mmap64(void *, size_t, int, int, int, off_t) __attribute__((alias("mmap")));
 
@@ -75,27 +87,32 @@ PUBLIC void *mremap(void *old, size_t old_size, size_t size, int flags, ...) {
     char *p = (char *)syscall(SYS_mremap, old, old_size, size, flags, flags & MREMAP_FIXED ? va_arg(more, void *) : 0);
     va_end(more);
     size_t kept = p == old ? old_size : 0;
-    if (p != MAP_FAILED && size > kept) mapped(p + kept, size - kept, CALLER);
+    if (p != MAP_FAILED && size > kept) allocated(p + kept, size - kept, CALLER);
     return p;
 }
 
-/* C++: the block's place is that of the `new`, and the free below a `delete` is the program's. Of a form of `new` that may
-   not throw, `nothrow` is not null; one for greater alignment has that before it. */
+/* ---- C++: a block of `new` is from where `delete` gives it back ---- */
+/* If the program has forms of its own, all others are the C++ library's, which makes them of these. */
+static int has_own_forms(void) {
+    static const char *const forms[] = {"_Znwm", "_Znam", "_ZdlPv", "_ZdaPv", "_ZnwmSt11align_val_t", "_ZdlPvSt11align_val_t"};
+    static _Atomic char known;         /* 1: none, 2: some */
+    if (known) return known == 2;
+    int some = 0;
+    for (unsigned k = 0; k < sizeof forms / sizeof *forms; k++) some |= program_has(forms[k]);
+    known = 1 + some;
+    return some;
+}
+
+/* Of a form that may not throw, `nothrow` is not null; one for greater alignment has that before it. The C++ library's is
+   asked where there is no memory, to throw; it may be linked into the program, so that there is no way to throw. */
 typedef void *(*new_function)(size_t, size_t, const void *);
 
-static void end_new(thread **t) { (*t)->new_caller = 0; }    /* also where it throws */
-
 static void *called_new(new_function real, size_t n, size_t align, const void *nothrow, uint64_t caller) {
-    size_t second = align ? align : (size_t)nothrow;
-    if (!real) {                                             /* the C++ library is linked into the program: no way to throw */
-        void *p = align ? __libc_memalign(align, n ? n : 1) : __libc_malloc(n ? n : 1);
-        if (!p && !nothrow) abort();
-        return allocated(p, n, caller);
-    }
-    if (!self || self->new_caller) return real(n, second, nothrow);
-    thread *t __attribute__((cleanup(end_new))) = self;
-    t->new_caller = caller;
-    return real(n, second, nothrow);
+    int is_others = real && has_own_forms();
+    void *p = is_others ? 0 : align ? __libc_memalign(align, n ? n : 1) : __libc_malloc(n ? n : 1);
+    if (!p && real) return real(n, align ? align : (size_t)nothrow, nothrow);
+    if (!p && !nothrow) abort();
+    return allocated(p, n, caller);
 }
 
 #define NEW(name, parameters, align, nothrow) \
@@ -110,7 +127,14 @@ NEW(_ZnamSt11align_val_t, (size_t n, size_t align), align, 0)
 NEW(_ZnwmSt11align_val_tRKSt9nothrow_t, (size_t n, size_t align, const void *nothrow), align, nothrow)
 NEW(_ZnamSt11align_val_tRKSt9nothrow_t, (size_t n, size_t align, const void *nothrow), align, nothrow)
 
-#define DELETES(name) PUBLIC void name(void *) __attribute__((alias("free"), copy(free)));
+/* What a form has besides the block is handed on. */
+#define DELETES(name) \
+    void name(void *, size_t, size_t); \
+    PUBLIC void name(void *p, size_t second, size_t third) { \
+        if (has_own_forms() && REAL(name)) return REAL(name)(p, second, third); \
+        will_free(p, CALLER); \
+        __libc_free(p); \
+    }
 DELETES(_ZdlPv) DELETES(_ZdaPv) DELETES(_ZdlPvm) DELETES(_ZdaPvm) DELETES(_ZdlPvRKSt9nothrow_t) DELETES(_ZdaPvRKSt9nothrow_t)
 DELETES(_ZdlPvSt11align_val_t) DELETES(_ZdaPvSt11align_val_t) DELETES(_ZdlPvmSt11align_val_t) DELETES(_ZdaPvmSt11align_val_t)
 DELETES(_ZdlPvSt11align_val_tRKSt9nothrow_t) DELETES(_ZdaPvSt11align_val_tRKSt9nothrow_t)

@@ -96,6 +96,8 @@ static uint64_t module_with(void *p) {
     return p && dladdr(p, &info) ? (uint64_t)info.dli_fbase : 0;
 }
 
+int program_has(const char *name) { return module_with(dlsym(RTLD_DEFAULT, name)) != module_with((void *)program_has); }
+
 /* ---- functions of libraries that the program may have by dlopen, so that they aren't behind this one ---- */
 typedef struct { const char *at[MAX_MODULES]; int count; } module_names;
 

@@ -13,7 +13,6 @@
 #include <sys/sysinfo.h>
 #include <time.h>
 #include <unistd.h>
-#include <malloc.h>
 #include "runtime.h"
 #include "cells.h"
 
@@ -175,6 +174,7 @@ static int has_depth_inside(enum operation operation, uint64_t size) { return is
 /* What stands in the place of the size, with the depth where that is known by it. */
 static uint64_t inside_of(const thread *t, enum operation operation, uint64_t size) {
     uint32_t depth = t->depth < DEPTH_BEFORE ? t->depth : DEPTH_BEFORE;
+    if (operation == OP_FREE) return 0;                      /* the converter knows the block */
     if (has_depth_inside(operation, size)) return __builtin_ctzl(size) | depth << LOGARITHM_BITS;
     if (is_plain(operation)) size += IS_RANGE;
     return size < SIZE_FOLLOWS ? size : SIZE_FOLLOWS;
@@ -251,13 +251,9 @@ void end_quick(thread *t) {
 }
 
 /* What the cells have to know of a record: how many bytes it accesses, or are new. */
-static uint64_t bytes_of(enum operation operation, const volatile void *address, uint64_t size) {
-    enum { MOST_FREED = 1024 };
-    if (is_plain(operation) || operation == OP_ALLOC || operation == OP_START) return size;
+static uint64_t bytes_of(enum operation operation, uint64_t size) {
     if (is_atomic(operation)) return size & ((1 << ATOMIC_SIZE_BITS) - 1);
-    if (operation != OP_FREE) return 1;
-    uint64_t usable = malloc_usable_size((void *)address);
-    return usable < MOST_FREED ? usable : MOST_FREED;
+    return is_plain(operation) || (operation >= OP_START && operation <= OP_FREE) ? size : 1;
 }
 
 static int is_held_back(thread *t, enum operation operation, struct record r, uint64_t bytes) {
@@ -272,7 +268,7 @@ static void put_now(thread *t, enum operation operation, const volatile void *ad
     if (of_contexts && make_room(of_contexts)) add_contexts(t);
     uint64_t inside = inside_of(t, operation, size);
     struct record r = record_of(t, operation, (uint64_t)address, inside, caller);
-    if (is_held_back(t, operation, r, bytes_of(operation, address, size))) {
+    if (is_held_back(t, operation, r, bytes_of(operation, size))) {
         changes += !only_reads(operation);
         return;
     }

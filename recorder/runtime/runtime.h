@@ -64,7 +64,6 @@ typedef struct thread {
     char idles;                        /* in a replay: it waits for what others are to do, so it is in no hurry */
     struct thread *next_ended;
     int exit_rounds;                   /* of destructors of thread-specific data */
-    uint64_t new_caller;               /* who called operator new */
     void *(*function)(void *);         /* what it runs; or of a C11 thread the next */
     int (*c11_function)(void *);
     void *argument;
@@ -230,6 +229,7 @@ static inline int instrumented(uint64_t caller) {            /* lies the code in
 }
 int tells_its_own_order(uint64_t caller);                    /* the begin and end of its objects are not recorded */
 void *next_symbol(const char *name);
+int program_has(const char *name);     /* or a library before this one: a function that this one has, too */
 int is_behind_the_c_library(void);     /* do calls of the program go to that, and not to this library? */
 void note_modules(void);
 #define REAL(f) ({ \

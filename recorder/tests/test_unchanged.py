@@ -109,6 +109,32 @@ class Names(Unchanged):
         recorder.must(recorder.call("g++", "-w", "-g", "-O1", "-fsanitize=thread", "-static-libstdc++", source, "-o", program))
         self.assertEqual(self.run_recorded(program).stdout, b"8 blocks\n")
 
+    def built(self, source, *words):
+        """A program in C++, and what it prints where it isn't recorded."""
+        out = self.folder / source.split(".")[0]
+        sources = ["-w", "-g", "-O1", "-std=c++17", "-pthread", recorder.PROGRAMS / source, *words]
+        recorder.must(recorder.call("g++", *sources, "-o", self.folder / "alone"))
+        recorder.must(recorder.call("g++", "-fsanitize=thread", *sources, "-o", out))
+        return out, recorder.must(recorder.call(self.folder / "alone", env=self.settings(SHB_RECORD="", LD_LIBRARY_PATH=str(self.folder)))).stdout
+
+    def test_an_allocator_of_the_programs_own(self):
+        """In the program or in a library: what `new` gave is what `delete` takes, and a block's size is asked of the one that gave it."""
+        library, part = self.folder / "liballocator.so", self.folder / "allocator.o"
+        recorder.must(recorder.call("gcc", "-shared", "-fPIC", "-O1", recorder.PROGRAMS / "allocator.c", "-o", library))
+        recorder.must(recorder.call("gcc", "-c", "-O1", recorder.PROGRAMS / "allocator.c", "-o", part))
+        for source in ("news.cc", "allocated.cc"):
+            for where in (library, part):
+                with self.subTest(source=source, where=where.name):
+                    program, alone = self.built(source, where)
+                    ran = self.run_recorded(program)
+                    self.assertEqual((ran.stdout, ran.stderr), (alone, b""))
+
+    def test_forms_of_new_and_delete_of_the_programs_own(self):
+        """The other forms, also that of a delete with a size, are made of these."""
+        program, alone = self.built("replaced.cc")
+        ran = self.run_recorded(program)
+        self.assertEqual((ran.stdout, ran.stderr), (alone, b""))
+
 
 class Library(Unchanged):
     """Functions of the C library do what they do alone, with what they accept, refuse or fault at."""
