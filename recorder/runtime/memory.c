@@ -44,8 +44,10 @@ static size_t bytes_freed(void *p) {
 }
 
 /* What uninstrumented code frees, it may have ordered by means that nobody sees. */
+static thread *enter_free(const void *p, uint64_t caller) { return p && others && instrumented(caller) ? enter(MAY_YIELD) : 0; }
+
 static void will_free(void *p, uint64_t caller) {
-    thread *t = p && others && instrumented(caller) ? enter(MAY_YIELD) : 0;
+    thread *t = enter_free(p, caller);
     if (!t) return;
     put(t, OP_FREE, p, bytes_freed(p), caller);
     leave(t);
@@ -62,9 +64,14 @@ PUBLIC void free(void *p) {
     __libc_free(p);
 }
 
+/* One that fails frees nothing. Where the turn was lost in it, another thread may have the old memory by now. */
 PUBLIC void *realloc(void *p, size_t n) {
-    will_free(p, CALLER);
-    return allocated(__libc_realloc(p, n), n, CALLER);
+    thread *t = enter_free(p, CALLER);
+    size_t bytes = t ? bytes_freed(p) : 0;
+    void *new = __libc_realloc(p, n);
+    if (t && (new || !n) && keep_turn(t)) put(t, OP_FREE, p, bytes, CALLER);
+    if (t) leave(t);
+    return allocated(new, n, CALLER);
 }
 
 PUBLIC int posix_memalign(void **result, size_t a, size_t n) {
