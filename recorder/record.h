@@ -17,6 +17,7 @@
 #define ENDED_WHOLE "whole"
 #define LOW_48_BITS 0xffffffffffffull
 #define FIRST_DESCRIPTOR (1ul << 47)   /* no program's address: descriptor D is at 16 D above it, its data 8 further */
+#define KIND_OF_OBJECT 40              /* at this bit: semaphores (1) and queues (2) of System V, queues of POSIX (3); by numbers as descriptors */
 #define SIZE_FOLLOWS 1023              /* such a size or a greater one stands in a record OP_SIZE after this one */
 /* A read or write of 1, 2, 4, 8 or 16 bytes has in its place of the size the logarithm and its depth: it is made in so many functions, the
    outermost of the thread's context, or DEPTH_BEFORE, in all; any other one has IS_RANGE and its size, if this isn't greater. */

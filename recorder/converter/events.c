@@ -133,7 +133,9 @@ static char *add_block_name(char *to, u64 address, const block *b) {
 }
 
 static char *add_descriptor_name(char *to, u64 address) {
-    to = add_number(add_text(to, "fd"), (address - FIRST_DESCRIPTOR) / 16, 10);
+    static const char *const kinds[] = {"fd", "semaphores", "queue", "mqueue"};
+    u64 place = address - FIRST_DESCRIPTOR;
+    to = add_number(add_text(to, kinds[place >> KIND_OF_OBJECT & 3]), place % (1ull << KIND_OF_OBJECT) / 16, 10);
     return add_text(to, address & 8 ? ".data" : "");
 }
 

@@ -132,8 +132,7 @@ void note_transfer(enum operation operation, int f, uint64_t caller) {
 /* ---- what is read and written goes through memory of the program's ---- */
 enum { MOST_BYTES = 0x7ffff000 };      /* that the kernel takes at once */
 
-/* Copies what may not be there: the call will say so. */
-static int copy_in(void *to, const void *from, size_t bytes) {
+int copy_in(void *to, const void *from, size_t bytes) {
     struct iovec here = {to, bytes}, there = {(void *)from, bytes};
     int saved = errno, done = syscall(SYS_process_vm_readv, getpid(), &here, 1, &there, 1, 0) == (ssize_t)bytes;
     errno = saved;

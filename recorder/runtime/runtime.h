@@ -247,6 +247,9 @@ void *allocated(void *p, size_t size, uint64_t caller);      /* notes new variab
 /* signals.c */
 void watch_crashes(void);
 
+/* descriptors.c */
+int copy_in(void *to, const void *from, size_t bytes);       /* of what may not be there: then the call will say so */
+
 /* waits.c */
 void let_others_run(void);             /* gives the turn up before a call that may wait */
 

@@ -8,6 +8,8 @@
 #include <sys/resource.h>
 #include <sys/select.h>
 #include <sys/sem.h>
+#include <sys/stat.h>
+#include <sys/syscall.h>
 #include <sys/wait.h>
 #include <threads.h>
 #include <time.h>
@@ -60,12 +62,43 @@ BLOCKS(int, sigwait, (const sigset_t *m, int *s), (m, s))
 BLOCKS(int, sigwaitinfo, (const sigset_t *m, siginfo_t *s), (m, s))
 BLOCKS(int, sigtimedwait, (const sigset_t *m, siginfo_t *s, deadline d), (m, s, d))
 
-/* ---- System V's and POSIX' queues, System V's semaphores: they order nothing in a trace ---- */
-BLOCKS(ssize_t, msgrcv, (int q, void *p, size_t n, long kind, int o), (q, p, n, kind, o))
-BLOCKS(int, msgsnd, (int q, const void *p, size_t n, int o), (q, p, n, o))
-BLOCKS(int, semop, (int s, struct sembuf *p, size_t n), (s, p, n))
-BLOCKS(int, semtimedop, (int s, struct sembuf *p, size_t n, deadline d), (s, p, n, d))
-BLOCKS(ssize_t, mq_receive, (mqd_t q, char *p, size_t n, unsigned *priority), (q, p, n, priority))
-BLOCKS(ssize_t, mq_timedreceive, (mqd_t q, char *p, size_t n, unsigned *priority, deadline d), (q, p, n, priority, d))
-BLOCKS(int, mq_send, (mqd_t q, const char *p, size_t n, unsigned priority), (q, p, n, priority))
-BLOCKS(int, mq_timedsend, (mqd_t q, const char *p, size_t n, unsigned priority, deadline d), (q, p, n, priority, d))
+/* ---- System V's semaphores, and queues: what gives comes before what takes, as with POSIX' semaphores ---- */
+enum { GIVES = 1, TAKES = 2 };
+
+static int effect_of(const struct sembuf *p, size_t n) {     /* to wait for 0 is to take */
+    struct sembuf changes[500];        /* the kernel takes no more, unless it is told to */
+    int effect = 0;
+    if (n > sizeof changes / sizeof *changes) return GIVES | TAKES;
+    if (!copy_in(changes, p, n * sizeof *p)) return 0;
+    for (size_t k = 0; k < n; k++) effect |= changes[k].sem_op > 0 ? GIVES : TAKES;
+    return effect;
+}
+
+/* A queue may be opened by its name more than once. */
+static unsigned queue_of(mqd_t q) {
+    struct stat status;
+    return syscall(SYS_fstat, q, &status) ? 0 : status.st_ino;
+}
+
+#define IN_KERNEL(kind, number) ((void *)(FIRST_DESCRIPTOR + (kind##ul << KIND_OF_OBJECT) + (uint64_t)(unsigned)(number) * 16))
+#define GIVES_AND_TAKES(type, name, effect_, object_, parameters, arguments) \
+    PUBLIC type name parameters { \
+        int effect = others && recording ? effect_ : 0; \
+        void *object = effect ? object_ : 0; \
+        if (effect & GIVES) note(OP_POST, object, CALLER); \
+        let_others_run(); \
+        type r = REAL(name) arguments; \
+        if (effect & TAKES && r >= 0) note(OP_WAIT, object, CALLER); \
+        return r; \
+    }
+#define CHANGES(name, parameters, arguments) GIVES_AND_TAKES(int, name, effect_of(p, n), IN_KERNEL(1, s), parameters, arguments)
+CHANGES(semop, (int s, struct sembuf *p, size_t n), (s, p, n))
+CHANGES(semtimedop, (int s, struct sembuf *p, size_t n, deadline d), (s, p, n, d))
+GIVES_AND_TAKES(int, msgsnd, GIVES, IN_KERNEL(2, q), (int q, const void *p, size_t n, int o), (q, p, n, o))
+GIVES_AND_TAKES(ssize_t, msgrcv, TAKES, IN_KERNEL(2, q), (int q, void *p, size_t n, long kind, int o), (q, p, n, kind, o))
+#define SENDS(name, parameters, arguments) GIVES_AND_TAKES(int, name, GIVES, IN_KERNEL(3, queue_of(q)), parameters, arguments)
+#define RECEIVES(name, parameters, arguments) GIVES_AND_TAKES(ssize_t, name, TAKES, IN_KERNEL(3, queue_of(q)), parameters, arguments)
+SENDS(mq_send, (mqd_t q, const char *p, size_t n, unsigned priority), (q, p, n, priority))
+SENDS(mq_timedsend, (mqd_t q, const char *p, size_t n, unsigned priority, deadline d), (q, p, n, priority, d))
+RECEIVES(mq_receive, (mqd_t q, char *p, size_t n, unsigned *priority), (q, p, n, priority))
+RECEIVES(mq_timedreceive, (mqd_t q, char *p, size_t n, unsigned *priority, deadline d), (q, p, n, priority, d))
