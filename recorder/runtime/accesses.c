@@ -129,6 +129,17 @@ static void after_atomic(thread *t, uint64_t last) {
     leave(t);
 }
 
+/* It may be quick again and again. */
+int load_acquire(const int *p, uint64_t caller) {
+    uint64_t inside = size_and_order(sizeof *p, __ATOMIC_ACQUIRE);
+    int is_quick = self && !self->inside && begin_quick_atomic(OP_ATOMIC_LOAD, (uint64_t)p, sizeof *p, inside, caller);
+    thread *t = is_quick ? 0 : before_atomic(OP_ATOMIC_LOAD, p, inside, caller);
+    int value = __atomic_load_n(p, __ATOMIC_SEQ_CST);
+    if (is_quick) end_quick_atomic(0);
+    else after_atomic(t, 0);
+    return value;
+}
+
 /* Whether a compare-and-exchange is an update or a load is known after it. */
 static void after_exchange(thread *t, int done, const volatile void *p, uint64_t size_and_order, uint64_t caller) {
     if (t && others) put(t, done ? OP_ATOMIC_UPDATE : OP_ATOMIC_LOAD, p, size_and_order, caller);

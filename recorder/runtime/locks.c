@@ -151,24 +151,33 @@ PUBLIC int pthread_barrier_wait(pthread_barrier_t *b) {
     return r;
 }
 
-static __thread struct { void (*function)(void); void *flag; } once;
-static void run_once(void) {
-    void *flag = once.flag;            /* the function may come to another once */
-    once.function();
-    note(OP_POST, flag, CALLER);
-}
-PUBLIC int pthread_once(pthread_once_t *flag, void (*function)(void)) {
-    thread *t = enter(MAY_YIELD);
-    if (!t) return REAL(pthread_once)(flag, function);
-    give_turn(t);
+/* What was done by here comes before what the next thread does that takes it: like a store and a load of an atomic. */
+static void note_atomic(enum operation operation, const void *p, uint64_t size, uint64_t caller) {
+    thread *t = others ? enter(MAY_YIELD) : 0;
+    if (!t) return;
+    put(t, operation, p, size | (operation == OP_ATOMIC_LOAD ? __ATOMIC_ACQUIRE : __ATOMIC_RELEASE) << ATOMIC_SIZE_BITS, caller);
     leave(t);
-    once.function = function;
-    once.flag = flag;
+}
+
+/* The C library keeps in its flag that it is done. It is tried again after a function that throws. */
+enum { IS_DONE = 2 };
+static __thread struct once { void (*function)(void); pthread_once_t *flag; uint64_t caller; } once;
+static void end_once(struct once *o) { note_atomic(OP_ATOMIC_STORE, o->flag, sizeof *o->flag, o->caller); }
+static void run_once(void) {
+    struct once o __attribute__((cleanup(end_once))) = once; /* the function may come to another once */
+    note_atomic(OP_ATOMIC_LOAD, o.flag, sizeof *o.flag, o.caller);
+    o.function();
+}
+static int do_once(pthread_once_t *flag, void (*function)(void), uint64_t caller) {
+    if (load_acquire(flag, caller) & IS_DONE) return 0;
+    let_others_run();
+    once = (struct once){function, flag, caller};
     int error = REAL(pthread_once)(flag, run_once);
-    note(OP_WAIT, flag, CALLER);
+    note_atomic(OP_ATOMIC_LOAD, flag, sizeof *flag, caller);
     return error;
 }
-PUBLIC void call_once(once_flag *flag, void (*function)(void)) { pthread_once((pthread_once_t *)flag, function); }
+PUBLIC int pthread_once(pthread_once_t *flag, void (*function)(void)) { return do_once(flag, function, CALLER); }
+PUBLIC void call_once(once_flag *flag, void (*function)(void)) { do_once((pthread_once_t *)flag, function, CALLER); }
 
 /* of C++ local statics: like an atomic byte */
 /* Without a C++ library behind this one (it is linked into the program, or came by dlopen) it is done here: the first
@@ -206,11 +215,7 @@ PUBLIC int __cxa_guard_acquire(char *byte) {
 /* What was done for the variable until here comes before what the next thread does for it, also where it threw. */
 #define LEAVES_GUARD(name, real) \
     PUBLIC int name(char *byte) { \
-        thread *t = others ? enter(MAY_YIELD) : 0; \
-        if (t) { \
-            put(t, OP_ATOMIC_STORE, byte, 1 | __ATOMIC_RELEASE << ATOMIC_SIZE_BITS, CALLER); \
-            leave(t); \
-        } \
+        note_atomic(OP_ATOMIC_STORE, byte, 1, CALLER); \
         return real(byte); \
     }
 LEAVES_GUARD(__cxa_guard_release, real_release)
@@ -223,11 +228,7 @@ enum { STATUS = 16, USERS = 8 };
 static void (*sets_status)(void *);
 static void comes_to_its_end(void *value_) {
     value_at_end *value = value_;
-    thread *t = others && *(int *)(value->count + USERS) > 0 ? enter(MAY_YIELD) : 0;
-    if (t) {
-        put(t, OP_ATOMIC_STORE, value->state + STATUS, sizeof(int) | __ATOMIC_RELEASE << ATOMIC_SIZE_BITS, CALLER);
-        leave(t);
-    }
+    if (*(int *)(value->count + USERS) > 0) note_atomic(OP_ATOMIC_STORE, value->state + STATUS, sizeof(int), CALLER);
     sets_status(value);
 }
 #define SETS_AT_END _ZNSt13__future_base13_State_baseV211_Make_ready6_M_setEv

@@ -240,6 +240,7 @@ void note_modules(void);
 
 /* accesses.c: a quick hook (hold.h) of a range whose cells have the use already, in their first phase. Is it held back? */
 int hold_range(enum operation operation, uint64_t address, uint64_t size, uint64_t caller);
+int load_acquire(const int *p, uint64_t caller);             /* an atomic load by the caller, who waits for nobody */
 
 /* memory.c */
 void *allocated(void *p, size_t size, uint64_t caller);      /* notes new variables; gives p */
