@@ -110,6 +110,7 @@ PUBLIC void __tsan_external_read(void *p, void *user, void *tag) { note_read(p, 
 PUBLIC void __tsan_external_write(void *p, void *user, void *tag) { note_write(p, 1, user_of(user, CALLER)); }
 
 /* ---- atomic operations: done here under the turn, and in the strongest order; the record has the one asked for ---- */
+#define ATOMIC __attribute__((section("atomics")))           /* a fault there is the program's (signals.c) */
 static uint64_t size_and_order(int size, int order) { return size | (order & 7) << ATOMIC_SIZE_BITS; }
 
 static thread *before_atomic(enum operation operation, const volatile void *p, uint64_t size_and_order, uint64_t caller) {
@@ -149,7 +150,7 @@ static void after_exchange(thread *t, int done, const volatile void *p, uint64_t
 /* Of 16 bytes, for which the compiler would call another library. */
 typedef unsigned __int128 uint128_t;
 
-static int exchange_16(volatile uint128_t *p, uint128_t *expected, uint128_t value) {
+ATOMIC static int exchange_16(volatile uint128_t *p, uint128_t *expected, uint128_t value) {
     uint64_t low = (uint64_t)*expected, high = (uint64_t)(*expected >> 64);
     char done;
     __asm__ volatile("lock cmpxchg16b %1; sete %0"
@@ -159,14 +160,14 @@ static int exchange_16(volatile uint128_t *p, uint128_t *expected, uint128_t val
     return done;
 }
 
-static uint128_t load_16(const volatile uint128_t *p) {
+ATOMIC static uint128_t load_16(const volatile uint128_t *p) {
     uint128_t value = 0;
     exchange_16((volatile uint128_t *)p, &value, 0);         /* writes 0 where there is 0 */
     return value;
 }
 
 #define FETCH_16(name, new_value) \
-    static uint128_t name##_16(volatile uint128_t *p, uint128_t value) { \
+    ATOMIC static uint128_t name##_16(volatile uint128_t *p, uint128_t value) { \
         uint128_t old = load_16(p); \
         while (!exchange_16(p, &old, new_value)) ; \
         return old; \
@@ -202,7 +203,7 @@ FETCH_16(fetch_nand, ~(old & value))
 #define NEW_fetch_xor(old, value) old ^ value
 #define NEW_fetch_nand(old, value) ~(old & value)
 #define UPDATE(bits, type, name, perform) \
-    PUBLIC type __tsan_atomic##bits##_##name(volatile type *p, type value, int order) { \
+    ATOMIC PUBLIC type __tsan_atomic##bits##_##name(volatile type *p, type value, int order) { \
         int is_quick = IS_QUICK(OP_ATOMIC_UPDATE, bits, p, order); \
         thread *t = is_quick ? 0 : before_atomic(OP_ATOMIC_UPDATE, p, size_and_order(bits / 8, order), CALLER); \
         type old = perform(p, value); \
@@ -213,7 +214,7 @@ FETCH_16(fetch_nand, ~(old & value))
     }
 
 #define COMPARE_EXCHANGE(bits, type, name, exchange) \
-    PUBLIC int __tsan_atomic##bits##_##name(volatile type *p, type *expected, type value, int order, int fail_order) { \
+    ATOMIC PUBLIC int __tsan_atomic##bits##_##name(volatile type *p, type *expected, type value, int order, int fail_order) { \
         thread *t = enter(MAY_YIELD); \
         int done = exchange(p, expected, value); \
         after_exchange(t, done, p, size_and_order(bits / 8, done ? order : fail_order), CALLER); \
@@ -221,7 +222,7 @@ FETCH_16(fetch_nand, ~(old & value))
     }
 
 #define ATOMICS(bits, type, load, store, exchange) \
-    PUBLIC type __tsan_atomic##bits##_load(const volatile type *p, int order) { \
+    ATOMIC PUBLIC type __tsan_atomic##bits##_load(const volatile type *p, int order) { \
         if (IS_QUICK(OP_ATOMIC_LOAD, bits, p, order)) { \
             type now = load(p); \
             end_quick_atomic(last_of(0, p, CALLER)); \
@@ -232,7 +233,7 @@ FETCH_16(fetch_nand, ~(old & value))
         after_atomic(t, last_of(0, p, CALLER)); \
         return value; \
     } \
-    PUBLIC void __tsan_atomic##bits##_store(volatile type *p, type value, int order) { \
+    ATOMIC PUBLIC void __tsan_atomic##bits##_store(volatile type *p, type value, int order) { \
         if (IS_QUICK(OP_ATOMIC_STORE, bits, p, order)) { \
             store(p, value); \
             return end_quick_atomic(0); \
@@ -243,8 +244,8 @@ FETCH_16(fetch_nand, ~(old & value))
     } \
     COMPARE_EXCHANGE(bits, type, compare_exchange_strong, exchange) \
     COMPARE_EXCHANGE(bits, type, compare_exchange_weak, exchange) \
-    PUBLIC type __tsan_atomic##bits##_compare_exchange_val(volatile type *p, type expected, type value, int order, \
-                                                           int fail_order) { \
+    ATOMIC PUBLIC type __tsan_atomic##bits##_compare_exchange_val(volatile type *p, type expected, type value, int order, \
+                                                                  int fail_order) { \
         thread *t = enter(MAY_YIELD); \
         int done = exchange(p, &expected, value); \
         after_exchange(t, done, p, size_and_order(bits / 8, done ? order : fail_order), CALLER); \

@@ -5,8 +5,7 @@
 #define _GNU_SOURCE
 #include <setjmp.h>
 #include <sys/mman.h>
-#include "runtime.h"
-#include "cells.h"
+#include "hold.h"
 
 int records_calls = 1;
 
@@ -220,6 +219,7 @@ static void leave_functions(jmp_buf buffer) {
     while (depth && (depth > MOST_FRAMES || t->frames[depth - 1].stack < to
                      || t->frames[depth - 1].stack - (uint64_t)t->stack >= t->stack_size)) depth--;
     set_depth(t, depth);
+    if (t->inside) t->limit ? end_quick_atomic(0) : leave(t);           /* an atomic operation that faulted is made in its hook */
 }
 
 /* Looked up before a handler of a signal may ask for them. */

@@ -41,10 +41,12 @@ static void handle(int signal, siginfo_t *info, void *context) {
 }
 
 /* ---- a signal that ends the program where its code made it: what it was, and where, is recorded; then it comes again ---- */
+extern const char __start_atomics[] __attribute__((visibility("hidden"))), __stop_atomics[] __attribute__((visibility("hidden")));
 static void crash(int signal, siginfo_t *info, void *context) {
     uint64_t next = ((ucontext_t *)context)->uc_mcontext.gregs[REG_RIP] + 1;
     int has_address = info->si_code > 0 && info->si_code != SI_KERNEL && (signal == SIGSEGV || signal == SIGBUS);
-    thread *t = self ? enter(NEVER_YIELD) : 0;               /* not where the fault is in a hook */
+    if (self && next > (uint64_t)__start_atomics && next <= (uint64_t)__stop_atomics) self->inside = 0;
+    thread *t = self ? enter(NEVER_YIELD) : 0;               /* not where the fault is in a hook but for an atomic operation */
     if (t) {
         put(t, OP_CRASH, has_address ? info->si_addr : 0, signal | (has_address ? HAS_ADDRESS : 0), next);
         leave(t);

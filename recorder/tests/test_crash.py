@@ -25,6 +25,8 @@ class Crash(recorder.Case):
         called = rf", from work {LINES['CALL']}"
         for way, number, said in (
                 ("store", signal.SIGSEGV, rf"SIGSEGV at address 0x40 in thread T1\.work: fail {LINES['STORE']}{called}"),
+                ("atomic", signal.SIGSEGV, rf"SIGSEGV at address 0x40 in thread T1\.work: fail {LINES['ATOMIC']}{called}"),
+                ("quick", signal.SIGSEGV, rf"SIGSEGV at address 0x\w+ in thread T1\.work: add_often {LINES['QUICK']}, from fail {LINES['OFTEN']}{called}"),
                 ("library", signal.SIGSEGV, rf"SIGSEGV at address 0x0 in thread T1\.work: .*fail {LINES['LIBRARY']}{called}"),
                 ("handled", signal.SIGSEGV, rf"SIGSEGV at address 0x40 in thread T1\.work: meet {LINES['HANDLED']}, from signal handler, .*from work crash\.c:\d+"),
                 ("divide", signal.SIGFPE, rf"SIGFPE in thread T1\.work: fail crash\.c:\d+{called}"),
@@ -37,7 +39,7 @@ class Crash(recorder.Case):
                 places = recorder.places(answer.stdout)
                 self.assertEqual({line for pair in places for line in pair}, {f"crash.c:{n}" for n in self.racing()})
                 [facts] = re.findall(rb"(?m)^crash (.*)$", (self.folder / "stacks").read_bytes())
-                self.assertRegex(facts, rf"\AT1\.work\t{number.name}\t({'40|0' if 'address' in said else ''})\t\d+\Z".encode())
+                self.assertRegex(facts, rf"\AT1\.work\t{number.name}\t({'40|0|[0-9a-f]+000' if 'address' in said else ''})\t\d+\Z".encode())
 
     @staticmethod
     def racing():
@@ -48,7 +50,13 @@ class Crash(recorder.Case):
         self.assertEqual(crash.decode(), f"SIGSEGV at address 0x40 in thread T1.work: {LINES['STORE']}")
 
     def test_a_handler_that_goes_on(self):
-        self.assertEqual(self.crashed("recover")[::2], (0, []))
+        """It leaves an atomic operation, and what its thread does behind that is recorded."""
+        behind = {f"crash.c:{n}" for n, line in enumerate(SOURCE.read_text().splitlines(), 1) if "BEHIND" in line}
+        for way in "recover", "recover-quick":
+            with self.subTest(way):
+                status, answer, crashes = self.crashed(way)
+                self.assertEqual((status, crashes), (0, []))
+                self.assertLess(behind, {line for pair in recorder.places(answer.stdout) for line in pair})
 
     def test_the_text_and_the_page_begin_with_it(self):
         program = self.folder / "crash"
