@@ -36,8 +36,9 @@ static void is_new(int f) {
 
 /* The descriptor that has this key already, also if it is closed by now, is of the same data. Both ends may come here at once;
    no handler of a signal does meanwhile. */
+static _Atomic int busy;
+void unlock_keys(void) { busy = 0; }
 static void know_by_key(int f, uint64_t key) {
-    static _Atomic int busy;
     thread *t = self && !self->inside ? self : 0;
     if (t) t->inside = 1;
     while (atomic_exchange(&busy, 1)) syscall(SYS_sched_yield);

@@ -249,6 +249,7 @@ void *allocated(void *p, size_t size, uint64_t caller);      /* notes new variab
 void watch_crashes(void);
 
 /* descriptors.c */
+void unlock_keys(void);                /* in a process made by fork: another thread may have had their lock */
 int copy_in(void *to, const void *from, size_t bytes);       /* of what may not be there: then the call will say so */
 
 /* waits.c */

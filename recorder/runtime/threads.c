@@ -65,6 +65,7 @@ static void in_child(void) {
     recording = 0;
     others = 0;
     is_unrecorded_child = was;
+    unlock_keys();
     if (!was || !leave_recording() || !self) {
         self = 0;
         return;
