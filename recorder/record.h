@@ -9,7 +9,8 @@
 #pragma once
 #include <stdint.h>
 
-#define RECORD_MAGIC "shb-record 10\n"
+#define ANY_RECORD "shb-record "
+#define RECORD_MAGIC ANY_RECORD "10\n"
 #define LINE_END_IN_PATH 1
 #define HEADER_BYTES 65536
 #define ENDED_BYTES 256

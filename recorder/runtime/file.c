@@ -232,6 +232,13 @@ int refuse(const char *which) {
     return 0;
 }
 
+/* Does the file begin with something else? Then it is another's, and stays. */
+static int is_foreign(int file, const char *begin) {
+    char text[16];
+    ssize_t n = pread(file, text, strlen(begin), 0);
+    return n > 0 && strncmp(text, begin, n);
+}
+
 /* Whose record stands in the file, where it isn't one of this command: a script that runs two would lose it in silence. */
 static void tell_what_is_replaced(const char *command) {
     char text[sizeof RECORD_MAGIC + COMMAND_BYTES] = "", *line = text + strlen(RECORD_MAGIC);
@@ -252,6 +259,10 @@ int open_file(const char *command, uint64_t first_bytes, uint64_t segment) {
     if (flock(file, LOCK_EX | LOCK_NB) && errno == EWOULDBLOCK) {
         tell("shb recorder: another process records to %s; the program runs unrecorded (%%p in the path gives "
                 "each process a record of its own)\n", path);
+        return 0;
+    }
+    if (is_foreign(file, ANY_RECORD)) {
+        tell("shb recorder: %s is no record, and isn't replaced by one; the program runs unrecorded\n", path);
         return 0;
     }
     if (!has_number()) tell_what_is_replaced(command);
@@ -291,10 +302,10 @@ static int name_turns(void) {
 }
 
 void *map_turns(uint64_t first_bytes, uint64_t most_bytes) {
-    int file = name_turns() ? open_turns(O_CREAT | O_TRUNC) : -1;
+    int file = name_turns() ? open_turns(O_CREAT) : -1;
     if (file < 0) return MAP_FAILED;
     of_turns = identity_of(file);
-    int has_space = add_space_in(file, 0, first_bytes);
+    int has_space = !is_foreign(file, ANY_TURNS) && !ftruncate(file, 0) && add_space_in(file, 0, first_bytes);
     void *map = has_space ? mmap(0, most_bytes, PROT_READ | PROT_WRITE, MAP_SHARED | MAP_NORESERVE, file, 0) : MAP_FAILED;
     syscall(SYS_close, file);
     return map;

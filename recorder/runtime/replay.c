@@ -24,7 +24,6 @@
 #include <unistd.h>
 #include "runtime.h"
 
-#define ANY_TURNS "shb-turns "
 #define TURNS_MAGIC ANY_TURNS "3\n"     /* another number where steps are counted otherwise */
 enum { HEADER = 4096, STEP_BYTES = 1 << 20, MOST_BYTES = 128 << 20, FEW = 1 << 15 };
 

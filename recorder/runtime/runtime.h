@@ -172,6 +172,7 @@ int refuse(const char *path);          /* says that it can't be written, as errn
 int open_file(const char *command, uint64_t first_bytes, uint64_t segment);             /* will it be allowed so many? */
 void drop_segment(uint64_t segment);   /* deletes its file, if that is there */
 int add_space(uint64_t from, uint64_t bytes);
+#define ANY_TURNS "shb-turns "        /* a list of turns begins with that */
 void *map_turns(uint64_t first_bytes, uint64_t most_bytes);  /* the list beside the record; or MAP_FAILED */
 int add_space_for_turns(uint64_t from, uint64_t bytes);
 void cut_turns(uint64_t bytes);

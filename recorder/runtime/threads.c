@@ -5,6 +5,7 @@
 #include <stdarg.h>
 #include <stdlib.h>
 #include <string.h>
+#include <sys/auxv.h>
 #include <sys/syscall.h>
 #include <threads.h>
 #include <time.h>
@@ -103,7 +104,16 @@ static void restore_preload(void) {
     unsetenv("SHB_PRELOAD");
 }
 
+/* A program with other rights than those of who starts it does nothing that the environment asks for, and hands nothing on of that. */
+static int has_rights_of_its_own(void) {
+    if (!getauxval(AT_SECURE)) return 0;
+    unsetenv("SHB_PRELOAD");
+    unsetenv("SHB_RECORD");
+    return 1;
+}
+
 __attribute__((constructor(101))) static void begin(void) {
+    if (has_rights_of_its_own()) return;
     restore_preload();
     const char *path = getenv("SHB_RECORD");
     if (!path || !*path || process) return;

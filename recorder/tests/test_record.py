@@ -71,6 +71,12 @@ class Canned(recorder.Case):
         lines = recorder.must(recorder.convert(self.record)).stdout.decode().splitlines()
         self.assertEqual(lines, TRACE)
 
+    def test_the_names_of_what_the_kernel_has(self):
+        for kind, name in enumerate(("fd5", "semaphores5", "queue5", "mqueue5")):
+            object_ = (1 << 47) + (kind << 40) + 5 * 16
+            self.record.write_bytes(HEADER + entry(0, "FORK", 1, 0x101) + entry(1, "POST", object_, 0x201) + entry(0, "WAIT", object_, 0x102) + bytes(64))
+            self.assertIn(f"\nmain|acq({name}@1>main)|0x102\n", recorder.must(recorder.convert(self.record)).stdout.decode())
+
     def test_the_races(self):
         trace = recorder.must(recorder.convert(self.record)).stdout
         self.assertEqual(recorder.places(trace), RACES)
