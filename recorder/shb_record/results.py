@@ -92,7 +92,8 @@ def unused_folder(folder):
     for number in itertools.count(1):
         path = folder if number == 1 else folder.with_name(f"{folder.name}-{number}")
         path.mkdir(parents=True, exist_ok=True)
-        file = open(path / LIST, "a+", encoding="utf-8", errors="surrogateescape")
+        look_at_owner(path)
+        file = open(path / LIST, "a+", encoding="utf-8", errors="surrogateescape", opener=opened_here)
         try:
             fcntl.flock(file, fcntl.LOCK_EX | fcntl.LOCK_NB)
         except BlockingIOError:
@@ -101,6 +102,20 @@ def unused_folder(folder):
         if number > 1:
             say(f"another call uses {folder}; the results go to {path}")
         return path, file
+
+
+def opened_here(path, flags):
+    """Not through a link, which may lead anywhere: the folder may be one that somebody else has prepared."""
+    return os.open(path, flags | os.O_NOFOLLOW, 0o666)
+
+
+def look_at_owner(folder):
+    """Refuses for root a folder that isn't root's, and tells others of one that isn't theirs."""
+    if {folder.lstat().st_uid, folder.stat().st_uid} == {os.geteuid()}:
+        return
+    if os.geteuid() == 0:
+        raise Refused(f"{folder} belongs to another user, who can change what is in it: -o names another folder")
+    say(f"{folder} belongs to another user, who can change the results")
 
 
 def is_same(path, other):

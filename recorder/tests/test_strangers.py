@@ -1,13 +1,21 @@
 """The recorder serves no stranger: neither who starts a program that has rights of its own, nor who has prepared a folder. And it destroys no
 file that isn't its own."""
 
+import contextlib
+import io
 import os
+import sys
 import unittest
+import unittest.mock
 
 import recorder
 
+sys.path += [str(recorder.SOURCES), str(recorder.SOURCES.parent / "common")]
+from shb_record import results
+
 NOBODY = 65534
 AS_ROOT = unittest.skipUnless(os.geteuid() == 0, "only root can try it")
+LIST = "made-by-shb-record.txt"
 
 
 class Strangers(recorder.Case):
@@ -15,6 +23,10 @@ class Strangers(recorder.Case):
         out = self.folder / name.split(".")[0]
         recorder.build(recorder.PROGRAMS / name, "-O1", out)
         return out
+
+    def record(self, *words):
+        ran = recorder.call(recorder.BUILT / "shb-record", *words, cwd=self.folder, env={**os.environ, "SHB": str(recorder.SHB)})
+        return ran.returncode, ran.stderr.decode()
 
     @AS_ROOT
     def test_a_program_with_rights_of_its_own(self):
@@ -49,3 +61,29 @@ class Strangers(recorder.Case):
             ran = recorder.must(recorder.call(program, env=recorder.settings(record)))
             self.assertEqual((ran.stderr, turns.read_bytes()), (b"", notes))
             recorder.must(recorder.convert(record))
+
+    def test_a_list_of_results_that_is_a_link(self):
+        folder, elsewhere = self.folder / "results", self.folder / "elsewhere"
+        folder.mkdir()
+        (folder / LIST).symlink_to(elsewhere)
+        status, said = self.record("-o", folder, self.program("short_threads.c"))
+        self.assertEqual((status, elsewhere.exists()), (125, False), said)
+        self.assertRegex(said, rf"\Ashb-record: the results can't be put into {folder} \(.*\): -o names another folder\n\Z")
+
+    @AS_ROOT
+    def test_a_folder_of_another_user(self):
+        folder = self.folder / "results"
+        folder.mkdir()
+        os.chown(folder, NOBODY, NOBODY)
+        (self.folder / "link").symlink_to(self.folder)
+        os.chown(self.folder / "link", NOBODY, NOBODY, follow_symlinks=False)
+        for name in "results", "link":
+            status, said = self.record("-o", self.folder / name, self.program("short_threads.c"))
+            self.assertEqual((status, (self.folder / name / LIST).exists()), (125, False), said)
+            self.assertIn(f"{self.folder / name} belongs to another user, who can change what is in it", said)
+
+    def test_a_folder_of_another_user_is_mentioned(self):
+        said = io.StringIO()
+        with unittest.mock.patch("os.geteuid", lambda: os.getuid() + 1), contextlib.redirect_stderr(said):
+            results.look_at_owner(self.folder)
+        self.assertEqual(said.getvalue(), f"shb-record: {self.folder} belongs to another user, who can change the results\n")
