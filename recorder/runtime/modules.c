@@ -36,8 +36,23 @@ static void note_module(struct dl_phdr_info *info, struct module m) {
     note_text(line);
 }
 
+int is_in_c(uint64_t code) {
+    for (int i = 0; i < module_count; i++)
+        if (code >= modules[i].low && code < modules[i].high) return modules[i].is_in_c;
+    return 0;
+}
+
+/* In C is what asks for nothing of C++ and unwinds no stack, nor uses liburcu, whose headers have functions deep in each other. */
+enum language { WITHOUT_HOOKS, IN_OTHERS, IN_C };
+static enum language told_by(const void *strings, uint64_t size) {
+    static const char *const others[] = {"\0_Z", "\0__gxx_", "\0_Unwind_", "\0urcu_"};
+    for (unsigned k = 0; k < sizeof others / sizeof *others; k++)
+        if (memmem(strings, size, others[k], 1 + strlen(others[k] + 1))) return IN_OTHERS;
+    return IN_C;
+}
+
 /* Compiled with -fsanitize=thread is what imports the hooks.  (Who calls __tsan_init says less: it may be a jump.) */
-static int imports_hooks(struct dl_phdr_info *info, const ElfW(Phdr) *dynamic) {
+static enum language language_of(struct dl_phdr_info *info, const ElfW(Phdr) *dynamic) {
     static const char name[] = "\0__tsan_init";
     uint64_t strings = 0, size = 0;
     for (ElfW(Dyn) *d = (void *)(info->dlpi_addr + dynamic->p_vaddr); d->d_tag != DT_NULL; d++) {
@@ -45,11 +60,11 @@ static int imports_hooks(struct dl_phdr_info *info, const ElfW(Phdr) *dynamic) {
         if (d->d_tag == DT_STRSZ) size = d->d_un.d_val;
     }
     if (strings < info->dlpi_addr) strings += info->dlpi_addr;
-    return strings && memmem((void *)strings, size, name, sizeof name);
+    return strings && memmem((void *)strings, size, name, sizeof name) ? told_by((void *)strings, size) : WITHOUT_HOOKS;
 }
 
 static struct module bounds_of(const struct dl_phdr_info *info) {
-    struct module m = {~0ull, 0};
+    struct module m = {~0ull, 0, 0};
     for (int i = 0; i < info->dlpi_phnum; i++) {
         const ElfW(Phdr) *part = &info->dlpi_phdr[i];
         uint64_t from = info->dlpi_addr + part->p_vaddr;
@@ -63,14 +78,15 @@ static struct module bounds_of(const struct dl_phdr_info *info) {
 static int see_module(struct dl_phdr_info *info, size_t size, void *unused) {
     struct module m = bounds_of(info);
     uint64_t own = (uint64_t)see_module;
-    int hooks = 0;
+    enum language language = WITHOUT_HOOKS;
     for (int i = 0; i < info->dlpi_phnum; i++)
-        if (info->dlpi_phdr[i].p_type == PT_DYNAMIC) hooks = imports_hooks(info, &info->dlpi_phdr[i]);
+        if (info->dlpi_phdr[i].p_type == PT_DYNAMIC) language = language_of(info, &info->dlpi_phdr[i]);
+    m.is_in_c = language == IN_C;
     note_module(info, m);
     const char *slash = strrchr(info->dlpi_name, '/');
     for (int i = 0; slash && i < OWN_ORDERS; i++)
         if (!strncmp(slash, own_orders[i], strlen(own_orders[i]))) with_own_order[i] = m;
-    if (hooks && (own < m.low || own >= m.high) && !instrumented(m.low) && module_count < MAX_MODULES) modules[module_count++] = m;
+    if (language && (own < m.low || own >= m.high) && !instrumented(m.low) && module_count < MAX_MODULES) modules[module_count++] = m;
     return 0;
 }
 

@@ -220,7 +220,7 @@ extern struct record held_locks[];     /* the records by which they were taken, 
 extern uint32_t held_count;
 
 /* modules.c */
-struct module { uint64_t low, high; };
+struct module { uint64_t low, high; int is_in_c; };
 extern struct module modules[];        /* those compiled with -fsanitize=thread */
 extern int module_count;
 static inline int instrumented(uint64_t caller) {            /* lies the code in one of them? */
@@ -230,6 +230,7 @@ static inline int instrumented(uint64_t caller) {            /* lies the code in
 }
 int tells_its_own_order(uint64_t caller);                    /* the begin and end of its objects are not recorded */
 void *next_symbol(const char *name);
+int is_in_c(uint64_t code);            /* of one of them */
 int program_has(const char *name);     /* or a library before this one: a function that this one has, too */
 int is_behind_the_c_library(void);     /* do calls of the program go to that, and not to this library? */
 void note_modules(void);

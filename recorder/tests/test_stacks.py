@@ -277,6 +277,17 @@ class Programs(recorder.Case):
                 with self.subTest(option=option, block=allocated):
                     self.assertEqual(set(re.findall(rf"(?m)^.*\|w\({block}#\d+.*\)\|(.*)$", trace)), marked(used))
 
+    def test_each_call_of_a_function_of_a_header_in_c_is_a_place(self):
+        """Also where three of them are in each other, and whatever the functions are in that call them."""
+        source, program, record = recorder.PROGRAMS / "pretended.c", self.folder / "program", self.folder / "app.rec"
+        lines = source.read_text().splitlines()
+        [write] = [f"pretended.c:{number}" for number, line in enumerate(lines, 1) if line.endswith("// WRITE")]
+        reads = [f"pretended.c:{number}" for number, line in enumerate(lines, 1) if line.endswith("// READ")]
+        for option in ("-O0", "-O2"):
+            recorder.build(source, option, program)
+            recorder.must(recorder.call(program, env=recorder.settings(record)))
+            self.assertEqual(recorder.places(recorder.must(recorder.convert(record)).stdout), {tuple(sorted((read, write))) for read in reads}, option)
+
     def test_each_call_of_a_function_of_a_header_is_a_place(self):
         source, program, record = recorder.PROGRAMS / "filled.cc", self.folder / "program", self.folder / "app.rec"
         lines = [f"filled.cc:{number}" for number, line in enumerate(source.read_text().splitlines(), 1) if line.endswith("// FILL")]
