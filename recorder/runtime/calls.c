@@ -72,7 +72,7 @@ static uint32_t add_context(const context *new) {
 /* The location of an access is its own, or that of the innermost call which is in the program's own code. So where two contexts have the same
    calls, each where it comes first from within, all locations are the same: they are of one *kind*, however deep a recursion is. A kind is
    in the tree too, as a list: its first call, with the function that this is in, and the rest as what is further out. In C it has no more than
-   the innermost calls: there functions of the system's headers are short, and stand in each other no further. */
+   the innermost calls, for there functions of the system's headers are short and seldom stand in each other. */
 enum { CALLS_IN_C = 3 };
 static int is_call_of(const context *kind, const context *call) {
     return kind->caller == call->caller && kind->function == call->function && kind->way == call->way;
@@ -99,7 +99,8 @@ static context *inner_calls_of(context *kind, int most) {
 static uint64_t kind_of(const context *c) {
     const context call = {.caller = c->caller, .function = c->outer->function, .way = c->way};
     context *rest = c->outer->kind == NO_KIND ? 0 : &kept[c->outer->kind >> KIND_AT];
-    if (rest && is_in_c(c->function)) rest = inner_calls_of(rest, CALLS_IN_C - 1);
+    const struct module *module = module_of(c->function);
+    if (rest && module && module->is_in_c) rest = inner_calls_of(rest, CALLS_IN_C - 1);
     context *k = rest;
     while (k && k != kept && !is_call_of(k, &call)) k = k->outer;
     context *kind = kind_with(k == kept ? rest : k ? kind_without(rest, &call) : 0, &call);

@@ -36,12 +36,6 @@ static void note_module(struct dl_phdr_info *info, struct module m) {
     note_text(line);
 }
 
-int is_in_c(uint64_t code) {
-    for (int i = 0; i < module_count; i++)
-        if (code >= modules[i].low && code < modules[i].high) return modules[i].is_in_c;
-    return 0;
-}
-
 /* In C is what asks for nothing of C++ and unwinds no stack, nor uses liburcu, whose headers have functions deep in each other. */
 enum language { WITHOUT_HOOKS, IN_OTHERS, IN_C };
 static enum language told_by(const void *strings, uint64_t size) {

@@ -223,14 +223,14 @@ extern uint32_t held_count;
 struct module { uint64_t low, high; int is_in_c; };
 extern struct module modules[];        /* those compiled with -fsanitize=thread */
 extern int module_count;
-static inline int instrumented(uint64_t caller) {            /* lies the code in one of them? */
+static inline const struct module *module_of(uint64_t code) {          /* the one of these in which it lies, or null */
     for (int i = 0; i < module_count; i++)
-        if (caller >= modules[i].low && caller < modules[i].high) return 1;
+        if (code >= modules[i].low && code < modules[i].high) return &modules[i];
     return 0;
 }
+static inline int instrumented(uint64_t caller) { return module_of(caller) != 0; }
 int tells_its_own_order(uint64_t caller);                    /* the begin and end of its objects are not recorded */
 void *next_symbol(const char *name);
-int is_in_c(uint64_t code);            /* of one of them */
 int program_has(const char *name);     /* or a library before this one: a function that this one has, too */
 int is_behind_the_c_library(void);     /* do calls of the program go to that, and not to this library? */
 void note_modules(void);
