@@ -68,7 +68,9 @@ PUBLIC void free(void *p) {
 PUBLIC void *realloc(void *p, size_t n) {
     thread *t = enter_free(p, CALLER);
     size_t bytes = t ? bytes_freed(p) : 0;
+    if (t) t->inside = 0;              /* it may find that the heap is broken, and abort */
     void *new = __libc_realloc(p, n);
+    if (t) t->inside = 1;
     if (t && (new || !n) && keep_turn(t)) put(t, OP_FREE, p, bytes, CALLER);
     if (t) leave(t);
     return allocated(new, n, CALLER);

@@ -31,6 +31,7 @@ class Crash(recorder.Case):
                 ("handled", signal.SIGSEGV, rf"SIGSEGV at address 0x40 in thread T1\.work: meet {LINES['HANDLED']}, from signal handler, .*from work crash\.c:\d+"),
                 ("divide", signal.SIGFPE, rf"SIGFPE in thread T1\.work: fail crash\.c:\d+{called}"),
                 ("abort", signal.SIGABRT, rf"SIGABRT in thread T1\.work: .*fail crash\.c:\d+{called}"),
+                ("realloc", signal.SIGABRT, rf"SIGABRT in thread T1\.work: .*break_heap {LINES['REALLOC']}, from fail {LINES['HEAP']}{called}"),
                 ("resign", signal.SIGSEGV, rf"SIGSEGV in thread T1\.work: fail {LINES['STORE']}{called}")):
             with self.subTest(way):
                 status, answer, [crash] = self.crashed(way, "--stacks", self.folder / "stacks")

@@ -34,10 +34,17 @@ static void resign(int number) {
 static void meet(int number) { *nowhere = 1; /* HANDLED */ }
 static void recover(int number) { siglongjmp(back, 1); }
 
+static void break_heap(void) {
+    size_t *volatile block = malloc(100);
+    block[-1] = 1;
+    block = realloc((void *)block, 1000); /* REALLOC */
+}
+
 static int fail(void) {
     if (is("abort")) abort();
     if (is("divide")) return one / zero;
     if (is("library")) return strlen(no_text); /* LIBRARY */
+    if (is("realloc")) break_heap(); /* HEAP */
     if (is("atomic")) __atomic_fetch_add(nowhere, 1, __ATOMIC_RELAXED); /* ATOMIC */
     if (is("quick") || is("recover-quick")) add_often(); /* OFTEN */
     if (is("recover")) __atomic_store_n(nowhere, 1, __ATOMIC_RELEASE);
