@@ -1,4 +1,5 @@
 /* What the parts of the run-time library share. */
+#pragma once
 #include <pthread.h>
 #include <signal.h>
 #include <stdatomic.h>

@@ -1,0 +1,87 @@
+/* What std::map, set and list read and write in functions of the C++ library, which have no hooks: by their
+   symbols, of the library's present layout, which its programs have in them. An insertion or removal writes the
+   ends of a tree, whichever node it is of, for by the C++ standard it changes the container: a search or walk
+   that nothing orders with it is a race. A step reads the node's own links; those of the nodes that it passes
+   aren't recorded. A node that is put in is new, and one that is taken out is freed. */
+#include "hold.h"
+#include "libraries.h"
+
+typedef struct tree_node { int color; struct tree_node *parent, *left, *right; } tree_node;
+typedef struct list_node { struct list_node *next, *previous; } list_node;
+
+static __attribute__((noinline)) void note_link(enum operation operation, const void *link, uint64_t caller) {
+    hook(operation, (uint64_t)link, sizeof(void *), caller);
+}
+#define READS_LINK(link) note_link(OP_READ, &(link), caller)
+#define WRITES_LINK(link) note_link(OP_WRITE, &(link), caller)
+#define HOOKED(type, name, parameters, arguments, ...) \
+    type name parameters; \
+    PUBLIC type name parameters { \
+        uint64_t caller = CALLER; \
+        if (others && instrumented(caller)) { __VA_ARGS__; } \
+        return REAL(name) arguments; \
+    }
+
+/* ---- trees ---- */
+#define STEP(name) \
+    HOOKED(tree_node *, name, (tree_node *x), (x), READS_LINK(x->right); if (!x->right) READS_LINK(x->parent))
+STEP(_ZSt18_Rb_tree_incrementPSt18_Rb_tree_node_base)
+STEP(_ZSt18_Rb_tree_incrementPKSt18_Rb_tree_node_base)
+/* Before the end is the last one, as it has it in the place of a right one. */
+static void steps_back(tree_node *x, uint64_t caller) {
+    int is_end = !x->color && x->parent && x->parent->parent == x;
+    if (is_end) READS_LINK(x->right);
+    else READS_LINK(x->left);
+    if (!is_end && !x->left) READS_LINK(x->parent);
+}
+#define STEP_BACK(name) HOOKED(tree_node *, name, (tree_node *x), (x), steps_back(x, caller))
+STEP_BACK(_ZSt18_Rb_tree_decrementPSt18_Rb_tree_node_base)
+STEP_BACK(_ZSt18_Rb_tree_decrementPKSt18_Rb_tree_node_base)
+
+static void writes_ends(tree_node *end, uint64_t caller) {
+    WRITES_LINK(end->parent);
+    WRITES_LINK(end->left);
+    WRITES_LINK(end->right);
+}
+
+HOOKED(void, _ZSt29_Rb_tree_insert_and_rebalancebPSt18_Rb_tree_node_baseS0_RS_,
+       (_Bool is_left, tree_node *x, tree_node *above, tree_node *end), (is_left, x, above, end),
+       writes_ends(end, caller);
+       if (above != end) WRITES_LINK(*(is_left ? &above->left : &above->right)))
+HOOKED(tree_node *, _ZSt28_Rb_tree_rebalance_for_erasePSt18_Rb_tree_node_baseRS_,
+       (tree_node *x, tree_node *end), (x, end),
+       tree_node *above = x->parent, *left = x->left, *right = x->right;
+       writes_ends(end, caller);
+       if (above != end) WRITES_LINK(*(above->left == x ? &above->left : &above->right));
+       if (left) WRITES_LINK(left->parent);
+       if (right) WRITES_LINK(right->parent))
+
+/* ---- lists ---- */
+#define LIST(name, parameters, arguments, ...) \
+    HOOKED(void, _ZNSt8__detail15_List_node_base##name, parameters, arguments, __VA_ARGS__)
+LIST(7_M_hookEPS0_, (list_node *x, list_node *p), (x, p),
+     WRITES_LINK(p->previous); WRITES_LINK(p->previous->next))
+LIST(9_M_unhookEv, (list_node *x), (x),
+     READS_LINK(x->next); WRITES_LINK(x->previous->next); WRITES_LINK(x->next->previous))
+LIST(11_M_transferEPS0_S1_, (list_node *p, list_node *first, list_node *last), (p, first, last),
+     if (p != last) {
+         list_node *links[] = {last->previous, first->previous, p->previous};
+         for (int k = 0; k < 3; k++) WRITES_LINK(links[k]->next);
+         WRITES_LINK(p->previous);
+         WRITES_LINK(last->previous);
+         WRITES_LINK(first->previous);
+     })
+LIST(10_M_reverseEv, (list_node *x), (x),
+     list_node *at = x;
+     do WRITES_LINK(at->next), WRITES_LINK(at->previous);
+     while ((at = at->next) != x))
+
+static void swaps(list_node *x, uint64_t caller) {
+    list_node *next = x->next, *previous = x->previous;
+    WRITES_LINK(x->next);
+    WRITES_LINK(x->previous);
+    if (next == x) return;
+    WRITES_LINK(next->previous);
+    WRITES_LINK(previous->next);
+}
+LIST(4swapERS0_S1_, (list_node *x, list_node *y), (x, y), swaps(x, caller); swaps(y, caller))
