@@ -129,8 +129,20 @@ static elements elements_of(Dwarf_Die *type, u64 size) {
     return found;
 }
 
-/* The type of what a call allocates, with no address where that isn't certain. Each is looked for once. */
-static Dwarf_Die allocated_at(struct debug *d, const place_in_block *at) {
+/* Is it for a vector of bits, which share words? A function of the library's own allocates them. */
+static int is_of_bits(struct debug *d, u64 pc) {
+    static const char own[] = "std::_Bvector_base<";
+    debug_frame frames[MOST_INLINED];
+    int count = frames_at(d, pc, frames, MOST_INLINED), found = 0;
+    for (int k = 0; k < count; k++) {
+        found |= frames[k].function && !strncmp(frames[k].function, own, strlen(own));
+        free(frames[k].function);
+    }
+    return found;
+}
+
+/* The type of what a call allocates, if it is certain. Each is looked for once. */
+static const allocation *allocated_at(struct debug *d, const place_in_block *at) {
     u32 number = map_number(&d->by_call, at->pc, 0);
     if (number > d->call_count) {
         Dwarf_Die function, type = {0};
@@ -138,9 +150,9 @@ static Dwarf_Die allocated_at(struct debug *d, const place_in_block *at) {
             && (allocated_type(innermost(d, function, at->pc), at->size, &type) || type_by_text(d, at->pc, at->size, &type));
         if (!is_known) type.addr = 0;
         GROW(d->calls, d->call_count, d->call_capacity);
-        d->calls[d->call_count++] = type;
+        d->calls[d->call_count++] = (allocation){type, is_of_bits(d, at->pc)};
     }
-    return d->calls[number - 1];
+    return &d->calls[number - 1];
 }
 
 static named_part find_part(Dwarf_Die type, u64 offset, u64 length) {
@@ -167,10 +179,18 @@ static named_part part_of(struct debug *d, Dwarf_Die type, u64 offset, u64 lengt
     return d->parts[number - 1];
 }
 
-int has_type(struct debug *d, place_in_block at) { return allocated_at(d, &at).addr != 0; }
+static size_t add_bits(const place_in_block *at, char *buffer, size_t size) {
+    static const char type[] = "std::vector<bool>";
+    snprintf(buffer, size, "%s[%lu..%lu]", type, 8 * at->offset, 8 * (at->offset + at->length) - 1);
+    return strlen(type);
+}
+
+int has_type(struct debug *d, place_in_block at) { return allocated_at(d, &at)->type.addr != 0; }
 
 size_t add_in_block(struct debug *d, place_in_block at, char *buffer, size_t size) {
-    Dwarf_Die type = allocated_at(d, &at);
+    const allocation *call = allocated_at(d, &at);
+    Dwarf_Die type = call->type;
+    if (call->is_of_bits) return add_bits(&at, buffer, size);
     if (!type.addr) return 0;
     elements all = elements_of(&type, at.size);
     if (!all.size || at.offset < all.begin) return 0;

@@ -15,6 +15,8 @@ typedef struct { Dwarf_Die linked, whole; code *functions; u64 count, capacity; 
 typedef struct { u64 low, high, unit; } span;
 typedef struct { char *type, *rest; } named_part;            /* "Account", ".balance"; null where there is no such type */
 
+typedef struct { Dwarf_Die type; int is_of_bits; } allocation;           /* a type without an address isn't known */
+
 struct debug {
     const char *path;
     Dwfl *session;
@@ -33,7 +35,7 @@ struct debug {
     Dwarf_Die *variables;
     u64 variable_count, variable_capacity;
     map by_call, by_part;              /* the numbers of what calls allocate, and of what lies inside of that */
-    Dwarf_Die *calls;                  /* types */
+    allocation *calls;
     named_part *parts;
     u64 call_count, call_capacity, part_count, part_capacity;
 };
@@ -73,6 +75,7 @@ u64 size_of_type(Dwarf_Die *type);     /* in bytes; 0 where it isn't known */
 /* The member, or the base class, that has all of these bytes, and where it begins; 0 where there is none. */
 int member_with(Dwarf_Die *of, u64 offset, u64 length, Dwarf_Die *member, u64 *place);
 int place_of_member(Dwarf_Die *member, u64 *place);
+int place_of_bits(Dwarf_Die *member, u64 *place, u64 *length);           /* the same of a bit field, in bits */
 int is_structure(Dwarf_Die *type);
 
 /* A text that is written, and what is in it behind its last name: so many bytes. */

@@ -114,7 +114,7 @@ static void answer_request(struct debug *d, const request *r, const u64 *numbers
     case ASK_BLOCK:
         block = (place_in_block){numbers[0], numbers[1], numbers[2], numbers[3]};
         length = add_in_block(d, block, name, sizeof name);
-        if (has_type(d, block)) answer(length, 0, name, "");
+        if (length || has_type(d, block)) answer(length, 0, name, "");
     }
 }
 

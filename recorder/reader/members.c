@@ -133,6 +133,20 @@ int member_with(Dwarf_Die *of, u64 offset, u64 length, Dwarf_Die *member, u64 *p
     return 0;
 }
 
+int place_of_bits(Dwarf_Die *member, u64 *place, u64 *length) {
+    Dwarf_Attribute a;
+    Dwarf_Word at, size, whole, above;
+    if (dwarf_tag(member) != DW_TAG_member || !dwarf_attr(member, DW_AT_bit_size, &a) || dwarf_formudata(&a, &size)) return 0;
+    if (dwarf_attr(member, DW_AT_data_bit_offset, &a) && !dwarf_formudata(&a, &at)) *place = at;
+    else {                             /* before DWARF 5: how many bits of its unit are above it */
+        if (!place_of_member(member, place) || !dwarf_attr(member, DW_AT_bit_offset, &a) || dwarf_formudata(&a, &above)) return 0;
+        if (!dwarf_attr(member, DW_AT_byte_size, &a) || dwarf_formudata(&a, &whole)) return 0;
+        *place = 8 * *place + 8 * whole - above - size;
+    }
+    *length = size;
+    return 1;
+}
+
 void add_name(text *to, const char *before, const char *name, u64 rest) {
     int count = snprintf(to->at, to->room, "%s%.200s", before, name);
     for (char *p = to->at; *p; p++)
@@ -158,6 +172,28 @@ static int add_indices(Dwarf_Die *array, Dwarf_Die *of, u64 *offset, u64 length,
     return dimensions > 0;
 }
 
+/* Adds the bit fields that have some of these bytes, ".busy/ready", if no other member has one of them. */
+static void add_bits(Dwarf_Die *of, u64 offset, u64 length, text *to) {
+    const text before = *to;
+    u64 place, size, found = 0;
+    Dwarf_Die member, type;
+    for (int more = !dwarf_child(of, &member); more; more = !dwarf_siblingof(&member, &member)) {
+        const char *name = dwarf_diename(&member);
+        int is_bits = place_of_bits(&member, &place, &size);
+        if (!is_bits && place_of_member(&member, &place) && type_of(&member, &type)) {
+            place *= 8;
+            size = 8 * size_of_type(&type);
+        } else if (!is_bits) continue;
+        if (place >= 8 * (offset + length) || place + size <= 8 * offset) continue;
+        if (is_bits && name) add_name(to, found++ ? "/" : ".", name, 0);
+        else if (!is_bits) found = -1ull;
+        if (found != -1ull) continue;
+        *to = before;
+        *to->at = 0;
+        return;
+    }
+}
+
 void add_members(Dwarf_Die type, u64 offset, u64 length, text *to) {
     for (int steps = 0; steps < MOST_STEPS && plain_type(&type); steps++) {
         Dwarf_Die member;
@@ -168,7 +204,11 @@ void add_members(Dwarf_Die type, u64 offset, u64 length, text *to) {
             type = element;
             continue;
         }
-        if (!is_structure(&type) || !member_with(&type, offset, length, &member, &place)) return;
+        if (!is_structure(&type)) return;
+        if (!member_with(&type, offset, length, &member, &place)) {
+            add_bits(&type, offset, length, to);
+            return;
+        }
         const char *name = dwarf_diename(&member);
         if (name && is_reserved(name)) return;
         offset -= place;

@@ -24,7 +24,7 @@ class Members(recorder.Case):
     def check(self, name):
         source, record = recorder.PROGRAMS / name, self.folder / "app.rec"
         wanted = recorder.marked(source, "AT")
-        for option in ("-O0", "-O1", "-O2"):
+        for option in ("-O0", "-O1", "-O2", "-gdwarf-4"):
             recorder.build(source, option, self.folder / "app")
             recorder.must(recorder.call(self.folder / "app", env=recorder.settings(record)))
             trace = recorder.must(recorder.convert(record, "-a")).stdout.decode()
@@ -98,6 +98,14 @@ class Blocks(recorder.Case):
 
     def test_by_type(self):
         self.check(recorder.PROGRAMS / "blocks.cc", 13)
+
+    def test_bits_of_a_vector(self):
+        """Where the library's function that allocates them is inlined."""
+        source = recorder.PROGRAMS / "vector_bits.cc"
+        for option in ("-O1", "-O2"):
+            with self.subTest(option=option):
+                found, wanted = self.found(source, "g++", option), recorder.marked(source, "IS")
+                self.assertEqual({place: found.get(place) for place in wanted}, wanted)
 
     def test_by_the_line(self):
         self.check(recorder.PROGRAMS / "allocated.cc", 9)

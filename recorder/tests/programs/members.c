@@ -26,7 +26,7 @@ static void *work(void *x) {
     queue.kind = 1;                    /* AT queue.kind */
     queue.corners[1][2].y = 1;         /* AT queue.corners[1][2].y */
     queue.value.number = 1;            /* AT queue.value */
-    queue.more = 1;                    /* AT queue+120 */
+    queue.more = 1;                    /* AT queue.few/more */
     queue.name[3] = 1;                 /* AT queue.name[3] */
     points[0].x = 1;                   /* AT points[0].x */
     points[3].y = 1;                   /* AT points[3].y */
