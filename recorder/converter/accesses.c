@@ -211,7 +211,12 @@ static void use_piece(u64 i, use u, u32 number) {
     int is_kept = !for_page || is_racing(number);
     piece_events(i, u, number, is_kept);
     if (for_page && is_kept) count_use(u.thread, caller_of(i), number, word_of(i, u));
-    if (with_stacks && is_kept && written > before) note_name(piece_of(number)->at, piece_of(number)->block, before + 1, u.thread);
+    if (!with_stacks || !is_kept || written == before) return;
+    const piece *p = piece_of(number);
+    note_name(p->at, p->block, before + 1, u.thread);
+    if (operation_of(i) == OP_FREE) return;
+    const int writes = u.writes || u.writes_atomically;
+    note_use_of_block(p->at, p->block, (use_of_block){address_of(i), accessed_bytes(i), caller_of(i), writes});
 }
 
 void begin_accesses(void) {

@@ -15,8 +15,10 @@ enum request_kind {
     ASK_MEMBER,                        /* address of a variable, then offsets, each with a length: of each a row: what is there, as ".head" */
     ASK_LOCAL,                         /* pc, bytes below the end of its return address, and above its stack pointer, length: the local, and
                                           the function that it is inlined from, or "" */
-    ASK_BLOCK                          /* pc of the allocation's call, size, offset, length: a row where the type is certain: its name's length,
+    ASK_BLOCK,                         /* pc of the allocation's call, size, offset, length: a row where the type is certain: its name's length,
                                           or 0; "Account.balance" */
+    ASK_USE                            /* pc of an access, the block's size, the access's offset and length, whether it writes; an offset and
+                                          length: a row if the access tells an object: where it begins << 32 | its size; as above */
 };
 enum { MOST_NUMBERS = 4096, MOST_TEXT = 16384, MOST_INLINED = 64, MOST_SOURCES = 1 << 20, SYMBOL_PAGE = 4096, END_ROW = 0x7fffffff };
 enum { SYMBOL_IS_TWICE = 1, SYMBOL_FLAGS = 1 };            /* a flag, and how many bits of the second number they have */

@@ -104,6 +104,11 @@ int local_name(u64 function, u64 pc, u64 below, u64 above, u64 length, char *buf
    "Account.balance". Gives the length of the type's name; 0 where the type isn't certain. */
 size_t name_in_block(u64 caller, u64 block_size, u64 offset, u64 length, char *buffer, size_t size);
 
+/* The same by an access: the block's size, the access's offset and length, or 0 if that isn't known, whether it
+   writes, and what is asked for: an offset and a length. Gives also the begin and the size of the object that the
+   access tells; they stay if it tells none. */
+size_t name_by_use(u64 caller, const u64 use[6], char name[NAME_BYTES], u64 *begin, u64 *size);
+
 int is_variable(const char *name, size_t length);            /* is a static variable named so? */
 
 /* memory.c: blocks and pieces. */
@@ -160,6 +165,14 @@ void note_fence(u64 i);                /* with acquire */
 void forget_calls(void);               /* between the passes that meet them */
 void pause_stacks(int is_paused);      /* while a trace is written that has none */
 void end_stacks(void);
+
+u64 allocated_by(u32 block_number);    /* what called for it, or 0 */
+
+/* heap.c: what lies in blocks of the heap. */
+typedef struct { u64 at, length, caller; int writes; } use_of_block;     /* an access; length 0: it isn't known */
+void note_in_block(u64 at, u32 block_number, u64 length);    /* of what has a name */
+void note_use_of_block(u64 at, u32 block_number, use_of_block use);      /* the same: it may tell what lies there */
+void write_names_in_blocks(FILE *to);
 
 /* The local that lies there on a stack now; "" where none is known, and of other memory. It stands for good. */
 const char *local_now(u64 at, const block *b);

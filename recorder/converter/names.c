@@ -285,6 +285,19 @@ size_t name_in_block(u64 caller, u64 block_size, u64 offset, u64 length, char *b
     return part.one;
 }
 
+size_t name_by_use(u64 caller, const u64 use[6], char name[NAME_BYTES], u64 *begin, u64 *size) {
+    module *m = module_at(caller);
+    u64 asked[7] = {m ? caller - 1 - m->base : 0};
+    answer part;
+    memcpy(asked + 1, use, 6 * sizeof *use);
+    if (!m || in_system(m->path) || is_recorder(m) || !ask_one(reader_of(m), ASK_USE, asked, 7, &part)) return 0;
+    if (part.one > strlen(part.first) || strlen(part.first) >= NAME_BYTES) return 0;
+    *begin = part.two >> 32;
+    *size = (u32)part.two;
+    cleaned(strcpy(name, part.first));
+    return part.one;
+}
+
 int local_name(u64 function, u64 pc, u64 below, u64 above, u64 length, char *buffer, size_t size) {
     module *m = module_at(function);
     answer local;

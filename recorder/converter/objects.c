@@ -331,6 +331,7 @@ static void write_hold(u32 t, const hold *h, const char *operation, u64 caller, 
     if (for_page && is_behind_page()) return;
     object *o = &objects[h->object];
     note_name(o->at, o->block, written + 1, t);
+    note_use_of_block(o->at, o->block, (use_of_block){.at = o->at, .caller = caller});
     hold_event(t, operation, lock_of(o, h->lock, t), caller, stack);
 }
 
@@ -398,6 +399,7 @@ static void use_lock(object *o, u32 t, const char *operation, which w, u64 calle
     note_for_uses(o, w, t, operation);
     if (for_page && is_behind_page()) return;
     if (with_stacks) note_name(o->at, o->block, written + 1, t);
+    note_use_of_block(o->at, o->block, (use_of_block){.at = o->at, .caller = caller});
     lock_event(t, operation, lock_of(o, w, t), caller);
 }
 

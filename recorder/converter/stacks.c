@@ -358,74 +358,7 @@ static const char *local_at(const calls_of_thread *s, u64 address, u64 length, u
     return "";
 }
 
-/* ---- members of blocks ---- */
-/* A variable in a block, with its name in there: the first so many bytes are the type's. */
-typedef struct { u64 at, length; u32 block; size_t type_length; char *name; } in_block;
-static in_block *in_blocks;
-static u64 in_block_count, in_block_capacity;
-
-/* By what called for it, where that is known. */
-static u64 allocated_by(u32 block_number) { return block_number < block_count ? nodes[block_nodes[block_number]].caller : 0; }
-
-static void note_in_block(u64 at, u32 block_number, u64 length) {
-    static map met;
-    u64 caller = allocated_by(block_number);
-    inlined_frame *f = caller && !is_of_system(caller) ? frames_of(caller) : 0;
-    if (!f || f->in_system || map_number(&met, at, block_number) <= in_block_count) return;
-    GROW(in_blocks, in_block_count, in_block_capacity);
-    in_blocks[in_block_count++] = (in_block){.at = at, .length = length, .block = block_number};
-}
-
-static int by_type(const void *a, const void *b) {
-    const in_block *one = a, *other = b;
-    size_t least = one->type_length < other->type_length ? one->type_length : other->type_length;
-    int order = one->name && other->name ? memcmp(one->name, other->name, least) : !one->name - !other->name;
-    if (order || one->type_length != other->type_length) return order ? order : one->type_length < other->type_length ? -1 : 1;
-    if (one->block != other->block) return one->block < other->block ? -1 : 1;
-    return one->name ? strcmp(one->name, other->name) : 0;
-}
-
-static void find_names_in_blocks(void) {
-    char name[NAME_BYTES];
-    for (u64 k = 0; k < in_block_count; k++) {
-        in_block *i = &in_blocks[k];
-        const block *b = block_of(i->block);
-        i->type_length = name_in_block(allocated_by(i->block), b->size, i->at - b->at, i->length, name, sizeof name);
-        i->name = i->type_length ? strdup(name) : 0;
-        if (i->type_length && !i->name) die("out of memory");
-    }
-    if (in_block_count) qsort(in_blocks, in_block_count, sizeof *in_blocks, by_type);
-}
-
-static int are_of_one_type(const in_block *one, const in_block *other) {
-    return one->type_length == other->type_length && !memcmp(one->name, other->name, one->type_length);
-}
-
-/* Those of a type, which stand beside each other. Two variables of a block that would have one name have none. */
-static void write_names_of_type(const in_block *first, const in_block *end) {
-    int with_block = first->block != end[-1].block || is_variable(first->name, first->type_length);
-    for (const in_block *i = first; i < end; i++) {
-        int is_double = (i > first && i[-1].block == i->block && !strcmp(i[-1].name, i->name))
-            || (i + 1 < end && i[1].block == i->block && !strcmp(i[1].name, i->name));
-        if (is_double) continue;
-        const block *b = block_of(i->block);
-        part variable = variable_name(i->at, b);
-        fprintf(lines, "local 0\t%.*s\t%s", (int)variable.length, variable.at, i->name);
-        if (with_block) {
-            part origin = variable_name(b->at, b);
-            fprintf(lines, " of %.*s", (int)origin.length, origin.at);
-        }
-        fputc('\n', lines);
-    }
-}
-
-static void write_names_in_blocks(void) {
-    find_names_in_blocks();
-    for (u64 k = 0, end; k < in_block_count && in_blocks[k].name; k = end) {
-        for (end = k + 1; end < in_block_count && in_blocks[end].name && are_of_one_type(&in_blocks[k], &in_blocks[end]);) end++;
-        write_names_of_type(&in_blocks[k], &in_blocks[end]);
-    }
-}
+u64 allocated_by(u32 block_number) { return block_number < block_count ? nodes[block_nodes[block_number]].caller : 0; }
 
 enum { MOST_LENGTH = 4096 };            /* of what has a name */
 
@@ -673,7 +606,7 @@ void end_stacks(void) {
         if (block_of(b)->named && block_nodes[b]) fprintf(file, "block %lu %u\n", b, block_nodes[b]);
     for (u64 i = 0; i < free_count; i++) fprintf(file, "free %lu %lu\n", frees[i].first, frees[i].last);
     if (crash.is_met) write_crash();
-    write_names_in_blocks();
+    write_names_in_blocks(lines);
     if (fclose(lines)) die("out of memory");
     fwrite(lines_text, 1, lines_bytes, file);
     write_sources(file);

@@ -7,16 +7,18 @@
 #include <string.h>
 #include "debug.h"
 
-enum { LINE_BYTES = 512 };
-
-/* Reads a line of a file; 0 where it isn't there. What is in texts and behind `//` is blanked. */
-static int read_line(const char *path, int number, char *line) {
-    int f = open(path, O_RDONLY), found = 0;
+int read_line(const char *path, int number, char *line) {
+    int f = number > 0 ? open(path, O_RDONLY) : -1, found = 0, is_begin = 1, is_end = 1;
     FILE *file = f < 0 ? 0 : fdopen(f, "r");
-    while (file && found < number && fgets(line, LINE_BYTES, file)) found += strchr(line, '\n') != 0;
+    while (file && found < number && fgets(line, LINE_BYTES, file)) {
+        is_begin = is_end;             /* a longer line comes in parts */
+        is_end = strchr(line, '\n') != 0;
+        found += is_end;
+    }
     if (file) fclose(file);
+    int is_found = file && found == number && is_begin;
     char quote = 0;
-    for (char *p = line; found == number && *p; p++) {
+    for (char *p = line; is_found && *p; p++) {
         if (!quote && p[0] == '/' && p[1] == '/') *p = 0;
         else if (quote && p[0] == '\\' && p[1]) *p++ = ' ';
         else if (quote || *p == '"' || *p == '\'') {
@@ -25,7 +27,7 @@ static int read_line(const char *path, int number, char *line) {
             *p = ' ';
         }
     }
-    return found == number;
+    return is_found;
 }
 
 static int is_of_word(char c) { return isalnum((unsigned char)c) || c == '_'; }

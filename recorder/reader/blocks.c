@@ -203,3 +203,15 @@ size_t add_in_block(struct debug *d, place_in_block at, char *buffer, size_t siz
     snprintf(buffer, size, "%s%s%s", part.type, index, part.rest);
     return strlen(part.type);
 }
+
+size_t add_by_use(struct debug *d, const object_in_block *object, u64 offset, u64 length, char *buffer, size_t size) {
+    char index[24] = "";
+    u64 begin = object->begin;
+    if (offset < begin || offset - begin >= object->size || length > object->size - (offset - begin)) return 0;
+    named_part part = part_of(d, object->type, offset - begin, length);
+    if (!part.type) return 0;
+    if (object->is_element && begin % object->size == 0) snprintf(index, sizeof index, "[%lu]", begin / object->size);
+    else if (begin) snprintf(index, sizeof index, "+%lu", begin);
+    snprintf(buffer, size, "%s%s%s", part.type, index, part.rest);
+    return strlen(part.type);
+}

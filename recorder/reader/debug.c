@@ -331,6 +331,15 @@ static int frames_by_lines(struct debug *d, u64 pc, debug_frame *frames, int mos
     return count;
 }
 
+int line_at(struct debug *d, u64 pc, const char **path, int *line, int *column) {
+    read_units(d);
+    unit *u = unit_with(d, pc - d->bias);
+    Dwarf_Line *found = u && !d->is_alien ? dwarf_getsrc_die(&u->linked, pc - d->bias) : 0;
+    if (!found || dwarf_lineno(found, line) || dwarf_linecol(found, column)) return 0;
+    *path = whole_path(u, dwarf_linesrc(found, 0, 0));
+    return *path != 0;
+}
+
 /* The outermost function has the name that it is linked by. */
 int frames_at(struct debug *d, u64 pc, debug_frame *frames, int most) {
     int count = frames_by_lines(d, pc, frames, most);

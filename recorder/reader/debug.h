@@ -15,7 +15,14 @@ typedef struct { Dwarf_Die linked, whole; code *functions; u64 count, capacity; 
 typedef struct { u64 low, high, unit; } span;
 typedef struct { char *type, *rest; } named_part;            /* "Account", ".balance"; null where there is no such type */
 
-typedef struct { Dwarf_Die type; int is_of_bits; } allocation;           /* a type without an address isn't known */
+typedef struct { Dwarf_Die type; int is_of_bits; } allocation;       /* a type without an address isn't known */
+/* What an expression means: its type, the type of what a pointer in it points to last, and how far inside of that it
+   lies, or at least if it is open (an index, bits). Is it a lock that a call gets? */
+typedef struct {
+    Dwarf_Die type, object;
+    int has_object, has_member, is_open, is_element, is_lock;
+    u64 offset;
+} meaning;
 
 struct debug {
     const char *path;
@@ -38,6 +45,10 @@ struct debug {
     allocation *calls;
     named_part *parts;
     u64 call_count, call_capacity, part_count, part_capacity;
+    map by_use, by_global;             /* the numbers of what accesses mean; of names, with their units */
+    meaning *meanings;
+    Dwarf_Die *globals;                /* types; without an address where a name has none, or several */
+    u64 meaning_count, meaning_capacity, global_count, global_capacity;
 };
 
 /* symbols.c */
@@ -64,6 +75,7 @@ int scopes_at(Dwarf_Die function, u64 pc, Dwarf_Die *scopes, int most);
 u64 count_up_to(const void *entries, u64 count, size_t size, u64 most);
 /* The frames at a place in the code, the innermost first; what isn't known is null, and 0. */
 typedef struct { char *function; const char *path; int line; } debug_frame;
+int line_at(struct debug *d, u64 pc, const char **path, int *line, int *column);         /* 0: it isn't known */
 int frames_at(struct debug *d, u64 pc, debug_frame *frames, int most);
 void each_source(struct debug *d, void (*give)(const char *path));
 
@@ -89,7 +101,10 @@ void add_member(struct debug *d, u64 address, u64 offset, u64 length, char *buff
 typedef struct { u64 pc, below, above, length; } place_of_local;
 const char *add_local(struct debug *d, place_of_local at, char *buffer, size_t size);
 
-/* allocated.c: the type of so many bytes that a call in the program's own code allocates; 0 where that isn't certain. */
+/* allocated.c: a line of a file; 0 if there is none that fits. What is in texts and behind `//` is blanked. */
+enum { LINE_BYTES = 512 };
+int read_line(const char *path, int number, char *line);
+/* The type of so many bytes that a call in the program's own code allocates; 0 where that isn't certain. */
 int type_by_text(struct debug *d, u64 pc, u64 size, Dwarf_Die *type);
 
 /* blocks.c: what lies so far inside of a block of so many bytes that the call at `pc` allocated:
@@ -97,3 +112,9 @@ int type_by_text(struct debug *d, u64 pc, u64 size, Dwarf_Die *type);
 typedef struct { u64 pc, size, offset, length; } place_in_block;
 size_t add_in_block(struct debug *d, place_in_block at, char *buffer, size_t size);
 int has_type(struct debug *d, place_in_block at);            /* is that of the whole block certain? */
+
+/* used.c: the object that an access in a block tells, and where it begins; 0 if that isn't certain. */
+typedef struct { Dwarf_Die type; u64 begin, size; int is_element; } object_in_block;
+int object_by_use(struct debug *d, place_in_block use, int writes, object_in_block *found);
+/* blocks.c: the same of what that object has so far inside of the block, with the object. */
+size_t add_by_use(struct debug *d, const object_in_block *object, u64 offset, u64 length, char *buffer, size_t size);

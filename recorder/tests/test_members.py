@@ -71,13 +71,14 @@ while len(head := sys.stdin.buffer.read(16)) == 16:
 
 
 class Blocks(recorder.Case):
-    """What lies in a block is named by the block's type: by what the C++ library allocates, or by the line. What isn't certain has no name."""
+    """What lies in a block is named by the block's type: by what the C++ library allocates, by the line, or by the text at
+    an access. What isn't certain has no name."""
 
     def found(self, source, compiler, option):
         """By line, the names of what the threads access in blocks, without the blocks' numbers."""
         program, record, path = self.folder / "app", self.folder / "app.rec", self.folder / "app.stacks"
         library = recorder.BUILT / "lib"
-        linked = [f"-B{library}/"] if compiler == "g++" else ["-fno-sanitize-link-runtime", f"-L{library}", "-ltsan"]
+        linked = [f"-B{library}/"] if compiler[0] == "g" else ["-fno-sanitize-link-runtime", f"-L{library}", "-ltsan"]
         recorder.must(recorder.call(compiler, "-w", "-g", option, "-fsanitize=thread", "-pthread", source, *linked, "-o", program))
         recorder.must(recorder.call(program, env=recorder.settings(record)))
         trace = recorder.must(recorder.convert(record, "-a", "--stacks", path)).stdout
@@ -89,8 +90,8 @@ class Blocks(recorder.Case):
     def check(self, source, count):
         wanted = recorder.marked(source, "IS")
         self.assertEqual(len(wanted), count)
-        for compiler in ("g++", "clang++"):
-            for option in ("-O0", "-O1", "-O2"):
+        for compiler in ("g++", "clang++") if source.suffix == ".cc" else ("gcc", "clang"):
+            for option in ("-O0", "-Og", "-O1", "-O2"):
                 if shutil.which(compiler):
                     with self.subTest(compiler=compiler, option=option):
                         found = self.found(source, compiler, option)
@@ -109,6 +110,10 @@ class Blocks(recorder.Case):
 
     def test_by_the_line(self):
         self.check(recorder.PROGRAMS / "allocated.cc", 9)
+
+    def test_by_uses(self):
+        self.check(recorder.PROGRAMS / "used.c", 19)
+        self.check(recorder.PROGRAMS / "used.cc", 9)
 
 
 class Damaged(recorder.Case):

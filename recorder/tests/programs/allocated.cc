@@ -21,14 +21,14 @@ T *shorter;
 long *numbers;
 
 static void use() {
-    session->hits = 7; /* IS Session.hits */
+    session->hits = 7; /* IS Session.hits of allocated.cc:36 */
     account->version = 7; /* IS bank::Account.version */
     first->next = first; /* IS entry.next of allocated.cc:38 */
     cells[1].value = 7; /* IS Cell[1].value */
-    many[1].hits = 7; /* IS - */
-    one->value = 7; /* IS - */
-    by_template->more = 7; /* IS - */
-    shorter->two = 7; /* IS - */
+    many[1].hits = 7; /* IS Session[1].hits of allocated.cc:40 */
+    one->value = 7; /* IS Other.value of allocated.cc:41 */
+    by_template->more = 7; /* IS Other.more of allocated.cc:13 */
+    shorter->two = 7; /* IS T.two */
     numbers[1] = 7; /* IS - */
 }
 

@@ -1,0 +1,206 @@
+/* What lies in blocks of the heap: names by the type that the allocation tells, or else by what accesses tell of
+   objects in them. They are written when all events are. */
+#include <stdlib.h>
+#include <string.h>
+#include "converter.h"
+
+enum { MOST_OWN = 4, MOST_OBJECTS = 32 };
+typedef struct { use_of_block use; u32 before, object, type_length; char *name; } access;  /* what it tells, or 0 */
+/* An object of a block that accesses tell: its type, one of them, and how many places in the code tell it. */
+typedef struct { u64 begin, size; u32 type, access, callers, before; } object;
+typedef struct { u32 last, count; } chain;                   /* the last one's number from 1, or 0 */
+/* A variable in a block, with its name in there: the first so many bytes are the type's. */
+typedef struct { u64 at, length; u32 block; chain own; size_t type_length; char *name; } in_block;
+static map numbers, of_blocks;         /* of variables, by their places; of blocks */
+static in_block *in_blocks;
+static access *accesses;
+static object *objects;
+static chain *chains;                  /* of blocks: their objects */
+static u64 in_block_count, in_block_capacity, access_count, access_capacity;
+static u64 object_count, object_capacity, chain_count, chain_capacity;
+
+void note_in_block(u64 at, u32 block_number, u64 length) {
+    u64 caller = allocated_by(block_number);
+    inlined_frame *f = caller && !is_of_system(caller) ? frames_of(caller) : 0;
+    if (!f || f->in_system || map_number(&numbers, at, block_number) <= in_block_count) return;
+    GROW(in_blocks, in_block_count, in_block_capacity);
+    in_blocks[in_block_count++] = (in_block){.at = at, .length = length, .block = block_number};
+}
+
+void note_use_of_block(u64 at, u32 block_number, use_of_block use) {
+    u32 number = map_find(&numbers, at, block_number);
+    chain *own = number ? &in_blocks[number - 1].own : 0;
+    for (u32 k = own ? own->last : 0; k; k = accesses[k - 1].before)
+        if (accesses[k - 1].use.caller == use.caller) return;
+    if (!own || own->count == MOST_OWN) return;
+    GROW(accesses, access_count, access_capacity);
+    accesses[access_count++] = (access){.use = use, .before = own->last};
+    *own = (chain){access_count, own->count + 1};
+}
+
+/* ---- names by uses ---- */
+static chain *objects_of(u32 block_number) {
+    u32 number = map_number(&of_blocks, block_number, 0);
+    if (number > chain_count) {
+        GROW(chains, chain_count, chain_capacity);
+        chains[chain_count++] = (chain){0};
+    }
+    return &chains[number - 1];
+}
+
+/* The number of an object of a block, from 1; 0 of too many. */
+static u32 object_number(u32 block_number, object o) {
+    chain *all = objects_of(block_number);
+    for (u32 k = all->last; k; k = objects[k - 1].before) {
+        const object *other = &objects[k - 1];
+        if (other->begin == o.begin && other->size == o.size && other->type == o.type) return k;
+    }
+    if (all->count == MOST_OBJECTS) return 0;
+    GROW(objects, object_count, object_capacity);
+    o.before = all->last;
+    objects[object_count++] = o;
+    *all = (chain){object_count, all->count + 1};
+    return object_count;
+}
+
+static size_t ask_access(u32 number, const in_block *i, char *name, object *o) {
+    const block *b = block_of(i->block);
+    const use_of_block *u = &accesses[number - 1].use;
+    u64 asked[] = {b->size, u->at - b->at, u->length, u->writes, i->at - b->at, i->length};
+    return name_by_use(u->caller, asked, name, &o->begin, &o->size);
+}
+
+/* What the variable's own accesses tell of it, and of its block. */
+static void ask_own(const in_block *i) {
+    static map types, met;
+    char name[NAME_BYTES];
+    for (u32 k = i->own.last; k; k = accesses[k - 1].before) {
+        access *a = &accesses[k - 1];
+        object o = {.access = k};
+        a->type_length = ask_access(k, i, name, &o);
+        if (!a->type_length) continue;
+        if (!(a->name = strdup(name))) die("out of memory");
+        name[a->type_length] = 0;
+        o.type = map_text(&types, name);
+        a->object = object_number(i->block, o);
+        u64 count = met.count;
+        map_number(&met, a->object, a->use.caller);
+        if (a->object) objects[a->object - 1].callers += met.count > count;
+    }
+}
+
+/* Behind the type's name, and the object's place: ".at.column". */
+static const char *members_of(const access *a) {
+    const char *members = strchr(a->name + a->type_length, '.');
+    return members ? members : "";
+}
+
+static int ends_with(const char *text, const char *end) {
+    size_t length = strlen(text), wanted = strlen(end);
+    return length >= wanted && !strcmp(text + length - wanted, end);
+}
+
+/* Is one what the other is, or one of them within the other? */
+static int are_together(const access *one, const access *other) {
+    u64 size = objects[one->object - 1].size, other_size = objects[other->object - 1].size;
+    if (size < other_size) return ends_with(members_of(other), members_of(one));
+    return size > other_size ? ends_with(members_of(one), members_of(other)) : !strcmp(one->name, other->name);
+}
+
+/* One that doesn't begin the block, and isn't an element by the text, is certain if several accesses tell it. */
+static int is_certain(const access *a) {
+    const object *o = &objects[a->object - 1];
+    return !o->begin || a->name[a->type_length] == '[' || o->callers > 1;
+}
+
+static int is_larger(const access *a, const access *best) {
+    return is_certain(a) && (!best->object || objects[a->object - 1].size > objects[best->object - 1].size);
+}
+
+/* Goes on to the largest object of the block's that has the variable; if its own accesses tell nothing, to one that
+   is the whole block. 0 if what was told isn't within another one: then the memory has been of several types. */
+static int find_larger(const in_block *i, access *best, char *name) {
+    const block *b = block_of(i->block);
+    const int is_told = best->object != 0;
+    const u64 offset = i->at - b->at;
+    for (u32 k = objects_of(i->block)->last; k; k = objects[k - 1].before) {
+        object o = objects[k - 1];
+        char other[NAME_BYTES];
+        int is_there = k != best->object && o.begin <= offset && offset + i->length <= o.begin + o.size;
+        access a = {.object = k, .name = other};
+        if (!is_there || !(a.type_length = ask_access(o.access, i, other, &o))) continue;
+        if (best->object && !are_together(&a, best)) return 0;
+        if (!is_larger(&a, best) || (!is_told && o.size != b->size)) continue;
+        *best = a;
+        best->name = strcpy(name, other);
+    }
+    return 1;
+}
+
+/* By the largest object that is certain, if what all of the variable's own accesses tell fits. */
+static size_t name_by_uses(const in_block *i, char *name) {
+    access best = {.object = 0};
+    for (u32 k = i->own.last; k; k = accesses[k - 1].before)
+        if (accesses[k - 1].object && is_larger(&accesses[k - 1], &best)) best = accesses[k - 1];
+    for (u32 k = best.object ? i->own.last : 0; k; k = accesses[k - 1].before)
+        if (accesses[k - 1].object && !are_together(&accesses[k - 1], &best)) return 0;
+    if (best.object) best.name = strcpy(name, best.name);
+    return find_larger(i, &best, name) ? best.type_length : 0;
+}
+
+static int by_type(const void *a, const void *b) {
+    const in_block *one = a, *other = b;
+    size_t least = one->type_length < other->type_length ? one->type_length : other->type_length;
+    int order = one->name && other->name ? memcmp(one->name, other->name, least) : !one->name - !other->name;
+    if (order || one->type_length != other->type_length) return order ? order : one->type_length < other->type_length ? -1 : 1;
+    if (one->block != other->block) return one->block < other->block ? -1 : 1;
+    return one->name ? strcmp(one->name, other->name) : 0;
+}
+
+static void find_names(void) {
+    char name[NAME_BYTES];
+    for (u64 k = 0; k < in_block_count; k++) {
+        in_block *i = &in_blocks[k];
+        const block *b = block_of(i->block);
+        i->type_length = name_in_block(allocated_by(i->block), b->size, i->at - b->at, i->length, name, sizeof name);
+        if (i->type_length) i->name = strdup(name);
+        else ask_own(i);
+    }
+    for (u64 k = 0; k < in_block_count; k++) {
+        in_block *i = &in_blocks[k];
+        if (!i->type_length && (i->type_length = name_by_uses(i, name))) i->name = strdup(name);
+        if (i->type_length && !i->name) die("out of memory");
+    }
+    if (in_block_count) qsort(in_blocks, in_block_count, sizeof *in_blocks, by_type);
+}
+
+/* ---- what is written ---- */
+static int are_of_one_type(const in_block *one, const in_block *other) {
+    return one->type_length == other->type_length && !memcmp(one->name, other->name, one->type_length);
+}
+
+/* Those of a type, which stand beside each other. Two variables of a block that would have one name have none. */
+static void write_names_of_type(FILE *to, const in_block *first, const in_block *end) {
+    int with_block = first->block != end[-1].block || is_variable(first->name, first->type_length);
+    for (const in_block *i = first; i < end; i++) {
+        int is_double = (i > first && i[-1].block == i->block && !strcmp(i[-1].name, i->name))
+            || (i + 1 < end && i[1].block == i->block && !strcmp(i[1].name, i->name));
+        if (is_double) continue;
+        const block *b = block_of(i->block);
+        part variable = variable_name(i->at, b);
+        fprintf(to, "local 0\t%.*s\t%s", (int)variable.length, variable.at, i->name);
+        if (with_block) {
+            part origin = variable_name(b->at, b);
+            fprintf(to, " of %.*s", (int)origin.length, origin.at);
+        }
+        fputc('\n', to);
+    }
+}
+
+void write_names_in_blocks(FILE *to) {
+    find_names();
+    for (u64 k = 0, end; k < in_block_count && in_blocks[k].name; k = end) {
+        for (end = k + 1; end < in_block_count && in_blocks[end].name && are_of_one_type(&in_blocks[k], &in_blocks[end]);) end++;
+        write_names_of_type(to, &in_blocks[k], &in_blocks[end]);
+    }
+}
