@@ -30,16 +30,23 @@ int has_own_lines(struct debug *d) {
     return elf && (has_section(elf, ".debug_line") || has_section(elf, ".zdebug_line"));
 }
 
+/* In a scope and the namespaces in it. */
+static int has_typed_code_in(Dwarf_Die *scope, int *typed, int depth) {
+    int has = 0;
+    Dwarf_Die e;
+    const void *last = 0;
+    for (int more = first_entry(scope, &e, &last); more && !(has && *typed); more = next_entry(&e, &last)) {
+        if (dwarf_tag(&e) == DW_TAG_namespace && depth < MOST_STEPS) has |= has_typed_code_in(&e, typed, depth + 1);
+        if (dwarf_tag(&e) != DW_TAG_subprogram) continue;
+        has |= dwarf_hasattr(&e, DW_AT_high_pc) || dwarf_hasattr(&e, DW_AT_ranges);
+        *typed |= dwarf_hasattr(&e, DW_AT_type);
+    }
+    return has;
+}
+
 static int has_typed_code(struct debug *d, int *typed) {
     int has = 0;
-    for (u64 k = 0; k < d->unit_count && !(has && *typed); k++) {
-        Dwarf_Die e;
-        for (int more = !dwarf_child(&d->units[k].whole, &e); more; more = !dwarf_siblingof(&e, &e)) {
-            if (dwarf_tag(&e) != DW_TAG_subprogram) continue;
-            has |= dwarf_hasattr(&e, DW_AT_high_pc) || dwarf_hasattr(&e, DW_AT_ranges);
-            *typed |= dwarf_hasattr(&e, DW_AT_type);
-        }
-    }
+    for (u64 k = 0; k < d->unit_count && !(has && *typed); k++) has |= has_typed_code_in(&d->units[k].whole, typed, 0);
     return has;
 }
 

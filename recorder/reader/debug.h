@@ -56,6 +56,9 @@ char *demangled(const char *name);     /* a copy, also of a name that isn't mang
 const symbol *symbol_from(struct debug *d, u64 address);     /* that is there, or the first one behind it, with its name; null where there is none */
 int is_variable(struct debug *d, const char *name);          /* has one this name? */
 
+/* languages.c */
+char *name_of_other(const char *name); /* a copy of a name of Rust, Fortran or D as the program has it; null of any other */
+
 /* debug.c */
 struct debug *open_debug(const char *path);
 void read_units(struct debug *d);

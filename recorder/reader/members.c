@@ -30,7 +30,7 @@ static void find_variables(struct debug *d, Dwarf_Die *in, int also_in_functions
     for (int more = first_entry(in, &e, last); more; more = next_entry(&e, last)) {
         int tag = dwarf_tag(&e), is_in_function = tag == DW_TAG_subprogram || tag == DW_TAG_lexical_block || tag == DW_TAG_inlined_subroutine;
         if (tag == DW_TAG_variable) note_variable(d, &e);
-        if (tag == DW_TAG_namespace || (also_in_functions && is_in_function)) find_variables(d, &e, also_in_functions, last, depth + 1);
+        if (tag == DW_TAG_namespace || tag == DW_TAG_module || (also_in_functions && is_in_function)) find_variables(d, &e, also_in_functions, last, depth + 1);
     }
 }
 
@@ -75,17 +75,26 @@ int type_of(Dwarf_Die *of, Dwarf_Die *type) {
     return follow(type, DW_AT_type) && plain_type(type);
 }
 
-/* How many elements an array has in each of its dimensions; 0 of none that is told. */
-static int read_dimensions(Dwarf_Die *array, u64 *counts) {
+/* The first index where none is told, as the language has it; 1 in Fortran. */
+static Dwarf_Sword default_first(Dwarf_Die *of) {
+    Dwarf_Die unit;
+    Dwarf_Sword first = 0;
+    return dwarf_diecu(of, &unit, 0, 0) && !dwarf_default_lower_bound(dwarf_srclang(&unit), &first) ? first : 0;
+}
+
+/* How many elements an array has in each of its dimensions, 0 of none that is told, and the first index. */
+static int read_dimensions(Dwarf_Die *array, u64 *counts, Dwarf_Sword *firsts) {
     int found = 0;
     Dwarf_Die e;
+    Dwarf_Sword usual = default_first(array);
     for (int more = !dwarf_child(array, &e); more && found < MOST_DIMENSIONS; more = !dwarf_siblingof(&e, &e)) {
         Dwarf_Attribute a;
         Dwarf_Word number;
         if (dwarf_tag(&e) != DW_TAG_subrange_type) break;
         counts[found] = 0;
+        if (!dwarf_attr(&e, DW_AT_lower_bound, &a) || dwarf_formsdata(&a, &firsts[found])) firsts[found] = usual;
         if (dwarf_attr(&e, DW_AT_count, &a) && !dwarf_formudata(&a, &number)) counts[found] = number;
-        else if (dwarf_attr(&e, DW_AT_upper_bound, &a) && !dwarf_formudata(&a, &number)) counts[found] = number + 1;
+        else if (dwarf_attr(&e, DW_AT_upper_bound, &a) && !dwarf_formudata(&a, &number)) counts[found] = number + 1 - firsts[found];
         found++;
     }
     return found;
@@ -93,10 +102,11 @@ static int read_dimensions(Dwarf_Die *array, u64 *counts) {
 
 u64 size_of_type(Dwarf_Die *type) {
     u64 size = 1, counts[MOST_DIMENSIONS];
+    Dwarf_Sword firsts[MOST_DIMENSIONS];
     Dwarf_Die e = *type;
     int is_known = plain_type(&e);
     for (int steps = 0; is_known && dwarf_tag(&e) == DW_TAG_array_type && steps < MOST_STEPS; steps++) {
-        for (int k = read_dimensions(&e, counts); k-- > 0;) size *= counts[k];
+        for (int k = read_dimensions(&e, counts, firsts); k-- > 0;) size *= counts[k];
         is_known = type_of(&e, &e);
     }
     int own = is_known ? dwarf_bytesize(&e) : -1, tag = dwarf_tag(&e);
@@ -157,15 +167,25 @@ void add_name(text *to, const char *before, const char *name, u64 rest) {
     to->rest = rest;
 }
 
+/* As Fortran's, whose first index is the innermost. */
+static int is_by_columns(Dwarf_Die *array) {
+    Dwarf_Die unit;
+    int language = dwarf_diecu(array, &unit, 0, 0) ? dwarf_srclang(&unit) : 0;
+    return language == DW_LANG_Fortran77 || language == DW_LANG_Fortran90 || language == DW_LANG_Fortran95 || language == DW_LANG_Fortran03
+        || language == DW_LANG_Fortran08;
+}
+
 /* Adds the indices of the element of an array that has all of these bytes, where there is one; else those of its row. */
 static int add_indices(Dwarf_Die *array, Dwarf_Die *of, u64 *offset, u64 length, text *to) {
     u64 counts[MOST_DIMENSIONS], stride = size_of_type(of), strides[MOST_DIMENSIONS];
-    int dimensions = read_dimensions(array, counts);
+    Dwarf_Sword firsts[MOST_DIMENSIONS];
+    int dimensions = read_dimensions(array, counts, firsts);
+    if (dimensions > 1 && is_by_columns(array)) return 0;
     for (int k = dimensions; k-- > 0; stride *= counts[k]) strides[k] = stride;
     for (int k = 0; k < dimensions; k++) {
         char index[24];
         if (!strides[k] || *offset % strides[k] + length > strides[k]) return 0;
-        snprintf(index, sizeof index, "[%lu]", *offset / strides[k]);
+        snprintf(index, sizeof index, "[%ld]", (long)(*offset / strides[k]) + firsts[k]);
         *offset %= strides[k];
         add_name(to, "", index, *offset);
     }

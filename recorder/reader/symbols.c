@@ -14,7 +14,7 @@ char *demangled(const char *name) {
         void *library = dlopen("libstdc++.so.6", RTLD_NOW);
         of_library = library ? (demangle *)dlsym(library, "__cxa_demangle") : 0;
     }
-    char *text = is_mangled && of_library ? of_library(name, 0, 0, &status) : 0;
+    char *text = is_mangled && of_library ? of_library(name, 0, 0, &status) : name_of_other(name);
     if (!text && !(text = strdup(name))) die("out of memory");
     return text;
 }
