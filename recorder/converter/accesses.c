@@ -123,6 +123,7 @@ static void add_to_runs(u64 from, const u32 *numbers, u32 count) {
 }
 
 void share_pieces(u64 i) {
+    if ((known[i] & ~MARK) && (is_plain(operation_of(i)) || operation_of(i) == OP_FREE) && is_unseen(caller_of(i))) known[i] &= MARK;
     if (!(known[i] & ~MARK)) return;
     u64 at = address_of(i), end = end_of(i), from = run_count;
     use u = use_of(i);

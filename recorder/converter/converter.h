@@ -68,6 +68,7 @@ void note_line(const char *location);
 void write_sums(FILE *file, const char *name, const char *path);     /* of a source file; after all lines were noted */
 const char *source_name(const char *path);                   /* of one that was noted; it stands for good */
 int in_system(const char *path);       /* is it the system's or the compiler's? */
+int in_rust_library(const char *path);
 
 /* names.c: modules, symbols, lines of code. */
 enum { PLACE_BYTES = 1000, THREAD_BYTES = 80 };              /* shb takes lines of 4,096 bytes */
@@ -77,6 +78,8 @@ void find_places(void);                /* of all callers that were noted */
 part place_of(u64 caller);
 enum { WIDE = 32 };                    /* bytes from the begin of some texts that may be read: they are copied in pieces of so many */
 part line_end_of(u64 caller);          /* ")|" and its place, with WIDE bytes that may be read */
+void note_hooked(u64 function);        /* in the first pass: it has hooks */
+int is_unseen(u64 caller);             /* is it in a function of Rust's library without hooks, whose order nobody sees? */
 int is_own_place(u64 caller);          /* not in a header or a library of the system */
 int is_of_system(u64 caller);          /* is it in a module of the system's, other than the recorder? */
 int is_of_recorder(u64 caller);
@@ -86,6 +89,7 @@ typedef struct inlined_frame {
     const char *function, *location;
     u32 number;                        /* in the file of stacks, or 0 */
     u32 line;                          /* or 0 */
+    uint8_t in_rust_library;
     uint8_t in_system_file;            /* as a header of the C++ library is */
     uint8_t in_system;                 /* the module is the system's */
 } inlined_frame;

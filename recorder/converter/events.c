@@ -44,7 +44,9 @@ enum { FUNCTION_BYTES = 60 };
 void name_thread(u32 t, u64 function) {
     char name[FUNCTION_BYTES];
     if (!t || is_named[t]) return;
-    set_name(t, function_name(function, name, sizeof name));
+    function_name(function, name, sizeof name);
+    if (!strncmp(name, "std::sys::", 10)) return;            /* Rust's library's */
+    set_name(t, name);
     is_named[t] = *name != 0;
 }
 

@@ -25,7 +25,7 @@ static module modules[MAX_MODULES];
 static int module_count;
 static map callers;
 /* What a caller is: its location, whether that is the program's own code, and its frames, the innermost first. */
-static struct { char *text; u64 length; int is_own; inlined_frame *frames; } *places;        /* by the numbers of callers */
+static struct { char *text; u64 length; uint8_t is_own, is_unseen; inlined_frame *frames; } *places;        /* by the numbers of callers */
 
 static module *module_at(u64 address) {
     for (int i = 0; i < module_count; i++)
@@ -191,7 +191,7 @@ int own_function_name(u64 address, char *buffer, size_t size) {
     module *m = module_at(address);
     symbol *s = m && !in_system(m->path) && !is_recorder(m) ? symbol_at(m, address) : 0;
     char *name = s ? short_name(s) : 0;
-    if (name && is_of_cxx_library(name)) {
+    if (name && (is_of_cxx_library(name) || !strncmp(name, "__rust_", 7))) {
         free(name);
         name = lambda_among(s->name);
     }
@@ -369,6 +369,7 @@ static inlined_frame *frame_of(const module *m, const answer *a) {
     inlined_frame *f = new_frame(is_named ? cleaned(function_part(copy(a->first))) : "", line ? copy(a->second) : 0, line);
     if (line && !m->is_late) note_source(a->second);
     f->in_system = in_system(m->path);
+    f->in_rust_library = line && in_rust_library(a->second);
     f->in_system_file = f->in_system || (line && in_system(a->second));
     return f;
 }
@@ -443,6 +444,30 @@ static char *line_end(const char *text) {
     return memcpy(copied + 2, text, strlen(text));
 }
 
+static int has_unseen;
+static map hooked;                     /* functions, each by an address in it; once one was asked for also where their symbols begin */
+
+void note_hooked(u64 function) { map_number(&hooked, function, 0); }
+
+static int is_hooked(module *m, u64 caller) {
+    static u64 known;
+    while (known < hooked.count) {     /* all were noted before */
+        known = hooked.count;
+        u64 *functions = zeroed(known, sizeof *functions), count = 0;
+        for (u64 k = 0; k < hooked.capacity; k++)
+            if (hooked.entries[k].value) functions[count++] = hooked.entries[k].a;
+        for (u64 k = 0; k < count; k++) {
+            module *in = module_at(functions[k]);
+            symbol *s = in ? symbol_at(in, functions[k]) : 0;
+            if (s) map_number(&hooked, s->at, 1);
+        }
+        known = hooked.count;
+        free(functions);
+    }
+    symbol *s = symbol_at(m, caller - 1);
+    return !s || map_find(&hooked, s->at, 1);
+}
+
 /* Names the frames of a caller; its location is the first one outside of the system's headers, else the first. */
 static void find_place(u64 caller, u32 number) {
     module *m = module_at(caller);
@@ -457,6 +482,9 @@ static void find_place(u64 caller, u32 number) {
     free(address);
     places[number].length = strlen(places[number].text);
     places[number].is_own = m && !is_recorder(m) && !(chosen ? chosen->in_system_file : in_system(m->path));
+    const inlined_frame *last = outermost(places[number].frames);
+    places[number].is_unseen = last && last->in_rust_library && !is_hooked(m, caller);
+    has_unseen |= places[number].is_unseen;
     if (places[number].frames) return;
     places[number].frames = new_frame("", places[number].text, 0);
     places[number].frames->in_system = places[number].frames->in_system_file = m && in_system(m->path);
@@ -516,6 +544,8 @@ part line_end_of(u64 caller) {
     part place = place_of(caller);
     return (part){place.at - 2, place.length + 2};
 }
+
+int is_unseen(u64 caller) { return has_unseen && places[found_place(caller)].is_unseen; }
 
 int is_own_place(u64 caller) { return places[caller_number(caller)].is_own; }
 

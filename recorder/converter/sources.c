@@ -11,8 +11,12 @@ static char **sources;                 /* as normal_path gives them, each once; 
 static u64 source_count, source_capacity, sorted_count;
 static u64 common_length;              /* of the folder that the program's own have in common, with its last '/' */
 
+/* Rust's own library, which programs mostly have as it was compiled without hooks, but for what is generic. */
+int in_rust_library(const char *path) { return !strncmp(path, "/rustc/", 7) || strstr(path, "/lib/rustlib/src/"); }
+
 int in_system(const char *path) {
-    return !strncmp(path, "/usr/", 5) || !strncmp(path, "/lib", 4) || strstr(path, "/include/c++/") || strstr(path, "/lib/gcc/");
+    return !strncmp(path, "/usr/", 5) || !strncmp(path, "/lib", 4) || strstr(path, "/include/c++/") || strstr(path, "/lib/gcc/")
+        || in_rust_library(path);
 }
 
 /* The path as of a file that is there, without links: "/a/./b//../c" is "/a/c". */

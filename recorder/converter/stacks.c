@@ -238,6 +238,7 @@ void note_call(u64 i) {
     if (operation_of(i) != OP_FRAME) return;
     has_calls = 1;
     note_frame(i);
+    note_hooked(address_of(i));
     if (with_stacks) note_caller(address_of(i));
 }
 
