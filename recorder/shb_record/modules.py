@@ -13,8 +13,12 @@ from shb_common.files import open_regular
 from shb_common.printable import printable
 from shb_record.parts import LIBRARY
 
-# The C library's own, whose functions the recorder stands for, the loader, and the C++ library, whose templates have the hooks.
-OF_THE_SYSTEM = re.compile(rb"linux-vdso|linux-gate|ld-linux|ld-musl|lib(c|m|dl|rt|pthread|resolv|util|gcc_s|tsan|stdc\+\+|c\+\+|c\+\+abi)[.-]")
+# The C library's own, whose functions the recorder stands for, the loader, the C++ library, whose templates have the hooks, and what
+# compilers add, which orders nothing but by the C library.
+OF_THE_SYSTEM = re.compile(rb"linux-vdso|linux-gate|ld-linux|ld-musl|lib(c|m|dl|rt|pthread|resolv|util|gcc_s|tsan|stdc\+\+|c\+\+|c\+\+abi"
+                           rb"|gfortran|quadmath|ubsan|asan)[.-]")
+STOOD_FOR = (b"libgomp.so",)  # what of it isn't recorded is known by the calls, so it may stand in call stacks
+ORDERS_NOTHING = b"omp_get_"
 MOST_NAMED = 6
 NEEDED, MOST_NAME = 1, 256  # of a section .dynamic; bytes
 LOADER = "/lib64/ld-linux-x86-64.so.2"
@@ -42,6 +46,10 @@ class Modules:
         if bare:
             yield (f"Code without -fsanitize=thread isn't seen: {named(bare, called)}. Nor are its locks and queues: races of what these order "
                    "are false. Build it with the flag.")
+        rust = [path for path, kind in self.kinds.items() if kind and kind.has_hooks and kind.has_bare_rust]
+        if rust:
+            yield (f"Rust's own library in {named(rust, called)} has no hooks: what its locks, channels and scopes order isn't seen, and "
+                   "races of that are false. Build it with the program (-Zbuild-std).")
         if nameless:
             yield f"Without debug information (-g) locations are addresses: {named(nameless, called)}."
 
@@ -54,7 +62,8 @@ class Modules:
         bare = [path for path, kind in kinds.items() if kind and not kind.has_hooks and os.path.basename(path) in needed]
         found = {}
         for name, module in self.stand_for(kinds):
-            found.setdefault(name, set()).add(module)
+            if not module.startswith(STOOD_FOR):
+                found.setdefault(name, set()).add(module)
         if not bare:
             return found
         from shb_record.calls import calls_of, exports_of  # takes its time, and most programs' modules all have hooks
@@ -62,7 +71,7 @@ class Modules:
         for path in bare:
             of_module.update(dict.fromkeys((read_in(path, exports_of) or set()) - recorded, os.path.basename(path)))
         for function, called in set().union(*(read_in(path, calls_of) or () for path in hooked)) if of_module else ():
-            if called in of_module:
+            if called in of_module and not called.startswith(ORDERS_NOTHING):
                 found.setdefault(function, set()).add(of_module[called])
         return found
 
@@ -75,8 +84,9 @@ class Modules:
         return {(file, name) for path in files for name in [os.path.basename(path)] for file in {name, *files[path] - others}}
 
 
-class Kind(collections.namedtuple("Kind", "has_hooks has_names needs")):
-    """Whether a module has hooks, whether it has debug information or says where that is, and the names of the modules that it calls."""
+class Kind(collections.namedtuple("Kind", "has_hooks has_names needs has_bare_rust")):
+    """Whether a module has hooks, whether it has debug information or says where that is, the names of the modules that it calls, and
+    whether it has Rust's library as that is distributed."""
 
 
 def named(paths, called):
@@ -98,7 +108,9 @@ def read_in(path, read):
 
 def kind_of(content, sections):
     has_names = bool(sections.keys() & {b".debug_info", b".zdebug_info", b".gnu_debuglink"})
-    return Kind(content.find(b"__tsan_init") >= 0, has_names, frozenset(needs_of(content, sections)))
+    has_hooks = content.find(b"__tsan_init") >= 0
+    has_bare_rust = has_hooks and content.find(b"/rustc/") >= 0  # the folder that its sources are said to be in
+    return Kind(has_hooks, has_names, frozenset(needs_of(content, sections)), has_bare_rust)
 
 
 @functools.lru_cache(maxsize=None)
