@@ -119,5 +119,6 @@ int has_type(struct debug *d, place_in_block at);            /* is that of the w
 /* used.c: the object that an access in a block tells, and where it begins; 0 if that isn't certain. */
 typedef struct { Dwarf_Die type; u64 begin, size; int is_element; } object_in_block;
 int object_by_use(struct debug *d, place_in_block use, int writes, object_in_block *found);
+meaning meaning_in_line(struct debug *d, u64 pc, int is_write, const char *line, int column);   /* from 1 */
 /* blocks.c: the same of what that object has so far inside of the block, with the object. */
 size_t add_by_use(struct debug *d, const object_in_block *object, u64 offset, u64 length, char *buffer, size_t size);

@@ -334,18 +334,22 @@ static int begin_of_object(const meaning *m, const place_in_block *at, u64 size,
     return latest <= last && (m->is_lock ? at->length <= 1 : length == at->length);
 }
 
-static meaning find_meaning(struct debug *d, u64 pc, int is_write) {
+meaning meaning_in_line(struct debug *d, u64 pc, int is_write, const char *line, int column) {
     static const meaning none;
-    char line[LINE_BYTES];
     Dwarf_Die scopes[MOST_STEPS];
     view v = {.d = d};
     meaning m = none;
-    const char *path;
-    int number, column, is_told = line_at(d, pc, &path, &number, &column) && column > 0 && !strstr(path, "/include/c++/");
-    if (!is_told || !find_unit(d, pc, &v.unit) || !find_function(d, pc, &v.function)) return none;
+    if (!find_unit(d, pc, &v.unit) || !find_function(d, pc, &v.function) || (size_t)column > strlen(line)) return none;
     v.function = scopes[scopes_at(v.function, pc - d->bias, scopes, MOST_STEPS) - 1];
-    if (!read_line(path, number, line) || (size_t)column > strlen(line)) return none;
     return means_at(&v, line, line + column - 1, is_write, &m) && m.has_member && m.has_object ? m : none;
+}
+
+static meaning find_meaning(struct debug *d, u64 pc, int is_write) {
+    char line[LINE_BYTES];
+    const char *path;
+    int number, column, is_told = line_at(d, pc, &path, &number, &column) && column > 0;
+    if (!is_told || strstr(path, "/include/c++/") || !read_line(path, number, line)) return (meaning){.has_object = 0};
+    return meaning_in_line(d, pc, is_write, line, column);
 }
 
 /* Each access in the code is looked at once. */

@@ -1,8 +1,8 @@
 #!/usr/bin/env python3
-"""Gives shb-std changed records and changed answers of the reader of modules, and that reader changed modules, for some time, by clang's
-libFuzzer with its sanitizers.
+"""Gives shb-std changed records and changed answers of the reader of modules, and that reader changed modules, lines of sources
+and names, for some time, by clang's libFuzzer with its sanitizers.
 
-    fuzz.py SECONDS FOLDER [records|answers|modules]
+    fuzz.py SECONDS FOLDER [records|answers|modules|texts]
 
 Each has so many seconds. FOLDER gets the programs, the inputs by which a new way was gone, which a later call begins with, and what was
 found (crash-.., timeout-..). The last lines are libFuzzer's: how many inputs there were.
@@ -96,10 +96,30 @@ def answers():
         yield end + row * 3 + end
 
 
-LONGEST = {"records": 8192, "answers": 8192, "modules": 32768}
+USES = """struct place { int row, column; }; union either { long n; char text[8]; };
+struct job { struct job *next; struct { int done; }; int counts[4][2]; place at; unsigned ready : 1; either *of; place &to; void run(int); } *jobs;
+static place many[3];
+void job::run(int k) { next->done = k; counts[k][1]++; (*this).at.row = many[k].column; of->n = to.row; auto f = [&] { next = this; }; f(); }
+int use(job *j, place *p, int k) { p[k].row = j->counts[k][0]; { place *q = &j->at; q->column = 7; } j->run(k); return *&p->row; }
+"""
+
+
+def texts():
+    """Lines as the reader takes expressions from, and names of other languages."""
+    lines = [*map(str.encode, USES.splitlines()), *NAMES]
+    yield from (bytes([where]) + line for line in lines for where in range(0, 256, 32))
+
+
+NAMES = (b"pthread_mutex_lock(&j->next->at); __atomic_load_n(&j->next, 0)", b"*j->next[2].at = (*p).row; if (k) (*j).done += ++p->row",
+         b"_RNvNtC3std3memINtB4_3VecxE4push", b"_RNCNvC4main1f0", b"_RNvXs_C1aNtB4_1bNtNtC4core3fmt5Debug3fmt", b"__counters_MOD_hits",
+         b"_D4bank4hitsi", b"_RNvMC1aAhKj4_3foo", b"_RINvC1a1fFUKCpEuDNtC1a1bp1cuEL_E")
+
+
+LONGEST = {"records": 8192, "answers": 8192, "modules": 32768, "texts": 511}
 CONVERTER, READER = sorted(SOURCES.glob("converter/*.c")), [*sorted(SOURCES.glob("reader/*.c")), SOURCES / "converter/tables.c"]
 WHAT = {"records": ([], CONVERTER, list(records())), "answers": (["-DFUZZ_ANSWERS"], CONVERTER, list(answers())),
-        "modules": (["-DFUZZ_MODULES", "-ldw", "-lelf"], READER, modules())}
+        "modules": (["-DFUZZ_MODULES", "-ldw", "-lelf"], READER, modules()),
+        "texts": (["-DFUZZ_MODULES", "-DFUZZ_TEXTS", "-ldw", "-lelf"], READER, texts())}
 
 
 def build(name, folder):
@@ -122,6 +142,8 @@ def main(seconds, folder, names):
     (folder / "module-reader").write_text('#!/bin/sh\nexec cat "$SHB_ANSWERS"\n')  # of "answers"
     (folder / "module-reader").chmod(0o755)
     header = (test_record.HEADER.rstrip(b"whole\0") + b"0 ffffff 0 /nowhere/a\n").ljust(65536 - 256, b"\0") + test_record.HEADER[-256:]
+    (folder / "uses.cc").write_text(USES)
+    subprocess.run(["g++", "-g", "-O1", "-fPIC", "-shared", folder / "uses.cc", "-o", folder / "module-of-texts"], check=True)
     (folder / "record-of-answers").write_bytes(header + test_record.FRAMES + test_record.ENTRIES * 2)
     for name in names or WHAT:
         program = build(name, folder)

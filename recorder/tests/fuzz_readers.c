@@ -56,7 +56,19 @@ static void put(const void *bytes, size_t count, off_t at) {
     if (pwrite(file, bytes, count, at) != (ssize_t)count) abort();
 }
 
-#ifdef FUZZ_MODULES
+#ifdef FUZZ_TEXTS
+/* The first byte says which code of a module it is that the rest is a line of; what does that mean at each column? It is a name
+   too. Nothing of this ends the process. */
+static void read_text(const uint8_t *data, size_t size) {
+    static struct debug *d;
+    char line[LINE_BYTES] = "";
+    if (!d) read_units(d = open_debug("./module-of-texts"));
+    memcpy(line, data + 1, size <= sizeof line ? size - 1 : sizeof line - 1);
+    free(demangled(line));
+    u64 low = d->spans[0].low, pc = low + data[0] * (d->spans[0].high - low) / 256 + d->bias;
+    for (int column = 1; line[column - 1]; column++) meaning_in_line(d, pc, column % 2, line, column);
+}
+#elif defined FUZZ_MODULES
 static int prepare(const uint8_t *data, size_t size, char **words) {
     put(data, size, 0);
     return 0;
@@ -85,6 +97,7 @@ static int read_module(void) {
             for (int n = frames_at(d, pc, frames, MOST); n-- > 0;) free(frames[n].function);
             add_local(d, (place_of_local){pc, at, at, 4}, name, sizeof name);
             add_in_block(d, (place_in_block){pc, MOST, at, 4}, name, sizeof name);
+            object_by_use(d, (place_in_block){pc, MOST, at, 4}, 0, &(object_in_block){.size = 0});
         }
     return 0;
 }
@@ -120,6 +133,12 @@ static int prepare(const uint8_t *data, size_t size, char **words) {
 }
 #endif
 
+#ifdef FUZZ_TEXTS
+int LLVMFuzzerTestOneInput(const uint8_t *data, size_t size) {
+    if (size) read_text(data, size);
+    return 0;
+}
+#else
 static void run(const uint8_t *data, size_t size) {
     char *words[16] = {0};
     int null = openat(AT_FDCWD, "/dev/null", O_RDWR);        /* the reader's own open takes regular files alone */
@@ -157,3 +176,4 @@ int LLVMFuzzerTestOneInput(const uint8_t *data, size_t size) {
     for (size_t k = 0; k < count_bytes(); k++) own[k] = counted[k] > own[k] ? counted[k] : own[k];
     return 0;
 }
+#endif
