@@ -1,0 +1,3 @@
+package Right_Rendezvous_Data is
+   Value : Integer := 0;
+end Right_Rendezvous_Data;
