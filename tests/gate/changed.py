@@ -24,7 +24,7 @@ import record
 
 ROOT = pathlib.Path(__file__).resolve().parent.parent.parent
 SUMS = ROOT / "tests" / "gate" / "refused.sums"
-FORMS = ("edits.py", "layout.py", "documents.py", "surface.py", "refusals.py", "endless.py")
+FORMS = ("edits.py", "layout.py", "documents.py", "surface.py", "refusals.py", "endless.py", "weight.py")
 # Which folders' changes are tested by which tests, all on the built program.
 SUITES = {
     "tests": ("tests/", "view/", "common/", "farm/", "fix/", "plain/", "examples/", "crates/"),
