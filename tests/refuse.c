@@ -1,5 +1,6 @@
 /* Preloaded into the program: refuses the request for memory of number REFUSE_MEMORY, counted from 1, and with
-   REFUSE_THREADS every thread from that number on; with WATCH_READS it refuses each read after the end of a file.
+   REFUSE_THREADS every thread from that number on; with REFUSE_RANDOM it refuses random numbers, and with WATCH_READS
+   each read after the end of a file.
    Makes the file REFUSED where it refused something. Each thread but the first is held at its hundredth request for as
    long as there is a file HELD. */
 #define _GNU_SOURCE
@@ -71,6 +72,15 @@ int pthread_create(pthread_t *thread, const pthread_attr_t *how, void *(*start)(
     if (first == 0 || __atomic_add_fetch(&threads, 1, __ATOMIC_SEQ_CST) < first) return next(thread, how, start, given);
     note();
     return EAGAIN;
+}
+
+int getentropy(void *buffer, size_t size) {
+    static int (*next)(void *, size_t);
+    if (!next) next = dlsym(RTLD_NEXT, "getentropy");
+    if (!setting("REFUSE_RANDOM")) return next(buffer, size);
+    note();
+    errno = EPERM;
+    return -1;
 }
 
 ssize_t read(int file, void *buffer, size_t size) {

@@ -6,6 +6,7 @@ import subprocess
 import program
 
 TRACE = b"T1|w(x)\nT1|w(y)\nT2|r(y)\nT2|w(x)\n"
+CLOSED_PIPE = b"cannot write\nshb: standard output: Broken pipe (os error 32)\n"
 
 
 class Devices(program.Case):
@@ -71,7 +72,8 @@ class Devices(program.Case):
                 self.assertIn(b"\nevents 0 threads 0 locks 0 variables 0\n", answer.out)
                 self.assertEqual(program.run(words, text), answer._replace(err=b""))
         self.assertEqual(self.watched(["places", "--list"], b"\n" * 70000 + b"T|begin\n").err, b"")
-        self.assertEqual(self.watched(["places", "--list"], b"\r\r\n").err, b"line 1: the line has no operation field\n")
+        said = b"line 1: the line has no operation field\nFORMATS.md has the form of a trace, and `shb-fix` repairs common faults\n"
+        self.assertEqual(self.watched(["places", "--list"], b"\r\r\n").err, said)
 
     def test_a_report_that_is_cut_off(self):
         """A note to a user who watches standard error."""
@@ -98,7 +100,8 @@ class Devices(program.Case):
     def test_a_full_disk(self):
         for words, given in self.writers():
             with self.subTest(words), open("/dev/full", "wb") as full:
-                self.assertEqual(program.run(words, given, stdout=full), (4, None, b"cannot write\n"))
+                said = b"cannot write\nshb: standard output: No space left on device (os error 28)\n"
+                self.assertEqual(program.run(words, given, stdout=full), (4, None, said))
 
     def test_a_closed_pipe(self):
         for words, given in self.writers():
@@ -107,7 +110,7 @@ class Devices(program.Case):
                 os.close(reader)
                 answer = program.run(words, given, stdout=writer)
                 os.close(writer)
-                self.assertEqual(answer, (4, None, b"cannot write\n"))
+                self.assertEqual(answer, (4, None, CLOSED_PIPE))
 
     def test_a_failing_standard_error_is_passed_over(self):
         refused = self.file(b"oops\n", "oops.std")

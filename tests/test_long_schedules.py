@@ -2,6 +2,7 @@
 request for memory on the way."""
 
 import program
+import test_devices
 import test_long_lists
 import test_refusals
 
@@ -49,7 +50,7 @@ class LongSchedules(test_refusals.Refusing):
         running.stdout.close()
         said = running.stderr.read()
         running.stderr.close()
-        self.assertEqual((running.wait(program.SECONDS), said), (4, b"cannot write\n"))
+        self.assertEqual((running.wait(program.SECONDS), said), (4, test_devices.CLOSED_PIPE))
 
     def test_whole_reports(self):
         """Of two rounds there are as many races as events, of the others there are more."""

@@ -56,6 +56,16 @@ class Refusing(program.Case):
 
 
 class Refusals(Refusing):
+    def test_random_numbers(self):
+        """They are reported as memory that is refused, and then by their name."""
+        trace = self.file(LOCKED)
+        said = b"out of memory\nshb: random numbers: Operation not permitted (os error 1)\n"
+        for words in (["races"], ["places"], ["places", "--list"], ["check"]):
+            with self.subTest(words):
+                answer, is_refused = self.run_refused([*words, trace], b"", REFUSE_RANDOM=1)
+                self.assertTrue(is_refused)
+                self.expect(answer, 4, b"", said)
+
     def test_memory_for_a_report(self):
         for workers in ("1", "2"):
             self.refuse_in_turn(["races", "--workers", workers], LOCKED)

@@ -1,6 +1,8 @@
 """What is said of a refused line of a file, after the line that says which it is and why."""
 
 import program
+import viewing  # by which the packages of the commands are found
+from shb_common import refused
 
 OPERATIONS = "is none of r, w, acq, rel, fork, join, begin and end"
 ROWS = (
@@ -31,6 +33,19 @@ ROWS = (
 )
 
 
+OTHER_FILES = (
+    (b"\x1f\x8b\x08\x00", b"the file is packed by gzip: unpack it first\n"),
+    (b"\xfd7zXZ\x00", b"the file is packed by xz: unpack it first\n"),
+    (b"\x28\xb5\x2f\xfd", b"the file is packed by zstd: unpack it first\n"),
+    (b"BZh91AY", b"the file is packed by bzip2: unpack it first\n"),
+    (b"PK\x03\x04", b"the file is a zip archive: unpack it first\n"),
+    (b"\xff\xfeT\x00", b"the file is UTF-16: save it as UTF-8\n"),
+    (b"\xfe\xff\x00T", b"the file is UTF-16: save it as UTF-8\n"),
+    (b"shb-report 2\n", b"the file is a report of `shb`, not a trace\n"),
+    (b"shb-record", b"the file is a record: `shb-std` makes a trace of it\n"),
+)
+
+
 class Refused(program.Case):
     def test_each_command(self):
         for text, first, further in ROWS:
@@ -50,3 +65,17 @@ class Refused(program.Case):
         text, first, _ = ROWS[0]
         for words in (["races"], ["places", "--list"], ["places", "--list", "/dev/stdin"]):
             self.expect(program.run(words, text.encode()), 2, b"", f"{first}\n".encode())
+
+    def test_files_that_are_no_traces(self):
+        """What they are is said last, also of a pipe, and as the other commands say it."""
+        first = b"line 1: the line has no operation field\n"
+        for text, said in OTHER_FILES:
+            for words in (["races"], ["places"], ["places", "--list"]):
+                with self.subTest(said, words=words):
+                    self.expect(program.run(words, text), 2, b"", first + said)
+            answer = program.run(["races", self.file(text)])
+            self.assertEqual((answer.status, answer.err.startswith(first), answer.err.endswith(b"`\n" + said)), (2, True, True))
+            self.assertIn(said.decode().rstrip("\n"), refused.BEGINNINGS.values())
+        self.expect(program.run(["races"], b"\x1f"), 2, b"", first)
+        self.expect(program.run(["places", "--list"], b"BZh|r(x)\n" * 2 + b"oops"), 2, b"",
+                    b"line 3: the line has no operation field\n" + OTHER_FILES[3][1])

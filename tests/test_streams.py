@@ -123,5 +123,5 @@ class Streams(program.Case):
         with open(out, "wb") as file:
             answer = program.run(LIST, text, stdout=file, **test_long_lists.written_at_most(room))
         front = out.read_bytes()
-        self.assertEqual((answer.status, answer.err), (4, b"cannot write\n"))
+        self.assertEqual((answer.status, answer.err), (4, test_long_lists.FULL_FILE))
         self.assertTrue(whole.startswith(front) and len(front) <= room, "what was written is no front of the list")

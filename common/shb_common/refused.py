@@ -39,8 +39,9 @@ CARRIAGE_RETURNS = "a carriage return without a line feed: lines end with a line
 
 
 def without_note(said):
-    """What `shb` said, but for its note on how the trace begins, which the commands give by themselves."""
-    return said.replace(NOTE, b"")
+    """What `shb` said, but for its notes on how the trace begins, which the commands give by themselves."""
+    notes = {NOTE, *(f"{hint}\n".encode() for hint in BEGINNINGS.values())}
+    return b"".join(line for line in said.splitlines(keepends=True) if line not in notes)
 
 
 def explained(words, file):

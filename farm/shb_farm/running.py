@@ -77,7 +77,7 @@ def end_of(work, status, said, written):
         return End("memory", str(work.memory))
     if status == -signal.SIGXCPU:
         return End("time", str(work.seconds))
-    if status == -signal.SIGXFSZ or (said == "cannot write" and written >= work.size * MIB):
+    if status == -signal.SIGXFSZ or (said.startswith("cannot write") and written >= work.size * MIB):
         return End("size", str(work.size))
     how = f"status {status}" if status >= 0 else f"signal {-status}"
     return End("failed", f"{how} {said}")

@@ -114,6 +114,7 @@ class Ends(farm.Case):
             (2, "", 0, End("memory", "256")),
             (4, "out of memory", 5, End("memory", "256")),
             (4, "cannot write", MIB, End("size", "1")),
+            (4, "cannot write shb: standard output: File too large (os error 27)", MIB, End("size", "1")),
             (4, "cannot write", MIB - 1, End("failed", "status 4 cannot write")),
             (4, "cannot read", 0, End("failed", "status 4 cannot read")),
             (-24, "", 0, End("time", "60")),
