@@ -59,7 +59,7 @@ class Refusals(Refusing):
     def test_random_numbers(self):
         """They are reported as memory that is refused, and then by their name."""
         trace = self.file(LOCKED)
-        said = b"out of memory\nshb: random numbers: Operation not permitted (os error 1)\n"
+        said = b"out of memory\nthe system refuses random numbers (getrandom)\n"
         for words in (["races"], ["places"], ["places", "--list"], ["check"]):
             with self.subTest(words):
                 answer, is_refused = self.run_refused([*words, trace], b"", REFUSE_RANDOM=1)

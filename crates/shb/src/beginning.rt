@@ -97,9 +97,8 @@ impl Front {
 
     /// What the text is, if it is known to be no trace.
     fn other(&self) -> Option<WayOut> {
-        for at in 0..OTHERS.len() {
-            let (beginning, _) = OTHERS[at];
-            if self.bytes.as_slice().starts_with(beginning) {
+        for (at, other) in OTHERS.iter().enumerate() {
+            if self.bytes.as_slice().starts_with(other.0) {
                 return Some(WayOut::Other(at));
             }
         }

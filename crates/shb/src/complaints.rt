@@ -2,6 +2,7 @@
 //! error is passed over.
 ghost use Rattle.std.specs.Prelude.{◌≡◌};
 
+use shb_io::Keys;
 use std::io::{Error, Read, Write};
 use std::random::RandomSource;
 
@@ -45,8 +46,8 @@ pub(crate) fn cannot<R: Eprint>(rt: &R, words: &str, name: &str, reason: Error) 
 
 /// Says on standard error if the system refuses random numbers: a run that gets none ends like one that gets no memory.
 pub(crate) fn tell_refused_random<R: Eprint + RandomSource>(rt: &R) {
-    if let Err(reason) = rt.fill_bytes(&mut [0]) {
-        tell_reason(rt, "random numbers", reason);
+    if let Err(_) = Keys::random(rt) {
+        let _ = rt.eprintln("the system refuses random numbers (getrandom)");
     }
 }
 

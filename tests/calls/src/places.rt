@@ -6,6 +6,7 @@ use shb_discipline::Disciplined;
 use shb_io::{Page, Text};
 use shb_lines::Fault;
 use shb_links::Links;
+use shb_pairs::open_variables;
 use shb_run::{RunError, Summary, run_places, run_scan};
 use shb_scan::nearest_races;
 use std::test::Fail;
@@ -108,10 +109,13 @@ struct ArePairs<'a> {
 }
 
 impl Asks for ArePairs<'_> {
-    fn ask<H: Host>(&self, rt: &H, trace: &Disciplined<'_>, _: &Links<'_>) -> Result<(), Fail> {
-        let found = nearest_races(rt, rt.alloc(), trace, self.by_variable)?;
+    fn ask<H: Host>(&self, rt: &H, trace: &Disciplined<'_>, links: &Links<'_>) -> Result<(), Fail> {
+        let flags = open_variables(rt.alloc(), trace, links)?;
         let wanted = pairs_of(rt.alloc(), self.row)?;
-        same(rt, &found.as_slice(), &wanted.as_slice(), self.row.text);
+        for open in [flags.as_slice(), &[]] {
+            let found = nearest_races(rt, rt.alloc(), trace, open, self.by_variable)?;
+            same(rt, &found.as_slice(), &wanted.as_slice(), self.row.text);
+        }
         Ok(())
     }
 }
