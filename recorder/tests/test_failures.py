@@ -16,7 +16,7 @@ class Failures(recorder.Case):
 
     def test_a_record_that_cannot_be_written(self):
         program = self.program("mutex_ok.c")
-        for path, reason in (("/dev/full", b"No such device"), (self.folder / "none" / "app.rec", b"No such file or directory"),
+        for path, reason in (("/dev/full", b"is no record, and isn't replaced by one"), (self.folder / "none" / "app.rec", b"No such file or directory"),
                              (self.folder, b"Is a directory")):
             ran = recorder.must(recorder.call(program, env=recorder.settings(path)))
             self.assertIn(reason + b"; the program runs unrecorded", ran.stderr)
