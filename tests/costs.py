@@ -147,7 +147,6 @@ def costs():
     yield Cost("numbers that are far apart", STREAM, shapes.far_numbers, 50_000, unit=MEMORY)
     yield Cost("2,500 threads forked and joined", STREAM, shapes.forked_and_joined, 7_500, unit=MEMORY)
     yield Cost("a lock handed on by 3,000 threads", STREAM, shapes.handed_on, 6_000, unit=MEMORY)
-    yield Cost("variables that 1,000 threads write under a lock", STREAM, shapes.rows_wide, 362_000, unit=MEMORY)
     yield Cost("variables that 200 threads write under a lock again and again", STREAM, shapes.variables_under_a_lock, 1_500_000,
                unit=MEMORY, growth=SAME)
     for path in sorted(RECORDED.glob("*.std.xz")):

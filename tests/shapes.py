@@ -203,13 +203,6 @@ def handed_on(n):
     yield from (f"T{k}|acq(l)|a\nT{k}|rel(l)|r\n" for k in range(n // 2))
 
 
-def rows_wide(n):
-    """1,000 threads that know each other write variables under one lock, each one once: what was known at its last write is a row for
-    each variable."""
-    yield from (f"T{t}|acq(l)\nT{t}|rel(l)\n" for t in range(1000))
-    yield from (f"T{k % 1000}|acq(l)\nT{k % 1000}|w(v{k})|w\nT{k % 1000}|rel(l)\n" for k in range(n // 3))
-
-
 def two_orders(n):
     """1,000 threads write a variable, and in the other order another one; then each of them in turn writes both."""
     yield from (f"T{t}|w(x)|l\n" for t in range(1000))
