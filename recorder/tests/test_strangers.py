@@ -68,7 +68,7 @@ class Strangers(recorder.Case):
         (folder / LIST).symlink_to(elsewhere)
         status, said = self.record("-o", folder, self.program("short_threads.c"))
         self.assertEqual((status, elsewhere.exists()), (125, False), said)
-        self.assertRegex(said, rf"\Ashb-record: the results can't be put into {folder} \(.*\): -o names another folder\n\Z")
+        self.assertRegex(said, rf"\Ashb-record: the results can't be put into {folder}: .*; name another folder with -o\n\Z")
 
     @AS_ROOT
     def test_a_folder_of_another_user(self):
