@@ -1,6 +1,6 @@
 # `make` alone says what can be made. Times are on four cores of 2.5 GHz.
 
-.PHONY: help build run test test-all changed quick end-to-end recorder install uninstall dist deb bench
+.PHONY: help build run test test-all changed quick new-crate end-to-end recorder install uninstall dist deb bench
 
 PREFIX = /usr/local
 DESTDIR =
@@ -8,7 +8,7 @@ SHB = bin/shb
 
 # What the program is made of.
 SOURCES = crates.txt HANDLES $(shell find crates -path '*/out' -prune -o -path '*/must-fail' -prune \
-	-o -path crates/shb_orders -prune -o -path crates/shb_clocks -prune -o -path crates/shb_report -prune \
+	-o -path crates/README.md -prune -o -path crates/new.sh -prune -o -path crates/shb_orders -prune -o -path crates/shb_clocks -prune -o -path crates/shb_report -prune \
 	-o -type f -print)
 
 define HELP
@@ -24,6 +24,7 @@ make quick BASE=main    checks a part of what a change can have broken         m
 make changed BASE=main  checks all that a change can have broken               minutes to an hour
 make test               what a merge must pass                                 docs/GATE.md
 make test-all           the same with every must-fail edit                     docs/GATE.md
+make new-crate         makes the crate NAME=shb_x, which may use USES="shb_io"
 make end-to-end         tests the built program                                minutes
 make bench              measures the built program                             minutes
 
@@ -58,6 +59,10 @@ changed:
 quick:
 	python3 tests/gate/changed.py --quick $(BASE)
 
+# Makes a crate that may use those of USES.
+new-crate:
+	@crates/new.sh "$(NAME)" $(USES)
+
 # Runs the built program as a user would: the second half of `make test`.
 end-to-end: build
 	python3 tests/run.py bin/shb
@@ -66,7 +71,7 @@ end-to-end: build
 recorder:
 	$(MAKE) -C recorder
 	mkdir -p bin
-	for command in */shb-*; do [ ! -f "$$command" ] || ln -sf "../$$command" bin/; done
+	for command in python/shb-* recorder/shb-std; do [ ! -f "$$command" ] || ln -sf "../$$command" bin/; done
 
 # A program that SHB names isn't built here; its path may have blanks.
 ifeq ($(SHB),bin/shb)
@@ -75,14 +80,14 @@ endif
 
 # Puts the commands, manual pages, completions and examples below PREFIX, and takes them away again.
 install:
-	install/install --shb "$(SHB)" --prefix "$(PREFIX)" --destdir "$(DESTDIR)" install
+	packaging/install --shb "$(SHB)" --prefix "$(PREFIX)" --destdir "$(DESTDIR)" install
 
 uninstall:
-	install/install --prefix "$(PREFIX)" --destdir "$(DESTDIR)" uninstall
+	packaging/install --prefix "$(PREFIX)" --destdir "$(DESTDIR)" uninstall
 
 # Make shb-VERSION-x86_64-linux.tar.xz and shb_VERSION_amd64.deb, each with its checksum, for machines without the kit.
 dist deb:
-	install/install --shb "$(SHB)" $@
+	packaging/install --shb "$(SHB)" $@
 
 # Run by hand: it times the built program and prints ratios.
 bench: build

@@ -49,7 +49,7 @@ def build(kind, folder):
 def print_row(name, words, runs, folder):
     record, least, memory = folder / "app.rec", {}, 0
     ways = {"tsan": (words, {"TSAN_OPTIONS": "report_bugs=0"}),
-            "all": ([sys.executable, TOP / "recorder/shb-record", "-o", folder / "results", *words], {"SHB_SEED": "1"})}
+            "all": ([sys.executable, TOP / "python/shb-record", "-o", folder / "results", *words], {"SHB_SEED": "1"})}
     compiled = {**os.environ, "PYTHONPYCACHEPREFIX": str(folder / "compiled")}
     compiled.pop("PYTHONDONTWRITEBYTECODE", None)
     for _ in range(runs):

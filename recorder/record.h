@@ -2,15 +2,14 @@
 
    HEADER_BYTES of text: the magic line, "command WORD WORD..", and a line "LOW HIGH BASE PATH" (hexadecimal numbers) for
    each module of code, in whose path LINE_END_IN_PATH stands for the end of a line; at ENDED_AT how the recording ended:
-   "whole", or the reason why it stopped before the program, or nothing where the program was killed.  Behind "whole"
-   stand how many entries there are and the sum of their entry_sum (hexadecimal), so that a copy that was cut or changed is
-   known; not where an exec ended the recording, for another thread may have added some meanwhile.
+   "whole", or the reason why it stopped before the program, or nothing if the program was killed.  After "whole" are the
+   number of entries and the sum of their entry_sum (hexadecimal), which show a cut or changed copy; not after an exec.
    Then records of 16 bytes in the order in which things happened, until one of zeros or the file's end. */
 #pragma once
 #include <stdint.h>
 
 #define ANY_RECORD "shb-record "
-#define RECORD_MAGIC ANY_RECORD "10\n"
+#define RECORD_MAGIC ANY_RECORD "11\n"
 #define LINE_END_IN_PATH 1
 #define HEADER_BYTES 65536
 #define ENDED_BYTES 256
@@ -28,13 +27,14 @@
 #define MAX_SIZE (1ull << 36)          /* of a range; none is as long */
 #define THREAD_NUMBERS 65534           /* a joined thread's is used again when there is no new one: each fork begins another thread */
 #define MOST_FRAMES 16384              /* of a thread; those further in aren't recorded */
-#define CONTEXT_BITS 24                /* of the number of a context in which an access is held back */
+#define CONTEXT_BITS 23                /* of the number of a context in which an access is held back */
 #define PLACE_BITS 24                  /* of each of the two numbers of a record OP_PLACE */
 #define NAME_PIECE 12                  /* so many bytes of a thread's name stand in a record OP_NAME, as in piece_of_name */
 #define HAS_ADDRESS 128                /* above the numbers of signals */
 /* A position is before which entry (of this number, from 0), and which one of those that were held back there, from 1: ORDER_BITS. */
 #define POSITION_BITS 40
 #define ORDER_BITS 12
+#define IS_REPEATED (1ull << POSITION_BITS) /* of a late access: an earlier one of the phase was held back, and forgotten */
 #define ATOMIC_SIZE_BITS 5             /* of an atomic access: the memory order stands above the size, as __ATOMIC_.. */
 
 struct record {
@@ -42,7 +42,7 @@ struct record {
     uint64_t what;                     /* 48 bits: the return address of the call; 6: the operation; 10: the size */
 };
 
-/* A piece of a name, and an end; what is behind the name is zeros. */
+/* A piece of a name, and an end; what is after the name is zeros. */
 static inline void piece_of_name(struct record r, char piece[NAME_PIECE + 1]) {
     for (int k = 0; k < NAME_PIECE / 2; k++) {
         piece[k] = r.where >> 8 * k;
@@ -51,7 +51,7 @@ static inline void piece_of_name(struct record r, char piece[NAME_PIECE + 1]) {
     piece[NAME_PIECE] = 0;
 }
 
-/* Of the entry with this number, from 0. */
+/* The sum of the entry with this number, from 0. */
 static inline uint64_t entry_sum(uint64_t number, struct record r) {
     return (r.where ^ number << 20) * 0x9E3779B97F4A7C15u + (r.what ^ number) * 0xD6E8FEB86659FD93u;
 }
@@ -69,19 +69,19 @@ enum operation {
                                           further out (the size), the outermost of its context before. The record's contexts are
                                           numbered from 1; in 0 a thread is in no function. Further out than the functions of a
                                           fiber are __tsan_create_fiber, which made it, and those that it was called in */
-    OP_WAY,                            /* of the record behind it, a frame too: its caller is code without hooks, which the
+    OP_WAY,                            /* of the record after it, a frame too: its caller is code without hooks, which the
                                           innermost function called from here */
-    OP_PLACE,                          /* of the frame behind it: where its function lies on the stack. PLACE_BITS: how many bytes
+    OP_PLACE,                          /* of the frame after it: where its function lies on the stack. PLACE_BITS: how many bytes
                                           below the stack pointer of the function further out (of the outermost one: below the
                                           end of the thread's stack) its return address ends; above these: how many bytes below
                                           that its own stack pointer is. Where there is none it isn't known */
     OP_CONTEXT,                        /* the thread is in the context of this number (the address) */
     OP_NAME,                           /* a piece of the name that the program gives the thread: the size is 0 in its first one,
-                                          and NAME_PIECE in another right behind it, where there is more */
+                                          and NAME_PIECE in another right after it, if there is more */
     OP_CRASH,                          /* the last record of a thread that a signal ends with the program: the size is its number, and
                                           HAS_ADDRESS where the kernel told the address. It was behind the caller that it came */
     OP_LATE,                           /* the access that is in the next entry was made earlier: in the place of the address
-                                          is its position, of POSITION_BITS, and of the caller its context, of CONTEXT_BITS. It may
-                                          come again, with the same position */
+                                          is its position, of POSITION_BITS, and perhaps IS_REPEATED, and of the caller its context,
+                                          of CONTEXT_BITS. It may come again, with the same position */
     OPERATIONS
 };

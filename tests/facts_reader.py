@@ -5,13 +5,14 @@ import bisect
 import collections
 import itertools
 import re
+import struct
 
 KNOWN = ("mixed", "published", "freed", "plain", "uncounted", "read-lock", "without", "sometimes", "apart", "no-lock", "ordered")
 NUMBERS = re.compile(r"(?<=#)[0-9]+|(?<=\[)[0-9]+(?=\])")  # of a block, and of an element
 MOST_CHOICES = 4_096  # of a lock for each variable
 READER = re.compile(r"(.+)@reader\..+", re.S)
 STAND_IN = re.compile(r".+@[0-9]+(?:[<>].+)?", re.S)
-Use = collections.namedtuple("Use", "event name thread location kind order")
+Use = collections.namedtuple("Use", "event name thread location kind order again", defaults=("",))
 # `count` is 1 of an event, and more where the file of uses has several alike, which have no number.
 Access = collections.namedtuple("Access", "number thread word name location held shared is_free is_atomic local count")
 Named = collections.namedtuple("Named", [*Access._fields, "variable"])
@@ -22,31 +23,42 @@ class Reader:
         """The bytes of a trace, those of its file of stacks, and those of the uses of the run that it is a part of."""
         self.uses, self.frees, self.locals = [], [], collections.defaultdict(list)
         self.events, self.by_name = [], collections.defaultdict(list)  # of the uses: their events, in order; their places, of fences without a name
-        events = [line.rstrip("\r") for line in trace.decode("latin-1").split("\n") if line.rstrip("\r")]
+        self.parts, self.repeated = [], set()
+        lines = [line.rstrip("\r") for line in trace.decode("latin-1").split("\n")]
+        self.lines = events = list(filter(None, lines))
+        self.frames, self.innermost, self.numbers = [], {}, ()  # the system's function of a frame, of a stack's innermost
         if stacks:
-            self.read_stacks(stacks[34 + 4 * int(stacks[13:33]):].decode("latin-1"))
+            begin = 34 + 4 * int(stacks[13:33])
+            self.numbers = [number for [number] in struct.iter_unpack("<I", stacks[34:begin])]
+            self.read_stacks(stacks[begin:].decode("latin-1"))
         lasting = {name: {local for _, local in found} for name, found in self.locals.items()}
         lasting = {name: found.pop() for name, found in lasting.items() if len(found) == 1 and found != {""}}
         held, self.traced = collections.defaultdict(lambda: collections.defaultdict(int)), []
+        lockers = collections.defaultdict(set)
         for number, line in enumerate(events, 1):
             thread, operation, location = (line.split("|", 2) + [""])[:3]
             word, _, name = operation.partition("(")
             name = name[:-1]
             if word in ("acq", "rel"):
                 if not STAND_IN.fullmatch(name):
+                    lockers[lock_of(name, lasting)].add(thread)
                     held[thread][lock_of(name, lasting)] += 1 if word == "acq" else -1
             elif word in ("r", "w"):
                 locks = {lock for lock, count in held[thread].items() if count > 0}
                 is_free = word == "w" and any(first <= number <= last for first, last in self.frees)
                 self.traced.append(Access(number, thread, word, name, location, *told_apart(locks), is_free,
                                           word == "w" and name.endswith("!" + thread), self.local_of(name, number), 1))
+        self.private = {lock for lock, its in lockers.items() if lock.startswith("stack.") and len(its) == 1}
         self.counted = list(self.uses_of_run(uses.decode("latin-1"), lasting)) if uses is not None else self.traced
 
-    @staticmethod
-    def uses_of_run(text, lasting):
+    def uses_of_run(self, text, lasting):
         for line in text.split("\n"):
             kind, *fields = line.split("\t")
-            if kind == "use":
+            if kind == "part":
+                self.parts.append(int(fields[0]))
+            elif kind == "repeated":
+                self.repeated.add(int(fields[0]))
+            elif kind == "use":
                 count, word, name, local, thread, location, _, *locks = fields
                 yield Access(None, thread, "r" if word == "r" else "w", name, location, *told_apart({lock_of(lock, lasting) for lock in locks}),
                              word == "f", word == "a", local if name.startswith("stack.") else lasting.get(name, ""), int(count))
@@ -59,11 +71,20 @@ class Reader:
                 self.by_name[name].append(len(self.uses))
                 self.events.append(int(event))
                 self.uses.append(Use(int(event), name, thread, location, *how.split(" ")))
+            elif kind in ("frame", "system-frame"):
+                self.frames.append(last_name(rest.split("\t")[0]) if kind == "system-frame" else None)
+            elif kind == "stack":
+                number, outer, *frames = map(int, rest.split())
+                self.innermost[number] = self.frames[frames[0] - 1] if frames else self.innermost.get(outer)
             elif kind == "free":
                 self.frees.append(tuple(map(int, rest.split(" "))))
             elif kind == "local":
                 event, variable, name = rest.split("\t")
                 self.locals[variable].append((int(event), name))
+
+    def system_at(self, event):
+        """The system's function that an event is in, or None."""
+        return self.innermost.get(self.numbers[event - 1]) if self.numbers else None
 
     def local_of(self, variable, number):
         found = ""
@@ -76,6 +97,44 @@ class Reader:
         """What is wrong in the facts of some groups: each a fact with the pairs of lines of its group."""
         for fact, pairs in groups:
             yield from (f"{fact['form']} of {fact['group'][:3]}: {fault}" for fault in Group(self, fact, pairs).faults())
+
+
+class Clocks:
+    """By thread how many events of each it knows; and by what is given on the clock of its giver."""
+
+    def __init__(self):
+        self.of, self.given = collections.defaultdict(collections.Counter), {}
+        self.accesses = collections.defaultdict(list)
+
+    def give(self, thread, what):
+        self.given[what] = self.of[thread].copy()
+
+    def take(self, thread, clock):
+        self.of[thread] |= clock or collections.Counter()
+
+    def event(self, line, part):
+        """Takes an event, and says whether it is an access that races with an earlier one of its part."""
+        thread, operation = line.split("|")[:2]
+        word, name = operation.rstrip(")").partition("(")[::2]
+        races = False
+        if word in ("r", "w"):
+            races = any(other != thread and "w" in word + does and its == part
+                        and self.of[thread][other] < time for other, does, its, time in self.accesses[name])
+            self.accesses[name].append((thread, word, part, self.of[thread][thread] + 1))
+        self.of[thread][thread] += 1
+        if word in ("acq", "r"):
+            self.take(thread, self.given.get((word, name)))
+        elif word in ("rel", "w"):
+            self.give(thread, ({"rel": "acq", "w": "r"}[word], name))
+        elif word == "fork":
+            self.take(name, self.of[thread])
+        elif word == "join":
+            self.take(thread, self.of[name])
+        return races
+
+
+def last_name(function):
+    return re.sub(r"[<(].*", "", function).rpartition("::")[2]
 
 
 def lock_of(name, lasting):
@@ -144,6 +203,7 @@ class Group:
             yield "no such form"
             return
         yield from getattr(self, "check_" + form.replace("-", "_"))()
+        yield from self.check_trials()
         if form != "mixed" and len(self.variables) > 1:
             yield from self.check_alone()
         if "also" in self.fact:
@@ -154,6 +214,83 @@ class Group:
             applies = getattr(self, "has_" + earlier.replace("-", "_"), None)
             if applies and applies():
                 yield f"{earlier} comes first, and holds"
+
+    # ---- trials: the trace with a remedy in it ----
+    def races_left(self, keys=(), moved=(), before=0):
+        """Whether a variable of the group races, with an order at some atomics, and some events moved."""
+        clocks, reader, orders, found = Clocks(), self.reader, self.orders(set(keys)), False
+        for number in range(1, len(reader.lines) + 2):
+            for thread, does, what in orders.get(number, ()):
+                clocks.give(thread, what) if does == "give" else clocks.take(thread, clocks.given.get(what))
+            own = [number] if number not in moved and number <= len(reader.lines) else []
+            here = [*moved, *own] if number == before else own
+            for line in filter(self.is_kept, [reader.lines[event - 1] for event in here]):
+                found = clocks.event(line, bisect.bisect(reader.parts, number)) or found
+        return found
+
+    def is_kept(self, line):
+        word, _, name = line.split("|")[1].partition("(")
+        return word not in ("r", "w") or name[:-1] in self.fact["group"]
+
+    def orders(self, keys):
+        """By the event before which it is done: what stores give, and loads that read them take."""
+        found = collections.defaultdict(list)
+        for at, use in enumerate(self.reader.uses):
+            its = self.sources(at, -1) if use.kind in ("load", "update") else ()
+            found[use.event] += [(use.thread, "take", id(store)) for store in its
+                                 if (store.name, store.location, use.location) in keys]
+            if use.kind in ("store", "update"):
+                found[use.event].append((use.thread, "give", id(use)))
+        return found
+
+    def check_trials(self):
+        """A remedy that was tried leaves no race; one that was refuted leaves one, or may."""
+        fact = self.fact
+        keys = {(by["atomic"], by["store"]["location"], by["load"]["location"]) for by in fact.get("by", ())}
+        if fact.get("is_tried") and (self.races_left(keys) or self.comes_again(keys)):
+            yield "the remedy leaves a race"
+        if "moved" in fact and self.races_left((), fact["moved"], fact["before"]):
+            yield "the move leaves a race"
+        if fact.get("is_refuted") and not self.has_refuted():
+            yield "no remedy is refuted"
+        if fact["form"] in ("no-lock", "apart") and set(fact.get("gone", ())) != self.gone():
+            yield "other lines use what is gone"
+
+    def gone(self):
+        """The lines that use another thread's stack in a race with a local of a system's function there."""
+        owners = {name.rpartition("-0x")[0] for name in self.fact["group"] if name.startswith("stack.")}
+        found = set()
+        by_number = {access.number: access for access in self.traced}
+        for race in self.races_of_form() if len(owners) == 1 else ():
+            for owner, user in itertools.permutations(by_number[event] for event in race):
+                system = self.reader.system_at(owner.number)
+                if {f"stack.{owner.thread}"} == owners and system and not self.reader.system_at(user.number):
+                    local = self.reader.local_of(owner.name, owner.number)
+                    found.update([user.location] * (last_name(local.rpartition(" of ")[2]) == system))
+        return found
+
+    def has_refuted(self):
+        """Whether the release and acquire that would be told leave a race, or may."""
+        keys = {key[:3] for found in self.common_of_places() for key in found}
+        return bool(keys) and (self.races_left(keys) or self.comes_again(keys))
+
+    def comes_again(self, keys):
+        """Whether an access that races was repeated, with a store of its thread between the last one alike and it."""
+        by_number = {access.number: access for access in self.traced}
+        racing = {(by_number[event].thread, by_number[event].word) for event, _ in self.races_of_form()}
+        stores = [use for use in self.reader.uses
+                  if use.kind != "load" and (use.name, use.location) in {key[:2] for key in keys}]
+        last, moments = {}, collections.defaultdict(set)  # the events before which a thread may store
+        for use in stores:
+            from_event = last.get(use[1:4], 0) + 1 if use.again else use.event
+            moments[use.thread].update(range(from_event, use.event + 1))
+            last[use[1:4]] = use.event
+        for access in self.traced:
+            since, last[access[1:5]] = last.get(access[1:5], 0), access.number
+            is_repeated = access.number in self.reader.repeated and (access.thread, access.word) in racing
+            if is_repeated and not moments[access.thread].isdisjoint(range(since + 1, access.number + 1)):
+                return True
+        return False
 
     def alone(self, names):
         """The same of some of the variables, by their names in the trace."""
@@ -226,7 +363,8 @@ class Group:
         by_number, places = {access.number: access for access in self.traced}, set()
         for by in self.fact["by"]:
             store, load = (Use(use["event"], by["atomic"], use["thread"], use["location"], use["kind"], use["order"]) for use in (by["store"], by["load"]))
-            if store not in self.reader.uses or load._replace(order="") not in [use._replace(order="") for use in self.reader.uses]:
+            uses = [use._replace(again="") for use in self.reader.uses]
+            if store not in uses or load._replace(order="") not in [use._replace(order="") for use in uses]:
                 yield "no such use"
             if by["missing"] != self.misses(store, load) or not by["missing"]:
                 yield "missing is wrong"
@@ -246,17 +384,21 @@ class Group:
     def races_of_form(self):
         return [tuple(race) for race in self.fact.get("all_races", ())]
 
-    def has_published(self):
+    def common_of_places(self):
+        """Of each place what is handed on between the accesses of each of its races."""
         by_number, common = {access.number: access for access in self.traced}, {}
         for first, second in self.races_of_form():
             one, other = by_number[first], by_number[second]
             found = self.handed(one, other)
             key = one.location, other.location
             common[key] = common[key] & found if key in common else found
+        return list(common.values())
+
+    def has_published(self):
+        common = self.common_of_places()
         if self.fact["form"] == "without":  # beside a lock an update hands nothing on
-            common = {key: found for key, found in common.items() if all(kind == "store" for _, _, _, kind, *_ in found)} if all(common.values()) else {}
-            return len(common) == len({(by_number[first].location, by_number[second].location) for first, second in self.races_of_form()})
-        return bool(common) and all(common.values())
+            common = [found if all(key[3] == "store" for key in found) else () for found in common]
+        return bool(common) and all(common) and not self.fact.get("is_refuted")
 
     # ---- freed ----
     def check_freed(self):
@@ -305,6 +447,8 @@ class Group:
         """A lock has its own name, but where variables have different ones: numbers of blocks and elements are `*` then. It is that lock of
         its kind which most accesses of the variable hold."""
         of, name = self.fact["locks"], self.fact["name"]
+        if not self.reader.private.isdisjoint(of.values()):
+            yield "one thread alone uses the lock"
         if name != (min(of.values()) if len(set(of.values())) < 2 else NUMBERS.sub("*", min(of.values()))):
             yield f"{name} isn't the name of {of}"
         for variable in of if len(set(of.values())) > 1 else ():
@@ -332,7 +476,8 @@ class Group:
         yield from self.check_name()
         fact, of = self.fact, self.fact["locks"]
         lines, some, holding = set(fact["lines"]), set(fact["sometimes"]), set(fact["holding"])
-        holds = {access: self.has(access, of.get(access.variable)) for access in self.used()}
+        uses = self.all if "frees" in fact else self.used()  # a free under the lock is a write
+        holds = {access: self.has(access, of.get(access.variable)) for access in uses}
         if not lines or not lines <= self.lines or not self.lines <= lines | holding or lines & holding or not holding or not some <= lines:
             yield "not the lines"
         is_bare = not any(access.held or access.shared for line in lines for access in self.used(line))
@@ -380,7 +525,7 @@ class Group:
         or hold these at times, or are fewer. With `are_kept` frees are accesses, and hold these."""
         kinds = collections.defaultdict(lambda: collections.defaultdict(set))
         for access in self.used():
-            for lock in access.held | access.shared:
+            for lock in (access.held | access.shared) - self.reader.private:
                 kinds[re.sub(r"(#|\[)[0-9]+", r"\1", lock)][access.variable].add(lock)
         frees = [access for access in self.racing() if access.is_free] if are_kept else ()
         choices = (dict(zip(by, locks)) for by in kinds.values() if self.variables <= set(by)
@@ -417,7 +562,11 @@ class Group:
         return len(self.variables) == 1 and any(
             len({self.has(access, lock) for access in self.used(line)}) == 2 and any(access.word == "w" for access in self.used(line))
             and not all(any(re.sub("[0-9]", "", other) == re.sub("[0-9]", "", lock) for other in self.locks(access)) for access in self.used(line))
-            for line in self.lines for lock in set().union(*(access.held | access.shared for access in self.used(line))))
+            for line in self.lines
+            for lock in self.held_at(line) - self.reader.private)
+
+    def held_at(self, line):
+        return set().union(*(access.held | access.shared for access in self.used(line)))
 
     def check_apart(self):
         if set(self.fact["lines"]) != self.lines:

@@ -16,7 +16,7 @@ import unittest
 
 HERE = pathlib.Path(__file__).resolve().parent
 sys.dont_write_bytecode = True
-sys.path[:0] = [str(HERE), str(HERE.parent / "plain")]
+sys.path[:0] = [str(HERE), str(HERE.parent / "reference")]
 
 import program
 import test_made_traces

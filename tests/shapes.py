@@ -179,6 +179,24 @@ def far_numbers(n):
     yield from (f"A|w(x)|c{k}\n" for k in range(n // 2))
 
 
+def far_writes(n):
+    """A thread reads a variable at many locations and writes it at each 1,300th, twice; two others then read it at a location whose
+    places with these are known. The writes' locations, which each such read asks for, have numbers that are far apart."""
+    locations = n * 5 // 6
+    yield from (f"{thread}|r(x)|r\n" for thread in "BCDEFGHI")
+    yield from (f"A|r(x)|a{k}\n" + f"A|w(x)|a{k}\n" * (k % 1300 == 1299) for k in range(locations))
+    yield "B|r(x)|r\nC|r(x)|r\n"
+    yield from (f"A|w(x)|a{k}\n" for k in range(1299, locations, 1300))
+    yield from (f"{'BC'[k % 2]}|r(x)|r\n" for k in range(n // 6))
+
+
+def opened_late(n):
+    """Variables that two threads read at 12 locations by turns, and that a third one writes then: the reads that waited come to the
+    groups of their variable at once."""
+    for v in range(n // 13):
+        yield "".join(f"{'AB'[k % 2]}|r(v{v})|a{k}\n" for k in range(12)) + f"C|w(v{v})|b\n"
+
+
 def memory_in_order(n):
     """4 threads in turn go on through memory of their own, 50 accesses each; names are as a recorder gives them."""
     for k in range(n):
@@ -208,3 +226,23 @@ def two_orders(n):
     yield from (f"T{t}|w(x)|l\n" for t in range(1000))
     yield from (f"T{t}|w(y)|l\n" for t in reversed(range(1000)))
     yield from (f"T{k % 1000}|w(x)|l\nT{k % 1000}|w(y)|l\n" for k in range(n // 2))
+
+
+def other_locations(n):
+    """A variable that races once has many locations, and two threads write another one at one location: locations are numbered by
+    variable."""
+    yield from (f"A|w(y)|y{k}\n" for k in range(n // 2))
+    yield "B|w(y)|b\n"
+    yield from (f"T{k % 2}|w(x)|x\n" for k in range(n // 2))
+
+
+def other_threads(n):
+    """1,000 threads write variables of their own, and two others write one without order: threads are numbered by variable."""
+    yield from (f"T{t}|w(p{t})|p\n" for t in range(1000))
+    yield from (f"{'AB'[k % 2]}|w(x)|x\n" for k in range(n))
+
+
+def late_threads(n):
+    """Two threads write a variable without order, and 60 others write it once at the end: what comes later costs no step before."""
+    yield from (f"{'AB'[k % 2]}|w(x)|x\n" for k in range(n))
+    yield from (f"T{t}|w(x)|x\n" for t in range(60))

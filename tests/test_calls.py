@@ -30,7 +30,7 @@ class Calls(unittest.TestCase):
     def test_the_copy(self):
         with tempfile.TemporaryDirectory() as room:
             folder = calls.make_copy(pathlib.Path(room))
-            crates = {it.name for it in folder.parent.iterdir()}
+            crates = {it.name for it in folder.parent.iterdir() if it.is_dir()}
             lines = {it.split(":")[0].split()[0] for it in (folder.parent.parent / "crates.txt").read_text().splitlines() if it}
             self.assertEqual(crates, lines)
             self.assertIn("shb_calls", crates)

@@ -17,7 +17,7 @@ LOGGED = {
     "main": ["fork(seller)", "w(price)", "vw(ready)", "r(count)", "join(seller)"],
     "seller": ["vr(ready)", "r(price)", "acq(door)", "w(count)", "rel(door)"],
 }
-FIX = [sys.executable, TOP / "fix" / "shb-fix", "--quiet"]
+FIX = [sys.executable, TOP / "python" / "shb-fix", "--quiet"]
 
 # A trace for each reason, with the line that is refused. The texts of three are long, and other tests have them.
 REFUSED = {

@@ -38,7 +38,8 @@ def facts_of(trace, stacks, written=None):
         view.read_report(given, counts, gathered, QUIET)
         its = Stacks(beside.name, counts.events)
         gathered.name_locals(its)
-        kinds, options = view.Kinds(gathered, its), argparse.Namespace(html=False, all=False, unseen={})
+        kinds = view.Kinds(gathered, its)
+        options = argparse.Namespace(html=False, all=False, unseen={}, shb=program.PATH)
         shown = types.SimpleNamespace(kinds=kinds, gathered=gathered)
         made = view.Subject(given, counts, 0, 0, "", counts.events, None)
         for section in view.make_sections(options, kinds, made, Trace(file, QUIET), gathered.groups())[1]:

@@ -9,7 +9,7 @@ import sys
 
 import program
 
-COMMAND = pathlib.Path(__file__).resolve().parent.parent / "fix" / "shb-fix"
+COMMAND = pathlib.Path(__file__).resolve().parent.parent / "python" / "shb-fix"
 
 # What there is, the trace and what is made of it, a blank between two lines. What is repaired by a guess,
 REPAIRS = [

@@ -1,4 +1,4 @@
-"""new-crate, in a repository of one crate; nothing is proved."""
+"""make new-crate, in a repository of one crate; nothing is proved."""
 
 import pathlib
 import shutil
@@ -13,13 +13,14 @@ class NewCrate(side_by_side.Case):
     def setUp(self):
         super().setUp()
         self.top = self.folder
-        for name in ("new-crate", "HANDLES", ".gitignore"):
+        for name in ("Makefile", "HANDLES", ".gitignore"):
             shutil.copy(TOP / name, self.top)
         (self.top / "crates.txt").write_text("shb_io:\n")
         shutil.copytree(TOP / "crates/shb_io/src", self.top / "crates/shb_io/src")
+        shutil.copy(TOP / "crates/new.sh", self.top / "crates")
 
-    def run_it(self, *words):
-        return subprocess.run(["./new-crate", *words], cwd=self.top, stdout=subprocess.PIPE, stderr=subprocess.PIPE, timeout=120)
+    def run_it(self, name="", *uses):
+        return subprocess.run(["make", "-s", "new-crate", f"NAME={name}", f"USES={' '.join(uses)}"], cwd=self.top, stdout=subprocess.PIPE, stderr=subprocess.PIPE, timeout=120)
 
     def files(self):
         return sorted(str(path.relative_to(self.top)) for path in self.top.rglob("*") if path.is_file() and "shb_io" not in path.parts)
@@ -45,6 +46,6 @@ class NewCrate(side_by_side.Case):
         before = self.files()
         for words in ([], [""], ["shb"], ["shb_"], ["shb_X"], ["other"], ["shb_a/b"], ["../shb_a"], ["shb_io"], ["shb_new", "shb_none"]):
             ran = self.run_it(*words)
-            self.assertEqual((ran.returncode, ran.stdout), (1, b""), words)
+            self.assertEqual((ran.returncode, ran.stdout), (2, b""), words)
             self.assertTrue(ran.stderr.startswith(b"new-crate: "), ran.stderr)
         self.assertEqual((self.files(), (self.top / "crates.txt").read_text()), (before, "shb_io:\n"))

@@ -121,8 +121,7 @@ class Refusals(Refusing):
     def test_numbers_of_workers(self):
         """Each worker is a thread where pairs or texts are made of the races that were kept, and one when schedules are made; 4 where no
         number is named. A list of more races than events is written by batches of so many races, 65,536 where there are fewer
-        events, for each of which workers start: fifteen races of twelve events are one. `places` finds its races without
-        workers."""
+        events, for each of which workers start: fifteen races of twelve events are one. `places --list` has no workers."""
         trace, many, few = self.file(racing(64)), self.file(racing(6), "many.std"), self.file(LOCKED, "few.std")
         for words, wanted in (
             (["races", "--list", few], 4),
@@ -132,9 +131,9 @@ class Refusals(Refusing):
             (["races", "--workers", "3", trace], 6),
             (["races", "--workers", "64", "--list", few], 64),
             (["places", "--list", trace], 0),
-            (["places", trace], 4),
-            (["places", "--workers", "1", trace], 1),
-            (["places", "--workers", "3", trace], 3),
+            (["places", trace], 8),
+            (["places", "--workers", "1", trace], 2),
+            (["places", "--workers", "3", trace], 6),
         ):
             self.assertEqual(self.threads_started(words, b""), wanted)
         self.assertEqual(self.threads_started([], LOCKED), 4)

@@ -10,7 +10,7 @@ import program
 
 CASES = program.HERE / "regressions"
 TOP = program.HERE.parent
-COMMANDS = {"shb-view": TOP / "view/shb-view", "shb-farm": TOP / "farm/shb-farm", "shb-fix": TOP / "fix/shb-fix"}
+COMMANDS = {"shb-view": TOP / "python/shb-view", "shb-farm": TOP / "python/shb-farm", "shb-fix": TOP / "python/shb-fix"}
 
 
 class Regressions(program.Case):

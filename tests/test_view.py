@@ -1,4 +1,4 @@
-"""view/shb-view: its text by hand, and what it counts and shows against plain definitions."""
+"""python/shb-view: its text by hand, and what it counts and shows against plain definitions."""
 
 import collections
 import contextlib
@@ -26,7 +26,7 @@ fork-join.std: 1 race at 1 place, in 1 group (7 events, 2 threads, 0 locks, 2 va
 
 1. count: start.c:6 and worker.c:3 write without a lock (1 race, 1 place)
    In this trace no lock is held at any access; 2 threads write, at start.c:6 and worker.c:3.
-   Remedy: make it atomic if it is a flag or a counter; else hold one lock at start.c:6 and worker.c:3, or order them by a join, or by a release and an acquire.
+   Remedy: make it atomic if it is a flag or a counter; else hold one lock at start.c:6 and worker.c:3.
    start.c:6: 1 write by main
      no lock held
      races with worker.c:3 (1 race)
@@ -46,7 +46,7 @@ FORK_JOIN_ALL = FORK_JOIN + """
      write by main at start.c:6 (event 5)
        no lock held
      In this trace no lock is held at any access; 2 threads write, at start.c:6 and worker.c:3.
-     Remedy: make it atomic if it is a flag or a counter; else hold one lock at start.c:6 and worker.c:3, or order them by a join, or by a release and an acquire.
+     Remedy: make it atomic if it is a flag or a counter; else hold one lock at start.c:6 and worker.c:3.
      `shb places` has a schedule of it, race 1: after its 3 events both accesses can execute next.
    Before the accesses:
      1  main    w(config)     start.c:4
@@ -75,7 +75,7 @@ unlocked-read.std: 3 races at 3 places, in 2 groups (18 events, 3 threads, 1 loc
 
 2. closed: main.c:12 writes, queue.c:29 reads without a lock (2 races, 2 places)
    In this trace no lock is held at any access; one thread writes, at main.c:12.
-   Remedy: make it atomic if it is a flag or a counter; else hold one lock at main.c:12 and queue.c:29, or order them by a join, or by a release and an acquire.
+   Remedy: make it atomic if it is a flag or a counter; else hold one lock at main.c:12 and queue.c:29.
    queue.c:29 read what main.c:12 wrote. This racy read may hide other races: fix it and run again.
    main.c:12: 1 write by main
      no lock held
@@ -106,7 +106,7 @@ places.std: 6 races at 3 places, in 1 group (4 events, 4 threads, 0 locks, 1 var
 
 1. total: Counter.java:12 writes, Report.java:30 reads without a lock (6 races, 3 places)
    In this trace no lock is held at any access; 3 threads write, at Counter.java:12.
-   Remedy: make it atomic if it is a flag or a counter; else hold one lock at Counter.java:12 and Report.java:30, or order them by a join, or by a release and an acquire.
+   Remedy: make it atomic if it is a flag or a counter; else hold one lock at Counter.java:12 and Report.java:30.
    Report.java:30 read what Counter.java:12 wrote. This racy read may hide other races: fix it and run again.
    Counter.java:12: 3 writes by T1, T2 and T4
      no lock held
@@ -146,7 +146,7 @@ class Text(program.Case):
         self.expect(run(["--check", *words]), 0, noted(FORK_JOIN, "shb check: ok 1").encode())
         self.assertEqual(run(["--all", "--check", *words]).out.decode().splitlines()[-9:-6], [
             "     In this trace no lock is held at any access; 2 threads write, at start.c:6 and worker.c:3.",
-            "     Remedy: make it atomic if it is a flag or a counter; else hold one lock at start.c:6 and worker.c:3, or order them by a join, or by a release and an acquire.",
+            "     Remedy: make it atomic if it is a flag or a counter; else hold one lock at start.c:6 and worker.c:3.",
             "     `shb check` found the schedule of race 1 good: after its 3 events both accesses can execute next."])
         said = run(["--all", *words]).out.decode()
         self.assertIn("     No schedule of this race is at hand: events are shown in the order of the trace.\n", said)
@@ -489,11 +489,12 @@ class Groups(program.Case):
             ([b"slabs.c:615#134+1", b"slabs.c:615#134+22", b"slabs.c:615#134"], [b"slabs.c:615#134", " (3 variables)"]),
             ([b"slabs.c:615#134+1", b"slabs.c:615#9+2"], [b"slabs.c:615", " (2 variables)"]),
             ([b"stats", b"stats+8"], [b"stats", " (2 variables)"]),
-            ([b"stats", b"settings+8"], [b"stats", " and 1 more"]),
+            ([b"stats", b"settings+8"], [b"stats", " and ", b"settings+8"]),
+            ([b"stats", b"settings+8", b"hits"], [b"stats", " and ", "2 others"]),
             ([b"stack.T1-0x20", b"stack.T1-0x28"], [b"stack.T1", " (2 variables)"]),
             ([b"stack.T1.run-0x20", b"stack.T1.run-0x28"], [b"stack.T1.run", " (2 variables)"]),
             ([b"lib.so.1:q.head", b"lib.so.1:q.at[1][20].x+2", b"lib.so.1:q"], [b"lib.so.1:q", " (3 variables)"]),
-            ([b"count.0", b"count.1"], [b"count.0", " and 1 more"]),
+            ([b"count.0", b"count.1"], [b"count.0", " and ", b"count.1"]),
         ):
             self.assertEqual(groups.common_name(variables), name)
 
@@ -504,7 +505,7 @@ class Groups(program.Case):
                                    "Call stacks are those of one race of each variable at each place.\n")):
             events = [f"{thread} w {variable} {line}" for thread, line in (("A", 1), ("B", 2)) for _ in range(many) for variable in "xy"]
             out = run_here([self.file(trace_of(*events))])[1]
-            self.assertIn(f"\n\n1. x and 1 more: f.c:1 and f.c:2 write without a lock ({2 * many * many:,} races, 1 place)\n", out)
+            self.assertIn(f"\n\n1. x and y: f.c:1 and f.c:2 write without a lock ({2 * many * many:,} races, 1 place)\n", out)
             self.assertTrue(out.endswith(f"races)\n\n{note}" if note else "races)\n"), out)
             found = self.folder / "found.json"
             self.assertEqual(run_here(["--json", found, self.file(trace_of(*events))])[0], 0)

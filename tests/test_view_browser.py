@@ -1,4 +1,4 @@
-"""The page of view/shb-view in a browser, where one is installed: that its script runs, that nothing is cut, and how long it is on
+"""The page of python/shb-view in a browser, where one is installed: that its script runs, that nothing is cut, and how long it is on
 paper."""
 
 import json

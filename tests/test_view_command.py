@@ -1,4 +1,4 @@
-"""view/shb-view as a command: its files, its statuses, and the `shb` that it runs."""
+"""python/shb-view as a command: its files, its statuses, and the `shb` that it runs."""
 
 import json
 import os
@@ -12,7 +12,7 @@ from unittest import mock
 
 import program
 import shb
-from viewing import EXAMPLES, VIEW, run, run_here, settings
+from viewing import EXAMPLES, PYTHON, run, run_here, settings
 
 from shb_common import files, standard
 
@@ -149,13 +149,13 @@ exec REAL "$@"
 
     def test_a_name_like_an_option(self):
         trace = self.file(TRACE.read_bytes(), "-t.std")
-        answer = subprocess.run([sys.executable, "-B", VIEW / "shb-view", "--", "-t.std"], cwd=self.folder, env=settings(),
+        answer = subprocess.run([sys.executable, "-B", PYTHON / "shb-view", "--", "-t.std"], cwd=self.folder, env=settings(),
                                 capture_output=True, timeout=program.SECONDS)
         self.assertEqual((answer.returncode, answer.stderr), (0, b""))
         self.assertTrue(answer.stdout.startswith(b"-t.std: 1 race "))
 
     def test_a_refused_trace(self):
-        """The line is shown, and what is likely to be wrong with it; farm/tests/test_refused.py has all hints."""
+        """The line is shown, and what is likely to be wrong with it; python/tests/test_refused.py has all hints."""
         for text, fault, line, hint in (
             (b"A|w(x)\nA\tw(x)\n", "line 2: the line has no operation field", "A\\x09w(x)",
              "a line is THREAD|OPERATION|LOCATION, with bars between, not tabs; there are no comments"),
@@ -222,12 +222,12 @@ exec REAL "$@"
 
     def test_where_it_finds_its_parts(self):
         """In a checkout ../bin/shb; installed all packages beside it and ../../bin/shb, also by a link."""
-        for name, command, common in (("checkout", "view/shb-view", "common"), ("prefix", "lib/shb/shb-view", "lib/shb")):
+        for name, command in (("checkout", "python/shb-view"), ("prefix", "lib/shb/shb-view")):
             top = self.folder / name
             command = top / command
-            for package, place in ((VIEW / "shb_view", command.parent), (VIEW.parent / "common/shb_common", top / common)):
-                shutil.copytree(package, place / package.name, ignore=shutil.ignore_patterns("__pycache__"))
-            shutil.copy(VIEW / "shb-view", command)
+            for package in ("shb_view", "shb_common"):
+                shutil.copytree(PYTHON / package, command.parent / package, ignore=shutil.ignore_patterns("__pycache__"))
+            shutil.copy(PYTHON / "shb-view", command)
             (top / "bin").mkdir()
             (top / "bin/shb").symlink_to(program.PATH)
             link = self.folder / f"link-{name}"
@@ -245,15 +245,15 @@ class Files(Fake):
         shown = f"{self.folder}/no\\x1bne"
         self.assertEqual(self.said([none]), f"{shown}: No such file or directory")
         self.assertEqual(self.said([TRACE, none]), f"{shown}: No such file or directory")
-        self.assertEqual(self.said([self.folder]), f"{self.folder} isn't a regular file: the trace is read more than once")
+        self.assertEqual(self.said([self.folder]), f"{self.folder} isn't a regular file: the trace is read more than once, so save it to a file")
         self.assertEqual(self.said([TRACE, self.folder]), f"{self.folder}: Is a directory")
         self.assertEqual(self.said([TRACE, "/proc/self/mem"]), "/proc/self/mem: Input/output error")
         self.assertEqual(self.said(["--source", none, TRACE]), f"--source: {shown} isn't a folder")
 
     def test_a_pipe_is_no_trace(self):
         os.mkfifo(self.folder / "pipe")
-        self.assertEqual(self.said(["-"]), "- isn't a regular file: the trace is read more than once")
-        self.assertEqual(self.said([self.folder / "pipe"]), f"{self.folder}/pipe isn't a regular file: the trace is read more than once")
+        self.assertEqual(self.said(["-"]), "- isn't a regular file: the trace is read more than once, so save it to a file")
+        self.assertEqual(self.said([self.folder / "pipe"]), f"{self.folder}/pipe isn't a regular file: the trace is read more than once, so save it to a file")
 
     def test_a_pipe_may_be_a_report(self):
         pipe = self.folder / "pipe"
@@ -297,7 +297,7 @@ class Files(Fake):
     def test_a_page_that_is_too_long_for_the_disk(self):
         """Here for a limit of the shell; the fault names the page."""
         page = self.file(b"old", "page.html")
-        words = [sys.executable, "-B", str(VIEW / "shb-view"), "--html", str(page), str(TRACE)]
+        words = [sys.executable, "-B", str(PYTHON / "shb-view"), "--html", str(page), str(TRACE)]
         script = 'ulimit -f 4; exec "$@"'  # blocks of 512 or 1,024 bytes: less than the style alone
         answer = subprocess.run(["sh", "-c", script, "sh", *words], env=settings(), capture_output=True, timeout=program.SECONDS)
         self.assertEqual((answer.returncode, answer.stderr.decode()), (2, f"shb-view: {page}: File too large\n"))
@@ -356,7 +356,7 @@ class Statuses(Fake):
             self.assertEqual(run([TRACE], stdout=closed)[::2], (2, b""))
 
     def test_closed_standard_files(self):
-        words = [sys.executable, "-B", str(VIEW / "shb-view")]
+        words = [sys.executable, "-B", str(PYTHON / "shb-view")]
 
         def closed(script, *more):
             return subprocess.run(["sh", "-c", script, "sh", *words, *map(str, more)], env=settings(), capture_output=True,
@@ -379,7 +379,7 @@ class Statuses(Fake):
         """By the signal of a terminal, while `shb` runs. A test that runs in the background may have been told to ignore it."""
         started = self.folder / "started"
         fake = self.fake(f"touch {started}; exec sleep 20\n")
-        ran = subprocess.Popen([sys.executable, "-B", VIEW / "shb-view", "--shb", fake, TRACE], stdout=subprocess.PIPE,
+        ran = subprocess.Popen([sys.executable, "-B", PYTHON / "shb-view", "--shb", fake, TRACE], stdout=subprocess.PIPE,
                                stderr=subprocess.PIPE, preexec_fn=lambda: signal.signal(signal.SIGINT, signal.SIG_DFL))
         while not started.exists():
             self.assertIsNone(ran.poll())

@@ -1,4 +1,4 @@
-"""The page of view/shb-view, parsed: what it has, that names stay names, and that no line crosses a text."""
+"""The page of python/shb-view, parsed: what it has, that names stay names, and that no line crosses a text."""
 
 import base64
 import hashlib

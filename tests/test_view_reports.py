@@ -1,4 +1,4 @@
-"""Which reports view/shb-view takes, and what it says of others."""
+"""Which reports python/shb-view takes, and what it says of others."""
 
 import io
 import os

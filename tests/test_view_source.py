@@ -1,4 +1,4 @@
-"""The lines of code that view/shb-view shows: which file of which folder, and what is said where there is none."""
+"""The lines of code that python/shb-view shows: which file of which folder, and what is said where there is none."""
 
 import os
 

@@ -1,4 +1,4 @@
-"""view/shb-view --stacks: the call stacks of racing lines, of threads and of blocks."""
+"""python/shb-view --stacks: the call stacks of racing lines, of threads and of blocks."""
 
 import os
 import re

@@ -41,11 +41,11 @@ class Lines(unittest.TestCase):
             "crates/shb_io/proofs/Io.antt": ("shb_io", "proofs"),
             "crates/shb_io/must-fail/one.two.edit": None,
             "recorder/record.h": ("recorder", "C"),
-            "recorder/shb-record": ("recorder", "Python"),
+            "python/shb-record": ("python", "Python"),
             "recorder/runtime/hooks.S": ("recorder/runtime", "C"),
             "recorder/tests/run.py": None,
-            "install/install": ("install", "Python"),
-            "view/shb_view/page.css": None,
+            "packaging/install": ("packaging", "Python"),
+            "python/shb_view/page.css": None,
             "tests/weight.py": None,
         }.items():
             with self.subTest(path):

@@ -96,6 +96,14 @@ class Words(program.Case):
                 self.assertTrue(answer.err.startswith(said), answer.err)
                 self.assertTrue(answer.err.endswith(b"\n"), answer.err)
 
+    def test_a_word_that_is_no_command(self):
+        """The nearest commands are named, and all; a file isn't a command."""
+        said = b"The commands are races, places and check. Begin with 'shb places --list TRACE'.\n"
+        for word in ("good.std", "scan", "place"):
+            answer = program.run([word])
+            self.assertTrue(answer.err.endswith(HINT + said), answer.err)
+            self.assertEqual(b"tip: some similar subcommands exist: 'races', 'places'\n" in answer.err, word == "place")
+
     def test_words_that_are_not_utf_8(self):
         for words in ([b"\xff"], ["races", b"\xff.std"], ["check", b"t\xc3"]):
             self.expect(program.run(words), 3, b"", b"error: a word is not UTF-8\n")

@@ -1,4 +1,4 @@
-"""Runs view/shb-view, as a command and in this process, on texts."""
+"""Runs python/shb-view, as a command and in this process, on texts."""
 
 import argparse
 import contextlib
@@ -13,9 +13,9 @@ import made_traces
 import program
 import shb
 
-VIEW = program.HERE.parent / "view"
+PYTHON = program.HERE.parent / "python"
 EXAMPLES = program.HERE.parent / "examples"
-sys.path[:0] = [str(VIEW), str(VIEW.parent / "common")]
+sys.path.insert(0, str(PYTHON))
 
 from shb_common.report import Counts
 from shb_common import progress
@@ -38,7 +38,8 @@ def sections(text, report, is_good=True):
         given = view.Given("report", written, Verdict(is_good, ""), None)
         counts, gathered = Counts(*shb.counts_of(shb.read_trace(text)[0])), Gathered()
         view.read_report(given, counts, gathered, QUIET)
-        options, kinds = argparse.Namespace(html=True, all=False, unseen={}), view.Kinds(gathered, view.Stacks())
+        options = argparse.Namespace(html=True, all=False, unseen={}, shb=program.PATH)
+        kinds = view.Kinds(gathered, view.Stacks())
         made = view.Subject(given, counts, 0, 0, "", counts.events, None)
         return view.make_sections(options, kinds, made, Trace(file, QUIET), gathered.groups())[1]
 
@@ -53,7 +54,7 @@ def settings(**more):
     return {name: value for name, value in program.with_settings(SHB=program.PATH, **more).items() if name != "PYTHONUNBUFFERED"}
 
 
-def run(words, command=VIEW / "shb-view", **how):
+def run(words, command=PYTHON / "shb-view", **how):
     how = {"stdout": subprocess.PIPE, "stderr": subprocess.PIPE, "env": settings(), **how}
     ran = subprocess.run([sys.executable, "-B", command, *words], timeout=program.SECONDS, **how)
     return program.Answer(ran.returncode, ran.stdout, ran.stderr)

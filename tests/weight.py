@@ -25,8 +25,7 @@ ROOT = pathlib.Path(__file__).resolve().parent.parent
 TABLE = ROOT / "tests" / "weight.tsv"
 CRATE = re.compile(r"crates/(\w+)/(src|specs|proofs)/.*\.(?:rt|antt)")
 KINDS = {"src": "code", "specs": "definitions", "proofs": "proofs"}
-FOLDERS = ("common", "farm", "fix", "install", "recorder/converter", "recorder/reader", "recorder/runtime",
-           "recorder", "view")  # the first one that a file is in
+FOLDERS = ("packaging", "python", "recorder/converter", "recorder/reader", "recorder/runtime", "recorder")  # the first one that a file is in
 PYTHON = re.compile(r".*\.py|shb-\w+|install")  # commands have no ending
 C = re.compile(r".*\.[chS]")
 CLAUSE = re.compile(r"requires\b|ensures\b|ghost\b")

@@ -4,14 +4,14 @@
 #include "converter.h"
 
 int whole_trace;
-list_entry *list_entries;
-static u64 list_count, list_capacity;
+static VECTOR(list_entry) list_entries;
 static map atomic_writers;
 
+const list_entry *entry_of_list(u32 list) { return list ? &list_entries.at[list - 1] : 0; }
+
 void add_to_list(u32 *list, u32 thread) {
-    GROW(list_entries, list_count, list_capacity);
-    list_entries[list_count++] = (list_entry){thread, *list};
-    *list = list_count;
+    *PUSH(list_entries) = (list_entry){thread, *list};
+    *list = list_entries.count;
 }
 
 static u64 end_of(u64 i) { return address_of(i) + accessed_bytes(i); }
@@ -95,8 +95,7 @@ static void share_piece(use u, u32 number) {
 
 /* Neighbours mostly have numbers that follow each other: so an access has runs of these, to the last with a mark. */
 typedef struct { u32 first, count; } run;
-static run *runs;
-static u64 run_count, run_capacity;
+static VECTOR(run) runs;
 
 static void share_run(use u, const run *r) {
     for (u32 k = 0; k < r->count; k++) share_piece(u, r->first + k);
@@ -112,20 +111,17 @@ static u32 following(const u32 *numbers, u32 count) {        /* how many from th
 static void add_to_runs(u64 from, const u32 *numbers, u32 count) {
     for (u32 length; count; numbers += length, count -= length) {
         length = following(numbers, count);
-        run *last = run_count > from ? &runs[run_count - 1] : 0;
+        run *last = runs.count > from ? &runs.at[runs.count - 1] : 0;
         if (last && last->first + last->count == *numbers) last->count += length;
-        else {
-            if (run_count == MARK - 1) die("out of memory");
-            GROW(runs, run_count, run_capacity);
-            runs[run_count++] = (run){*numbers, length};
-        }
+        else if (runs.count == MARK - 1) die("out of memory");
+        else *PUSH(runs) = (run){*numbers, length};
     }
 }
 
 void share_pieces(u64 i) {
     if ((known[i] & ~MARK) && (is_plain(operation_of(i)) || operation_of(i) == OP_FREE) && is_unseen(caller_of(i))) known[i] &= MARK;
     if (!(known[i] & ~MARK)) return;
-    u64 at = address_of(i), end = end_of(i), from = run_count;
+    u64 at = address_of(i), end = end_of(i), from = runs.count;
     use u = use_of(i);
     u32 count, *numbers = pieces_at(&at, end, &count);
     if (count == 1 && at == end) {
@@ -139,8 +135,8 @@ void share_pieces(u64 i) {
         numbers = pieces_at(&at, end, &count);
         add_to_runs(from, numbers, count);
     }
-    for (u64 k = from; k < run_count; k++) share_run(u, &runs[k]);
-    runs[run_count - 1].count |= MARK;
+    for (u64 k = from; k < runs.count; k++) share_run(u, &runs.at[k]);
+    runs.at[runs.count - 1].count |= MARK;
 }
 
 piece *only_piece(u64 i) { return known[i] && !(known[i] & MARK) ? piece_of(known[i]) : 0; }
@@ -150,35 +146,54 @@ piece *only_piece(u64 i) { return known[i] && !(known[i] & MARK) ? piece_of(know
    nothing since by which the thread could order another: all that it conflicts with, and all that it orders, the first
    does too. */
 enum { RECENT = 1 << 18 };
-typedef struct { u64 site, epoch, locks; u32 piece, writes; } read;
+typedef struct {
+    u64 site, epoch, locks;
+    u32 piece, writes;
+    u32 from, end;                     /* its events in the trace, unless they are known to stand for others */
+} read;
 static read *recent;
 
-static int repeats(use u, u64 own, u32 number) {
+/* *kept: the read that is compared with the next ones. */
+static int repeats(use u, u64 own, u32 number, read **kept) {
     if (!recent) recent = zeroed(RECENT, sizeof *recent);
-    u64 site = own | (u64)u.thread << 48, epoch = thread_epoch(u.thread) + 1;
-    read this = {site, epoch | (u64)(u.thread >> 16) << 48, held_locks(u.thread), number, piece_of(number)->writes};
-    read *last = &recent[(mix(this.site, 0) + number) & (RECENT - 1)];           /* neighbours stand side by side */
+    u64 site = own | (u64)u.thread << 48, epoch = threads[u.thread].epoch + 1;
+    read this = {.site = site, .epoch = epoch | (u64)(u.thread >> 16) << 48, .locks = threads[u.thread].locks,
+                 .piece = number, .writes = piece_of(number)->writes};
+    u64 slot = (mix(site, 0) + number) & (RECENT - 1);       /* neighbours stand side by side */
+    read *last = *kept = &recent[slot];
     int same = last->site == this.site && last->piece == number && last->writes == this.writes && last->epoch == this.epoch
         && last->locks == this.locks;
-    *last = this;
+    if (!same || whole_trace) *last = this;
+    else for (; last->from < last->end; last->from++) note_repeated(last->from);
     return same && !whole_trace;
+}
+
+static void keep_event(read *kept, u64 event) {
+    if (!event) return;
+    if (event != kept->end) kept->from = event;
+    kept->end = event + 1;
 }
 
 enum { NOBODY = -1u };
 
-/* An event of the variable itself, or of that which stands for its atomic writes by one thread. The page's trace lacks those of variables
-   in no race, but each thread's first one. */
-static void piece_event(u64 i, u64 own, u32 number, const char *operation, u32 writer, int is_kept) {
+/* An event of the variable itself, or of that which stands for its atomic writes by one thread. The page's trace
+   lacks those of variables in no race, but each thread's first one. Returns its number in the trace that is written,
+   if it isn't known yet whether it stands for others; else 0. */
+static u64 piece_event(u64 i, u64 own, u32 number, const char *operation, u32 writer, int is_kept) {
     char text[NAME_BYTES + THREAD_BYTES];
     const piece *p = piece_of(number);
+    u64 event_number = 0;
     u32 t = thread_of(i);
     if (!is_kept && has_events(t)) pass_event(t, *operation == 'w');
-    else if (writer == NOBODY) access_event(t, operation, number, caller_of(i), own);
+    else if (writer == NOBODY) event_number = access_event(t, operation, number, caller_of(i), own);
     else {
         part name = variable_name(p->at, block_of(p->block));
         int length = snprintf(text, sizeof text, "%.*s!%s", (int)name.length, name.at, thread_name(writer));
-        event(t, operation, (part){text, length}, caller_of(i));
+        event_number = event(t, operation, (part){text, length}, caller_of(i));
     }
+    if (!event_number || !is_repeated(i)) return event_number;
+    note_repeated(event_number);
+    return 0;
 }
 
 static int is_shared(const piece_use *p) { return p->many_users && p->written; }
@@ -191,27 +206,29 @@ static void piece_events(u64 i, use u, u32 number, int is_kept) {
     u32 t = u.thread;
     int shared = is_shared(users) || whole_trace;
     if (!shared && !u.writes_atomically && !users->written_atomically) return;
-    u64 own = own_place(t, caller_of(i));
-    if (!u.writes && !u.writes_atomically && repeats(u, own, number)) return;
+    u64 own = own_place(t, caller_of(i)), event_number = 0;
+    read *kept = 0;
+    if (!u.writes && !u.writes_atomically && repeats(u, own, number, &kept)) return;
     piece *p = piece_of(number);
-    if (shared) piece_event(i, own, number, u.writes ? "w" : "r", NOBODY, is_kept);
+    if (shared) event_number = piece_event(i, own, number, u.writes ? "w" : "r", NOBODY, is_kept);
+    if (kept) keep_event(kept, event_number);
     if (u.writes) p->writes++;
     if (u.writes_atomically && is_read_by_others(users, t)) {
         piece_event(i, own, number, "w", t, is_kept);
         p->writes++;
     }
     if (!u.reads) return;
-    for (u32 k = p->atomic_writers; k; k = list_entries[k - 1].next)
-        if (list_entries[k - 1].thread != t) piece_event(i, own, number, "r", list_entries[k - 1].thread, is_kept);
+    for (const list_entry *k = entry_of_list(p->atomic_writers); k; k = entry_of_list(k->next))
+        if (k->thread != t) keep_event(kept, piece_event(i, own, number, "r", k->thread, is_kept));
 }
 
 static char word_of(u64 i, use u) { return operation_of(i) == OP_FREE ? 'f' : u.writes ? 'w' : u.writes_atomically ? 'a' : 'r'; }
 
 static void use_piece(u64 i, use u, u32 number) {
     u64 before = written;
-    int is_kept = !for_page || is_racing(number);
+    int is_kept = takes_piece(number);
     piece_events(i, u, number, is_kept);
-    if (for_page && is_kept) count_use(u.thread, caller_of(i), number, word_of(i, u));
+    if (is_kept) count_use(u.thread, caller_of(i), number, word_of(i, u));
     if (!with_stacks || !is_kept || written == before) return;
     const piece *p = piece_of(number);
     note_name(p->at, p->block, before + 1, u.thread);
@@ -233,7 +250,7 @@ void access_events(u64 i) {
         use_piece(i, u, found);
         return;
     }
-    for (const run *r = &runs[(found & ~MARK) - 1];; r++) {
+    for (const run *r = &runs.at[(found & ~MARK) - 1];; r++) {
         u32 end = r->first + (r->count & ~MARK);
         for (u32 number = r->first; number < end && !cut_reason; number++) use_piece(i, u, number);
         if (r->count & MARK) return;

@@ -2,9 +2,9 @@
 #include <stdio.h>
 #include "../record.h"
 #include "tables.h"
+#include "threads.h"
 
-enum { THREADS = 1 << 20 };            /* of a record, whose numbers may be used again */
-/* What shb takes of a trace, as common/shb_common/limits.py has it; the last is the most threads of shb places --list. */
+/* What shb takes of a trace, as python/shb_common/limits.py has it; the last is the most threads of shb places --list. */
 enum { SHB_EVENTS = 4194304, SHB_THREADS = 1024, SHB_LINE = 4096, SHB_BYTES = 1 << 30, SCAN_THREADS = 65535 };
 typedef struct { const char *at; u64 length; } part;         /* of a text, without an end of its own */
 
@@ -32,6 +32,7 @@ void forget_before(u64 i);             /* the entries of the file */
 enum operation operation_of(u64 i);
 u64 address_of(u64 i), caller_of(u64 i), size_of(u64 i);
 u64 late_context(u64 i);               /* of an access that is late: in which context it was made, plus one; else 0 */
+int is_repeated(u64 i);                /* is it late, and stands for earlier ones? */
 void name_piece(u64 i, char *piece);   /* of a record OP_NAME: NAME_PIECE bytes and an end */
 u64 depth_inside(u64 i);               /* DEPTH_BEFORE where it is told by records before */
 void begin_thread_pass(void);
@@ -51,10 +52,10 @@ u64 accessed_bytes(u64 i);
 static inline enum operation operation_in(struct record r) { return r.what >> 48 & 63; }
 static inline int is_late(struct record r) { return operation_in(r) == OP_LATE; }
 static inline int is_of_two(struct record r) { return is_late(r) || r.what >> 54 == SIZE_FOLLOWS; }
-int is_good_late(u64 position, struct record access, u64 i); /* of an entry OP_LATE, and the one behind it */
+int is_good_late(u64 position, struct record access, u64 i); /* of an entry OP_LATE, and the one after it */
 void count_late(u64 position, u64 most_entries);             /* of each entry OP_LATE, before these are found */
-u64 find_late(const struct record *of_record, u64 record_entries);       /* gives how many entries there are with these in place */
-/* Of the entries from `at` on, which is set to those behind: so many, or one more; 0: they are damaged. With their late_context. */
+u64 find_late(const struct record *of_record, u64 record_entries);       /* returns how many entries there are with these in place */
+/* Copies `room` entries from `at` on, or one more, or as many as there are, and sets `at` to the next. Returns how many; 0: damaged. */
 u64 merge(struct record *to, u64 *contexts, u64 room, u64 *at);
 
 /* sources.c: the source files of modules, and how they are named. */
@@ -71,12 +72,11 @@ int in_system(const char *path);       /* is it the system's or the compiler's? 
 int in_rust_library(const char *path);
 
 /* names.c: modules, symbols, lines of code. */
-enum { PLACE_BYTES = 1000, THREAD_BYTES = 80 };              /* shb takes lines of 4,096 bytes */
+enum { PLACE_BYTES = 1000 };           /* shb takes lines of 4,096 bytes */
 void read_modules(char *header);
 void note_caller(u64 caller);
 void find_places(void);                /* of all callers that were noted */
 part place_of(u64 caller);
-enum { WIDE = 32 };                    /* bytes from the begin of some texts that may be read: they are copied in pieces of so many */
 part line_end_of(u64 caller);          /* ")|" and its place, with WIDE bytes that may be read */
 void note_hooked(u64 function);        /* in the first pass: it has hooks */
 int is_unseen(u64 caller);             /* is it in a function of Rust's library without hooks, whose order nobody sees? */
@@ -97,19 +97,19 @@ inlined_frame *frames_of(u64 caller);  /* null where it wasn't noted */
 inlined_frame *outermost(inlined_frame *f);
 int in_one_function(u64 caller, u64 other);
 const char *function_name(u64 address, char *buffer, size_t size);       /* "" where it is not known */
-/* Of a function that isn't of the system's libraries, nor of the C++ library's headers unless for a lambda of the program; else 0. */
+/* The name if it isn't of the system's libraries, nor of the C++ library's headers unless for a lambda of the program; else 0. */
 int own_function_name(u64 address, char *buffer, size_t size);
 void symbol_name(u64 address, char *buffer, size_t size);
-/* Of a function that is at `pc`, the local that lies so many bytes below the end of its return address, and above its stack pointer:
+/* The local of a function at `pc` that lies so many bytes below the end of its return address, and above its stack pointer:
    "x.head of main"; 0 where none is known. */
 int local_name(u64 function, u64 pc, u64 below, u64 above, u64 length, char *buffer, size_t size);
 
 /* The same of what lies so far inside of a block of so many bytes, which the C++ library allocated by a call in the program's own code:
-   "Account.balance". Gives the length of the type's name; 0 where the type isn't certain. */
+   "Account.balance". Returns the length of the type's name; 0 if the type isn't certain. */
 size_t name_in_block(u64 caller, u64 block_size, u64 offset, u64 length, char *buffer, size_t size);
 
 /* The same by an access: the block's size, the access's offset and length, or 0 if that isn't known, whether it
-   writes, and what is asked for: an offset and a length. Gives also the begin and the size of the object that the
+   writes, and what is asked for: an offset and a length. Returns also the begin and the size of the object that the
    access tells; they stay if it tells none. */
 size_t name_by_use(u64 caller, const u64 use[6], char name[NAME_BYTES], u64 *begin, u64 *size);
 
@@ -149,16 +149,16 @@ piece_use *use_of_piece(u32 number);
 void forget_writes(void);              /* of all pieces */
 
 /* stacks.c: call stacks, in a file beside the trace. */
-extern int with_stacks;
+extern int with_stacks;                /* of the trace that is written */
 void open_stacks(const char *path);
 void note_call(u64 i);                 /* each record of calls, in the first pass */
 void meet_call(u64 i);                 /* each record of the fourth pass, before its events */
+void begin_calls(void);                /* each pass that meets them */
 u64 own_function(u64 i);               /* of the context that a record tells: the outermost function that is the program's own, or 0 */
 u64 own_place(u32 t, u64 caller);      /* of what a thread does now: the innermost place in the program's own code, or the caller */
 u32 stack_at(u32 t, u64 caller);
 void stack_of_event(u32 number);       /* of the event that comes next */
 void keep_stack(u32 number);           /* it is written, though no event has it */
-void stack_of_thread(u32 t, u32 number);
 void stack_of_block(const block *b, u32 number);
 void note_crash(u64 i);                /* a record OP_CRASH */
 void say_crash(void);                  /* at the end */
@@ -166,7 +166,6 @@ void note_free(u64 first, u64 last);   /* the events of one call that frees a bl
 void note_name(u64 at, u32 block, u64 event, u32 t);         /* of a piece or an object: this event of a thread is of it */
 void note_use(u64 i, u64 object, int gives);       /* of an atomic that several threads use: what stores, and a thread's first load of another's store */
 void note_fence(u64 i);                /* with acquire */
-void forget_calls(void);               /* between the passes that meet them */
 void pause_stacks(int is_paused);      /* while a trace is written that has none */
 void end_stacks(void);
 
@@ -183,33 +182,33 @@ const char *local_now(u64 at, const block *b);
 
 /* state.c: what a trace can go on with, and which locks are held in it. */
 enum event_kind { IS_ACCESS, IS_ACQUIRE, IS_RELEASE, IS_FORK, IS_JOIN, IS_MARK };
-typedef void (*held_lock)(part thread, part lock, part line_end, u32 stack);
+typedef void (*held_lock)(const char *operation, part thread, part lock, part line_end, u32 stack);
 u32 trace_lock(part name);             /* its number, from 1 */
 part lock_name(u32 number);            /* with WIDE bytes that may be read; it stands for good */
 extern u32 thread_limit;               /* of the trace */
-u32 trace_threads(void);                /* so many were met, in any trace */
+u32 trace_threads(void);               /* so many were met */
 u32 trace_thread(const char *name, u64 length);              /* its number, from 1 */
 /* 0 where the trace can't go on with it; other: the lock that it takes or releases, or the thread that it forks or joins; line_end: it stands for good. */
 int trace_event(u64 length, enum event_kind kind, u32 thread, u32 other, part line_end, u32 stack);
 int trace_access(u64 length, u32 thread);                    /* the same of an access, in a thread that is in the trace already */
-void each_held(held_lock give);        /* each acquire that isn't released, the oldest first */
+/* Passes on each acquire that isn't released, the oldest first. */
+void each_held(held_lock give, const char *operation);
 void forget_trace(void);
 
-/* page.c: the trace of a page, and the uses of variables in races. */
-enum page_step { PAGE_PAUSES, SPAN_BEGINS, PAGE_GOES_ON, SPAN_ENDS, PAGE_ENDS };
-extern int for_page;                   /* is it what the pass writes? */
-int read_races(const char *path);      /* 0 where there are none */
+/* page.c: which of the run's events the trace has that is written, and the uses of variables in races. */
+enum trace_step { TRACE_PAUSES, SPAN_BEGINS, SPAN_GOES_ON, SPAN_ENDS, TRACE_ENDS };
+int read_races(const char *path, u64 run_events);  /* of a page, whose trace is next; 0: there are none */
 void open_uses(const char *path);
-int is_racing(u32 piece);
-enum page_step step_page(u64 number);  /* before each event of the run, by its number, until the page ends */
-void end_page(void);
-int is_behind_page(void);
-int is_in_span(void);
+int takes_piece(u32 piece);            /* has it the accesses of this piece? */
+enum trace_step step_trace(u64 number);                      /* before each event of the run, by its number */
+void end_trace(const char *why);
+int is_over(void);                     /* it has no more events */
+extern u64 span_last;                  /* the last event of the span that the trace is in; or 0 */
 void note_written(u64 number, u64 in_page);                  /* an event of the run, by both its numbers */
 void note_part(u64 in_page);           /* a span begins or ends behind so many events */
-void hold_for_uses(u32 t, u64 key), leave_for_uses(u32 t, u64 key);      /* a lock */
-part name_of_held(u64 key, u32 t);     /* objects.c: of such a lock */
+part name_of_held(u64 key, u32 t);     /* objects.c: of a lock that a thread holds */
 void count_use(u32 t, u64 caller, u32 piece, char word);
+void note_repeated(u64 in_page);       /* an event stands for others that were omitted */
 void end_uses(u64 in_page);            /* so many events */
 
 /* accesses.c, objects.c: what the passes do with a record. */
@@ -225,16 +224,14 @@ void note_record(u64 i);              /* behind each of the passes that share ob
 extern int has_fences;                 /* known before the third pass */
 void share_fence(u64 i);
 void forget_states(void);              /* of objects, between the passes */
-int holds_unwritten(u32 t);            /* does it hold a lock whose acquire isn't in the trace? */
-void write_holds(u32 t);               /* writes these */
-u64 held_locks(u32 t);                 /* equal where it holds the same locks by which it orders no other thread */
+void write_holds(u32 t);               /* acquires of what it holds that aren't in the trace */
 void access_events(u64 i);
 void object_events(u64 i);
 void fence_events(u64 i);
 
 /* A list of threads is the number of its first entry, or 0. */
 typedef struct { u32 thread, next; } list_entry;
-extern list_entry *list_entries;
+const list_entry *entry_of_list(u32 list);                   /* or null */
 void add_to_list(u32 *list, u32 thread);
 
 /* events.c: the events of the trace. */
@@ -250,13 +247,13 @@ void name_thread(u32 t, u64 function); /* by the function that it runs, where it
 void name_by_own(u32 t, u64 i);        /* the same, by the functions that a record tells, if one is the program's own */
 void give_name(u32 t, const char *piece, int is_first);      /* a piece of one that the program gave; the main thread keeps its own */
 const char *thread_name(u32 t);        /* with an end */
-u64 thread_epoch(u32 t);               /* it grows with each event of the thread that could order another */
 int has_events(u32 t);
 void pass_event(u32 t, int writes);    /* an access that the page's trace lacks */
 part name_of_thread(u32 t);            /* with WIDE bytes that may be read */
 part variable_name(u64 address, const block *b);             /* it stands until the next call */
-void event(u32 t, const char *operation, part name, u64 caller);        /* name: with WIDE bytes that may be read */
-void lock_event(u32 t, const char *operation, u32 lock, u64 caller);   /* the same; its number in state.c */
-void access_event(u32 t, const char *operation, u32 piece, u64 caller, u64 own);         /* the same of a piece; own: the caller's own_place */
+/* Each returns the event's number in the trace, or 0. name: with WIDE bytes that may be read. */
+u64 event(u32 t, const char *operation, part name, u64 caller);
+u64 access_event(u32 t, const char *operation, u32 piece, u64 caller, u64 own_place);
+void lock_event(u32 t, const char *operation, u32 lock, u64 caller);   /* the lock's number in state.c */
 void hold_event(u32 t, const char *operation, u32 lock, u64 caller, u32 stack);       /* the same, which orders no thread */
 void write_lines(void);                /* the last of the trace */

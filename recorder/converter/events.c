@@ -17,18 +17,11 @@ void use_limits_of_scan(void) {
     too_many_threads = "before a thread too many: shb places --list takes 65,535";
 }
 
-/* number: in state.c, from its first event on */
-static struct { char name[THREAD_BYTES + WIDE]; u32 length, number; u64 epoch; } *threads;
-TABLE(threads, THREADS)
-
 void begin_events(void) {
-    for (u32 t = 0; t < thread_bound(); t = next_thread(t)) threads[t].number = threads[t].epoch = 0;
     events = written = bytes = 0;
     cut_reason = 0;
     forget_trace();
 }
-
-static uint8_t is_named[THREADS];      /* has it a name besides its number? */
 
 /* "_" stands for what would end a field or a line, and for the signs behind which names of locks and variables name a thread or a
    block. */
@@ -36,26 +29,26 @@ static void set_name(u32 t, const char *name) {
     snprintf(threads[t].name, THREAD_BYTES, "T%u%s%s", t, *name ? "." : "", name);
     for (char *p = threads[t].name; *p; p++)
         if ((unsigned char)*p < ' ' || strchr("|!@#", *p)) *p = '_';
-    threads[t].length = strlen(threads[t].name);
+    threads[t].name_length = strlen(threads[t].name);
 }
 
 enum { FUNCTION_BYTES = 60 };
 
 void name_thread(u32 t, u64 function) {
     char name[FUNCTION_BYTES];
-    if (!t || is_named[t]) return;
+    if (!t || threads[t].is_named) return;
     function_name(function, name, sizeof name);
     if (!strncmp(name, "std::sys::", 10)) return;            /* Rust's library's */
     set_name(t, name);
-    is_named[t] = *name != 0;
+    threads[t].is_named = *name != 0;
 }
 
 void name_by_own(u32 t, u64 i) {
     char name[FUNCTION_BYTES];
-    u64 function = t && !is_named[t] ? own_function(i) : 0;
+    u64 function = t && !threads[t].is_named ? own_function(i) : 0;
     if (!function || !own_function_name(function, name, sizeof name)) return;
     set_name(t, name);
-    is_named[t] = 1;
+    threads[t].is_named = 1;
 }
 
 void give_name(u32 t, const char *piece, int is_first) {
@@ -63,35 +56,21 @@ void give_name(u32 t, const char *piece, int is_first) {
     if (!t || !*piece || !begun) return;
     snprintf(name, sizeof name, "%s%s", begun + 1, piece);
     set_name(t, name);
-    is_named[t] = 1;
+    threads[t].is_named = 1;
 }
 
 part name_of_thread(u32 t) {
-    if (!threads[t].length) {
-        snprintf(threads[t].name, THREAD_BYTES, t ? "T%u" : "main", t);
-        threads[t].length = strlen(threads[t].name);
-    }
-    return (part){threads[t].name, threads[t].length};
+    thread_state *s = &threads[t];
+    if (!s->name_length) s->name_length = snprintf(s->name, THREAD_BYTES, t ? "T%u" : "main", t);
+    return (part){s->name, s->name_length};
 }
 
 const char *thread_name(u32 t) { return name_of_thread(t).at; }
 
-u64 thread_epoch(u32 t) { return threads[t].epoch; }
 int has_events(u32 t) { return threads[t].number > 0; }
 
 /* ---- texts: each adds to what is written before `to`, and gives where the next may stand ---- */
-/* Most are short: a few words, copied where they stand, cost less than a call. */
-static inline char *add(char *to, part text) {
-    u64 n = text.length;
-    if (n >= 8 && n <= 16) {
-        memcpy(to, text.at, 8);
-        memcpy(to + n - 8, text.at + n - 8, 8);
-    } else if (n > 16 && n <= 32) {
-        memcpy(to, text.at, 16);
-        memcpy(to + n - 16, text.at + n - 16, 16);
-    } else memcpy(to, text.at, n);
-    return to + n;
-}
+static inline char *add(char *to, part text) { return mempcpy(to, text.at, text.length); }
 
 static inline char *add_text(char *to, const char *text) {
     while (*text) *to++ = *text++;
@@ -106,21 +85,11 @@ static inline char *add_number(char *to, u64 number, u64 base) {
 }
 
 /* ---- names of variables ---- */
-/* "file.c:12#3": the short ones of recent blocks are in a table. */
-static char *add_block(char *to, const block *b) {
-    enum { RECENT = 4096, SHORT = 56 };
-    static struct { u32 block, length; char name[SHORT]; } recent[RECENT];
-    u32 number = block_number(b), at = number & (RECENT - 1);
-    if (recent[at].block == number) return add(to, (part){recent[at].name, recent[at].length});
-    block_of(number)->named = 1;
-    char *end = add(to, place_of(b->caller));
-    *end++ = '#';
-    end = add_number(end, number, 10);
-    if (end - to > SHORT) return end;
-    recent[at].block = number;
-    recent[at].length = end - to;
-    memcpy(recent[at].name, to, end - to);
-    return end;
+static char *add_block(char *to, const block *b) {           /* "file.c:12#3" */
+    block_of(block_number(b))->named = 1;
+    to = add(to, place_of(b->caller));
+    *to++ = '#';
+    return add_number(to, block_number(b), 10);
 }
 
 static char *add_block_name(char *to, u64 address, const block *b) {
@@ -145,17 +114,14 @@ static char *add_descriptor_name(char *to, u64 address) {
 static part symbol_of(u64 address) {
     enum { MOST_KEPT = 1 << 20 };
     static char name[NAME_BYTES];
-    static map met;
-    static part *kept;
-    static u64 count, capacity;
-    u32 number = map_find(&met, address, 0);
-    if (number) return kept[number - 1];
+    static INTERNED(part) kept;
+    u32 number = map_find(&kept.numbers, address, 0);
+    if (number) return kept.at[number - 1];
     symbol_name(address, name, sizeof name);
     part found = {name, strlen(name)};
-    if (count == MOST_KEPT) return found;
-    map_number(&met, address, 0);
-    GROW(kept, count, capacity);
-    return kept[count++] = (part){memcpy(zeroed(found.length + 1, 1), name, found.length), found.length};
+    if (kept.numbers.count == MOST_KEPT) return found;
+    found.at = memcpy(zeroed(found.length + 1, 1), name, found.length);
+    return *ENTRY(kept, address, 0) = found;
 }
 
 part variable_name(u64 address, const block *b) {
@@ -165,7 +131,7 @@ part variable_name(u64 address, const block *b) {
     return (part){name, end - name};
 }
 
-/* Of a piece, with WIDE bytes that may be read. Short ones are mostly found in a table of recent ones. */
+/* The name of a piece, with WIDE bytes that may be read. Short ones are mostly found in a table of recent ones. */
 static part piece_name(u32 number) {
     enum { RECENT = 1 << 16, SHORT = 59 };
     static struct { u32 piece; uint8_t length; char name[SHORT]; } recent[RECENT];
@@ -234,61 +200,60 @@ static void keep_line(const char *end, u32 stack) {
     written++;
 }
 
-/* ---- the trace of a page ---- */
-static void acquire_again(part thread, part lock, part line_end, u32 stack) {
-    if (written < event_limit) keep_line(add_line(room_for_line(), thread, "acq", lock, line_end), stack);
+/* ---- spans ---- */
+static void add_held(const char *operation, part thread, part lock, part line_end, u32 stack) {
+    if (written == event_limit) return;
+    char *end = add_line(room_for_line(), thread, operation, lock, line_end);
+    keep_line(end, *operation == 'a' ? stack : 0);
 }
 
-static void release_before(part thread, part lock, part line_end, u32 stack) {
-    if (written < event_limit) keep_line(add_line(room_for_line(), thread, "rel", lock, line_end), 0);
-}
-
-/* Gives whether the page's trace has the next event: all between two ends of a span, else forks and joins, and the first of a thread. */
-static enum page_step meet_page(void) {
-    if (is_behind_page()) return PAGE_ENDS;
-    enum page_step step = step_page(events + 1);
+static enum trace_step meet_span(void) {
+    enum trace_step step = step_trace(events + 1);
     if (step == SPAN_BEGINS) note_part(written);
-    if (step == SPAN_BEGINS) each_held(acquire_again);
-    if (step == SPAN_ENDS) each_held(release_before);
+    if (step == SPAN_BEGINS) each_held(add_held, "acq");
+    if (step == SPAN_ENDS) each_held(add_held, "rel");
     if (step == SPAN_ENDS) note_part(written);
     return step;
 }
 
-static int is_for_page(enum page_step step, enum event_kind kind, int is_first) {
-    if (step == PAGE_ENDS) return 0;
-    return step == SPAN_BEGINS || step == PAGE_GOES_ON || is_first || kind == IS_FORK || kind == IS_JOIN;
+static int is_inside(enum trace_step step) { return step == SPAN_BEGINS || step == SPAN_GOES_ON; }
+
+/* Between spans a trace has forks and joins, and the first event of a thread. */
+static int has_event(enum trace_step step, enum event_kind kind, int is_first) {
+    return is_inside(step) || (step != TRACE_ENDS && (is_first || kind == IS_FORK || kind == IS_JOIN));
 }
 
 void pass_event(u32 t, int writes) {
-    if (is_behind_page()) return;
-    if (holds_unwritten(t)) write_holds(t);
-    meet_page();
+    if (is_over()) return;
+    write_holds(t);
+    meet_span();
     threads[t].epoch += writes;
     events++;
 }
 
 /* ---- an event ---- */
 /* lock: its number, or 0. */
-static void write_event(u32 t, const char *operation, part name, u32 lock, u64 caller, u32 stack) {
+static u64 write_event(u32 t, const char *operation, part name, u32 lock, u64 caller, u32 stack) {
     enum event_kind kind = kind_of(operation);
     int is_first = !threads[t].number;
-    enum page_step step = for_page ? meet_page() : PAGE_GOES_ON;
+    enum trace_step step = meet_span();
     char *line = room_for_line();
     part line_end = line_end_of(caller), thread = name_of_thread(t);
     char *end = add_line(line, thread, operation, name, line_end);
     if (is_first) threads[t].number = trace_thread(thread.at, thread.length);
-    int is_full = written == event_limit;
-    if (is_full && for_page) end_page();
-    else if (is_full) cut_reason = "at the limit of events";
-    else if (bytes + (end - line) > byte_limit) cut_reason = "at 1 GiB of text";
-    if (is_full || cut_reason) return;
+    if (written == event_limit || bytes + (end - line) > byte_limit) {
+        end_trace(written == event_limit ? "at the limit of events" : "at 1 GiB of text");
+        return 0;
+    }
     u32 other = kind == IS_FORK || kind == IS_JOIN ? trace_thread(name.at, name.length) : lock;
     need_event(name.length && trace_event(end - line - 1, kind, threads[t].number, other, line_end, stack), line, end);
     events++;
-    if (for_page && !is_for_page(step, kind, is_first)) return;
-    if ((kind == IS_ACQUIRE || kind == IS_RELEASE) && step != SPAN_BEGINS && step != PAGE_GOES_ON) end = add_line(line, thread, "begin", thread, line_end);
+    if (!has_event(step, kind, is_first)) return 0;
+    if (!is_inside(step) && (kind == IS_ACQUIRE || kind == IS_RELEASE))
+        end = add_line(line, thread, "begin", thread, line_end);
     keep_line(end, stack);
-    if (for_page) note_written(events, written);
+    note_written(events, written);
+    return written;
 }
 
 void hold_event(u32 t, const char *operation, u32 lock, u64 caller, u32 stack) {
@@ -296,35 +261,36 @@ void hold_event(u32 t, const char *operation, u32 lock, u64 caller, u32 stack) {
 }
 
 void lock_event(u32 t, const char *operation, u32 lock, u64 caller) {
-    if (for_page && is_behind_page()) return;
-    if (holds_unwritten(t)) write_holds(t);
+    if (is_over()) return;
+    write_holds(t);
     hold_event(t, operation, lock, own_place(t, caller), stack_at(t, caller));
     threads[t].epoch++;
 }
 
 /* `name` may lie in a buffer that the writing of another event uses. */
-void event(u32 t, const char *operation, part name, u64 caller) {
+u64 event(u32 t, const char *operation, part name, u64 caller) {
     char own_name[NAME_BYTES + THREAD_BYTES];
-    if (for_page && is_behind_page()) return;
-    if (holds_unwritten(t)) {
+    if (is_over()) return 0;
+    if (threads[t].unwritten) {
         name = (part){memcpy(own_name, name.at, name.length), name.length};
         write_holds(t);
     }
-    write_event(t, operation, name, 0, own_place(t, caller), stack_at(t, caller));
+    u64 number = write_event(t, operation, name, 0, own_place(t, caller), stack_at(t, caller));
     if (*operation != 'r' || operation[1]) threads[t].epoch++;
+    return number;
 }
 
-/* Most events are accesses of the run's trace by a thread that is in it: they take less than others. */
-void access_event(u32 t, const char *operation, u32 number, u64 caller, u64 own) {
+/* Most events are accesses inside a span by a thread that is in the trace: they take less than others. */
+u64 access_event(u32 t, const char *operation, u32 number, u64 caller, u64 own) {
     part name = piece_name(number);
-    int is_usual = !for_page && !holds_unwritten(t) && threads[t].number && name.length && written < event_limit;
+    int has_room = events < span_last && written < event_limit;
+    int is_usual = has_room && !threads[t].unwritten && threads[t].number && name.length;
     char *line = room_for_line(), *end = is_usual ? add_line(line, name_of_thread(t), operation, name, line_end_of(own)) : line;
-    if (!is_usual || bytes + (end - line) > byte_limit) {
-        event(t, operation, name, caller);
-        return;
-    }
+    if (!is_usual || bytes + (end - line) > byte_limit) return event(t, operation, name, caller);
     need_event(trace_access(end - line - 1, threads[t].number), line, end);
     events++;
     keep_line(end, stack_at(t, caller));
+    note_written(events, written);
     threads[t].epoch += *operation == 'w';
+    return written;
 }

@@ -11,61 +11,51 @@ typedef struct { u64 begin, size; u32 type, access, callers, before; } object;
 typedef struct { u32 last, count; } chain;                   /* the last one's number from 1, or 0 */
 /* A variable in a block, with its name in there: the first so many bytes are the type's. */
 typedef struct { u64 at, length; u32 block; chain own; size_t type_length; char *name; } in_block;
-static map numbers, of_blocks;         /* of variables, by their places; of blocks */
-static in_block *in_blocks;
-static access *accesses;
-static object *objects;
-static chain *chains;                  /* of blocks: their objects */
-static u64 in_block_count, in_block_capacity, access_count, access_capacity;
-static u64 object_count, object_capacity, chain_count, chain_capacity;
+static INTERNED(in_block) in_blocks;   /* by their places */
+static VECTOR(access) accesses;
+static VECTOR(object) objects;
+static INTERNED(chain) chains;         /* of blocks: their objects */
 
 void note_in_block(u64 at, u32 block_number, u64 length) {
     u64 caller = allocated_by(block_number);
     inlined_frame *f = caller && !is_of_system(caller) ? frames_of(caller) : 0;
-    if (!f || f->in_system || map_number(&numbers, at, block_number) <= in_block_count) return;
-    GROW(in_blocks, in_block_count, in_block_capacity);
-    in_blocks[in_block_count++] = (in_block){.at = at, .length = length, .block = block_number};
+    if (!f || f->in_system) return;
+    in_block *i = ENTRY(in_blocks, at, block_number);
+    if (!i->block) *i = (in_block){.at = at, .length = length, .block = block_number};
 }
 
 void note_use_of_block(u64 at, u32 block_number, use_of_block use) {
-    u32 number = map_find(&numbers, at, block_number);
-    chain *own = number ? &in_blocks[number - 1].own : 0;
-    for (u32 k = own ? own->last : 0; k; k = accesses[k - 1].before)
-        if (accesses[k - 1].use.caller == use.caller) return;
+    u32 number = map_find(&in_blocks.numbers, at, block_number);
+    chain *own = number ? &in_blocks.at[number - 1].own : 0;
+    for (u32 k = own ? own->last : 0; k; k = accesses.at[k - 1].before)
+        if (accesses.at[k - 1].use.caller == use.caller) return;
     if (!own || own->count == MOST_OWN) return;
-    GROW(accesses, access_count, access_capacity);
-    accesses[access_count++] = (access){.use = use, .before = own->last};
-    *own = (chain){access_count, own->count + 1};
+    *PUSH(accesses) = (access){.use = use, .before = own->last};
+    *own = (chain){accesses.count, own->count + 1};
 }
 
 /* ---- names by uses ---- */
 static chain *objects_of(u32 block_number) {
-    u32 number = map_number(&of_blocks, block_number, 0);
-    if (number > chain_count) {
-        GROW(chains, chain_count, chain_capacity);
-        chains[chain_count++] = (chain){0};
-    }
-    return &chains[number - 1];
+    return ENTRY(chains, block_number, 0);
 }
 
 /* The number of an object of a block, from 1; 0 of too many. */
 static u32 object_number(u32 block_number, object o) {
     chain *all = objects_of(block_number);
-    for (u32 k = all->last; k; k = objects[k - 1].before) {
-        const object *other = &objects[k - 1];
+    for (u32 k = all->last; k; k = objects.at[k - 1].before) {
+        const object *other = &objects.at[k - 1];
         if (other->begin == o.begin && other->size == o.size && other->type == o.type) return k;
     }
     if (all->count == MOST_OBJECTS) return 0;
-    GROW(objects, object_count, object_capacity);
     o.before = all->last;
-    objects[object_count++] = o;
-    *all = (chain){object_count, all->count + 1};
-    return object_count;
+    *PUSH(objects) = o;
+    *all = (chain){objects.count, all->count + 1};
+    return objects.count;
 }
 
 static size_t ask_access(u32 number, const in_block *i, char *name, object *o) {
     const block *b = block_of(i->block);
-    const use_of_block *u = &accesses[number - 1].use;
+    const use_of_block *u = &accesses.at[number - 1].use;
     u64 asked[] = {b->size, u->at - b->at, u->length, u->writes, i->at - b->at, i->length};
     return name_by_use(u->caller, asked, name, &o->begin, &o->size);
 }
@@ -74,8 +64,8 @@ static size_t ask_access(u32 number, const in_block *i, char *name, object *o) {
 static void ask_own(const in_block *i) {
     static map types, met;
     char name[NAME_BYTES];
-    for (u32 k = i->own.last; k; k = accesses[k - 1].before) {
-        access *a = &accesses[k - 1];
+    for (u32 k = i->own.last; k; k = accesses.at[k - 1].before) {
+        access *a = &accesses.at[k - 1];
         object o = {.access = k};
         a->type_length = ask_access(k, i, name, &o);
         if (!a->type_length) continue;
@@ -85,7 +75,7 @@ static void ask_own(const in_block *i) {
         a->object = object_number(i->block, o);
         u64 count = met.count;
         map_number(&met, a->object, a->use.caller);
-        if (a->object) objects[a->object - 1].callers += met.count > count;
+        if (a->object) objects.at[a->object - 1].callers += met.count > count;
     }
 }
 
@@ -102,19 +92,20 @@ static int ends_with(const char *text, const char *end) {
 
 /* Is one what the other is, or one of them within the other? */
 static int are_together(const access *one, const access *other) {
-    u64 size = objects[one->object - 1].size, other_size = objects[other->object - 1].size;
+    u64 size = objects.at[one->object - 1].size, other_size = objects.at[other->object - 1].size;
     if (size < other_size) return ends_with(members_of(other), members_of(one));
     return size > other_size ? ends_with(members_of(one), members_of(other)) : !strcmp(one->name, other->name);
 }
 
 /* One that doesn't begin the block, and isn't an element by the text, is certain if several accesses tell it. */
 static int is_certain(const access *a) {
-    const object *o = &objects[a->object - 1];
+    const object *o = &objects.at[a->object - 1];
     return !o->begin || a->name[a->type_length] == '[' || o->callers > 1;
 }
 
 static int is_larger(const access *a, const access *best) {
-    return is_certain(a) && (!best->object || objects[a->object - 1].size > objects[best->object - 1].size);
+    if (!is_certain(a)) return 0;
+    return !best->object || objects.at[a->object - 1].size > objects.at[best->object - 1].size;
 }
 
 /* Goes on to the largest object of the block's that has the variable; if its own accesses tell nothing, to one that
@@ -123,8 +114,8 @@ static int find_larger(const in_block *i, access *best, char *name) {
     const block *b = block_of(i->block);
     const int is_told = best->object != 0;
     const u64 offset = i->at - b->at;
-    for (u32 k = objects_of(i->block)->last; k; k = objects[k - 1].before) {
-        object o = objects[k - 1];
+    for (u32 k = objects_of(i->block)->last; k; k = objects.at[k - 1].before) {
+        object o = objects.at[k - 1];
         char other[NAME_BYTES];
         int is_there = k != best->object && o.begin <= offset && offset + i->length <= o.begin + o.size;
         access a = {.object = k, .name = other};
@@ -140,10 +131,10 @@ static int find_larger(const in_block *i, access *best, char *name) {
 /* By the largest object that is certain, if what all of the variable's own accesses tell fits. */
 static size_t name_by_uses(const in_block *i, char *name) {
     access best = {.object = 0};
-    for (u32 k = i->own.last; k; k = accesses[k - 1].before)
-        if (accesses[k - 1].object && is_larger(&accesses[k - 1], &best)) best = accesses[k - 1];
-    for (u32 k = best.object ? i->own.last : 0; k; k = accesses[k - 1].before)
-        if (accesses[k - 1].object && !are_together(&accesses[k - 1], &best)) return 0;
+    for (u32 k = i->own.last; k; k = accesses.at[k - 1].before)
+        if (accesses.at[k - 1].object && is_larger(&accesses.at[k - 1], &best)) best = accesses.at[k - 1];
+    for (u32 k = best.object ? i->own.last : 0; k; k = accesses.at[k - 1].before)
+        if (accesses.at[k - 1].object && !are_together(&accesses.at[k - 1], &best)) return 0;
     if (best.object) best.name = strcpy(name, best.name);
     return find_larger(i, &best, name) ? best.type_length : 0;
 }
@@ -159,19 +150,18 @@ static int by_type(const void *a, const void *b) {
 
 static void find_names(void) {
     char name[NAME_BYTES];
-    for (u64 k = 0; k < in_block_count; k++) {
-        in_block *i = &in_blocks[k];
+    const u64 count = in_blocks.numbers.count;
+    EACH(i, in_blocks.at, count) {
         const block *b = block_of(i->block);
         i->type_length = name_in_block(allocated_by(i->block), b->size, i->at - b->at, i->length, name, sizeof name);
         if (i->type_length) i->name = strdup(name);
         else ask_own(i);
     }
-    for (u64 k = 0; k < in_block_count; k++) {
-        in_block *i = &in_blocks[k];
+    EACH(i, in_blocks.at, count) {
         if (!i->type_length && (i->type_length = name_by_uses(i, name))) i->name = strdup(name);
         if (i->type_length && !i->name) die("out of memory");
     }
-    if (in_block_count) qsort(in_blocks, in_block_count, sizeof *in_blocks, by_type);
+    if (count) qsort(in_blocks.at, count, sizeof *in_blocks.at, by_type);
 }
 
 /* ---- what is written ---- */
@@ -199,8 +189,9 @@ static void write_names_of_type(FILE *to, const in_block *first, const in_block 
 
 void write_names_in_blocks(FILE *to) {
     find_names();
-    for (u64 k = 0, end; k < in_block_count && in_blocks[k].name; k = end) {
-        for (end = k + 1; end < in_block_count && in_blocks[end].name && are_of_one_type(&in_blocks[k], &in_blocks[end]);) end++;
-        write_names_of_type(to, &in_blocks[k], &in_blocks[end]);
+    const in_block *all = in_blocks.at;
+    for (u64 k = 0, end, count = in_blocks.numbers.count; k < count && all[k].name; k = end) {
+        for (end = k + 1; end < count && all[end].name && are_of_one_type(&all[k], &all[end]);) end++;
+        write_names_of_type(to, &all[k], &all[end]);
     }
 }

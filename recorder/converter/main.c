@@ -45,13 +45,20 @@ static void find_sharing(u64 i) {
     if (!is_of_stack(operation_of(i)) && means_access(i)) note_record(i);
 }
 
-static u32 *forked_by;                 /* plus one */
-TABLE(forked_by, THREADS)
-static u64 events_of_run;              /* known before the page's trace is written, if that of the run was */
+static void write_fork(u32 t, u32 child, u64 caller) {
+    if (trace_threads() >= thread_limit) {
+        end_trace(too_many_threads);
+        return;
+    }
+    event(t, "fork", name_of_thread(child), caller);
+    threads[child].forked_by = t + 1;
+    threads[child].created_at = stack_at(t, caller);
+}
 
 /* Who joins a thread comes after who forked it only by an event in between. */
 static void write_join(u32 t, u32 child, u64 caller) {
-    if (!has_events(child) && forked_by[child] && forked_by[child] != t + 1) event(child, "begin", name_of_thread(child), caller);
+    u32 by = threads[child].forked_by;
+    if (!has_events(child) && by && by != t + 1) event(child, "begin", name_of_thread(child), caller);
     event(t, "join", name_of_thread(child), caller);
 }
 
@@ -59,13 +66,7 @@ static void write_events(u64 i) {
     enum operation operation = operation_of(i);
     meet_call(i);
     if (is_of_stack(operation)) return;
-    if (for_page && events == events_of_run) end_page();
-    if (operation == OP_FORK && !for_page && trace_threads() >= thread_limit) cut_reason = too_many_threads;
-    else if (operation == OP_FORK) {
-        event(thread_of(i), "fork", name_of_thread(other_thread_of(i)), caller_of(i));
-        forked_by[other_thread_of(i)] = thread_of(i) + 1;
-        stack_of_thread(other_thread_of(i), stack_at(thread_of(i), caller_of(i)));
-    }
+    if (operation == OP_FORK) write_fork(thread_of(i), other_thread_of(i), caller_of(i));
     else if (operation == OP_JOIN) write_join(thread_of(i), other_thread_of(i), caller_of(i));
     else if (operation == OP_FENCE) fence_events(i);
     else if (operation == OP_CRASH) note_crash(i);
@@ -85,7 +86,7 @@ static void name_block(block *b, u64 i) {
 
 /* A record of ranges so long and so many that no pass would end soon is cut, or of so many threads: its beginning is a record too. */
 static const char *shortened;
-static u32 threads_of_record;
+static u32 record_threads;
 
 /* One step with each record that is of use. Inline, for a step that is called by its address costs more than most do. */
 static inline __attribute__((always_inline)) void pass(void (*step)(u64), int is_first) {
@@ -117,12 +118,13 @@ static inline __attribute__((always_inline)) void pass(void (*step)(u64), int is
 }
 
 /* The states of what the passes meet are as they were before the first that wrote a trace. */
-static void write_trace(void) {
+static void write_trace(int has_stacks) {
+    pause_stacks(!has_stacks);
+    forget_thread_states();
     forget_states();
-    forget_calls();
+    begin_calls();
     begin_events();
     begin_accesses();
-    for (u32 t = 0; t < thread_bound(); t = next_thread(t)) forked_by[t] = 0;
     pass(write_events, 0);
     write_lines();
     if (fflush(stdout) || ferror(stdout)) die("cannot write the trace: %s", strerror(errno));
@@ -204,26 +206,26 @@ static void write_to(const char *path) {
     if (!freopen(path, "w", stdout)) die("cannot write to %s: %s", path, strerror(errno));
 }
 
-/* Standard output ends with the trace for shb places --list, so that that ends too. In a pipe with room the two give way to each other less often.
-   Gives why it is cut, or null. */
-static const char *write_scan(void) {
+/* In a pipe with room this process and shb places --list give way to each other less often. Returns why the trace
+   is cut, or null. */
+static const char *write_run(void) {
     u64 limit = event_limit;
-    use_limits_of_scan();
-    fcntl(fileno(stdout), F_SETPIPE_SZ, 1 << 20);            /* bytes, the most that the system gives */
-    pause_stacks(1);
-    write_trace();
-    pause_stacks(0);
+    if (for_scan) use_limits_of_scan();
+    if (for_scan) fcntl(fileno(stdout), F_SETPIPE_SZ, 1 << 20);     /* bytes, the most that the system gives */
+    write_trace(!for_scan);
+    if (!for_scan) end_stacks();
     event_limit = limit;
     return cut_reason;
 }
 
-static void write_page(void) {
-    if (!read_races(only_path)) return;
+/* A part of the run's trace, which has so many events. */
+static void write_page(u64 run_events) {
     u64 limit = event_limit;
+    if (!read_races(only_path, run_events)) return;
     use_limits_of_scan();
     event_limit = limit;
     if (uses_path) open_uses(uses_path);
-    write_trace();
+    write_trace(1);
     if (uses_path) end_uses(written);
     end_stacks();
 }
@@ -234,24 +236,18 @@ int main(int count, char **words) {
     if (blocks_path) carry_blocks(blocks_path);
     if (stacks_path) open_stacks(stacks_path);
     pass(meet_record, 1);
-    threads_of_record = threads_met();
+    record_threads = threads_met();
     pass(find_cuts, 0);
     find_places();
     pass(find_sharing, 0);
-    const char *cut = for_scan ? write_scan() : 0;
-    events_of_run = for_scan ? events : -1ull;
+    int has_run = for_scan || !only_path;
+    const char *cut = has_run ? write_run() : 0;
+    u64 run_events = events;
     if (page_path) write_to(page_path);
-    if (only_path) write_page();
-    else if (!for_scan) {
-        write_trace();
-        end_stacks();
-    }
-    if (!for_scan) {
-        cut = cut_reason;
-        events_of_run = events;
-    }
+    if (only_path) write_page(has_run ? run_events : -1ull);
+    if (!has_run) run_events = events;
     if (left_path) write_blocks(left_path);
-    fprintf(stderr, "shb-std: %lu records, %u threads, %lu events\n", entry_count, threads_of_record, events_of_run);
+    fprintf(stderr, "shb-std: %lu records, %u threads, %lu events\n", entry_count, record_threads, run_events);
     say_crash();
     if (!cut) cut = shortened;
     if (recording_cut) fprintf(stderr, "shb-std: the recording is not the whole run: %s\n", recording_cut);

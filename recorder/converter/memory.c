@@ -23,34 +23,28 @@ typedef struct {
 } page;
 
 u64 range_steps;
-static block *blocks;
-static u64 block_count, block_capacity, met;                 /* met: how many in this pass */
-static piece *pieces;
-static piece_use *piece_uses;
-static u64 piece_count, piece_capacity, use_capacity;
-static page *pages;
-static u64 page_count, page_capacity;
-static map page_map;
+static VECTOR(block) blocks;
+static u64 met;                        /* how many blocks in this pass */
+static VECTOR(piece) pieces;
+static VECTOR(piece_use) piece_uses;
+static INTERNED(page) pages;
 
 enum { RECENT = 4096 };
 static struct { u64 number; u32 found; } recent[RECENT];     /* pages that were asked for, by the ends of their numbers */
 
 static page *find_page(u64 number, int make) {
-    u32 found = make ? map_number(&page_map, number, 0) : map_find(&page_map, number, 0);
+    u32 found = make ? INTERN(pages, number, 0) : map_find(&pages.numbers, number, 0);
     if (!found) return 0;
-    if (found > page_count) {
-        if (page_count >= MAX_PAGES) die("the program used more than 64 GB of memory, or the record is damaged");
-        GROW(pages, page_count, page_capacity);
-        pages[page_count++] = (page){0};
-    }
+    if (found > MAX_PAGES) die("the program used more than 64 GB of memory, or the record is damaged");
     recent[number & (RECENT - 1)].number = number;
     recent[number & (RECENT - 1)].found = found;
-    return &pages[found - 1];
+    return &pages.at[found - 1];
 }
 
 static inline page *page_of(u64 address, int make) {
     u64 number = address / PAGE, at = number & (RECENT - 1);
-    return recent[at].number == number && recent[at].found ? &pages[recent[at].found - 1] : find_page(number, make);
+    int is_recent = recent[at].number == number && recent[at].found;
+    return is_recent ? &pages.at[recent[at].found - 1] : find_page(number, make);
 }
 
 /* The slot of the first cut at this byte of the page or behind it. */
@@ -93,7 +87,7 @@ block *block_at(u64 address) {
     if (!p) return 0;
     u32 grain = p->grains ? p->grains[address % PAGE / GRAIN] : 0;
     u32 newest = grain > p->whole ? grain : p->whole;
-    return newest ? &blocks[newest - 1] : 0;
+    return newest ? &blocks.at[newest - 1] : 0;
 }
 
 void end_block(u64 address) {
@@ -101,10 +95,10 @@ void end_block(u64 address) {
     if (b && b->at == address) b->freed = 1;
 }
 
-/* Of the thread that is always there. */
+/* Only those of the thread that is always there. */
 void write_blocks(const char *path) {
     FILE *file = fopen(path, "w");
-    for (block *b = blocks; file && b < blocks + block_count; b++) {
+    EACH(b, blocks.at, file ? blocks.count : 0) {
         const struct record r[] = {{b->at, b->caller | (u64)OP_ALLOC << 48 | (u64)SIZE_FOLLOWS << 54}, {b->size, (u64)OP_SIZE << 48}};
         if (!b->stack && !b->freed && block_at(b->at) == b) fwrite(r, sizeof r, 1, file);
     }
@@ -112,14 +106,14 @@ void write_blocks(const char *path) {
 }
 
 int in_one_grain(u64 address, u64 end) { return address / GRAIN == (end - 1) / GRAIN; }
-u32 block_number(const block *b) { return b ? b - blocks + 1 : 0; }
-block *block_of(u32 number) { return number ? &blocks[number - 1] : 0; }
+u32 block_number(const block *b) { return b ? b - blocks.at + 1 : 0; }
+block *block_of(u32 number) { return number ? &blocks.at[number - 1] : 0; }
 
 void begin_memory_pass(void) {
     met = range_steps = 0;
-    for (u64 i = 0; i < page_count; i++) {
-        pages[i].whole = 0;
-        if (pages[i].grains) memset(pages[i].grains, 0, PAGE / GRAIN * sizeof *pages[i].grains);
+    EACH(p, pages.at, pages.numbers.count) {
+        p->whole = 0;
+        if (p->grains) memset(p->grains, 0, PAGE / GRAIN * sizeof *p->grains);
     }
 }
 
@@ -127,14 +121,14 @@ block *meet_block(u64 i) {
     u64 size = size_of(i), from = address_of(i) & ~(GRAIN - 1ull);
     u64 end = (address_of(i) + size + GRAIN - 1) & ~(GRAIN - 1ull);
     if (!size || size >= MAX_BLOCK) return 0;
-    if (++met > block_count) {         /* in the first pass */
-        GROW(blocks, block_count, block_capacity);
-        blocks[block_count++] = (block){address_of(i), size, caller_of(i), operation_of(i) == OP_START, 0, 0, 0, thread_of(i), 0};
+    if (++met > blocks.count) {        /* in the first pass */
+        const int is_stack = operation_of(i) == OP_START;
+        *PUSH(blocks) = (block){address_of(i), size, caller_of(i), .stack = is_stack, .thread = thread_of(i)};
         cut(from);
         cut(end);
     }
     allot(from, end, met);
-    return &blocks[met - 1];
+    return &blocks.at[met - 1];
 }
 
 void cut(u64 address) {
@@ -168,12 +162,11 @@ static void make_pieces(u64 from, u64 cuts, u32 *slots) {
     for (; cuts; cuts &= cuts - 1, slots++) {
         if (*slots) continue;
         u64 at = from + __builtin_ctzll(cuts);
-        if (piece_count == MOST_PIECES) die("the record has more variables than shb-std takes (%d)", MOST_PIECES);
-        GROW(pieces, piece_count, piece_capacity);
-        GROW(piece_uses, piece_count, use_capacity);
-        piece_uses[piece_count] = (piece_use){0};
-        pieces[piece_count++] = (piece){.at = at, .block = block_number(block_at(at))};
-        *slots = piece_count;
+        if (pieces.count == MOST_PIECES)
+            die("the record has more variables than shb-std takes (%d)", MOST_PIECES);
+        *PUSH(piece_uses) = (piece_use){0};
+        *PUSH(pieces) = (piece){.at = at, .block = block_number(block_at(at))};
+        *slots = pieces.count;
     }
 }
 
@@ -197,9 +190,9 @@ u32 *pieces_at(u64 *cut, u64 end, u32 *count) {
     return slots;
 }
 
-piece *piece_of(u32 number) { return &pieces[number - 1]; }
-void forget_writes(void) {
-    for (u64 k = 0; k < piece_count; k++) pieces[k].writes = 0;
-}
+piece *piece_of(u32 number) { return &pieces.at[number - 1]; }
+piece_use *use_of_piece(u32 number) { return &piece_uses.at[number - 1]; }
 
-piece_use *use_of_piece(u32 number) { return &piece_uses[number - 1]; }
+void forget_writes(void) {
+    for (u64 k = 0; k < pieces.count; k++) pieces.at[k].writes = 0;
+}

@@ -7,25 +7,24 @@
 
 enum { MAX_MODULES = 512 };
 typedef struct { u64 at, size; char *name; int is_twice; } symbol;
-typedef struct { symbol *list; u64 count, capacity; } page_symbols;
+typedef struct { VECTOR(symbol) symbols; int is_asked; } page_symbols;
 typedef struct {
     u64 low, high, base;
     char *path;
     struct reader *reader;             /* null until it is asked */
-    page_symbols *pages;               /* of its file, those of which symbols were asked for */
-    u64 page_count, page_capacity;
-    map page_map;
-    map members;                       /* of an address and a length in a variable: which text it has */
-    char **texts;
-    u64 text_count, text_capacity;
+    INTERNED(page_symbols) pages;      /* of its file, those of which symbols were asked for */
+    INTERNED(char *) members;          /* the text of an address and a length in a variable */
     int asked, is_late, is_said;       /* of its lines; they are asked for when they are shown; what isn't read */
 } module;
 
 static module modules[MAX_MODULES];
 static int module_count;
-static map callers;
 /* What a caller is: its location, whether that is the program's own code, and its frames, the innermost first. */
-static struct { char *text; u64 length; uint8_t is_own, is_unseen; inlined_frame *frames; } *places;        /* by the numbers of callers */
+typedef struct { u64 caller, length; char *text; inlined_frame *frames; uint8_t is_own, is_unseen; } place;
+static INTERNED(place) places;         /* by callers */
+static place nowhere;                  /* of a caller that wasn't noted */
+
+static place *place_at(u32 number) { return number ? &places.at[number - 1] : &nowhere; }
 
 static module *module_at(u64 address) {
     for (int i = 0; i < module_count; i++)
@@ -80,27 +79,21 @@ static void ask_symbols(module *m, u64 page, page_symbols *to) {
             return;
         }
         behind = size - before < SYMBOL_PAGE - from ? from + size - before : SYMBOL_PAGE;
-        GROW(to->list, to->count, to->capacity);
-        to->list[to->count++] = (symbol){a.one + m->base, size, cleaned(copy(a.first)), a.two & SYMBOL_IS_TWICE};
+        *PUSH(to->symbols) = (symbol){a.one + m->base, size, cleaned(copy(a.first)), a.two & SYMBOL_IS_TWICE};
     }
 }
 
 static symbol *symbol_at(module *m, u64 address) {
     const u64 page = (address - m->base) & -(u64)SYMBOL_PAGE;
-    u32 number = map_number(&m->page_map, page, 0);
-    if (number > m->page_count) {
-        GROW(m->pages, m->page_count, m->page_capacity);
-        m->pages[m->page_count] = (page_symbols){0};
-        ask_symbols(m, page, &m->pages[m->page_count++]);
-    }
-    const page_symbols *p = &m->pages[number - 1];
-    u64 low = 0, end = p->count;
+    page_symbols *p = ENTRY(m->pages, page, 0);
+    if (!p->is_asked++) ask_symbols(m, page, p);
+    u64 low = 0, end = p->symbols.count;
     while (low < end) {                /* how many begin at it or before */
         u64 middle = low + (end - low) / 2;
-        if (p->list[middle].at - m->base <= address - m->base) low = middle + 1;
+        if (p->symbols.at[middle].at - m->base <= address - m->base) low = middle + 1;
         else end = middle;
     }
-    symbol *s = low ? &p->list[low - 1] : 0;
+    symbol *s = low ? &p->symbols.at[low - 1] : 0;
     return s && address - s->at < s->size && *s->name ? s : 0;
 }
 
@@ -209,15 +202,15 @@ static u64 length_at(const symbol *s, u64 address) {
 }
 
 static void keep_member(module *m, u64 address, u64 length, const char *text) {
-    if (map_number(&m->members, address, length) <= m->text_count) return;
-    GROW(m->texts, m->text_count, m->text_capacity);
-    m->texts[m->text_count++] = cleaned(copy(text));
+    char **kept = ENTRY(m->members, address, length);
+    if (!*kept) *kept = cleaned(copy(text));
 }
 
 /* Asks for what is at an address of a variable, and for what is behind it: an array may have many elements. */
 static void ask_members(module *m, const symbol *s, u64 address) {
     enum { TOGETHER = 512, MOST_KEPT = 1 << 20 };
-    u64 numbers[1 + 2 * TOGETHER] = {s->at - m->base}, count = 1, most = m->text_count < MOST_KEPT ? TOGETHER : 1;
+    u64 most = m->members.numbers.count < MOST_KEPT ? TOGETHER : 1, count = 1;
+    u64 numbers[1 + 2 * TOGETHER] = {s->at - m->base};
     for (u64 at = address, length = 0; count < 2 * most && at < s->at + s->size && length < MOST_LENGTH; at += length) {
         length = length_at(s, at);
         numbers[count++] = at - s->at;
@@ -234,9 +227,9 @@ static void ask_members(module *m, const symbol *s, u64 address) {
 /* What is at an address of a variable, as ".head"; null where the reader doesn't answer. */
 static const char *member_at(module *m, const symbol *s, u64 address) {
     u64 length = length_at(s, address);
-    if (!map_find(&m->members, address, length)) ask_members(m, s, address);
-    u32 number = map_find(&m->members, address, length);
-    return number ? m->texts[number - 1] : 0;
+    if (!map_find(&m->members.numbers, address, length)) ask_members(m, s, address);
+    u32 number = map_find(&m->members.numbers, address, length);
+    return number ? m->members.at[number - 1] : 0;
 }
 
 /* "x", "x.head", "x[3]", "x+8"; of a name that isn't the only one "x~ADDRESS"; outside the program "lib.so:x". */
@@ -312,6 +305,14 @@ int local_name(u64 function, u64 pc, u64 below, u64 above, u64 length, char *buf
 }
 
 /* ---- lines of code ---- */
+/* Apart from the usual way, which is short. */
+static __attribute__((noinline)) u32 number_of(u64 caller) {
+    if (nowhere.text) return map_find(&places.numbers, caller, 0);
+    u32 number = INTERN(places, caller, 0);
+    place_at(number)->caller = caller;
+    return number;
+}
+
 /* A caller's number, mostly from a table of recent ones; once places are found, 0 of one that wasn't noted. */
 static u32 caller_number(u64 caller) {
     enum { RECENT = 4096 };
@@ -319,7 +320,7 @@ static u32 caller_number(u64 caller) {
     u64 at = (caller ^ caller >> 12) & (RECENT - 1);
     if (recent[at].caller != caller || !recent[at].number) {
         recent[at].caller = caller;
-        recent[at].number = places ? map_find(&callers, caller, 0) : map_number(&callers, caller, 0);
+        recent[at].number = number_of(caller);
     }
     return recent[at].number;
 }
@@ -330,12 +331,10 @@ static int by_number(const void *a, const void *b) { return *(u64 *)a < *(u64 *)
 
 /* The addresses of the callers in a module, sorted. */
 static u64 *addresses_in(module *m, u64 *count) {
-    u64 *found = zeroed(callers.count + 1, sizeof *found);
+    u64 *found = zeroed(places.numbers.count + 1, sizeof *found);
     *count = 0;
-    for (u64 i = 0; i < callers.capacity; i++) {
-        u64 caller = callers.entries[i].a;
-        if (callers.entries[i].value && caller && module_at(caller) == m) found[(*count)++] = caller - m->base - 1;
-    }                                  /* the call, not where it returns to */
+    EACH(p, places.at, places.numbers.count)                 /* the call, not where it returns to */
+        if (p->caller && module_at(p->caller) == m) found[(*count)++] = p->caller - m->base - 1;
     qsort(found, *count, sizeof *found, by_number);
     return found;
 }
@@ -387,7 +386,8 @@ static void read_frames(module *m, const u64 *addresses, u64 count) {
             refuse_answer(m->reader);
             return;
         }
-        if (is_first) next = &places[map_find(&callers, addresses[number = a.one] + m->base + 1, 0)].frames;
+        number = a.one;
+        if (is_first) next = &place_at(map_find(&places.numbers, addresses[number] + m->base + 1, 0))->frames;
         *next = frame_of(m, &a);
         next = &(*next)->outer;
     }
@@ -469,34 +469,32 @@ static int is_hooked(module *m, u64 caller) {
 }
 
 /* Names the frames of a caller; its location is the first one outside of the system's headers, else the first. */
-static void find_place(u64 caller, u32 number) {
-    module *m = module_at(caller);
+static void find_place(place *p) {
+    module *m = module_at(p->caller);
     inlined_frame *chosen = 0;
-    for (inlined_frame *f = places[number].frames; f; f = f->outer) {
-        f->location = f->line ? location_of(f->location, f->line) : address_place(caller);
+    for (inlined_frame *f = p->frames; f; f = f->outer) {
+        f->location = f->line ? location_of(f->location, f->line) : address_place(p->caller);
         if (f->line && !f->in_system_file) name_lambda(f);
         if (f->line && (!chosen || (chosen->in_system_file && !f->in_system_file))) chosen = f;
     }
-    char *address = chosen ? 0 : address_place(caller);
-    places[number].text = line_end(chosen ? chosen->location : address);
+    char *address = chosen ? 0 : address_place(p->caller);
+    p->text = line_end(chosen ? chosen->location : address);
     free(address);
-    places[number].length = strlen(places[number].text);
-    places[number].is_own = m && !is_recorder(m) && !(chosen ? chosen->in_system_file : in_system(m->path));
-    const inlined_frame *last = outermost(places[number].frames);
-    places[number].is_unseen = last && last->in_rust_library && !is_hooked(m, caller);
-    has_unseen |= places[number].is_unseen;
-    if (places[number].frames) return;
-    places[number].frames = new_frame("", places[number].text, 0);
-    places[number].frames->in_system = places[number].frames->in_system_file = m && in_system(m->path);
+    p->length = strlen(p->text);
+    p->is_own = m && !is_recorder(m) && !(chosen ? chosen->in_system_file : in_system(m->path));
+    const inlined_frame *last = outermost(p->frames);
+    p->is_unseen = last && last->in_rust_library && !is_hooked(m, p->caller);
+    has_unseen |= p->is_unseen;
+    if (p->frames) return;
+    p->frames = new_frame("", p->text, 0);
+    p->frames->in_system = p->frames->in_system_file = m && in_system(m->path);
 }
 
-/* Of all callers whose module was asked, or that are in none. */
+/* The places of all callers whose module was asked, or that are in none. */
 static void find_asked_places(void) {
-    for (u64 i = 0; i < callers.capacity; i++) {
-        map_entry e = callers.entries[i];
-        if (!e.value || places[e.value].text) continue;
-        const module *m = module_at(e.a);
-        if (!m || m->asked) find_place(e.a, e.value);
+    EACH(p, places.at, places.numbers.count) {
+        const module *m = p->text ? 0 : module_at(p->caller);
+        if (!p->text && (!m || m->asked)) find_place(p);
     }
 }
 
@@ -506,16 +504,15 @@ static int has_own_lines(module *m) {
 }
 
 static int has_callers(const module *m) {
-    for (u64 i = 0; i < callers.capacity; i++)
-        if (callers.entries[i].value && callers.entries[i].a && module_at(callers.entries[i].a) == m) return 1;
+    EACH(p, places.at, places.numbers.count)
+        if (p->caller && module_at(p->caller) == m) return 1;
     return 0;
 }
 
 /* A library of the system whose lines are in a file of their own, and the recorder's, is late: it is asked when a frame of it is
    shown, and mostly none is. Its source files aren't the program's, so the names of those don't hang on it. */
 void find_places(void) {
-    places = zeroed(callers.count + 1, sizeof *places);
-    places[0].text = line_end("");
+    nowhere.text = line_end("");
     for (module *m = modules; m < modules + module_count; m++) {
         if (!in_system(m->path) && !is_recorder(m)) note_sources_of(m);
         m->is_late = is_recorder(m) || (m > modules && in_system(m->path) && !(has_callers(m) && has_own_lines(m)));
@@ -524,20 +521,18 @@ void find_places(void) {
     find_asked_places();
 }
 
-/* The number of a caller, whose place is known then; 0 of one that wasn't noted. */
-static u32 found_place(u64 caller) {
-    u32 number = caller_number(caller);
-    if (number && !places[number].text) {
-        ask_for_lines(module_at(caller));
-        find_asked_places();
-    }
-    return number;
+static const place *found_place(u64 caller) {
+    const place *p = place_at(caller_number(caller));
+    if (p->text) return p;
+    ask_for_lines(module_at(caller));
+    find_asked_places();
+    return p;
 }
 
-/* Of a caller that was noted. */
+/* The place of a caller that was noted. */
 part place_of(u64 caller) {
-    u32 number = found_place(caller);
-    return (part){places[number].text, places[number].length};
+    const place *p = found_place(caller);
+    return (part){p->text, p->length};
 }
 
 part line_end_of(u64 caller) {
@@ -545,11 +540,11 @@ part line_end_of(u64 caller) {
     return (part){place.at - 2, place.length + 2};
 }
 
-int is_unseen(u64 caller) { return has_unseen && places[found_place(caller)].is_unseen; }
+int is_unseen(u64 caller) { return has_unseen && found_place(caller)->is_unseen; }
 
-int is_own_place(u64 caller) { return places[caller_number(caller)].is_own; }
+int is_own_place(u64 caller) { return place_at(caller_number(caller))->is_own; }
 
-inlined_frame *frames_of(u64 caller) { return places[found_place(caller)].frames; }
+inlined_frame *frames_of(u64 caller) { return found_place(caller)->frames; }
 
 inlined_frame *outermost(inlined_frame *f) {
     while (f && f->outer) f = f->outer;

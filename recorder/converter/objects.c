@@ -15,34 +15,32 @@ typedef struct {
     u32 lock;                          /* the number of its own lock in the trace, once it has one */
     u32 holder, depth;                 /* of a lock: the thread that took it, plus one, and how often */
     u32 version, head;                 /* how often it gave something; the number of the lock of its updates */
-    gift *gifts;                       /* what its present value gives */
-    u64 gift_count, gift_capacity;
-    u32 posts, *waiters;               /* of a semaphore; of a reader-writer lock: the readers since the last writer */
-    u64 waiter_count, waiter_capacity, first_waiters;        /* of a semaphore: all that ever wait */
+    VECTOR(gift) gifts;                /* what its present value gives */
+    u32 posts;                         /* of a semaphore */
+    VECTOR(u32) waiters;               /* of it; of a reader-writer lock: the readers since the last writer */
+    u64 first_waiters;                 /* of a semaphore: all that ever wait */
     u32 count, users, arrivals;        /* of a barrier */
     uint8_t is_of_atomic, many_users, recounted;             /* recounted: begun again with another count */
     uint8_t foreign;                   /* released by another thread than took it */
     u32 writer;                        /* of a reader-writer lock: who has taken a hold to write, plus one */
 } object;
 
-static object *objects;
-static u64 object_count, object_capacity;
-static map object_map, seen_map, version_map;
-static u32 *seen;                      /* for object and thread: the last version, post or round that it has seen */
-static u32 *noted;                     /* the same: the last version that it will take at a fence */
-static u64 seen_count, seen_capacity, noted_capacity;
-static u32 *version_readers;           /* for object and version: the list of those who will read it */
-static u64 version_count, version_capacity;
+static INTERNED(object) objects;
+/* For a thread and an object: the last version, post or round that the thread has seen, and the last version that it
+   will take at a fence. */
+typedef struct { u32 last, noted; } sight;
+static INTERNED(sight) seen;
+static INTERNED(u32) version_readers;  /* for object and version: the list of those who will read it */
+
+static u64 index_of(const object *o) { return o - objects.at; }
 
 /* A program's own lock may have an atomic and what is told of it at one address: these are two objects. */
 static u32 find_object(u64 at, int is_of_atomic) {
     u64 of_atomic = (u64)is_of_atomic << 63, of_other = ~of_atomic & 1ull << 63;
-    u32 block = block_number(block_at(at)), number = map_number(&object_map, at | of_atomic, block);
-    if (number > object_count) {
-        const char *mark = map_find(&object_map, at | of_other, block) ? "@@" : "@";
-        GROW(objects, object_count, object_capacity);
-        objects[object_count++] = (object){.at = at, .mark = mark, .block = block, .is_of_atomic = is_of_atomic};
-    }
+    u32 block = block_number(block_at(at)), number = INTERN(objects, at | of_atomic, block);
+    object *o = &objects.at[number - 1];
+    const char *mark = o->mark ? o->mark : map_find(&objects.numbers, at | of_other, block) ? "@@" : "@";
+    if (!o->mark) *o = (object){.at = at, .mark = mark, .block = block, .is_of_atomic = is_of_atomic};
     return number;
 }
 
@@ -50,24 +48,14 @@ static object *object_of(u64 i) {
     int is_of_atomic = is_atomic(operation_of(i));
     piece *p = only_piece(i);
     u32 number = p ? p->object : 0;
-    if (!number || objects[number - 1].is_of_atomic != is_of_atomic) number = find_object(address_of(i), is_of_atomic);
+    if (!number || objects.at[number - 1].is_of_atomic != is_of_atomic)
+        number = find_object(address_of(i), is_of_atomic);
     if (p) p->object = number;
-    return &objects[number - 1];
+    return &objects.at[number - 1];
 }
 
-static u32 seen_number(object *o, u32 t) {
-    u32 number = map_number(&seen_map, o - objects, t);
-    if (number <= seen_count) return number - 1;
-    GROW(seen, seen_count, seen_capacity);
-    GROW(noted, seen_count, noted_capacity);
-    seen[seen_count] = noted[seen_count] = 0;
-    return seen_count++;
-}
-
-static u32 *seen_by(object *o, u32 t) {
-    u32 number = seen_number(o, t);    /* it may move the array */
-    return &seen[number];
-}
+static sight *sight_of(const object *o, u32 t) { return ENTRY(seen, index_of(o), t); }
+static u32 *seen_by(const object *o, u32 t) { return &sight_of(o, t)->last; }
 
 static void new_version(object *o, u32 t) { *seen_by(o, t) = ++o->version; }
 
@@ -79,75 +67,67 @@ static int sees_version(object *o, u32 t) {                  /* for the first ti
 }
 
 static void add_waiter(object *o, u32 t) {
-    for (u64 i = 0; i < o->waiter_count; i++)
-        if (o->waiters[i] == t) return;
-    GROW(o->waiters, o->waiter_count, o->waiter_capacity);
-    o->waiters[o->waiter_count++] = t;
+    for (u64 i = 0; i < o->waiters.count; i++)
+        if (o->waiters.at[i] == t) return;
+    *PUSH(o->waiters) = t;
 }
 
 /* ---- memory orders: who takes what from whom; the same in the third and the fourth pass ---- */
 typedef void (*handing)(object *o, u32 version, u32 taker, u64 caller);
-typedef struct { u32 object, version; } note;
-static struct { note *notes; u64 count, capacity; int fenced; } *fences;   /* fenced: by a release fence */
-TABLE(fences, THREADS)
 int has_fences;
 
 /* What t gave before, and what it has taken, is in what it gives now. */
 static void give(object *o, u32 t, int locked) {
-    u64 kept = 0;
     u32 last = *seen_by(o, t);
-    for (u64 k = 0; k < o->gift_count; k++)
-        if (o->gifts[k].giver != t && o->gifts[k].version > last) o->gifts[kept++] = o->gifts[k];
-    o->gift_count = kept;
-    GROW(o->gifts, o->gift_count, o->gift_capacity);
-    o->gifts[o->gift_count++] = (gift){++o->version, t, locked};
+    u64 kept = 0;
+    EACH(g, o->gifts.at, o->gifts.count)
+        if (g->giver != t && g->version > last) o->gifts.at[kept++] = *g;
+    o->gifts.count = kept;
+    *PUSH(o->gifts) = (gift){++o->version, t, locked};
 }
 
 /* t takes all gifts of the present value that it hasn't; what the lock of the head gives only if that isn't taken. */
 static void take_gifts(object *o, u32 t, int by_lock, handing hand, u64 caller) {
     u32 last = *seen_by(o, t);
-    for (u64 k = o->gift_count; k-- > 0 && o->gifts[k].version > last;)
-        if (o->gifts[k].giver != t && !(by_lock && o->gifts[k].locked)) hand(o, o->gifts[k].version, t, caller);
+    for (u64 k = o->gifts.count; k-- > 0 && o->gifts.at[k].version > last;) {
+        const gift *g = &o->gifts.at[k];
+        if (g->giver != t && !(by_lock && g->locked)) hand(o, g->version, t, caller);
+    }
     *seen_by(o, t) = o->version;
 }
 
-static struct { u64 record, object; } *last_of;              /* the object that a thread gave something by its last record, which is that; plus one */
-TABLE(last_of, THREADS)
-
 void note_record(u64 i) {
-    u32 t = thread_of(i);
-    if (last_of[t].record != i + 1) last_of[t].object = 0;
+    thread_state *s = &threads[thread_of(i)];
+    if (s->gave_at != i + 1) s->gave = 0;
 }
 
 static void note_gift(u64 i, const object *o) {
-    last_of[thread_of(i)].object = o - objects + 1;
-    last_of[thread_of(i)].record = i + 1;
+    threads[thread_of(i)].gave = index_of(o) + 1;
+    threads[thread_of(i)].gave_at = i + 1;
 }
 
 /* Who gave, and takes what others gave before it does anything else, may give it all on, and nothing besides: so those who take after it
-   take one gift. Gives whether it does. */
+   take one gift. Returns whether it does. */
 static int gives_all_on(object *o, u32 t) {
     u64 k = 0;
-    while (k < o->gift_count && o->gifts[k].giver != t) k++;
-    if (o->gift_count <= 2 || k == o->gift_count || last_of[t].object != (u64)(o - objects + 1)) return 0;
+    while (k < o->gifts.count && o->gifts.at[k].giver != t) k++;
+    if (o->gifts.count <= 2 || k == o->gifts.count || threads[t].gave != index_of(o) + 1) return 0;
     give(o, t, 0);
     return 1;
 }
 
 /* A relaxed read: t will take the gifts at its next fence, if there is one. */
 static void note_gifts(object *o, u32 t) {
-    u32 number = seen_number(o, t), last = noted[number] > seen[number] ? noted[number] : seen[number];
-    for (u64 k = o->gift_count; k-- > 0 && o->gifts[k].version > last;) {
-        if (o->gifts[k].giver == t) continue;
-        GROW(fences[t].notes, fences[t].count, fences[t].capacity);
-        fences[t].notes[fences[t].count++] = (note){o - objects, o->gifts[k].version};
-    }
-    noted[number] = o->version;
+    sight *s = sight_of(o, t);
+    u32 last = s->noted > s->last ? s->noted : s->last;
+    for (u64 k = o->gifts.count; k-- > 0 && o->gifts.at[k].version > last;)
+        if (o->gifts.at[k].giver != t) *PUSH(threads[t].notes) = (note){index_of(o), o->gifts.at[k].version};
+    s->noted = o->version;
 }
 
 static void take_noted(u32 t, handing hand, u64 caller) {
-    for (u64 k = 0; k < fences[t].count; k++) hand(&objects[fences[t].notes[k].object], fences[t].notes[k].version, t, caller);
-    fences[t].count = 0;
+    EACH(n, threads[t].notes.at, threads[t].notes.count) hand(&objects.at[n->object], n->version, t, caller);
+    threads[t].notes.count = 0;
 }
 
 static void read_value(u64 i, object *o, int by_lock, handing hand) {
@@ -156,7 +136,7 @@ static void read_value(u64 i, object *o, int by_lock, handing hand) {
 }
 
 /* After a release fence of its thread each store and update counts as a release. */
-static int gives(u64 i) { return releases(i) || fences[thread_of(i)].fenced; }
+static int gives(u64 i) { return releases(i) || threads[thread_of(i)].is_fenced; }
 
 /* An update that acquires and releases does so by a lock that it shares with its like. */
 static int is_by_lock(u64 i) { return operation_of(i) == OP_ATOMIC_UPDATE && acquires(i) && gives(i); }
@@ -165,9 +145,9 @@ static int is_by_lock(u64 i) { return operation_of(i) == OP_ATOMIC_UPDATE && acq
 static void store_value(u64 i, object *o) {
     u32 t = thread_of(i);
     u64 kept = 0;
-    for (u64 k = 0; k < o->gift_count && !gives(i); k++)
-        if (o->gifts[k].giver == t) o->gifts[kept++] = (gift){o->gifts[k].version, t, 0};
-    o->gift_count = kept;
+    EACH(g, o->gifts.at, gives(i) ? 0 : o->gifts.count)
+        if (g->giver == t) o->gifts.at[kept++] = (gift){g->version, t, 0};
+    o->gifts.count = kept;
     if (gives(i)) give(o, t, 1);
     else o->version++;
     o->head = o->version;
@@ -185,19 +165,14 @@ static void write_value(u64 i, object *o) {
 
 static void pass_fence(u64 i, handing hand) {
     if (acquires(i)) take_noted(thread_of(i), hand, caller_of(i));
-    if (releases(i)) fences[thread_of(i)].fenced = 1;
+    if (releases(i)) threads[thread_of(i)].is_fenced = 1;
 }
 
 /* ---- 3: who uses and who reads what ---- */
 /* A store passes what it gives to each of its takers by a lock of these two alone, so that no taker orders another. For
    this the takers of each version are found first. */
 static void add_taker(object *o, u32 version, u32 t, u64 unused) {
-    u32 number = map_number(&version_map, o - objects, version);
-    if (number > version_count) {
-        GROW(version_readers, version_count, version_capacity);
-        version_readers[version_count++] = 0;
-    }
-    add_to_list(&version_readers[number - 1], t);
+    add_to_list(ENTRY(version_readers, index_of(o), version), t);
 }
 
 static void will_read(object *o, u32 t) {
@@ -246,7 +221,7 @@ void share_object(u64 i) {
         break;
     case OP_WAIT:
         add_waiter(o, t);
-        o->first_waiters = o->waiter_count;
+        o->first_waiters = o->waiters.count;
         break;
     case OP_BARRIER_INIT:
         if (o->count && o->count != size_of(i)) o->recounted = 1;
@@ -260,22 +235,13 @@ void share_object(u64 i) {
     }
 }
 
-static void forget_holds(void);
-
 void forget_states(void) {
-    for (u64 i = 0; i < object_count; i++) {
-        object *o = &objects[i];
+    EACH(o, objects.at, objects.numbers.count) {
         o->depth = o->holder = o->version = o->head = o->posts = o->arrivals = o->writer = 0;
-        o->gift_count = 0;
-        o->waiter_count = o->first_waiters;
+        o->gifts.count = 0;
+        o->waiters.count = o->first_waiters;
     }
-    for (u32 t = 0; t < thread_bound(); t = next_thread(t)) {
-        fences[t].count = fences[t].fenced = 0;
-        last_of[t].object = 0;
-    }
-    if (seen_count) memset(seen, 0, seen_count * sizeof *seen);
-    if (seen_count) memset(noted, 0, seen_count * sizeof *noted);
-    forget_holds();
+    if (seen.at) memset(seen.at, 0, seen.numbers.count * sizeof *seen.at);
 }
 
 /* ---- 4: which of an object's locks: its own (no sign), or a reader's own of a reader-writer lock ("X@reader.T2"); "X@3", of its
@@ -285,21 +251,6 @@ static const which own = {0}, of_reader = {.sign = 'r'};
 static which of_version(u32 version) { return (which){'@', version, 0}; }
 static which to_thread(u32 version, u32 t) { return (which){'>', version, t}; }
 static which by_thread(u32 version, u32 t) { return (which){'<', version, t}; }
-
-/* ---- 4: locks that are held and whose acquire tells a thread nothing: of one thread alone; reader-writer locks, whose order is told
-   by locks of their own. Such a lock is acquired in the trace right before its thread's
-   next event, if there is one until the release: so each lock that is held at an access in the trace is there. ---- */
-typedef struct { u64 caller; u32 object, stack; which lock; uint8_t written; } hold;
-static struct { hold *list; u64 count, capacity, unwritten, sum; } *held;
-TABLE(held, THREADS)
-
-static void forget_holds(void) {
-    for (u32 t = 0; t < thread_bound(); t = next_thread(t)) held[t].count = held[t].unwritten = held[t].sum = 0;
-}
-
-static u64 sum_of_lock(const object *o, which w) { return mix(o - objects + 1, w.sign); }
-int holds_unwritten(u32 t) { return held[t].unwritten > 0; }
-u64 held_locks(u32 t) { return held[t].sum; }
 
 /* The number of a lock in the trace. */
 static u32 lock_of(object *o, which w, u32 t) {
@@ -316,61 +267,69 @@ static u32 lock_of(object *o, which w, u32 t) {
     return number;
 }
 
-/* The locks that the program has are those under which a page's variables are used. */
-static u64 key_of(const object *o, which w) { return (u64)(o - objects) << 1 | (w.sign == 'r'); }
+/* ---- 4: the locks that a thread holds, of those that the program has. The acquire of some tells a thread nothing:
+   of those of one thread alone; of reader-writer locks, whose order is told by locks of their own. Such a lock is
+   acquired in the trace right before its thread's next event, if there is one until the release: so each lock that
+   is held at an access in the trace is there. ---- */
+static u64 key_of(const object *o, which w) { return index_of(o) << 1 | (w.sign == 'r'); }
+static object *object_of_key(u64 key) { return &objects.at[key >> 1]; }
+static u32 lock_of_key(u64 key, u32 t) { return lock_of(object_of_key(key), key & 1 ? of_reader : own, t); }
+part name_of_held(u64 key, u32 t) { return lock_name(lock_of_key(key, t)); }
 
-part name_of_held(u64 key, u32 t) { return lock_name(lock_of(&objects[key >> 1], key & 1 ? of_reader : own, t)); }
-
-static void note_for_uses(const object *o, which w, u32 t, const char *operation) {
-    if (!for_page || (w.sign && w.sign != 'r')) return;
-    if (*operation == 'a') hold_for_uses(t, key_of(o, w));
-    else leave_for_uses(t, key_of(o, w));
-}
-
-static void write_hold(u32 t, const hold *h, const char *operation, u64 caller, u32 stack) {
-    if (for_page && is_behind_page()) return;
-    object *o = &objects[h->object];
+/* Before an event of it. */
+static void note_lock(const object *o, u32 t, u64 caller) {
+    if (!with_stacks) return;
     note_name(o->at, o->block, written + 1, t);
     note_use_of_block(o->at, o->block, (use_of_block){.at = o->at, .caller = caller});
-    hold_event(t, operation, lock_of(o, h->lock, t), caller, stack);
+}
+
+static void write_hold(u32 t, u64 key, const char *operation, u64 caller, u32 stack) {
+    if (is_over()) return;
+    note_lock(object_of_key(key), t, caller);
+    hold_event(t, operation, lock_of_key(key, t), caller, stack);
 }
 
 void write_holds(u32 t) {
-    for (u64 k = 0; k < held[t].count; k++) {
-        hold *h = &held[t].list[k];
-        if (!h->written) write_hold(t, h, "acq", h->caller, h->stack);
-        h->written = 1;
+    thread_state *s = &threads[t];
+    for (u64 k = 0; s->unwritten && k < s->held.count; k++) {
+        hold *h = &s->held.at[k];
+        if (!h->is_written) write_hold(t, h->key, "acq", h->caller, h->stack);
+        h->is_written = 1;
     }
-    held[t].unwritten = 0;
+    s->unwritten = 0;
+}
+
+static void add_hold(u32 t, hold added) {
+    thread_state *s = &threads[t];
+    EACH(h, s->held.at, s->held.count) added.is_again |= h->key == added.key;
+    *PUSH(s->held) = added;
+    s->unwritten += !added.is_written;
+    s->locks += mix(added.key + 1, 0);
+    s->lock_set = 0;
 }
 
 static void take_hold(object *o, u32 t, which w, u64 caller) {
-    GROW(held[t].list, held[t].count, held[t].capacity);
-    held[t].list[held[t].count++] = (hold){own_place(t, caller), o - objects, stack_at(t, caller), w, 0};
-    held[t].unwritten++;
-    held[t].sum += sum_of_lock(o, w);
-    note_for_uses(o, w, t, "acq");     /* also where nothing is written under it */
+    add_hold(t, (hold){key_of(o, w), own_place(t, caller), stack_at(t, caller), 0, 0});
 }
 
-/* Gives whether there was one; *written: whether its acquire is in the trace. */
-static int end_hold(object *o, u32 t, which w, int *written) {
-    for (u64 k = held[t].count; k-- > 0;) {
-        hold h = held[t].list[k];
-        if (h.object != o - objects || h.lock.sign != w.sign || h.lock.version != w.version || h.lock.thread != w.thread) continue;
-        *written = h.written;
-        held[t].unwritten -= !h.written;
-        held[t].count--;
-        memmove(&held[t].list[k], &held[t].list[k + 1], (held[t].count - k) * sizeof h);
-        held[t].sum -= sum_of_lock(o, w);
-        note_for_uses(o, w, t, "rel");
-        return 1;
-    }
-    return 0;
+/* Returns whether there was one; *is_written: whether its acquire is in the trace. */
+static int end_hold(u32 t, u64 key, int *is_written) {
+    thread_state *s = &threads[t];
+    u64 k = s->held.count;
+    while (k && s->held.at[k - 1].key != key) k--;
+    if (!k) return 0;
+    hold *h = &s->held.at[k - 1];
+    *is_written = h->is_written;
+    s->unwritten -= !h->is_written;
+    memmove(h, h + 1, (s->held.count-- - k) * sizeof *h);
+    s->locks -= mix(key + 1, 0);
+    s->lock_set = 0;
+    return 1;
 }
 
 static int leave_hold(object *o, u32 t, which w, u64 caller) {
-    int written = 0, was_there = end_hold(o, t, w, &written);
-    if (written) write_hold(t, &(hold){.object = o - objects, .lock = w}, "rel", own_place(t, caller), stack_at(t, caller));
+    int is_written = 0, was_there = end_hold(t, key_of(o, w), &is_written);
+    if (is_written) write_hold(t, key_of(o, w), "rel", own_place(t, caller), stack_at(t, caller));
     return was_there;
 }
 
@@ -396,20 +355,14 @@ static void holds_after(u64 i, object *o, int is_private) {
 
 /* ---- 4: events ---- */
 static void use_lock(object *o, u32 t, const char *operation, which w, u64 caller) {
-    note_for_uses(o, w, t, operation);
-    if (for_page && is_behind_page()) return;
-    if (with_stacks) note_name(o->at, o->block, written + 1, t);
-    note_use_of_block(o->at, o->block, (use_of_block){.at = o->at, .caller = caller});
+    if (is_over()) return;
+    note_lock(o, t, caller);
     lock_event(t, operation, lock_of(o, w, t), caller);
 }
 
 static void take_lock(object *o, u32 t, which w, u64 caller) { use_lock(o, t, "acq", w, caller); }
 
-static void leave_lock(object *o, u32 t, which w, u64 caller) {
-    int is_written = 1;
-    end_hold(o, t, w, &is_written);
-    if (is_written) use_lock(o, t, "rel", w, caller);
-}
+static void leave_lock(object *o, u32 t, which w, u64 caller) { use_lock(o, t, "rel", w, caller); }
 
 static void pass_lock(object *o, u32 t, which w, u64 caller) {
     take_lock(o, t, w, caller);
@@ -417,9 +370,10 @@ static void pass_lock(object *o, u32 t, which w, u64 caller) {
 }
 
 static void publish_version(object *o, u32 t, u32 version, u64 caller) {
-    u32 number = map_find(&version_map, o - objects, version);
-    for (u32 k = number ? version_readers[number - 1] : 0; k; k = list_entries[k - 1].next)
-        pass_lock(o, t, to_thread(version, list_entries[k - 1].thread), caller);
+    u32 number = map_find(&version_readers.numbers, index_of(o), version);
+    const list_entry *reader = number ? entry_of_list(version_readers.at[number - 1]) : 0;
+    for (; reader; reader = entry_of_list(reader->next))
+        pass_lock(o, t, to_thread(version, reader->thread), caller);
 }
 
 static void publish(object *o, u32 t, u64 caller) { publish_version(o, t, o->version, caller); }
@@ -443,7 +397,7 @@ static void atomic_events(u64 i, object *o) {
     u64 caller = caller_of(i);
     int stores = operation_of(i) == OP_ATOMIC_STORE, loads = operation_of(i) == OP_ATOMIC_LOAD;
     int by_lock = is_by_lock(i) || (stores && gives(i));
-    if (o->many_users) note_use(i, o - objects, gives(i));
+    if (o->many_users) note_use(i, index_of(o), gives(i));
     if (!stores) read_value(i, o, by_lock, take_version);
     if (loads && acquires(i) && gives_all_on(o, t)) publish(o, t, caller);
     if (!loads) write_value(i, o);
@@ -455,8 +409,8 @@ static void atomic_events(u64 i, object *o) {
 
 static void write_lock_events(object *o, u32 t, u64 caller) {
     pass_lock(o, t, of_version(o->version), caller);
-    for (u64 k = 0; k < o->waiter_count; k++) pass_lock(o, t, by_thread(o->version, o->waiters[k]), caller);
-    o->waiter_count = 0;
+    EACH(waiter, o->waiters.at, o->waiters.count) pass_lock(o, t, by_thread(o->version, *waiter), caller);
+    o->waiters.count = 0;
     o->holder = t + 1;
 }
 
@@ -474,8 +428,8 @@ static void rw_unlock_events(object *o, u32 t, u64 caller) {
 
 static void post_events(object *o, u32 t, u64 caller) {
     o->posts++;
-    for (u64 k = 0; k < o->waiter_count; k++)
-        if (o->waiters[k] != t) pass_lock(o, t, to_thread(o->posts, o->waiters[k]), caller);
+    EACH(waiter, o->waiters.at, o->waiters.count)
+        if (*waiter != t) pass_lock(o, t, to_thread(o->posts, *waiter), caller);
 }
 
 static void wait_events(object *o, u32 t, u64 caller) {
@@ -492,14 +446,22 @@ static void arrive_events(object *o, u32 t, u64 caller) {    /* rounds are told 
     pass_lock(o, t, of_version(round), caller);
 }
 
+/* For a lock of several threads, which each of them releases itself. */
+static void lock_events(u64 i, object *o) {
+    u32 t = thread_of(i);
+    int is_written = 1;
+    if (operation_of(i) == OP_UNLOCK) end_hold(t, key_of(o, own), &is_written);
+    if (is_written) use_lock(o, t, operation_of(i) == OP_LOCK ? "acq" : "rel", own, caller_of(i));
+    if (operation_of(i) == OP_LOCK) add_hold(t, (hold){.key = key_of(o, own), .is_written = 1});
+}
+
 static void order_events(u64 i, object *o) {
     u32 t = thread_of(i);
     u64 caller = caller_of(i);
     switch (operation_of(i)) {
     case OP_LOCK: case OP_UNLOCK:
         if (o->foreign) pass_lock(o, t, own, caller);
-        else if (operation_of(i) == OP_LOCK) take_lock(o, t, own, caller);
-        else leave_lock(o, t, own, caller);
+        else lock_events(i, o);
         break;
     case OP_READ_LOCK: receive(o, t, caller); break;
     case OP_WRITE_LOCK: write_lock_events(o, t, caller); break;

@@ -1,4 +1,5 @@
-/* The trace of a page: a part of the run's trace, around races that shb places --list has found in that.
+/* Which of the run's events a trace has: all; or a part, for a page, around races that shb places --list has found in
+   that of the run.
 
    The file of races has a line for each of them: the numbers of its two events in the run's trace, and its variable. Of the events
    from a few before the first one of a race to a few behind its second one the page's trace has the accesses of variables in races, and
@@ -11,6 +12,9 @@
                                                                       of the file of stacks, or 0
        event NUMBER-IN-PAGE NUMBER-IN-RUN
        part NUMBER-IN-PAGE                                      between this event and the one before it some may be missing
+       repeated NUMBER-IN-PAGE                this access stands for others of its kind, which are omitted: earlier
+                                              ones in a phase of one owner; of a read also later ones, before the
+                                              thread could order another or the variable is written
        events COUNT-IN-PAGE                                     at the end */
 #define _GNU_SOURCE
 #include <errno.h>
@@ -21,11 +25,17 @@
 enum { CONTEXT = 2000, SHORT_RUN = 20000, ONE_TRACE = 200000, SPARSE = 4 };          /* events; one of SPARSE is kept, about */
 typedef struct { u64 first, last; } span;
 
-int for_page;
-static span *spans;
-static u64 span_count, span_capacity, span_at, *wanted, wanted_count, wanted_capacity, wanted_at;
-static char **racing_names;
-static u64 racing_count, racing_capacity;
+/* What is written: the events in these spans, and of accesses those of variables with these names, or of all. */
+typedef struct {
+    VECTOR(span) spans;
+    VECTOR(char *) names;
+    u64 at;                            /* the span that it is in, or that comes next */
+} sink;
+static span whole_run = {1, -1};
+static sink run = {.spans = {&whole_run, 1, 1}}, page, *into = &run;
+u64 span_last = -1;
+static VECTOR(u64) wanted;
+static u64 wanted_at;
 static FILE *uses_file;
 static const char *uses_path;
 
@@ -45,22 +55,15 @@ static int by_number(const void *a, const void *b) {
 static int by_name(const void *a, const void *b) { return strcmp(*(char *const *)a, *(char *const *)b); }
 
 static void add_name(const char *name, u64 length) {
-    GROW(racing_names, racing_count, racing_capacity);
-    if (!(racing_names[racing_count++] = strndup(name, length))) die("out of memory");
-}
-
-static void add_wanted(u64 number) {
-    GROW(wanted, wanted_count, wanted_capacity);
-    wanted[wanted_count++] = number;
+    if (!(*PUSH(page.names) = strndup(name, length))) die("out of memory");
 }
 
 /* What stands behind the last "!" may be the thread of an atomic's writer. */
 static void add_race(u64 first, u64 second, const char *variable) {
     const char *sign = strrchr(variable, '!');
-    GROW(spans, span_count, span_capacity);
-    spans[span_count++] = (span){first, second};
-    add_wanted(first);
-    add_wanted(second);
+    *PUSH(page.spans) = (span){first, second};
+    *PUSH(wanted) = first;
+    *PUSH(wanted) = second;
     add_name(variable, strlen(variable));
     if (sign) add_name(variable, sign - variable);
 }
@@ -70,11 +73,11 @@ static u64 length_of(const span *s) { return s->last - s->first; }
 /* How many events are between the accesses of races. */
 static u64 covered(void) {
     u64 sum = 0, end = 0;
-    qsort(spans, span_count, sizeof *spans, by_first);
-    for (u64 k = 0; k < span_count; k++) {
-        u64 from = spans[k].first > end ? spans[k].first : end;
-        if (spans[k].last > from) sum += spans[k].last - from;
-        if (spans[k].last > end) end = spans[k].last;
+    qsort(page.spans.at, page.spans.count, sizeof *page.spans.at, by_first);
+    EACH(s, page.spans.at, page.spans.count) {
+        u64 from = s->first > end ? s->first : end;
+        if (s->last > from) sum += s->last - from;
+        if (s->last > end) end = s->last;
     }
     return sum;
 }
@@ -83,35 +86,37 @@ static u64 covered(void) {
 static void drop_far(void) {
     while (covered() > SPARSE * event_limit) {
         u64 longest = 0, kept = 0;
-        for (u64 k = 0; k < span_count; k++)
-            if (length_of(&spans[k]) > longest) longest = length_of(&spans[k]);
-        for (u64 k = 0; k < span_count; k++) kept += length_of(&spans[k]) <= longest / 2;
+        EACH(s, page.spans.at, page.spans.count)
+            if (length_of(s) > longest) longest = length_of(s);
+        EACH(s, page.spans.at, page.spans.count) kept += length_of(s) <= longest / 2;
         if (!kept) return;
         kept = 0;
-        for (u64 k = 0; k < span_count; k++)
-            if (length_of(&spans[k]) <= longest / 2) spans[kept++] = spans[k];
-        span_count = kept;
+        EACH(s, page.spans.at, page.spans.count)
+            if (length_of(s) <= longest / 2) page.spans.at[kept++] = *s;
+        page.spans.count = kept;
     }
 }
 
 /* Where all races are near each other there is one span, and it begins and ends with the run where that is short. */
-static void join_spans(void) {
-    u64 count = 0, last = 0;
+static void join_spans(u64 run_events) {
+    u64 last = 0, count = 0;
     drop_far();
-    for (u64 k = 0; k < span_count; k++)
-        if (spans[k].last > last) last = spans[k].last;
-    u64 gap = last - spans[0].first <= ONE_TRACE ? -1ull : SHORT_RUN;
-    for (u64 k = 0; k < span_count; k++) {
-        span s = {spans[k].first > SHORT_RUN ? spans[k].first - CONTEXT : 1, spans[k].last + CONTEXT};
-        if (s.last < SHORT_RUN) s.last = SHORT_RUN;
-        if (count && (s.first <= spans[count - 1].last || s.first - spans[count - 1].last <= gap)) {
-            if (spans[count - 1].last < s.last) spans[count - 1].last = s.last;
-        } else spans[count++] = s;
+    EACH(s, page.spans.at, page.spans.count)
+        if (s->last > last) last = s->last;
+    u64 gap = last - page.spans.at->first <= ONE_TRACE ? -1ull : SHORT_RUN;
+    EACH(s, page.spans.at, page.spans.count) {
+        span next = {s->first > SHORT_RUN ? s->first - CONTEXT : 1, s->last + CONTEXT};
+        span *before = count ? &page.spans.at[count - 1] : 0;
+        if (next.last < SHORT_RUN) next.last = SHORT_RUN;
+        if (next.last > run_events) next.last = run_events;
+        int is_near = before && (next.first <= before->last || next.first - before->last <= gap);
+        if (!is_near) page.spans.at[count++] = next;
+        else if (before->last < next.last) before->last = next.last;
     }
-    span_count = count;
+    page.spans.count = count;
 }
 
-int read_races(const char *path) {
+int read_races(const char *path, u64 run_events) {
     FILE *file = fopen(path, "r");
     char *line = 0, *rest;
     size_t capacity = 0;
@@ -125,54 +130,63 @@ int read_races(const char *path) {
     if (ferror(file)) die("cannot read %s: %s", path, strerror(errno));
     fclose(file);
     free(line);
-    if (!span_count) return 0;
-    join_spans();
-    qsort(wanted, wanted_count, sizeof *wanted, by_number);
-    qsort(racing_names, racing_count, sizeof *racing_names, by_name);
-    for_page = 1;
+    if (!page.spans.count) return 0;
+    join_spans(run_events);
+    qsort(wanted.at, wanted.count, sizeof *wanted.at, by_number);
+    qsort(page.names.at, page.names.count, sizeof *page.names.at, by_name);
+    into = &page;
+    span_last = 0;
     return 1;
 }
 
 /* Is a piece's variable in a race? Each is looked up once. */
-int is_racing(u32 number) {
-    static uint8_t *answers;
-    static u64 count, capacity;
+static int is_racing(u32 number) {
+    static VECTOR(uint8_t) answers;
     enum { NO = 1, YES };
     char text[NAME_BYTES + 1], *key = text;
-    while (count <= number) {
-        GROW(answers, count, capacity);
-        answers[count++] = 0;
-    }
-    if (answers[number]) return answers[number] == YES;
+    while (answers.count <= number) *PUSH(answers) = 0;
+    if (answers.at[number]) return answers.at[number] == YES;
     part name = variable_name(piece_of(number)->at, block_of(piece_of(number)->block));
     *(char *)mempcpy(text, name.at, name.length) = 0;
-    int found = bsearch(&key, racing_names, racing_count, sizeof *racing_names, by_name) != 0;
-    answers[number] = found ? YES : NO;
+    int found = bsearch(&key, page.names.at, page.names.count, sizeof *page.names.at, by_name) != 0;
+    answers.at[number] = found ? YES : NO;
     return found;
 }
 
+int takes_piece(u32 number) { return !into->names.count || is_racing(number); }
+
 /* ---- the spans ---- */
-int is_behind_page(void) { return span_at == span_count; }
-void end_page(void) { span_at = span_count; }
+int is_over(void) { return into->at == into->spans.count; }
 
-static int is_inside;
-int is_in_span(void) { return is_inside; }
+/* A pass that counts uses goes on. */
+void end_trace(const char *why) {
+    into->at = into->spans.count;
+    span_last = 0;
+    if (!uses_file) cut_reason = why;
+}
 
-enum page_step step_page(u64 number) {
-    if (is_inside && number > spans[span_at].last) {
-        is_inside = 0;
-        span_at++;
-        return span_at == span_count ? PAGE_ENDS : SPAN_ENDS;
+enum trace_step step_trace(u64 number) {
+    if (number <= span_last) return SPAN_GOES_ON;
+    if (span_last) {
+        span_last = 0;
+        into->at++;
+        return is_over() ? TRACE_ENDS : SPAN_ENDS;
     }
-    if (is_inside || number < spans[span_at].first) return is_inside ? PAGE_GOES_ON : PAGE_PAUSES;
-    is_inside = 1;
+    if (is_over()) return TRACE_ENDS;
+    if (number < into->spans.at[into->at].first) return TRACE_PAUSES;
+    span_last = into->spans.at[into->at].last;
     return SPAN_BEGINS;
 }
 
 void note_written(u64 number, u64 in_page) {
     if (!uses_file) return;
-    while (wanted_at < wanted_count && wanted[wanted_at] < number) wanted_at++;
-    if (wanted_at < wanted_count && wanted[wanted_at] == number) fprintf(uses_file, "event\t%lu\t%lu\n", in_page, number);
+    while (wanted_at < wanted.count && wanted.at[wanted_at] < number) wanted_at++;
+    if (wanted_at < wanted.count && wanted.at[wanted_at] == number)
+        fprintf(uses_file, "event\t%lu\t%lu\n", in_page, number);
+}
+
+void note_repeated(u64 in_page) {
+    if (uses_file) fprintf(uses_file, "repeated\t%lu\n", in_page);
 }
 
 void note_part(u64 in_page) {
@@ -181,59 +195,32 @@ void note_part(u64 in_page) {
     last = in_page;
 }
 
-/* ---- the locks that a thread holds, those that the program has ---- */
-typedef struct { u64 key, depth; } held_key;
-typedef struct { u64 first, count; } lock_set;               /* of `set_keys` */
-static struct { held_key *keys; u64 count, capacity, sum; u32 set; } *threads;       /* set: its number plus one, if known */
-TABLE(threads, THREADS)
-static lock_set *sets;
-static u64 *set_keys, set_count, set_capacity, set_key_count, set_key_capacity;
-static map set_map;
-
-void hold_for_uses(u32 t, u64 key) {
-    for (u64 k = 0; k < threads[t].count; k++)
-        if (threads[t].keys[k].key == key) {
-            threads[t].keys[k].depth++;
-            return;
-        }
-    GROW(threads[t].keys, threads[t].count, threads[t].capacity);
-    threads[t].keys[threads[t].count++] = (held_key){key, 1};
-    threads[t].sum += mix(key + 1, 0);
-    threads[t].set = 0;
-}
-
-void leave_for_uses(u32 t, u64 key) {
-    for (u64 k = threads[t].count; k-- > 0;) {
-        if (threads[t].keys[k].key != key) continue;
-        if (--threads[t].keys[k].depth) return;
-        threads[t].count--;
-        memmove(&threads[t].keys[k], &threads[t].keys[k + 1], (threads[t].count - k) * sizeof *threads[t].keys);
-        threads[t].sum -= mix(key + 1, 0);
-        threads[t].set = 0;
-        return;
-    }
-}
+/* ---- the locks that a thread holds, each once ---- */
+typedef struct { u64 first, count; } lock_set;               /* of `keys_of_sets` */
+static INTERNED(lock_set) sets;
+static VECTOR(u64) keys_of_sets;
 
 static u32 set_of(u32 t) {
-    if (threads[t].set) return threads[t].set - 1;
-    u32 number = map_number(&set_map, threads[t].sum, threads[t].count);
-    if (number > set_count) {
-        GROW(sets, set_count, set_capacity);
-        sets[set_count++] = (lock_set){set_key_count, threads[t].count};
-        for (u64 k = 0; k < threads[t].count; k++) {
-            GROW(set_keys, set_key_count, set_key_capacity);
-            set_keys[set_key_count++] = threads[t].keys[k].key;
-        }
+    thread_state *s = &threads[t];
+    u64 sum = 0, count = 0, first = keys_of_sets.count;
+    if (s->lock_set) return s->lock_set - 1;
+    EACH(h, s->held.at, s->held.count) {
+        if (h->is_again) continue;
+        *PUSH(keys_of_sets) = h->key;
+        sum += mix(h->key + 1, 0);
+        count++;
     }
-    threads[t].set = number;
-    return number - 1;
+    s->lock_set = INTERN(sets, sum, count);
+    lock_set *set = &sets.at[s->lock_set - 1];
+    if (set->count || !count) keys_of_sets.count = first;
+    else *set = (lock_set){first, count};
+    return s->lock_set - 1;
 }
 
 /* ---- uses ---- */
 typedef struct { u64 caller, count; const char *local; u32 thread, piece, set, stack; char word; } use;
-static use *uses;
-static u64 use_count, use_capacity;
-static map site_map, local_map, use_map;
+static INTERNED(use) uses;
+static map site_map, local_map;
 
 void count_use(u32 t, u64 caller, u32 number, char word) {
     if (!uses_file) return;
@@ -242,12 +229,9 @@ void count_use(u32 t, u64 caller, u32 number, char word) {
     const char *local = local_now(p->at, block_of(p->block));
     u32 set = set_of(t), stack = stack_at(t, caller);
     u32 site = map_number(&site_map, own, (u64)t << 8 | word), in = map_number(&local_map, (uintptr_t)local, stack);
-    u32 k = map_number(&use_map, (u64)site << 32 | number, (u64)set << 32 | in);
-    if (k > use_count) {
-        GROW(uses, use_count, use_capacity);
-        uses[use_count++] = (use){own, 0, local, t, number, set, stack, word};
-    }
-    uses[k - 1].count++;
+    use *u = ENTRY(uses, (u64)site << 32 | number, (u64)set << 32 | in);
+    if (!u->count) *u = (use){own, 0, local, t, number, set, stack, word};
+    u->count++;
 }
 
 static void write_use(const use *u) {
@@ -256,8 +240,8 @@ static void write_use(const use *u) {
     fprintf(uses_file, "use\t%lu\t%c\t%.*s\t%s\t%s\t%.*s\t%u", u->count, u->word, (int)name.length, name.at, u->local, thread_name(u->thread),
             (int)place.length, place.at, u->stack);
     keep_stack(u->stack);
-    for (u64 k = 0; k < sets[u->set].count; k++) {
-        part lock = name_of_held(set_keys[sets[u->set].first + k], u->thread);
+    for (u64 k = 0; k < sets.at[u->set].count; k++) {
+        part lock = name_of_held(keys_of_sets.at[sets.at[u->set].first + k], u->thread);
         fprintf(uses_file, "\t%.*s", (int)lock.length, lock.at);
     }
     fputc('\n', uses_file);
@@ -270,7 +254,7 @@ void open_uses(const char *path) {
 }
 
 void end_uses(u64 in_page) {
-    for (u64 k = 0; k < use_count; k++) write_use(&uses[k]);
+    for (u64 k = 0; k < uses.numbers.count; k++) write_use(&uses.at[k]);
     fprintf(uses_file, "events\t%lu\n", in_page);
     if (fflush(uses_file) || ferror(uses_file) || fclose(uses_file)) cannot_write();
 }

@@ -53,7 +53,7 @@ static int spawn(struct reader *r, int socket) {
     return !failed;
 }
 
-/* Gives how it ended. One that has ended by itself isn't touched by the signal. */
+/* Returns how it ended. One that has ended by itself isn't touched by the signal. */
 static int stop(struct reader *r) {
     int status = 0;
     close(r->socket);

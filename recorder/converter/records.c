@@ -17,7 +17,8 @@ u64 record_count;
 static const struct record *entries, *carried;               /* of the file; of the segment before */
 u64 entry_count;
 static u64 entry_at;                   /* those before are passed */
-static struct record *merged;          /* where some are late: those at hand, with the contexts of these, plus one; of others 0 */
+/* Where some are late: those at hand, with the contexts of these, plus one, and IS_REPEATED; of others 0. */
+static struct record *merged;
 static u64 *late_contexts;
 enum { AT_ONCE = 1 << 16 };            /* or one more */
 static uintptr_t at_hand;              /* where record 0 would stand, if all before them were */
@@ -61,7 +62,8 @@ void next_records(void) {
 enum operation operation_of(u64 i) { return operation_in(*record_at(i)); }
 u64 address_of(u64 i) { return record_at(i)->where & LOW_48_BITS; }
 u64 caller_of(u64 i) { return record_at(i)->what & LOW_48_BITS; }
-u64 late_context(u64 i) { return contexts_at_hand ? contexts_at_hand[i] : 0; }
+u64 late_context(u64 i) { return contexts_at_hand ? contexts_at_hand[i] % IS_REPEATED : 0; }
+int is_repeated(u64 i) { return contexts_at_hand && contexts_at_hand[i] / IS_REPEATED; }
 
 /* ---- threads: a number that was joined is used again by the next one that is forked with it ---- */
 static u32 thread_count;               /* of those met in this pass */
@@ -98,6 +100,20 @@ int meet_fork(u64 i) {
     return 1;
 }
 
+thread_state *threads;
+
+static __attribute__((constructor)) void map_threads(void) { threads = mapped(THREADS, sizeof *threads); }
+
+void forget_thread_states(void) {
+    for (u32 t = 0; t < thread_bound(); t = next_thread(t)) {
+        thread_state *s = &threads[t];
+        thread_calls *c = &s->calls;
+        c->calls.count = c->known = c->owned = c->told = c->in = c->length = c->depth = c->last = 0;
+        s->held.count = s->unwritten = s->locks = s->lock_set = 0;
+        s->number = s->epoch = s->forked_by = s->notes.count = s->is_fenced = s->gave = 0;
+    }
+}
+
 u32 threads_met(void) { return thread_count > own_numbers ? thread_count : own_numbers; }
 
 static int size_follows(const struct record *r) { return r->what >> 54 == SIZE_FOLLOWS; }
@@ -131,7 +147,7 @@ static int is_good(const struct record *r) {
     return (operation != OP_FORK && operation != OP_JOIN) || (r->where & LOW_48_BITS) < THREAD_NUMBERS;
 }
 
-/* The entry or the two at `r`, which are of the first `count` ones. Gives how many they are; 0 where they aren't whole. */
+/* The entry or the two at `r`, which are of the first `count` ones. Returns how many they are; 0 if they aren't whole. */
 static u64 check(const struct record *r, u64 i, u64 count) {
     if (!r[i].what || (is_of_two(r[i]) && (i + 1 == count || !r[i + 1].what))) return 0;
     const struct record *its = &r[i + is_late(r[i])];
@@ -237,7 +253,7 @@ static int uses_object(u64 i) {
         && operation != OP_BARRIER_INIT && operation != OP_DEPART;
 }
 
-/* Of a block that was seen; its allocator may free more than was asked for. */
+/* The size of a block that was seen; its allocator may free more than was asked for. */
 static u64 freed_bytes(u64 address) {
     block *b = block_at(address);
     if (!b || b->at != address) return 0;

@@ -7,8 +7,8 @@
 
 int whole_paths;
 static const char *stripped_folder;
-static char **sources;                 /* as normal_path gives them, each once; when they are named, sorted by their ends */
-static u64 source_count, source_capacity, sorted_count;
+static VECTOR(char *) sources;         /* as by normal_path, each once; when they are named, sorted by their ends */
+static u64 sorted_count;
 static u64 common_length;              /* of the folder that the program's own have in common, with its last '/' */
 
 /* Rust's own library, which programs mostly have as it was compiled without hooks, but for what is generic. */
@@ -53,31 +53,29 @@ static int by_end(const void *a, const void *b) {
 
 static void find_common_folder(void) {
     const char *first = 0;
-    for (u64 k = 0; k < source_count; k++) {
-        if (in_system(sources[k])) continue;
+    for (u64 k = 0; k < sources.count; k++) {
+        if (in_system(sources.at[k])) continue;
         if (!first) {
-            first = sources[k];
+            first = sources.at[k];
             common_length = strrchr(first, '/') + 1 - first;
         }
-        while (strncmp(first, sources[k], common_length))
+        while (strncmp(first, sources.at[k], common_length))
             do common_length--;
             while (first[common_length - 1] != '/');
     }
 }
 
 static void sort_sources(void) {
-    qsort(sources, source_count, sizeof *sources, by_end);
+    qsort(sources.at, sources.count, sizeof *sources.at, by_end);
     find_common_folder();
-    sorted_count = source_count;
+    sorted_count = sources.count;
 }
 
 void note_source(const char *path) {
     static map met;
     char *normal = normal_path(path);
-    if (*normal && map_text(&met, normal) > source_count) {
-        GROW(sources, source_count, source_capacity);
-        sources[source_count++] = normal;
-    } else free(normal);
+    if (*normal && map_text(&met, normal) > sources.count) *PUSH(sources) = normal;
+    else free(normal);
 }
 
 /* The shortest end of a path, in whole words between '/', that another path doesn't end in. */
@@ -89,10 +87,10 @@ static const char *differing_end(const char *path, const char *other) {
     return at + 1;
 }
 
-/* Of the paths sorted by their ends one beside it has the longest end in common with it. */
+/* If paths are sorted by their ends, the one before or after it has the longest end in common with it. */
 static const char *unique_end(char *const *found) {
-    const char *before = found > sources ? differing_end(*found, found[-1]) : 0;
-    const char *after = found + 1 < sources + source_count ? differing_end(*found, found[1]) : 0;
+    const char *before = found > sources.at ? differing_end(*found, found[-1]) : 0;
+    const char *after = found + 1 < sources.at + sources.count ? differing_end(*found, found[1]) : 0;
     const char *end = strrchr(*found, '/') + 1;
     if (before && before < end) end = before;
     return after && after < end ? after : end;
@@ -103,18 +101,20 @@ const char *source_name(const char *path) {
     size_t strip = stripped_folder ? strlen(stripped_folder) : 0;
     if (whole_paths || !*normal) return path;
     if (strip && !strncmp(normal, stripped_folder, strip) && normal[strip] == '/') return normal + strip + 1;
-    if (sorted_count != source_count) sort_sources();
-    char **found = source_count ? bsearch(&normal, sources, source_count, sizeof *sources, by_end) : 0;
+    if (sorted_count != sources.count) sort_sources();
+    char **found = 0;
+    if (sources.count) found = bsearch(&normal, sources.at, sources.count, sizeof *sources.at, by_end);
     if (!found) return strrchr(normal, '/') + 1;
     const char *end = unique_end(found), *most = in_system(*found) ? *found + 1 : *found + common_length;
     return end < most ? most : end;
 }
 
 void write_sources(FILE *file) {
-    for (u64 k = 0; k < source_count; k++) {
-        if (in_system(sources[k]) || strpbrk(sources[k], "\t\n")) continue;
-        fprintf(file, "source %s\t%s\n", source_name(sources[k]), sources[k]);
-        write_sums(file, source_name(sources[k]), sources[k]);
+    for (u64 k = 0; k < sources.count; k++) {
+        const char *path = sources.at[k];
+        if (in_system(path) || strpbrk(path, "\t\n")) continue;
+        fprintf(file, "source %s\t%s\n", source_name(path), path);
+        write_sums(file, source_name(path), path);
     }
 }
 

@@ -24,7 +24,8 @@
                                                      each store and update, and each thread's first load of what another
                                                      thread stored. A store after a release fence is one with release. Of a
                                                      fence with acquire the kind is fence, and NAME is empty. Of a page's
-                                                     trace only those within its spans
+                                                     trace only those within its spans. Behind ORDER " again": it stands for
+                                                     earlier ones of its kind too, which are omitted
        crash THREAD TAB SIGNAL TAB ADDRESS TAB NODE  how the program ended, where a signal ended it that a thread's own code made; the
                                                      address, hexadecimal, is what it had no access to, or empty
        source NAME TAB PATH                          a source file, as locations name it, and where it was when it was compiled
@@ -40,24 +41,6 @@
 #define STACKS_BEGIN "shb-stacks 1 %020lu\n"
 enum { NODES_AT_ONCE = 1 << 14, MOST_FRAMES_OF_A_CALL = 64, MOST_LEFT = 256, MOST_USES = 1 << 20 };
 
-/* way: where code without hooks was called that has the caller, or 0. own: the innermost of the program's own places from here
-   on further out, or 0. */
-typedef struct { u64 caller, function, way, own, place; } call;         /* place: as in a record OP_PLACE */
-/* An access by another thread of what lies in a function of a thread, since whose last record it is the first one. `number` is that
-   of what has a name. */
-typedef struct { u64 event; u32 number, depth; } foreign;
-typedef struct {
-    call *calls;                       /* the outermost first; further in than `length` are those that were met before */
-    u32 *contexts, *nodes, known, owned;                     /* of how many of the first the node is known, and the own place */
-    u32 told, in, length, depth;       /* its context by the records before; that of `calls`, with its depth; of the present record */
-    u64 way, caller;                   /* of the present one */
-    u64 end;                           /* of its stack */
-    foreign *foreign;                  /* since its last record */
-    u64 foreign_count, foreign_capacity, records;
-    u32 lowest;                        /* of the frames that are new since then */
-    u32 last, last_outer;              /* the node that was asked for last */
-    u64 count, capacity, last_caller, last_way;
-} calls_of_thread;
 /* function: what was called, by a place in it; of an event 0. A way has a node of its own. */
 typedef struct { u64 caller, function; u32 outer; uint8_t used, is_way; } node;
 
@@ -68,22 +51,14 @@ int with_stacks;
 static int has_calls;
 static FILE *file;
 static const char *path;
-static calls_of_thread *stacks;
-TABLE(stacks, THREADS)
 static u64 told_way, has_way;          /* of which record; the passes pass over some */
-static context *contexts;
-static u64 context_count, context_capacity;
-static node *nodes;                    /* from 1 */
-static u64 node_count, node_capacity, nodes_written;
-static map node_map;
+static VECTOR(context) contexts;
+static INTERNED(node) nodes;
 static u32 buffer[NODES_AT_ONCE];
-static u64 buffered;
-static u32 *block_nodes;
-static u64 block_count, block_capacity;
-static u32 *thread_nodes;
-TABLE(thread_nodes, THREADS)
-static struct { u64 first, last; } *frees;
-static u64 free_count, free_capacity;
+static u64 buffered, nodes_written;
+static VECTOR(u32) block_nodes;
+typedef struct { u64 first, last; } events_of_free;
+static VECTOR(events_of_free) frees;
 static FILE *lines;                    /* of atomics and locals, in memory */
 static char *lines_text;
 static size_t lines_bytes;
@@ -105,76 +80,56 @@ void open_stacks(const char *path_) {
 /* As a record OP_PLACE has it. A function that seems to take more or less room than at the first call from there doesn't: then its return
    address was left by another call. */
 static u64 place_at(u64 caller, u64 function) {
-    static map sites;
-    static u64 *sizes, count, capacity;
+    static INTERNED(u64) sizes;        /* plus one */
     if (!has_place) return 0;
-    u32 number = map_number(&sites, caller, function);
-    if (number > count) {
-        GROW(sizes, count, capacity);
-        sizes[count++] = told_place >> PLACE_BITS;
-    }
-    return told_place >> PLACE_BITS == sizes[number - 1] ? told_place : 0;
+    u64 *size = ENTRY(sizes, caller, function), told = (told_place >> PLACE_BITS) + 1;
+    if (!*size) *size = told;
+    return *size == told ? told_place : 0;
 }
 
 /* A piece or an object on a stack: its name now, and how many records the stack's thread had at the last access by another one. */
 typedef struct { u64 at; u32 block; const char *name; u64 records; } named;
-static named *named_places;
-static u64 named_count, named_capacity;
-
-static u32 named_number(u64 at, u32 block) {
-    static map met;
-    u32 k = map_number(&met, at, block);
-    if (k > named_count) {
-        GROW(named_places, named_count, named_capacity);
-        named_places[named_count++] = (named){at, block, "", 0};
-    }
-    return k - 1;
-}
+static INTERNED(named) named_places;
 
 /* It has this name from the event on. */
-static void write_local(u64 event, u32 number, const char *name) {
-    named *n = &named_places[number];
+static void write_local(u64 event, named *n, const char *name) {
     n->name = name;
     part variable = variable_name(n->at, block_of(n->block));
     fprintf(lines, "local %lu\t%.*s\t%s\n", event, (int)variable.length, variable.at, name);
 }
 
 /* The thread has left functions since its last record, nobody knows when: what others accessed in them meanwhile has no name. */
-static void leave_functions(calls_of_thread *s) {
-    for (u64 k = 0; k < s->foreign_count; k++) {
-        const foreign *f = &s->foreign[k];
-        if (f->depth < s->depth && f->depth < s->lowest) continue;
-        write_local(f->event, f->number, "");
-    }
-    s->foreign_count = 0;
+static void leave_functions(thread_calls *s) {
+    EACH(f, s->foreign.at, s->foreign.count)
+        if (f->depth >= s->depth || f->depth >= s->lowest)
+            write_local(f->event, &named_places.at[f->number - 1], "");
+    s->foreign.count = 0;
     s->lowest = -1;
     s->records++;
 }
 
-/* Of the functions of a context, those further out than so many. */
+/* The functions of a context but for its innermost ones: at most so many are left. */
 static u32 outer_context(u32 number, u64 depth) {
-    while (contexts[number].depth > depth) number = contexts[number].outer;
+    while (contexts.at[number].depth > depth) number = contexts.at[number].outer;
     return number;
 }
 
 /* In the first pass. */
 static void note_frame(u64 i) {
-    u32 *told = &stacks[thread_of(i)].told, outer = context_count ? outer_context(*told, size_of(i)) : 0;
-    for (int k = !context_count; k >= 0; k--) {              /* before the first one that without a function */
-        GROW(contexts, context_count, context_capacity);
-        contexts[context_count++] = (context){.record = i};
-    }
-    *told = context_count - 1;
-    contexts[*told].call = (call){.caller = caller_of(i), .function = address_of(i)};
-    contexts[*told].outer = outer;
-    contexts[*told].depth = contexts[outer].depth + 1;
+    u32 *told = &threads[thread_of(i)].calls.told, outer;
+    if (!contexts.count) *PUSH(contexts) = (context){.record = i};       /* that without a function */
+    outer = outer_context(*told, size_of(i));
+    *told = contexts.count;
+    const call called = {.caller = caller_of(i), .function = address_of(i)};
+    context added = {.record = i, .call = called, .outer = outer, .depth = contexts.at[outer].depth + 1};
+    *PUSH(contexts) = added;
 }
 
 static u32 context_of_frame(u64 i) {
-    u64 low = 1, high = context_count - 1;
+    u64 low = 1, high = contexts.count - 1;
     while (low < high) {
         u64 k = (low + high) / 2;
-        if (contexts[k].record < i) low = k + 1;
+        if (contexts.at[k].record < i) low = k + 1;
         else high = k;
     }
     return low;
@@ -184,7 +139,7 @@ static u32 context_of_frame(u64 i) {
 static u32 context_of(u64 i) {
     if (operation_of(i) == OP_FRAME) return context_of_frame(i);
     u64 number = late_context(i) ? late_context(i) - 1 : address_of(i);
-    return number < context_count ? number : 0;
+    return number < contexts.count ? number : 0;
 }
 
 /* The outermost of its functions that is the program's own. */
@@ -192,39 +147,34 @@ u64 own_function(u64 i) {
     char name[NAME_BYTES];
     u32 number = context_of(i);
     u64 found = 0;
-    for (u32 k = number; k; k = contexts[k].outer) {
-        if (contexts[k].is_sought && contexts[k].own_function) found = contexts[k].own_function;
-        if (contexts[k].is_sought) break;
-        if (own_function_name(contexts[k].call.function, name, sizeof name)) found = contexts[k].call.function;
+    for (u32 k = number; k; k = contexts.at[k].outer) {
+        const context *c = &contexts.at[k];
+        if (c->is_sought && c->own_function) found = c->own_function;
+        if (c->is_sought) break;
+        if (own_function_name(c->call.function, name, sizeof name)) found = c->call.function;
     }
-    if (number) contexts[number].own_function = found;
-    if (number) contexts[number].is_sought = 1;
+    if (number) contexts.at[number].own_function = found;
+    if (number) contexts.at[number].is_sought = 1;
     return found;
 }
 
-static void meet_frame(calls_of_thread *s, u64 i) {
-    call *c = &contexts[s->told = context_of_frame(i)].call;
+static void meet_frame(thread_calls *s, u64 i) {
+    call *c = &contexts.at[s->told = context_of_frame(i)].call;
     c->way = s->way;
     c->place = place_at(c->caller, c->function);
 }
 
 /* The thread is in the functions of a context. */
-static void enter(calls_of_thread *s, u32 number) {
+static void enter(thread_calls *s, u32 number) {
     u32 before = s->length;
     if (s->in == number) return;
     s->in = number;
-    s->length = contexts[number].depth;
-    while (s->count < s->length) {
-        u64 capacity = s->capacity, capacity_too = s->capacity;
-        GROW(s->calls, s->count, s->capacity);
-        GROW(s->nodes, s->count, capacity);
-        GROW(s->contexts, s->count, capacity_too);
-        s->calls[s->count++] = (call){0};
-    }
+    s->length = contexts.at[number].depth;
+    while (s->calls.count < s->length) *PUSH(s->calls) = (call){0};
     u32 d = s->length;
-    for (; d && (d > before || s->contexts[d - 1] != number); number = contexts[number].outer) {
-        s->contexts[--d] = number;
-        s->calls[d] = contexts[number].call;
+    for (; d && (d > before || s->calls.at[d - 1].context != number); number = contexts.at[number].outer) {
+        s->calls.at[--d] = contexts.at[number].call;
+        s->calls.at[d].context = number;
     }
     if (s->lowest > d) s->lowest = d;
     if (s->known > d) s->known = d;
@@ -232,7 +182,7 @@ static void enter(calls_of_thread *s, u32 number) {
 }
 
 void note_call(u64 i) {
-    if (operation_of(i) == OP_CONTEXT) stacks[thread_of(i)].told = context_of(i);
+    if (operation_of(i) == OP_CONTEXT) threads[thread_of(i)].calls.told = context_of(i);
     if (operation_of(i) == OP_CONTEXT || operation_of(i) == OP_PLACE) return;
     note_caller(caller_of(i));
     if (operation_of(i) != OP_FRAME) return;
@@ -243,7 +193,7 @@ void note_call(u64 i) {
 }
 
 void meet_call(u64 i) {
-    calls_of_thread *s = &stacks[thread_of(i)];
+    thread_calls *s = &threads[thread_of(i)].calls;
     enum operation operation = operation_of(i);
     if (operation == OP_NAME) return;
     s->way = has_way == i && !late_context(i) ? told_way : 0;
@@ -256,8 +206,8 @@ void meet_call(u64 i) {
     if (operation != OP_WAY) has_place = operation == OP_PLACE;
     if (operation == OP_START) s->end = address_of(i) + size_of(i);
     if (operation == OP_CONTEXT) s->told = context_of(i);
-    if (context_count) enter(s, s->told);
-    if (context_count && late_context(i)) enter(s, context_of(i));
+    if (contexts.count) enter(s, s->told);
+    if (contexts.count && late_context(i)) enter(s, context_of(i));
     s->caller = operation < OP_FRAME || operation > OP_CONTEXT ? caller_of(i) : 0;
     u64 inside = depth_inside(i);
     s->depth = inside != DEPTH_BEFORE && inside < s->length ? inside : s->length;
@@ -273,41 +223,41 @@ static u64 own_of(u64 caller, u64 way, const call *outer) {
 
 u64 own_place(u32 t, u64 caller) {
     if (is_own_place(caller)) return caller;
-    calls_of_thread *s = &stacks[t];
+    thread_calls *s = &threads[t].calls;
     for (; s->owned < s->depth; s->owned++) {
-        call *c = &s->calls[s->owned];
+        call *c = &s->calls.at[s->owned];
         c->own = own_of(c->caller, c->way, s->owned ? c - 1 : 0);
     }
-    u64 own = own_of(caller, s->way, s->depth ? &s->calls[s->depth - 1] : 0);
+    u64 own = own_of(caller, s->way, s->depth ? &s->calls.at[s->depth - 1] : 0);
     return own ? own : caller;
 }
 
+static node *node_at(u32 number) { return &nodes.at[number - 1]; }
+
 static u32 node_of(u32 outer, u64 caller, u64 function) {
-    u32 number = map_number(&node_map, caller | (u64)outer << 48, function | (u64)(outer >> 16) << 48);
-    if (number > node_count) {
-        GROW(nodes, node_count + 1, node_capacity);
-        nodes[++node_count] = (node){caller, function, outer, 0, 0};
-    }
+    u32 number = INTERN(nodes, caller | (u64)outer << 48, function | (u64)(outer >> 16) << 48);
+    node *n = node_at(number);
+    if (!n->caller) *n = (node){caller, function, outer, n->used, n->is_way};
     return number;
 }
 
 static u32 node_by_way(u32 outer, u64 caller, u64 function, u64 way) {
     if (way) {
         outer = node_of(outer, way, caller);
-        nodes[outer].is_way = 1;
+        node_at(outer)->is_way = 1;
     }
     return node_of(outer, caller, function);
 }
 
 /* The stack of what a thread does now, at a place in its innermost function. */
 u32 stack_at(u32 t, u64 caller) {
-    calls_of_thread *s = &stacks[t];
+    thread_calls *s = &threads[t].calls;
     if (!with_stacks) return 0;
     for (; s->known < s->depth; s->known++) {
-        const call *c = &s->calls[s->known];
-        s->nodes[s->known] = node_by_way(s->known ? s->nodes[s->known - 1] : 0, c->caller, c->function, c->way);
+        call *c = &s->calls.at[s->known];
+        c->node = node_by_way(s->known ? c[-1].node : 0, c->caller, c->function, c->way);
     }
-    u32 outer = s->depth ? s->nodes[s->depth - 1] : 0;
+    u32 outer = s->depth ? s->calls.at[s->depth - 1].node : 0;
     if (!s->last || s->last_outer != outer || s->last_caller != caller || s->last_way != s->way) {
         s->last = node_by_way(outer, caller, 0, s->way);
         s->last_outer = outer;
@@ -317,55 +267,53 @@ u32 stack_at(u32 t, u64 caller) {
     return s->last;
 }
 
-void forget_calls(void) {
-    for (u32 t = 0; t < thread_bound(); t = next_thread(t)) {
-        calls_of_thread *s = &stacks[t];
-        s->count = s->known = s->owned = s->told = s->in = s->length = s->depth = s->last = 0;
-    }
-    has_way = told_way = has_place = 0;
-}
+void begin_calls(void) { has_place = 0; }
 
 /* ---- locals ---- */
 /* By where a thread is in a function, which is the caller or the way; "" where none is known. Each is looked for once. */
 static const char *name_of_local(u64 function, const call *in, u64 from_top, u64 from_stack, u64 length) {
-    static map places, ways, met;
-    static const char **names;
-    static u64 count, capacity;
-    u64 place = map_number(&ways, map_number(&places, function, in->caller), in->way);
-    u32 number = map_number(&met, place << 32 | from_top, length << 32 | from_stack);
-    if (number > count) {
-        char name[NAME_BYTES];
-        u64 pc = in_one_function(in->caller, function) ? in->caller : in->way && in_one_function(in->way, function) ? in->way : 0;
-        GROW(names, count, capacity);
-        names[count++] = pc && local_name(function, pc, from_top, from_stack, length, name, sizeof name) ? strdup(name) : "";
-        if (!names[count - 1]) die("out of memory");
-    }
-    return names[number - 1];
+    static map places, ways;
+    static INTERNED(const char *) names;
+    char text[NAME_BYTES];
+    u64 place = map_number(&ways, map_number(&places, function, in->caller), in->way), pc = 0;
+    const char **name = ENTRY(names, place << 32 | from_top, length << 32 | from_stack);
+    if (*name) return *name;
+    if (in_one_function(in->caller, function)) pc = in->caller;
+    else if (in->way && in_one_function(in->way, function)) pc = in->way;
+    int is_known = pc && local_name(function, pc, from_top, from_stack, length, text, sizeof text);
+    *name = is_known ? strdup(text) : "";
+    if (!*name) die("out of memory");
+    return *name;
 }
 
 /* By the functions that the thread is in by its last record. Where nothing was told since it came back to a function it is behind the
    call that it came from. */
-static const char *local_at(const calls_of_thread *s, u64 address, u64 length, u32 *depth) {
+static const char *local_at(const thread_calls *s, u64 address, u64 length, u32 *depth) {
     u64 outer = s->end;
     for (u64 d = 0; d < s->depth; d++) {
         *depth = d;
-        const call *c = &s->calls[d];
+        const call *c = &s->calls.at[d];
         u64 top = outer - (c->place & ((1 << PLACE_BITS) - 1)), stack = top - (c->place >> PLACE_BITS);
         if (!c->place || address >= top) return "";
-        call told = d + 1 == s->depth && s->caller ? (call){.caller = s->caller, .way = s->way} : d + 1 < s->count ? c[1] : (call){0};
+        call told = d + 1 < s->calls.count ? c[1] : (call){0};
+        if (d + 1 == s->depth && s->caller) told = (call){.caller = s->caller, .way = s->way};
         if (address >= stack) return name_of_local(c->function, &told, top - address, address - stack, length);
         outer = stack;
     }
     return "";
 }
 
-u64 allocated_by(u32 block_number) { return block_number < block_count ? nodes[block_nodes[block_number]].caller : 0; }
+u64 allocated_by(u32 block_number) {
+    u32 number = block_number < block_nodes.count ? block_nodes.at[block_number] : 0;
+    return number ? node_at(number)->caller : 0;
+}
 
 enum { MOST_LENGTH = 4096 };            /* of what has a name */
 
 const char *local_now(u64 at, const block *b) {
     u32 depth;
-    return with_stacks && b && b->stack ? local_at(&stacks[b->thread], at, next_cut(at, at + MOST_LENGTH) - at, &depth) : "";
+    if (!with_stacks || !b || !b->stack) return "";
+    return local_at(&threads[b->thread].calls, at, next_cut(at, at + MOST_LENGTH) - at, &depth);
 }
 
 void note_name(u64 at, u32 block_number, u64 event, u32 t) {
@@ -376,19 +324,20 @@ void note_name(u64 at, u32 block_number, u64 event, u32 t) {
         note_in_block(at, block_number, next_cut(at, at + MOST_LENGTH < end ? at + MOST_LENGTH : end) - at);
         return;
     }
-    calls_of_thread *s = &stacks[b->thread];
-    u32 depth = 0, number = named_number(at, block_number);
+    thread_calls *s = &threads[b->thread].calls;
+    u32 depth = 0, number = INTERN(named_places, at, block_number);
+    named *n = &named_places.at[number - 1];
+    if (!n->name) *n = (named){at, block_number, "", 0};
     const char *name = local_at(s, at, next_cut(at, at + MOST_LENGTH) - at, &depth);
-    if (strcmp(named_places[number].name, name)) write_local(event, number, name);
-    if (!*name || t == b->thread || named_places[number].records == s->records) return;
-    named_places[number].records = s->records;
-    GROW(s->foreign, s->foreign_count, s->foreign_capacity);
-    s->foreign[s->foreign_count++] = (foreign){event, number, depth};
+    if (strcmp(n->name, name)) write_local(event, n, name);
+    if (!*name || t == b->thread || n->records == s->records) return;
+    n->records = s->records;
+    *PUSH(s->foreign) = (foreign){event, number, depth};
 }
 
 /* ---- what is of use to a reader ---- */
 void keep_stack(u32 number) {
-    for (; number && !nodes[number].used; number = nodes[number].outer) nodes[number].used = 1;
+    for (; number && !node_at(number)->used; number = node_at(number)->outer) node_at(number)->used = 1;
 }
 
 static void write_nodes(void) {
@@ -404,14 +353,12 @@ void stack_of_event(u32 number) {
     keep_stack(number);
 }
 
-void stack_of_thread(u32 t, u32 number) { thread_nodes[t] = number; }
-
 static int notes_uses(void) {
     static u64 noted;
-    return with_stacks && (!for_page || is_in_span()) && noted < MOST_USES && ++noted;
+    return with_stacks && span_last && noted < MOST_USES && ++noted;
 }
 
-/* Of loads with acquire and of others. */
+/* Loads with acquire are counted apart from others. */
 static int is_first_load(u64 store, u32 t, int acquires) {
     static map loaded;
     static u64 loads;
@@ -420,23 +367,12 @@ static int is_first_load(u64 store, u32 t, int acquires) {
     return 1;
 }
 
-/* The number of an object's last store, with its thread; 0 before one. */
-static u64 *last_store(u64 object) {
-    static map storers;
-    static u64 *last, count, capacity;
-    u32 number = map_number(&storers, object, 0);
-    if (number > count) {
-        GROW(last, count, capacity);
-        last[count++] = 0;
-    }
-    return &last[number - 1];
-}
-
 void note_use(u64 i, u64 object, int gives) {
     static const char *const orders[] = {"relaxed", "acquire", "release", "both"};
     static u64 stores;
+    static INTERNED(u64) last_stores;  /* of objects, each with its thread; 0 before one */
     u32 t = thread_of(i);
-    u64 *last = last_store(object);
+    u64 *last = ENTRY(last_stores, object, 0);
     int is_load = operation_of(i) == OP_ATOMIC_LOAD, is_store = operation_of(i) == OP_ATOMIC_STORE;
     if (is_load && (!*last || (*last & 0xffff) == t || !is_first_load(*last, t, acquires(i)))) return;
     if (!is_load) *last = ++stores << 16 | t;
@@ -444,8 +380,9 @@ void note_use(u64 i, u64 object, int gives) {
     const block *b = block_at(address_of(i));
     note_name(address_of(i), block_number(b), written + 1, t);
     part name = variable_name(address_of(i), b), place = place_of(caller_of(i));
-    fprintf(lines, "use %lu\t%.*s\t%s\t%.*s\t%s %s\n", written + 1, (int)name.length, name.at, thread_name(t), (int)place.length, place.at,
-            is_load ? "load" : is_store ? "store" : "update", orders[acquires(i) + 2 * (!is_load && gives)]);
+    fprintf(lines, "use %lu\t%.*s\t%s\t%.*s\t%s %s%s\n", written + 1, (int)name.length, name.at, thread_name(t), (int)place.length, place.at,
+            is_load ? "load" : is_store ? "store" : "update", orders[acquires(i) + 2 * (!is_load && gives)],
+            is_repeated(i) ? " again" : "");
 }
 
 void note_fence(u64 i) {
@@ -456,18 +393,13 @@ void note_fence(u64 i) {
 
 void note_free(u64 first, u64 last) {
     if (!with_stacks || first > last) return;
-    GROW(frees, free_count, free_capacity);
-    frees[free_count].first = first;
-    frees[free_count++].last = last;
+    *PUSH(frees) = (events_of_free){first, last};
 }
 
 void stack_of_block(const block *b, u32 number) {
     if (!with_stacks) return;
-    while (block_count <= block_number(b)) {
-        GROW(block_nodes, block_count, block_capacity);
-        block_nodes[block_count++] = 0;
-    }
-    block_nodes[block_number(b)] = number;
+    while (block_nodes.count <= block_number(b)) *PUSH(block_nodes) = 0;
+    block_nodes.at[block_number(b)] = number;
 }
 
 /* ---- the tables ---- */
@@ -479,22 +411,22 @@ static u32 frame_number(inlined_frame *f) {
     return f->number = ++frame_count;
 }
 
-static inlined_frame *entered(u32 number) { return outermost(frames_of(nodes[number].function)); }
+static inlined_frame *entered(u32 number) { return outermost(frames_of(node_at(number)->function)); }
 
 /* The node of the function that a node's call lies in: the next further out, where all hooks told. Functions that were left
    without their hooks, MOST_LEFT at most, are passed over, where the one that the call lies in stands further out. Else code
    without hooks lies in between, and the function that was entered last called it. */
 static u32 called_in(u32 k) {
-    u64 caller = nodes[k].caller;
-    u32 o = nodes[k].outer;
-    if (nodes[k].is_way) return o && in_one_function(caller, nodes[o].function) ? o : 0;
-    if (o && nodes[o].is_way && nodes[o].function == caller) return o;
-    for (int left = 0; o && left <= MOST_LEFT; o = nodes[o].outer, left++)
-        if (in_one_function(caller, nodes[o].function)) return o;
+    u64 caller = node_at(k)->caller;
+    u32 o = node_at(k)->outer;
+    if (node_at(k)->is_way) return o && in_one_function(caller, node_at(o)->function) ? o : 0;
+    if (o && node_at(o)->is_way && node_at(o)->function == caller) return o;
+    for (int left = 0; o && left <= MOST_LEFT; o = node_at(o)->outer, left++)
+        if (in_one_function(caller, node_at(o)->function)) return o;
     return 0;
 }
 
-/* Of the recorder's own nothing is shown, of a way only what is one, and of what called the outermost function only the program's own. */
+/* Not shown: the recorder's own, a way that isn't called in the function further out, and others' callers of the outermost function. */
 static int is_outermost(const node *n) { return !n->outer && n->function; }
 static int is_shown(const node *n, const inlined_frame *f) { return !is_outermost(n) || (!f->in_system && f->line); }
 
@@ -516,7 +448,7 @@ static int calls_handler(u64 caller) {
 
 static void find_call(u32 k, shown_call *call) {
     u32 outer = called_in(k);
-    const node *n = &nodes[k];
+    const node *n = node_at(k);
     call->count = 0;
     for (inlined_frame *f = frames_to_show(n, outer); f && call->count < MOST_FRAMES_OF_A_CALL - 1; f = f->outer)
         if (is_shown(n, f)) call->at[call->count++] = f;
@@ -596,16 +528,16 @@ void pause_stacks(int is_paused) { with_stacks = file && !is_paused; }
 void end_stacks(void) {
     if (!with_stacks) return;
     write_nodes();
-    for (u32 t = 0; t < thread_bound(); t = next_thread(t)) keep_stack(thread_nodes[t]);
-    for (u64 b = 1; b < block_count; b++)
-        if (block_of(b)->named) keep_stack(block_nodes[b]);
-    for (u64 k = 1; k <= node_count; k++)
-        if (nodes[k].used) write_stack(k);
+    for (u32 t = 0; t < thread_bound(); t = next_thread(t)) keep_stack(threads[t].created_at);
+    for (u64 b = 1; b < block_nodes.count; b++)
+        if (block_of(b)->named) keep_stack(block_nodes.at[b]);
+    for (u64 k = 1; k <= nodes.numbers.count; k++)
+        if (node_at(k)->used) write_stack(k);
     for (u32 t = 0; t < thread_bound(); t = next_thread(t))
-        if (thread_nodes[t]) fprintf(file, "thread %s\t%u\n", thread_name(t), thread_nodes[t]);
-    for (u64 b = 1; b < block_count; b++)
-        if (block_of(b)->named && block_nodes[b]) fprintf(file, "block %lu %u\n", b, block_nodes[b]);
-    for (u64 i = 0; i < free_count; i++) fprintf(file, "free %lu %lu\n", frees[i].first, frees[i].last);
+        if (threads[t].created_at) fprintf(file, "thread %s\t%u\n", thread_name(t), threads[t].created_at);
+    for (u64 b = 1; b < block_nodes.count; b++)
+        if (block_of(b)->named && block_nodes.at[b]) fprintf(file, "block %lu %u\n", b, block_nodes.at[b]);
+    EACH(f, frees.at, frees.count) fprintf(file, "free %lu %lu\n", f->first, f->last);
     if (crash.is_met) write_crash();
     write_names_in_blocks(lines);
     if (fclose(lines)) die("out of memory");

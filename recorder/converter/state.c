@@ -8,7 +8,7 @@
 
 /* ---- names: numbers from 1 in the order of asking ---- */
 typedef struct { char *text; u64 length, hash; } name;
-typedef struct { name *list; u64 count, capacity, slot_count; u32 *slots; } names;
+typedef struct { VECTOR(name) list; u64 slot_count; u32 *slots; } names;
 
 static const u64 prime = (1ull << 61) - 1;
 
@@ -33,7 +33,7 @@ static u64 hash_of(const char *text, u64 length) {
 static u32 *slot_of(const names *n, const char *text, u64 length, u64 hash) {
     u64 at = hash & (n->slot_count - 1);
     for (; n->slots[at]; at = (at + 1) & (n->slot_count - 1)) {
-        name *known = &n->list[n->slots[at] - 1];
+        name *known = &n->list.at[n->slots[at] - 1];
         if (known->hash == hash && known->length == length && !memcmp(known->text, text, length)) break;
     }
     return &n->slots[at];
@@ -43,123 +43,117 @@ static void double_slots(names *n) {
     n->slot_count = n->slot_count ? 2 * n->slot_count : 256;
     free(n->slots);
     n->slots = zeroed(n->slot_count, sizeof *n->slots);
-    for (u64 i = 0; i < n->count; i++) *slot_of(n, n->list[i].text, n->list[i].length, n->list[i].hash) = i + 1;
+    for (u64 i = 0; i < n->list.count; i++) {
+        const name *known = &n->list.at[i];
+        *slot_of(n, known->text, known->length, known->hash) = i + 1;
+    }
 }
 
 static u32 name_number(names *n, const char *text, u64 length) {
     u64 hash = hash_of(text, length);
-    if (n->count * 2 >= n->slot_count) double_slots(n);
+    if (n->list.count * 2 >= n->slot_count) double_slots(n);
     u32 *slot = slot_of(n, text, length, hash);
     if (*slot) return *slot;
-    GROW(n->list, n->count, n->capacity);
-    char *copy = zeroed(length + WIDE, 1);
-    memcpy(copy, text, length);
-    n->list[n->count++] = (name){copy, length, hash};
-    return *slot = n->count;
+    *PUSH(n->list) = (name){memcpy(zeroed(length + WIDE, 1), text, length), length, hash};
+    return *slot = n->list.count;
 }
 
 /* ---- the state of the trace ---- */
-typedef struct { u32 lock, thread, before, after, below, stack; part line_end; } hold;     /* one acquire that isn't released */
-typedef struct { u32 holder, top; } lock;                    /* the last of its holds */
-typedef struct { uint8_t started, forked, joined; } thread;
+typedef struct { u32 lock, thread, before, after, below, stack; part line_end; } acquire;  /* not released */
+typedef struct { u32 holder, top; } lock;                    /* the last of its acquires */
+typedef struct { uint8_t is_met, started, forked, joined; } thread;
 
 static names thread_names, lock_names;
-static thread *threads;
-static lock *locks;
-static hold *holds;                    /* from 1; in a list in the order of the acquires, or of free ones */
-static u64 thread_capacity, lock_capacity, hold_count, hold_capacity;
-static u32 oldest, newest, free_holds;
+static VECTOR(thread) met;             /* by their names' numbers, as the locks */
+static VECTOR(lock) locks;
+static VECTOR(acquire) acquired;       /* by numbers from 1; in a list in order, or of free ones */
+static u32 oldest, newest, free_acquires, thread_count;
+static lock *lock_at(u32 number) { return &locks.at[number - 1]; }
+static thread *thread_at(u32 number) { return &met.at[number - 1]; }
+static acquire *acquire_at(u32 number) { return &acquired.at[number - 1]; }
 
 u32 trace_thread(const char *text, u64 length) {
-    static u32 last;
-    name *known = last ? &thread_names.list[last - 1] : 0;
-    if (known && known->length == length && !memcmp(known->text, text, length)) return last;
-    u64 before = thread_names.count;
-    last = name_number(&thread_names, text, length);
-    if (thread_names.count == before) return last;
-    GROW(threads, before + 1, thread_capacity);
-    threads[last] = (thread){0};
-    return last;
-}
-
-u32 trace_lock(part name) {
-    u64 before = lock_names.count;
-    u32 number = name_number(&lock_names, name.at, name.length);
-    if (lock_names.count == before) return number;
-    GROW(locks, before + 1, lock_capacity);
-    locks[number] = (lock){0};
+    u32 number = name_number(&thread_names, text, length);
+    if (number > met.count) *PUSH(met) = (thread){0};
+    thread_count += !thread_at(number)->is_met;
+    thread_at(number)->is_met = 1;
     return number;
 }
 
-part lock_name(u32 number) { return (part){lock_names.list[number - 1].text, lock_names.list[number - 1].length}; }
-
-static void add_hold(u32 t, u32 l, part line_end, u32 stack) {
-    u32 number = free_holds;
-    if (number) free_holds = holds[number].after;
-    else {
-        GROW(holds, hold_count + 1, hold_capacity);
-        holds[number = ++hold_count] = (hold){0};
-    }
-    holds[number] = (hold){l, t, newest, 0, locks[l].top, stack, line_end};
-    if (newest) holds[newest].after = number;
-    else oldest = number;
-    newest = number;
-    locks[l] = (lock){t, number};
+u32 trace_lock(part name) {
+    u32 number = name_number(&lock_names, name.at, name.length);
+    if (number > locks.count) *PUSH(locks) = (lock){0};
+    return number;
 }
 
-static void end_hold(u32 l) {
-    u32 number = locks[l].top;
-    hold *h = &holds[number];
-    if (h->before) holds[h->before].after = h->after;
+static part name_in(const names *n, u32 number) {
+    const name *its = &n->list.at[number - 1];
+    return (part){its->text, its->length};
+}
+
+part lock_name(u32 number) { return name_in(&lock_names, number); }
+
+static void add_acquire(u32 t, u32 l, part line_end, u32 stack) {
+    u32 number = free_acquires;
+    acquire *h = number ? acquire_at(number) : PUSH(acquired);
+    if (number) free_acquires = h->after;
+    else number = acquired.count;
+    *h = (acquire){l, t, newest, 0, lock_at(l)->top, stack, line_end};
+    if (newest) acquire_at(newest)->after = number;
+    else oldest = number;
+    newest = number;
+    *lock_at(l) = (lock){t, number};
+}
+
+static void end_acquire(u32 l) {
+    lock *its = lock_at(l);
+    u32 number = its->top;
+    acquire *h = acquire_at(number);
+    if (h->before) acquire_at(h->before)->after = h->after;
     else oldest = h->after;
-    if (h->after) holds[h->after].before = h->before;
+    if (h->after) acquire_at(h->after)->before = h->before;
     else newest = h->before;
-    locks[l].top = h->below;
-    if (!h->below) locks[l].holder = 0;
-    h->after = free_holds;
-    free_holds = number;
+    its->top = h->below;
+    if (!h->below) its->holder = 0;
+    h->after = free_acquires;
+    free_acquires = number;
 }
 
 static int may_be_forked(const thread *child) { return !child->started && !child->forked && !child->joined; }
 
 static int can_follow(enum event_kind kind, u32 t, u32 other) {
-    if (threads[t].joined) return 0;
-    if (kind == IS_ACQUIRE) return !locks[other].holder || locks[other].holder == t;
-    if (kind == IS_RELEASE) return locks[other].holder == t;
-    if (kind == IS_FORK) return other != t && may_be_forked(&threads[other]);
+    if (thread_at(t)->joined) return 0;
+    if (kind == IS_ACQUIRE) return !lock_at(other)->holder || lock_at(other)->holder == t;
+    if (kind == IS_RELEASE) return lock_at(other)->holder == t;
+    if (kind == IS_FORK) return other != t && may_be_forked(thread_at(other));
     return kind != IS_JOIN || other != t;
 }
 
 u32 thread_limit = SHB_THREADS;
 
-u32 trace_threads(void) { return thread_names.count; }
+u32 trace_threads(void) { return thread_count; }
 
 int trace_event(u64 length, enum event_kind kind, u32 t, u32 other, part line_end, u32 stack) {
-    if (length > SHB_LINE || thread_names.count > thread_limit || !can_follow(kind, t, other)) return 0;
-    threads[t].started = 1;
-    if (kind == IS_ACQUIRE) add_hold(t, other, line_end, stack);
-    if (kind == IS_RELEASE) end_hold(other);
-    if (kind == IS_FORK) threads[other].forked = 1;
-    if (kind == IS_JOIN) threads[other].joined = 1;
+    if (length > SHB_LINE || thread_count > thread_limit || !can_follow(kind, t, other)) return 0;
+    thread_at(t)->started = 1;
+    if (kind == IS_ACQUIRE) add_acquire(t, other, line_end, stack);
+    if (kind == IS_RELEASE) end_acquire(other);
+    if (kind == IS_FORK) thread_at(other)->forked = 1;
+    if (kind == IS_JOIN) thread_at(other)->joined = 1;
     return 1;
 }
 
-int trace_access(u64 length, u32 t) { return length <= SHB_LINE && threads[t].started && !threads[t].joined; }
-
-void forget_trace(void) {
-    for (u64 k = 1; k <= thread_names.count; k++) threads[k] = (thread){0};
-    for (u64 k = 1; k <= lock_names.count; k++) locks[k] = (lock){0};
-    for (u32 h = oldest, next; h; h = next) {
-        next = holds[h].after;
-        holds[h].after = free_holds;
-        free_holds = h;
-    }
-    oldest = newest = 0;
+int trace_access(u64 length, u32 t) {
+    return length <= SHB_LINE && thread_at(t)->started && !thread_at(t)->joined;
 }
 
-void each_held(held_lock give) {
-    for (u32 h = oldest; h; h = holds[h].after) {
-        const name *t = &thread_names.list[holds[h].thread - 1];
-        give((part){t->text, t->length}, lock_name(holds[h].lock), holds[h].line_end, holds[h].stack);
-    }
+void forget_trace(void) {
+    for (u64 k = 0; k < met.count; k++) met.at[k] = (thread){0};
+    for (u64 k = 0; k < locks.count; k++) locks.at[k] = (lock){0};
+    thread_count = acquired.count = oldest = newest = free_acquires = 0;
+}
+
+void each_held(held_lock give, const char *operation) {
+    for (const acquire *h = oldest ? acquire_at(oldest) : 0; h; h = h->after ? acquire_at(h->after) : 0)
+        give(operation, name_in(&thread_names, h->thread), lock_name(h->lock), h->line_end, h->stack);
 }

@@ -3,6 +3,7 @@
 #include <stdarg.h>
 #include <stdio.h>
 #include <stdlib.h>
+#include <string.h>
 #include <sys/mman.h>
 #include "tables.h"
 
@@ -40,7 +41,7 @@ void *zeroed(size_t count, size_t size) {
 
 void *mapped(size_t count, size_t size) {
     void *p = mmap(0, count * size, PROT_READ | PROT_WRITE, MAP_PRIVATE | MAP_ANONYMOUS | MAP_NORESERVE, -1, 0);
-    if (p == MAP_FAILED) die("there are too few addresses for its tables, which take 440 MB of them (ulimit -v)");
+    if (p == MAP_FAILED) die("there are too few addresses for its tables, which take 400 MB of them (ulimit -v)");
     return p;
 }
 
@@ -82,6 +83,19 @@ u32 map_number(map *m, u64 a, u64 b) {
     map_entry *found = entry_of(m, a, b);
     if (!found->value) *found = (map_entry){a, b, ++m->count};
     return found->value;
+}
+
+/* array: where its address is, of any type. */
+u32 intern(map *numbers, u64 a, u64 b, void *array, u64 *capacity, size_t size) {
+    u64 before = numbers->count;
+    u32 number = map_number(numbers, a, b);
+    if (number <= before) return number;
+    char *entries;
+    memcpy(&entries, array, sizeof entries);
+    entries = grown(entries, before, capacity, size);
+    memset(entries + before * size, 0, size);
+    memcpy(array, &entries, sizeof entries);
+    return number;
 }
 
 static u64 sum_of(const char *text, u64 factor) {

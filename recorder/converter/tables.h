@@ -14,11 +14,22 @@ extern int failed_status;
 void die(const char *format, ...) __attribute__((noreturn, format(printf, 1, 2)));
 void bad_words(const char *which, const char *why) __attribute__((noreturn));    /* the command line is wrong */
 void *zeroed(size_t count, size_t size);
-/* A long table that is there from the start: what isn't used of it takes addresses alone. */
-void *mapped(size_t count, size_t size);
-#define TABLE(name, count) static __attribute__((constructor)) void map_##name(void) { (name) = mapped((count), sizeof *(name)); }
+void *mapped(size_t count, size_t size);                     /* what isn't used of it takes addresses alone */
 void *grown(void *array, u64 count, u64 *capacity, size_t size);
 #define GROW(array, count, capacity) ((array) = grown((array), (count), &(capacity), sizeof *(array)))  /* by one */
+/* An array that grows. PUSH points to a new entry at its end, which has to be written. */
+#define VECTOR(type) struct { type *at; u64 count, capacity; }
+#define PUSH(vector) (GROW((vector).at, (vector).count, (vector).capacity), &(vector).at[(vector).count++])
+/* For each entry of an array, which may be null if it has none. */
+#define EACH(item, array, count) \
+    for (__typeof__(array) item = (array); item && item < (array) + (count); item++)
+/* An array with an entry for each key of two words. INTERN returns its number, from 1, ENTRY its address; a new one
+   is zeros. */
+#define INTERNED(type) struct { map numbers; type *at; u64 capacity; }
+#define INTERN(table, a, b) \
+    intern(&(table).numbers, (a), (b), &(table).at, &(table).capacity, sizeof *(table).at)
+#define ENTRY(table, a, b) ({ const u32 its_number = INTERN(table, a, b); &(table).at[its_number - 1]; })
+u32 intern(map *numbers, u64 a, u64 b, void *array, u64 *capacity, size_t size);
 u32 map_find(const map *m, u64 a, u64 b);                    /* 0: it isn't there */
 u32 map_number(map *m, u64 a, u64 b);
 u32 map_text(map *m, const char *text);                      /* the same of a text, by two sums of it */

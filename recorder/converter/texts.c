@@ -10,17 +10,15 @@
 
 enum { MOST_SOURCE = 64 << 20 };       /* bytes of a source file */
 typedef struct { const char *location; u64 line; } wanted;
-static wanted *locations;
-static u64 location_count, location_capacity;
+static VECTOR(wanted) locations;
 static int is_sorted;
 
-/* Of a frame: "NAME:LINE". */
+/* The location of a frame: "NAME:LINE". */
 void note_line(const char *location) {
     const char *colon = strrchr(location, ':');
     u64 line = colon ? strtoull(colon + 1, 0, 10) : 0;
     if (!line) return;
-    GROW(locations, location_count, location_capacity);
-    locations[location_count++] = (wanted){location, line};
+    *PUSH(locations) = (wanted){location, line};
     is_sorted = 0;
 }
 
@@ -42,10 +40,10 @@ static int is_of(const wanted *w, const char *name) {
 static u64 first_of(const char *name) {
     char *text = zeroed(strlen(name) + 3, 1);
     wanted key = {strcat(strcpy(text, name), ":0"), 0};
-    u64 low = 0, end = location_count;
+    u64 low = 0, end = locations.count;
     while (low < end) {
         u64 middle = low + (end - low) / 2;
-        if (by_place(&locations[middle], &key) < 0) low = middle + 1;
+        if (by_place(&locations.at[middle], &key) < 0) low = middle + 1;
         else end = middle;
     }
     free(text);
@@ -65,7 +63,7 @@ static u64 sum_of_line(const uint8_t *from, const uint8_t *end) {
 
 typedef struct { const uint8_t *at, *end; } bytes;
 
-/* Of a regular file: a device or FIFO may have no end. */
+/* Maps a regular file alone: a device or FIFO may have no end. */
 static bytes map_source(const char *path) {
     struct stat status;
     int f = open(path, O_RDONLY | O_NONBLOCK | O_CLOEXEC);
@@ -78,20 +76,20 @@ static bytes map_source(const char *path) {
     return found;
 }
 
-/* Of a source file, by its name in locations: a line "line LOCATION TAB SUM" for each of its lines that a frame is at. */
+/* For a source file, by its name in locations: a line "line LOCATION TAB SUM" for each of its lines that a frame is at. */
 void write_sums(FILE *file, const char *name, const char *path) {
-    if (!location_count) return;
-    if (!is_sorted) qsort(locations, location_count, sizeof *locations, by_place);
+    if (!locations.count) return;
+    if (!is_sorted) qsort(locations.at, locations.count, sizeof *locations.at, by_place);
     is_sorted = 1;
-    u64 k = first_of(name), line = 1;
-    if (k == location_count || !is_of(&locations[k], name)) return;
+    const wanted *next = locations.at + first_of(name), *last = locations.at + locations.count;
+    if (next == last || !is_of(next, name)) return;
     bytes text = map_source(path);
     const uint8_t *at = text.at;
-    for (; at < text.end && k < location_count && is_of(&locations[k], name); line++) {
+    for (u64 line = 1; at < text.end && next < last && is_of(next, name); line++) {
         const uint8_t *end = memchr(at, '\n', text.end - at);
         if (!end) end = text.end;
-        for (; k < location_count && is_of(&locations[k], name) && locations[k].line <= line; k++)
-            if (locations[k].line == line) fprintf(file, "line %s\t%016lx\n", locations[k].location, sum_of_line(at, end));
+        for (; next < last && is_of(next, name) && next->line <= line; next++)
+            if (next->line == line) fprintf(file, "line %s\t%016lx\n", next->location, sum_of_line(at, end));
         at = end + (end < text.end);
     }
     if (text.at) munmap((void *)text.at, text.end - text.at);

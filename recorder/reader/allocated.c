@@ -5,20 +5,50 @@
 #include <stdio.h>
 #include <stdlib.h>
 #include <string.h>
+#include <unistd.h>
 #include "debug.h"
 
-int read_line(const char *path, int number, char *line) {
-    int f = number > 0 ? open(path, O_RDONLY) : -1, found = 0, is_begin = 1, is_end = 1;
-    FILE *file = f < 0 ? 0 : fdopen(f, "r");
-    while (file && found < number && fgets(line, LINE_BYTES, file)) {
-        is_begin = is_end;             /* a longer line comes in parts */
-        is_end = strchr(line, '\n') != 0;
-        found += is_end;
+/* A source file: its text, and where each line begins. */
+typedef struct { char *text; u64 *begins, count, capacity; } source;
+
+static source read_source(const char *path) {
+    enum { MOST_SOURCE = 1 << 26 };
+    source s = {0};
+    int f = open(path, O_RDONLY);
+    off_t size = f < 0 ? 0 : lseek(f, 0, SEEK_END);
+    if (size > 0 && size <= MOST_SOURCE) s.text = zeroed(size + 1, 1);
+    if (s.text && pread(f, s.text, size, 0) != size) *s.text = 0;
+    if (f >= 0) close(f);
+    for (char *at = s.text, *end; at && (end = strchr(at, '\n')); at = end + 1) {
+        GROW(s.begins, s.count, s.capacity);
+        s.begins[s.count++] = at - s.text;
     }
-    if (file) fclose(file);
-    int is_found = file && found == number && is_begin;
+    return s;
+}
+
+/* Each is read once: a page may have many lines of it. */
+static const source *source_of(const char *path) {
+    static map numbers;
+    static source *sources;
+    static u64 count, capacity;
+    u32 number = map_text(&numbers, path);
+    if (number > count) {
+        GROW(sources, count, capacity);
+        sources[count++] = read_source(path);
+    }
+    return &sources[number - 1];
+}
+
+int read_line(const char *path, int number, char *line) {
+    const source *s = source_of(path);
+    if (number < 1 || (u64)number > s->count) return 0;
+    const char *begin = s->text + s->begins[number - 1];
+    size_t length = strcspn(begin, "\n");
+    if (length >= LINE_BYTES) return 0;
+    memcpy(line, begin, length);
+    line[length] = 0;
     char quote = 0;
-    for (char *p = line; is_found && *p; p++) {
+    for (char *p = line; *p; p++) {
         if (!quote && p[0] == '/' && p[1] == '/') *p = 0;
         else if (quote && p[0] == '\\' && p[1]) *p++ = ' ';
         else if (quote || *p == '"' || *p == '\'') {
@@ -27,7 +57,7 @@ int read_line(const char *path, int number, char *line) {
             *p = ' ';
         }
     }
-    return is_found;
+    return 1;
 }
 
 static int is_of_word(char c) { return isalnum((unsigned char)c) || c == '_'; }
@@ -77,7 +107,7 @@ static void look_in(search *s, Dwarf_Die *in, int depth) {
     }
 }
 
-/* Of a template? A name in it may be that of an argument. */
+/* Is the function one of a template? A name in it may be that of an argument. */
 static int is_of_template(const char *function) { return memchr(function, '<', strcspn(function, "(")) != 0; }
 
 int type_by_text(struct debug *d, u64 pc, u64 size, Dwarf_Die *type) {

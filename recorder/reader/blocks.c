@@ -44,11 +44,14 @@ static int allocated_type(Dwarf_Die function, u64 size, Dwarf_Die *type) {
     return dwarf_tag(&argument) == DW_TAG_array_type || size_of_type(&argument) == size;
 }
 
-/* Adds a type's name with those of the namespaces and classes that it is in: "bank::Account". 0 where it has none. */
-static int add_type_name(Dwarf_Die *type, text *to) {
-    Dwarf_Attribute a;
-    Dwarf_Die named = *type, scope, e, next;
-    if (dwarf_attr(type, DW_AT_specification, &a)) dwarf_formref_die(&a, &named);
+static int is_type(int tag) {
+    return tag == DW_TAG_structure_type || tag == DW_TAG_class_type || tag == DW_TAG_typedef;
+}
+
+int add_qualified_name(const Dwarf_Die *of, text *to) {
+    Dwarf_Die named = *of, scope, e, next;
+    for (int steps = 0; steps < MOST_STEPS && origin_of(&named); steps++) {}
+    const int of_type = is_type(dwarf_tag(&named));
     const char *before = "";
     const void *last = 0;
     int more = dwarf_diecu(&named, &scope, 0, 0) && first_entry(&scope, &e, &last);
@@ -64,9 +67,14 @@ static int add_type_name(Dwarf_Die *type, text *to) {
         }
         int tag = dwarf_tag(&e);
         const char *name = dwarf_diename(&e);
-        int has_name = name && (tag == DW_TAG_namespace || tag == DW_TAG_structure_type || tag == DW_TAG_class_type || tag == DW_TAG_typedef);
+        int is_in_code = tag == DW_TAG_module || tag == DW_TAG_subprogram || tag == DW_TAG_variable;
+        int has_name = name && (tag == DW_TAG_namespace || is_type(tag) || (is_in_code && !of_type));
+        char *begin = to->at;
         if (has_name) add_name(to, before, name, 0);
         if (has_name) before = "::";
+        size_t length = strcspn(begin, of_type ? "" : "<");  /* of a function without what it is made for */
+        to->room += to->at - (begin + length);
+        *(to->at = begin + length) = 0;
         if (e.addr == named.addr) return has_name;
         scope = e;
         more = first_entry(&scope, &e, &last);
@@ -94,12 +102,13 @@ static int has_two_of(Dwarf_Die *of, Dwarf_Die *type) {
    where there is none. */
 static int find_own_type(Dwarf_Die *type, u64 *offset, u64 length, text *to) {
     Dwarf_Die named = *type;
-    if (dwarf_tag(&named) == DW_TAG_typedef && plain_type(type) && !dwarf_diename(type)) return add_type_name(&named, to);
+    if (dwarf_tag(&named) == DW_TAG_typedef && plain_type(type) && !dwarf_diename(type))
+        return add_qualified_name(&named, to);
     for (int steps = 0; steps < MOST_STEPS; steps++) {
         text begin = *to;
         Dwarf_Die member, of;
         u64 place;
-        if (!plain_type(type) || !is_structure(type) || !add_type_name(type, to)) return 0;
+        if (!plain_type(type) || !is_structure(type) || !add_qualified_name(type, to)) return 0;
         if (!is_of_cxx_library(begin.at)) return 1;
         *to = begin;
         if (is_buffer(dwarf_diename(type))) {
@@ -169,7 +178,7 @@ static named_part find_part(Dwarf_Die type, u64 offset, u64 length) {
     return found;
 }
 
-/* Of a type, the names of what lies so far inside. */
+/* The names of what lies so far inside a type. */
 static named_part part_of(struct debug *d, Dwarf_Die type, u64 offset, u64 length) {
     u32 number = map_number(&d->by_part, (u64)type.addr, offset << 32 | length);
     if (number > d->part_count) {

@@ -76,7 +76,7 @@ static int has_package(struct debug *d) {
 
 static const char no_debug_information[] = "isn't there (no -g); lines are addresses too: compile with -g";
 
-/* Of a file that has debug information, and of all that it names. */
+/* Why a part of the debug information is missing: that of a file that has some, and of all that it names. */
 static const char *why_in_part(struct debug *d) {
     Elf *elf = dwarf_getelf(d->dwarf);
     int typed = 0, has_shared = dwarf_getalt(d->dwarf) != 0, has_code = has_typed_code(d, &typed);
@@ -127,7 +127,7 @@ struct debug *open_debug(const char *path) {
     return d;
 }
 
-/* Of a library of the system it may be large, and mostly isn't asked for. */
+/* The debug information of a system's library may be large, and mostly isn't asked for. */
 static void read_dwarf(struct debug *d) {
     Dwarf_Addr bias = 0;
     d->dwarf = d->file ? dwfl_module_getdwarf(d->file, &bias) : 0;
@@ -282,7 +282,8 @@ static char *name_of_function(Dwarf_Die *die) {
     const char *linked = 0, *name = 0;
     if (dwarf_attr_integrate(die, DW_AT_linkage_name, &a) || dwarf_attr_integrate(die, DW_AT_MIPS_linkage_name, &a)) linked = dwarf_formstring(&a);
     if (!linked) name = dwarf_diename(die);
-    return linked || name ? demangled(linked ? linked : name) : 0;
+    char *told = linked && is_of_other(linked) ? told_name(die) : 0;
+    return told ? told : linked || name ? demangled(linked ? linked : name) : 0;
 }
 
 int scopes_at(Dwarf_Die function, u64 pc, Dwarf_Die *scopes, int most) {
@@ -347,12 +348,13 @@ int line_at(struct debug *d, u64 pc, const char **path, int *line, int *column) 
     return *path != 0;
 }
 
-/* The outermost function has the name that it is linked by. */
+/* The outermost function has the name that it is linked by, if that says what it is called. */
 int frames_at(struct debug *d, u64 pc, debug_frame *frames, int most) {
     int count = frames_by_lines(d, pc, frames, most);
     const symbol *s = symbol_from(d, pc);
     if (!s || s->at > pc || (count && !s->is_function)) return count;
     if (!count) frames[count++] = (debug_frame){0};
+    if (frames[count - 1].function && is_of_other(s->linked)) return count;
     free(frames[count - 1].function);
     frames[count - 1].function = s->is_function ? demangled(s->linked) : 0;
     return count;

@@ -56,8 +56,9 @@ char *demangled(const char *name);     /* a copy, also of a name that isn't mang
 const symbol *symbol_from(struct debug *d, u64 address);     /* that is there, or the first one behind it, with its name; null where there is none */
 int is_variable(struct debug *d, const char *name);          /* has one this name? */
 
-/* languages.c */
-char *name_of_other(const char *name); /* a copy of a name of Rust, Fortran or D as the program has it; null of any other */
+/* Is it a name of Rust, Fortran or D? The debug information has the program's own. */
+int is_of_other(const char *linked);
+char *told_name(const Dwarf_Die *of);  /* "next_id::last", of a function or variable; null if there is none */
 
 /* debug.c */
 struct debug *open_debug(const char *path);
@@ -83,6 +84,8 @@ int frames_at(struct debug *d, u64 pc, debug_frame *frames, int most);
 void each_source(struct debug *d, void (*give)(const char *path));
 
 /* members.c */
+/* The number of the variable at an address, from 1 in `variables`; 0 if there is none. */
+u32 variable_at(struct debug *d, u64 address);
 /* The same type without typedefs and qualifiers; 0 where there is none. */
 int plain_type(Dwarf_Die *type);
 int type_of(Dwarf_Die *of, Dwarf_Die *type);                 /* plain */
@@ -100,7 +103,7 @@ void add_members(Dwarf_Die type, u64 offset, u64 length, text *to);
 /* Adds what lies at an offset of the variable that is at an address, in so many bytes: ".head", "[3]", "+4". */
 void add_member(struct debug *d, u64 address, u64 offset, u64 length, char *buffer, size_t size);
 /* The same of the local of a function that is at `pc`, that lies so many bytes below the end of its return address, and above its stack
-   pointer, with its name before it; gives the name of the function that it is inlined from, or "", and null where no local is known. */
+   pointer, with its name before it; returns the name of the function that it is inlined from, or "", and null where no local is known. */
 typedef struct { u64 pc, below, above, length; } place_of_local;
 const char *add_local(struct debug *d, place_of_local at, char *buffer, size_t size);
 
@@ -111,8 +114,10 @@ int read_line(const char *path, int number, char *line);
 int type_by_text(struct debug *d, u64 pc, u64 size, Dwarf_Die *type);
 
 /* blocks.c: what lies so far inside of a block of so many bytes that the call at `pc` allocated:
-   "bank::Account.balance", or with its element "Account[3].balance". Gives the length of the type's name, 0 where no type is certain. */
+   "bank::Account.balance", or with its element "Account[3].balance". Returns the length of the type's name, 0 if no type is certain. */
 typedef struct { u64 pc, size, offset, length; } place_in_block;
+/* Adds the name of a type or variable with those of what it is in: "bank::Account". 0 if it has none. */
+int add_qualified_name(const Dwarf_Die *of, text *to);
 size_t add_in_block(struct debug *d, place_in_block at, char *buffer, size_t size);
 int has_type(struct debug *d, place_in_block at);            /* is that of the whole block certain? */
 

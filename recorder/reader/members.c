@@ -11,7 +11,10 @@ static u64 address_of_variable(Dwarf_Die *die) {
     Dwarf_Op *operations;
     Dwarf_Addr address = 0;
     size_t count;
-    if (!dwarf_attr(die, DW_AT_location, &a) || dwarf_getlocation(&a, &operations, &count) || count != 1) return 0;
+    int is_told = dwarf_attr(die, DW_AT_location, &a) && !dwarf_getlocation(&a, &operations, &count) && count;
+    if (!is_told) return 0;
+    /* A value that is kept in fewer bits has more operations. */
+    if (count > 1 && operations[count - 1].atom != DW_OP_stack_value) return 0;
     if (operations->atom == DW_OP_addr) return operations->number;
     int is_numbered = operations->atom == DW_OP_addrx || operations->atom == DW_OP_GNU_addr_index;
     return is_numbered && !dwarf_getlocation_attr(&a, operations, &number) && !dwarf_formaddr(&number, &address) ? address : 0;
@@ -35,7 +38,7 @@ static void find_variables(struct debug *d, Dwarf_Die *in, int also_in_functions
 }
 
 /* Those in functions are read when one isn't among the others. */
-static u32 variable_at(struct debug *d, u64 address) {
+u32 variable_at(struct debug *d, u64 address) {
     u32 number = 0;
     read_units(d);
     for (int many = 1; !(number = map_find(&d->by_address, address, 0)) && many <= 2; many++) {
@@ -114,8 +117,18 @@ u64 size_of_type(Dwarf_Die *type) {
     return is_known && own > 0 ? size * own : 0;
 }
 
-/* Names of the C and C++ library's own members say little. */
-static int is_reserved(const char *name) { return *name == '_' && (name[1] == '_' || (name[1] >= 'A' && name[1] <= 'Z')); }
+/* Names of the C and C++ library's own members say little: they are told only of what isn't at the begin of a variable. */
+static int is_reserved(const char *name) {
+    return *name == '_' && (name[1] == '_' || (name[1] >= 'A' && name[1] <= 'Z'));
+}
+
+static int has_one_member(Dwarf_Die *of) {
+    Dwarf_Die e;
+    int found = 0;
+    u64 place;
+    for (int more = !dwarf_child(of, &e); more; more = !dwarf_siblingof(&e, &e)) found += place_of_member(&e, &place);
+    return found == 1;
+}
 
 int is_structure(Dwarf_Die *type) { return dwarf_tag(type) == DW_TAG_structure_type || dwarf_tag(type) == DW_TAG_class_type; }
 
@@ -230,10 +243,11 @@ void add_members(Dwarf_Die type, u64 offset, u64 length, text *to) {
             return;
         }
         const char *name = dwarf_diename(&member);
-        if (name && is_reserved(name)) return;
+        int is_own = name && is_reserved(name), is_wrapped = is_own && has_one_member(&type);
+        if (is_own && !to->rest) return;
         offset -= place;
         if (!type_of(&member, &type)) return;
-        if (name && *name) add_name(to, ".", name, offset);
+        if (name && *name && !is_wrapped) add_name(to, ".", name, offset);
     }
 }
 
@@ -270,7 +284,7 @@ static int plain_location(const search *s, Dwarf_Die *die, unsigned attribute, D
     return 1;
 }
 
-/* How far behind the begin of a variable the place that is looked for lies; -1 where that isn't told. */
+/* How far after the begin of a variable the place that is looked for lies; -1 if that isn't told. */
 static u64 offset_in(search *s, Dwarf_Die *variable) {
     enum { SAVED = 16 };               /* the return address, and the frame pointer that points there */
     Dwarf_Op at, base;

@@ -1,4 +1,5 @@
 /* A module's symbols, and what their names are in the program's source. */
+#include <ctype.h>
 #include <dlfcn.h>
 #include <stdlib.h>
 #include <string.h>
@@ -14,9 +15,31 @@ char *demangled(const char *name) {
         void *library = dlopen("libstdc++.so.6", RTLD_NOW);
         of_library = library ? (demangle *)dlsym(library, "__cxa_demangle") : 0;
     }
-    char *text = is_mangled && of_library ? of_library(name, 0, 0, &status) : name_of_other(name);
+    char *text = is_mangled && of_library ? of_library(name, 0, 0, &status) : 0;
     if (!text && !(text = strdup(name))) die("out of memory");
     return text;
+}
+
+/* Rust's two forms, "_R.." and "_ZN..17h" with 16 digits and "E"; "__m_MOD_x" of Fortran; "_D1m1x.." of D. */
+int is_of_other(const char *linked) {
+    enum { HASH = 20 };
+    size_t length = strlen(linked);
+    int is_older = length > HASH && !strncmp(linked, "_ZN", 3) && !strncmp(linked + length - HASH, "17h", 3);
+    int is_of_d = !strncmp(linked, "_D", 2) && isdigit((unsigned char)linked[2]);
+    return is_older || is_of_d || !strncmp(linked, "_R", 2) || strstr(linked, "_MOD_");
+}
+
+/* As gcc links "last" of a function in C: "last.0". */
+static int is_static_local(const char *linked) {
+    const char *dot = strrchr(linked, '.');
+    return dot && isdigit((unsigned char)dot[1]);
+}
+
+char *told_name(const Dwarf_Die *of) {
+    char name[NAME_BYTES], *found = 0;
+    text to = {name, sizeof name, 0};
+    if (add_qualified_name(of, &to) && !(found = strdup(name))) die("out of memory");
+    return found;
 }
 
 static void take_symbol(struct debug *d, int number) {
@@ -48,20 +71,30 @@ static void read_symbols(struct debug *d) {
     }
 }
 
-static const char *name_of(symbol *s) { return s->name ? s->name : (s->name = demangled(s->linked)); }
+static const char *name_of(struct debug *d, symbol *s) {
+    int is_told = !s->name && !s->is_function && (is_of_other(s->linked) || is_static_local(s->linked));
+    u32 number = is_told ? variable_at(d, s->at) : 0;
+    if (number) s->name = told_name(&d->variables[number - 1]);
+    return s->name ? s->name : (s->name = demangled(s->linked));
+}
 
-static int by_name(const void *a, const void *b) { return strcmp(name_of(*(symbol **)a), name_of(*(symbol **)b)); }
+static int by_name(const void *a, const void *b) {
+    return strcmp((*(symbol **)a)->name, (*(symbol **)b)->name);
+}
 
 /* Variables of one name, static in several files. */
 static void mark_doubles(struct debug *d) {
     if (d->has_doubles++) return;
     symbol **sorted = zeroed(d->symbol_count + 1, sizeof *sorted);
     u64 count = 0;
-    for (u64 k = 0; k < d->symbol_count; k++)
-        if (!d->symbols[k].is_function) sorted[count++] = &d->symbols[k];
+    for (u64 k = 0; k < d->symbol_count; k++) {
+        if (d->symbols[k].is_function) continue;
+        name_of(d, &d->symbols[k]);
+        sorted[count++] = &d->symbols[k];
+    }
     qsort(sorted, count, sizeof *sorted, by_name);
     for (u64 k = 1; k < count; k++)
-        if (!strcmp(name_of(sorted[k]), name_of(sorted[k - 1]))) sorted[k]->is_twice = sorted[k - 1]->is_twice = 1;
+        if (!strcmp(sorted[k]->name, sorted[k - 1]->name)) sorted[k]->is_twice = sorted[k - 1]->is_twice = 1;
     free(sorted);
 }
 
@@ -72,7 +105,7 @@ const symbol *symbol_from(struct debug *d, u64 address) {
     else if (k == d->symbol_count) return 0;
     else k = count_up_to(d->symbols, d->symbol_count, sizeof *d->symbols, d->symbols[k].at) - 1;
     symbol *s = &d->symbols[k];
-    name_of(s);
+    name_of(d, s);
     if (!s->is_function) mark_doubles(d);
     return s;
 }
@@ -80,6 +113,6 @@ const symbol *symbol_from(struct debug *d, u64 address) {
 int is_variable(struct debug *d, const char *name) {
     read_symbols(d);
     for (u64 k = 0; k < d->symbol_count; k++)
-        if (!d->symbols[k].is_function && !strcmp(name_of(&d->symbols[k]), name)) return 1;
+        if (!d->symbols[k].is_function && !strcmp(name_of(d, &d->symbols[k]), name)) return 1;
     return 0;
 }

@@ -155,7 +155,7 @@ static const char *read_word(const char *at, char *word) {
     return at;
 }
 
-/* Behind the bracket that belongs to the one here; null if it isn't in the line. */
+/* After the bracket that belongs to the one here; null if it isn't in the line. */
 static const char *behind_bracket(const char *at) {
     int depth = 0;
     do depth += (*at == '(' || *at == '[') - (*at == ')' || *at == ']');
@@ -163,7 +163,7 @@ static const char *behind_bracket(const char *at) {
     return depth ? 0 : at;
 }
 
-/* Of what begins here and ends before `end`; 0 if that isn't known. */
+/* What the text from here to `end` means; 0 if that isn't known. */
 static int means(view *v, const char *at, const char *end, meaning *m, int depth) {
     char word[WORD];
     at = skip(at);
@@ -216,7 +216,7 @@ static const char *begin_before(const char *line, const char *end) {
     }
 }
 
-/* Behind the names with members and indices that begin here; counts the indices, and tells where the last one ends. */
+/* After the names with members and indices that begin here; counts the indices, and tells where the last one ends. */
 static const char *end_behind(const char *at, int *indices, const char **index_end) {
     char word[WORD];
     at = skip(at);
@@ -258,7 +258,7 @@ static int begins_statement(const char *line, const char *begin) {
     return 0;
 }
 
-/* A write is of what stands before the sign; a read may have the sign's column if all behind it is what is read. */
+/* A write is of what stands before the sign; a read may have the sign's column if all after it is what is read. */
 static int means_assigned(view *v, const char *line, const char *at, int is_write, meaning *m) {
     if (*at == '=' && !is_write) {
         int indices;
@@ -276,7 +276,7 @@ static int is_assignment(const char *at) {
     return length <= 2 && at[length] == '=' && !is_comparison;
 }
 
-/* Of a lock, or of an atomic operation, where it is the argument. */
+/* A lock, or the object of an atomic operation, if it is the argument. */
 static int means_argument(view *v, const char *function, const char *at, meaning *m) {
     static const char *const of_locks[] = {"pthread_", "sem_", "mtx_", "cnd_"};
     static const char *const of_atomics[] = {"__atomic_", "__sync_", "atomic_"};
@@ -305,8 +305,8 @@ static int means_word(view *v, const char *line, const char *at, meaning *m) {
     return indices == 1 && !may_be_name && means(v, at, index_end, m, 0);
 }
 
-/* Of the access at a column, as compilers tell it: of a read that of the last `->`, `.` or `[`, or of the name behind
-   it, or of its end or begin; of a write that of the assignment; of a call its own. */
+/* What the access at a column means. Compilers have for a read the column of the last `->`, `.` or `[`, of the name
+   after it, or of its end or begin; for a write that of the assignment; for a call its own. */
 static int means_at(view *v, const char *line, const char *at, int is_write, meaning *m) {
     char word[WORD];
     const char *behind = at;

@@ -20,22 +20,6 @@ static int ends_copy(const thread *t, uint64_t size, uint64_t caller) {
     return is_write_of(t->last, size) && caller - (t->last & LOW_48_BITS) <= COPY_BYTES;
 }
 
-static void note_read(const void *p, uint64_t size, uint64_t caller) {
-    thread *t = self;
-    if (!others || !size || !t || !enter_access(ends_copy(t, size, caller) ? NEVER_YIELD : MAY_YIELD)) return;
-    put(t, OP_READ, p, size, caller);
-    note_spin(t, read_at((uint64_t)p, caller));
-    leave(t);
-}
-
-static void note_write(void *p, uint64_t size, uint64_t caller) {
-    thread *t = others && size ? enter_access(MAY_YIELD) : 0;
-    if (!t) return;
-    t->last = write_at(size, caller);
-    put(t, OP_WRITE, p, size, caller);
-    leave(t);
-}
-
 int hold_range(enum operation operation, uint64_t address, uint64_t size, uint64_t caller) {
     thread *t = self;
     uint64_t *words[MOST_CELLS], end = address + size;
@@ -45,7 +29,7 @@ int hold_range(enum operation operation, uint64_t address, uint64_t size, uint64
     uint64_t where_from = caller & LOW_48_BITS;              /* a program may name any */
     uint64_t what = what_of_use(where_from | (uint64_t)operation << 48 | size_in_last(size) << 54, address);
     int count = is_usual(t, end - 1) ? words_of_range(t->serial, (cell_use){what, t->kind}, address, end, words) : 0;
-    int is_held = count && hold_quickly(t, words[0], operation, what);
+    int is_held = count && hold_quickly(t, words[0], operation, what, IS_PLAIN);
     for (int k = 1; is_held && k < count; k++) *words[k] = *words[0];
     end_quick_hook(t);
     if (t->deferred) deliver_deferred(t);
@@ -53,16 +37,21 @@ int hold_range(enum operation operation, uint64_t address, uint64_t size, uint64
 }
 
 __attribute__((noinline)) void note_access(enum operation operation, uint64_t address, uint64_t size, uint64_t caller) {
+    thread *t = self;
+    int is_read = operation == OP_READ, is_in_copy = is_read && t && ends_copy(t, size, caller);
     if (address % GRAIN + size > GRAIN && hold_range(operation, address, size, caller)) return;
-    if (operation == OP_READ) note_read((void *)address, size, caller);
-    else note_write((void *)address, size, caller);
+    if (!others || !size || !enter_access(is_in_copy ? NEVER_YIELD : MAY_YIELD)) return;
+    if (!is_read) t->last = write_at(size, caller);
+    put(t, operation, (void *)address, size, caller);
+    if (is_read) note_spin(t, read_at(address, caller));
+    leave(t);
 }
 
 /* The rest of a quick hook of a use that is new in its cell, or isn't in the line in which most are. */
 void hold_elsewhere(thread *t, cell *c, uint64_t what, uint64_t address) {
     cell_use use = {what, kind_in(c, what, t->kind, t->reader)};
     uint64_t *word = word_of_use(c, address, t->serial, t->number, use);
-    int is_held = word && hold_quickly(t, word, operation_of_use(what), what);
+    int is_held = word && hold_quickly(t, word, operation_of_use(what), what, IS_PLAIN);
     end_quick_hook(t);
     if (t->deferred) deliver_deferred(t);
     if (!is_held) note_access(operation_of_use(what), address, 1 << (what >> 54) % (1 << LOGARITHM_BITS), what & LOW_48_BITS);
@@ -106,8 +95,8 @@ UNALIGNED(64)
 
 /* A library that isn't instrumented tells how its object is used: an access of the first byte, by the one who called it. */
 static uint64_t user_of(void *user, uint64_t caller) { return user ? (uint64_t)user : caller; }
-PUBLIC void __tsan_external_read(void *p, void *user, void *tag) { note_read(p, 1, user_of(user, CALLER)); }
-PUBLIC void __tsan_external_write(void *p, void *user, void *tag) { note_write(p, 1, user_of(user, CALLER)); }
+PUBLIC void __tsan_external_read(void *p, void *user, void *tag) { note_access(OP_READ, (uint64_t)p, 1, user_of(user, CALLER)); }
+PUBLIC void __tsan_external_write(void *p, void *user, void *tag) { note_access(OP_WRITE, (uint64_t)p, 1, user_of(user, CALLER)); }
 
 /* ---- atomic operations: done here under the turn, and in the strongest order; the record has the one asked for ---- */
 #define ATOMIC __attribute__((section("atomics")))           /* a fault there is the program's (signals.c) */
@@ -147,7 +136,7 @@ static void after_exchange(thread *t, int done, const volatile void *p, uint64_t
     after_atomic(t, last_of(done, p, caller));
 }
 
-/* Of 16 bytes, for which the compiler would call another library. */
+/* An exchange of 16 bytes, for which the compiler would call another library. */
 typedef unsigned __int128 uint128_t;
 
 ATOMIC static int exchange_16(volatile uint128_t *p, uint128_t *expected, uint128_t value) {
@@ -213,12 +202,13 @@ FETCH_16(fetch_nand, ~(old & value))
         return old; \
     }
 
-#define COMPARE_EXCHANGE(bits, type, name, exchange) \
-    ATOMIC PUBLIC int __tsan_atomic##bits##_##name(volatile type *p, type *expected, type value, int order, int fail_order) { \
+/* `old` is the parameter that has the expected value, at this address. */
+#define COMPARE_EXCHANGE(bits, type, name, exchange, result, r, old, address) \
+    ATOMIC PUBLIC result __tsan_atomic##bits##_compare_exchange_##name(volatile type *p, type old, type value, int order, int fail_order) { \
         thread *t = enter(MAY_YIELD); \
-        int done = exchange(p, expected, value); \
+        int done = exchange(p, address, value); \
         after_exchange(t, done, p, size_and_order(bits / 8, done ? order : fail_order), CALLER); \
-        return done; \
+        return r; \
     }
 
 #define ATOMICS(bits, type, load, store, exchange) \
@@ -242,15 +232,9 @@ FETCH_16(fetch_nand, ~(old & value))
         store(p, value); \
         after_atomic(t, 0); \
     } \
-    COMPARE_EXCHANGE(bits, type, compare_exchange_strong, exchange) \
-    COMPARE_EXCHANGE(bits, type, compare_exchange_weak, exchange) \
-    ATOMIC PUBLIC type __tsan_atomic##bits##_compare_exchange_val(volatile type *p, type expected, type value, int order, \
-                                                                  int fail_order) { \
-        thread *t = enter(MAY_YIELD); \
-        int done = exchange(p, &expected, value); \
-        after_exchange(t, done, p, size_and_order(bits / 8, done ? order : fail_order), CALLER); \
-        return expected; \
-    }
+    COMPARE_EXCHANGE(bits, type, strong, exchange, int, done, *expected, expected) \
+    COMPARE_EXCHANGE(bits, type, weak, exchange, int, done, *expected, expected) \
+    COMPARE_EXCHANGE(bits, type, val, exchange, type, expected, expected, &expected)
 
 #define UPDATES(bits, type) \
     UPDATE(bits, type, exchange, DO_exchange) \

@@ -91,7 +91,7 @@ static context *kind_without(const context *kind, const context *call) {
     return is_call_of(kind, call) ? kind->outer : kind_with(kind_without(kind->outer, call), kind);
 }
 
-/* Of so many of its calls, those further in. */
+/* So many of its calls, the innermost ones. */
 static context *inner_calls_of(context *kind, int most) {
     return kind == kept || !most ? kept : kind_with(inner_calls_of(kind->outer, most - 1), kind);
 }

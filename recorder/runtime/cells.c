@@ -21,7 +21,7 @@
      - of accesses that are the same (thread, kind, place with the calls that tell its location, bytes) and have no
        conflicting one of another thread between them, the first and the last stand for all;
      - in the first phase of a variable, when no other thread had used it yet, the last alone does: each race of an
-       earlier one with what comes behind has the same place as one of the last;
+       earlier one with what comes after has the same place as one of the last;
      - a variable that one thread alone uses has no race.
    Accesses of several threads in one phase are reads, so what conflicts stands between two phases.
 
@@ -114,7 +114,7 @@ static int key_count(const cell *c) { return c->log_lines ? KEYS_OF_LINE << (c->
 static key key_at(cell *c, int k) {
     return c->log_lines ? key_in((key_line *)c->words[0] + k / KEYS_OF_LINE, k % KEYS_OF_LINE) : (key){&c->uses[k], &c->words[k]};
 }
-static int is_held(key key) { return *key.use && *key.word & POSITIONS; }
+static int is_held(key key) { return *key.use && *key.word; }
 
 static key_line *new_table(int log) {
     uint64_t bytes = sizeof(key_line) << (log - 1);
@@ -137,7 +137,7 @@ static void free_table(cell *c) {
     c->log_lines = 0;
 }
 
-/* Of a use that isn't there. */
+/* The key for a use that isn't there. */
 static key free_key(cell *c, uint32_t use) {
     if (!c->log_lines) return key_at(c, c->used);
     for (key_line *line = line_of_use(c, use);; line = next_line(c, line))
@@ -273,19 +273,19 @@ static int replace_key(cell *c, uint64_t address, uint32_t use, uint64_t word) {
 
 /* The owner's first use of this kind, in this phase or since it was forgotten. Is it held back? */
 static int hold_new(cell *c, uint64_t address, uint32_t use, uint64_t word) {
-    if (!c->is_first) word = 0;
+    word = c->is_first ? word_after(0, word) : NO_POSITION;
     if (!has_free_key(c)) return replace_key(c, address, use, word) && c->is_first;
     insert_key(c, use, word);
     return c->is_first;
 }
 
-/* Of the cell's owner, or of one of its readers. Is it held back? Right behind the same one, with nothing in between, it has that one's position. */
+/* Is a use of the cell's owner or of one of its readers held back? Right after the same one, with nothing between, it has its position. */
 static int hold_in_cell(cell *c, uint64_t address, cell_use use, uint64_t word) {
     if (!is_read(use.what)) c->is_only_read = 0;
     uint32_t number = word ? number_of_use(use) : 0;
     uint64_t *held = number ? find_word(c, number) : 0;
-    if (held && *held + 1 == word) return IS_HELD_ALREADY;
-    if (held) *held = word;
+    if (held && is_right_behind(*held, word)) return IS_HELD_ALREADY;
+    if (held) *held = word_after(*held, word);
     return held || (number && hold_new(c, address, number, word));
 }
 
@@ -396,7 +396,7 @@ static inline uint64_t *known_word(cell *c, cell_use use) {
     return is_same(cell_uses[slot], use) ? find_word(c, slot) : 0;
 }
 
-/* Of one that the cell gets, if it hasn't it; null if it isn't in a first phase, or has no room. */
+/* The word of a use that the cell gets, if it hasn't it; null if it isn't in a first phase, or has no room. */
 static uint64_t *new_word(cell *c, cell_use use) {
     uint32_t number = c->is_first ? number_of_use(use) : 0;
     uint64_t *word = number ? find_word(c, number) : 0;
@@ -427,8 +427,8 @@ static int hold_in_several(uint32_t serial, struct record r, uint64_t end, uint6
     cell_use use = {what_of_use(r.what, address), kind};
     use_range(serial, r.where >> 48, address, end);
     int count = word ? words_in_cells(serial, use, address, end, words, new_word) : 0;
-    if (count && *words[0] + 1 == word) return IS_HELD_ALREADY;
-    for (int k = 0; k < count; k++) *words[k] = word;
+    if (count && is_right_behind(*words[0], word)) return IS_HELD_ALREADY;
+    for (int k = 0; k < count; k++) *words[k] = word_after(*words[k], word);
     return count ? IS_HELD : 0;
 }
 
@@ -489,14 +489,11 @@ static void renew(uint64_t address, uint64_t end) {
 /* ---- what the recorder calls ---- */
 static enum operation operation_of(struct record r) { return r.what >> 48 & 63; }
 
-static int is_plain_access(enum operation operation) { return operation == OP_READ || operation == OP_WRITE; }
-
 static int is_in_one(uint64_t address, uint64_t end) { return address / GRAIN == (end - 1) / GRAIN; }
 
 /* An atomic access of several cells, or a use of an object: it is recorded, and may conflict with all others. */
 static int is_used_by_all(enum operation operation, uint64_t address, uint64_t end) {
-    int is_atomic = operation >= OP_ATOMIC_LOAD && operation <= OP_ATOMIC_UPDATE;
-    return is_atomic ? !is_in_one(address, end) : operation >= OP_LOCK_INIT && operation <= OP_DESTROY;
+    return is_atomic(operation) ? !is_in_one(address, end) : operation >= OP_LOCK_INIT && operation <= OP_DESTROY;
 }
 
 int hold_back(uint32_t serial, struct record r, uint64_t bytes, uint64_t kind, uint64_t word) {
@@ -508,6 +505,6 @@ int hold_back(uint32_t serial, struct record r, uint64_t bytes, uint64_t kind, u
     else if (operation == OP_ALLOC || operation == OP_START) renew(address, end);
     else if (is_used_by_all(operation, address, end)) use_range(USED_BY_ALL, 0, address, end);
     else if (operation <= OP_ATOMIC_UPDATE && is_in_one(address, end)) return hold_in_one(serial, r, kind, word);
-    else if (is_plain_access(operation)) return hold_in_several(serial, r, end, kind, word);
+    else if (is_plain(operation)) return hold_in_several(serial, r, end, kind, word);
     return 0;
 }

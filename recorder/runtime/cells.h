@@ -7,8 +7,8 @@
 enum { KEYS = 2 };                     /* with these a cell has 32 bytes */
 enum { KEYS_OF_LINE = 5 };             /* with these a line of a table has 64 */
 
-/* What is known of 8 bytes of memory. A key is a use (below), or 0, and a word: the position at which the owner made it last
-   (POSITION_BITS), or 0 where that one is recorded, and above it the number of the context that it was made in. */
+/* What is known of 8 bytes of memory. A key is a use (below), or 0, and a word: 0 if the owner's last one is recorded, else its position,
+   IS_REPEATED, and above that the number of the context that it was made in. */
 typedef struct {
     uint32_t owner;                    /* the serial number of the thread that alone used it lately, or 0, or READERS */
     uint16_t number;                   /* of that thread in the record */
@@ -24,7 +24,15 @@ typedef struct {                       /* the keys from the first on; where one 
     uint32_t uses[KEYS_OF_LINE], unused;
 } key_line;
 enum { MOST_LOG = 7, MOST_KEYS = KEYS_OF_LINE << (MOST_LOG - 1) };
-#define POSITIONS ((1ull << POSITION_BITS) - 1)
+#define POSITIONS (IS_REPEATED - 1)
+#define CONTEXT_AT (POSITION_BITS + 1)
+
+/* The word of an access that is held back, by that which its use had before. Before it is known it has IS_REPEATED. */
+static inline uint64_t word_after(uint64_t before, uint64_t word) {
+    return __builtin_expect_with_probability(before != 0, 1, 1) ? word : word & ~IS_REPEATED;
+}
+/* Was it made with nothing in between? */
+static inline int is_right_behind(uint64_t before, uint64_t word) { return (before | IS_REPEATED) + 1 == word; }
 
 enum { GRAIN = 8, CELL_PAGE = 4096, CELLS_OF_PAGE = CELL_PAGE / GRAIN, ADDRESS_BITS = 47, REGION_BITS = 30 };
 enum { REGIONS = 1 << (ADDRESS_BITS - REGION_BITS), PAGES_OF_REGION = (1 << REGION_BITS) / CELL_PAGE };
@@ -50,6 +58,8 @@ static inline uint64_t reader_of(uint32_t serial, uint16_t number) {
 static inline enum operation operation_of_use(uint64_t what) { return what >> 48 & 7; }
 static inline int has_depth(uint64_t what) { return operation_of_use(what) <= OP_WRITE && !(what >> 54 & IS_RANGE); }
 static inline int is_same(cell_use one, cell_use other) { return one.what == other.what && one.from == other.from; }
+static inline int is_plain(enum operation operation) { return operation == OP_READ || operation == OP_WRITE; }
+static inline int is_atomic(enum operation operation) { return operation >= OP_ATOMIC_LOAD && operation <= OP_ATOMIC_UPDATE; }
 static inline int only_reads(enum operation operation) { return operation == OP_READ || operation == OP_ATOMIC_LOAD; }
 static inline int is_read(uint64_t what) { return only_reads(operation_of_use(what)); }
 static inline uint64_t what_of_use(uint64_t what, uint64_t address) {
@@ -128,7 +138,7 @@ static inline uint64_t *find_in_line(key_line *line, uint32_t use) {
 static inline uint64_t *find_near(cell *c, uint32_t use) {
     if (c->log_lines) return find_in_line(line_of_use(c, use), use);
 #pragma GCC unroll 7
-    for (int k = 0; k < KEYS; k++)
+    for (long k = 0; k < KEYS; k++)
         if (c->uses[k] == use) return &c->words[k];
     return 0;
 }

@@ -28,11 +28,7 @@ static int first_of(int f) { return pair_of[f] ? pair_of[f] - 1 : f; }
 static void *number_of(int f) { return (void *)(FIRST_DESCRIPTOR + (uint64_t)(unsigned)f * 16); }
 
 /* It is another file now. */
-static void is_new(int f) {
-    if (!is_small(f)) return;
-    pair_of[f] = is_known[f] = connects[f] = 0;
-    key_of[f] = 0;
-}
+static void is_new(int f) { if (is_small(f)) pair_of[f] = is_known[f] = connects[f] = key_of[f] = 0; }
 
 /* The descriptor that has this key already, also if it is closed by now, is of the same data. Both ends may come here at once;
    no handler of a signal does meanwhile. */
@@ -40,7 +36,7 @@ static _Atomic int busy;
 void unlock_keys(void) { busy = 0; }
 static void know_by_key(int f, uint64_t key) {
     thread *t = self && !self->inside ? self : 0;
-    if (t) t->inside = 1;
+    if (t) begin_inside(t);
     while (atomic_exchange(&busy, 1)) syscall(SYS_sched_yield);
     is_known[f] = 1;
     connects[f] = 0;
@@ -71,7 +67,7 @@ static uint64_t mixed(uint64_t sum, const void *bytes, size_t size) {
     return sum;
 }
 
-/* Of an address; the same of one of IPv4 that is written as one of IPv6. */
+/* The sum of an address; the same for one of IPv4 that is written as one of IPv6. */
 static uint64_t sum_of(const struct sockaddr_storage *a, socklen_t size) {
     const struct sockaddr_in *four = (const void *)a;
     const struct sockaddr_in6 *six = (const void *)a;

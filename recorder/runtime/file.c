@@ -118,7 +118,7 @@ int open_proc(void) {
     return 1;
 }
 
-/* Reads a file of one of the process's threads; gives how many bytes, or an error below 0.  The calls of the C library would
+/* Reads a file of one of the process's threads; returns how many bytes, or an error below 0.  The calls of the C library would
    be points where a thread may be cancelled. */
 int read_task_file(pid_t system_id, const char *leaf, char *text, int size) {
     char name[64];
@@ -171,7 +171,7 @@ int write_file(const char *from, uint64_t bytes) {
 
 void cut_file(uint64_t bytes) {
     int failed = have_file() && syscall(SYS_ftruncate, kept[RECORD].number, bytes);
-    (void)failed;                                            /* then zeros stay behind the records */
+    (void)failed;                                            /* then zeros stay after the records */
 }
 
 void *map_file(void *at, uint64_t bytes) {
@@ -319,6 +319,6 @@ int add_space_for_turns(uint64_t from, uint64_t bytes) {
 
 void cut_turns(uint64_t bytes) {
     int file = open_turns(0), failed = file >= 0 && syscall(SYS_ftruncate, file, bytes);
-    (void)failed;                                            /* then zeros stay behind the turns */
+    (void)failed;                                            /* then zeros stay after the turns */
     if (file >= 0) syscall(SYS_close, file);
 }

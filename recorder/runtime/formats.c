@@ -60,7 +60,7 @@ static int is_one_of(char kind, const char *kinds) { return strchr(kinds, kind) 
 static int is_wide(const struct conversion *c) { return c->size == 8 || c->kind == 'S' || c->kind == 'C'; }
 static size_t wide_text(const wchar_t *s, size_t most) { return least(wcsnlen(s, most) + 1, most) * sizeof *s; }
 
-/* A function with its arguments one by one, and the one that takes a list of them, `more`; r is what it gives. By their symbols, for a header
+/* A function with its arguments one by one, and the one that takes a list of them, `more`; r is what it returns. By their symbols, for a header
    may give the functions of the C standard other names. */
 #define ALL(...) __VA_ARGS__
 #define IN_BOTH_FORMS(name, vname, parameters, ...) \

@@ -35,7 +35,7 @@ UNLOCKS(g_rw_lock_reader_unlock, OP_RW_UNLOCK)
 UNLOCKS(g_rw_lock_writer_unlock, OP_RW_UNLOCK)
 
 #define WAITS(type, name, real, ...) \
-    WAITS_BY(type, name, OP_LOCK, OP_UNLOCK, REAL(g_mutex_unlock)(m), REAL(g_mutex_trylock)(m), REAL(g_mutex_lock)(m), real, (__VA_ARGS__))
+    WAITS_FOR(type, name, OP_LOCK, OP_UNLOCK, REAL(g_mutex_unlock)(m), REAL(g_mutex_trylock)(m), REAL(g_mutex_lock)(m), real, (__VA_ARGS__))
 WAITS(void, g_cond_wait, DONE(REAL(g_cond_wait)(c, m)) + 1, void *c, void *m)
 WAITS(gboolean, g_cond_wait_until, REAL(g_cond_wait_until)(c, m, until), void *c, void *m, int64_t until)
 WAKES(g_cond_signal)

@@ -13,7 +13,7 @@ static void take(struct record r) {
     else stop_recording("too many locks are held");
 }
 
-/* Ends the last hold with these bits, or all of them. Gives whether there was one. */
+/* Ends the last hold with these bits, or all of them. Returns whether there was one. */
 static int end_holds(uint64_t where, uint64_t bits, int all) {
     int found = 0;
     for (uint32_t k = held_count; k-- > 0 && (all || !found);) {

@@ -14,13 +14,18 @@ static inline uint64_t read_at(uint64_t address, uint64_t caller) {
 }
 
 /* The word of a use that is made now. */
-static inline uint64_t word_now(const thread *t) { return (uint64_t)t->in->number << POSITION_BITS | (t->base + t->steps); }
+static inline uint64_t word_now(const thread *t) { return (uint64_t)t->in->number << CONTEXT_AT | (t->base + t->steps); }
 
-/* Is it held back? A read right after the same one isn't: a loop of these may wait for another thread (note_spin). */
-static inline int hold_quickly(thread *t, uint64_t *word, enum operation operation, uint64_t what) {
+/* Is it held back? It repeats so many that left the value as it was; right after the same one, with nothing in between, it has that one's
+   position. A plain read there isn't held back: a loop of these may wait for another thread (note_spin). */
+#define IS_PLAIN (-1)                  /* in the place of `repeats` */
+static inline __attribute__((always_inline))
+int hold_quickly(thread *t, uint64_t *word, enum operation operation, uint64_t what, int repeats) {
     uint64_t new = word_now(t);
-    if (only_reads(operation) && *word + 1 == new) return 0;
-    *word = new;
+    int is_repeated = (only_reads(operation) || repeats > 0) && is_right_behind(*word, new);
+    if (is_repeated && repeats == IS_PLAIN) return 0;
+    if (is_repeated) t->base--;
+    else *word = word_after(*word, new);
     t->last = what;
     t->steps++;
     changes += !only_reads(operation);
@@ -63,7 +68,7 @@ void hook(enum operation operation, uint64_t address, uint64_t size, uint64_t ca
     uint64_t what = caller + what_of_use((uint64_t)operation << 48 | (uint64_t)__builtin_ctzl(size) << 54, size < GRAIN ? address : 0);
     if (c) {
         uint64_t *word = word_near(t, c, operation, what);
-        if (!word || !hold_quickly(t, word, operation, what)) return hold_elsewhere(t, c, what, address);
+        if (!word || !hold_quickly(t, word, operation, what, IS_PLAIN)) return hold_elsewhere(t, c, what, address);
         end_quick_hook(t);
         if (__builtin_expect(t->deferred, 0)) deliver_deferred(t);
         return;
@@ -75,25 +80,28 @@ void hook(enum operation operation, uint64_t address, uint64_t size, uint64_t ca
 /* The hook of an atomic operation, in which it is made. It is held back as an access is: by the turn, which the thread has from the hook's
    begin to its next one, nobody comes between the position and the operation, and by the cell, nobody else used the value since the phase
    began. Whether it gives or takes hangs on its kind alone, so the last of a kind stands for all (cells.c).
-   Is it quick? Not where it repeats one that left the value as it was: a loop of these may wait for another thread, too. */
+   A loop of those that leave the value as it is may wait for another thread, too. So after some of these one isn't quick, and the slice ends. */
+enum { MOST_REPEATS = 64 };
 static inline __attribute__((always_inline))
 int begin_quick_atomic(enum operation operation, uint64_t address, uint64_t size, uint64_t size_and_order, uint64_t caller) {
     thread *t = self;
-    if (!may_be_quick(t, address, size) || t->last == read_at(address, caller)) return 0;
+    if (!may_be_quick(t, address, size)) return 0;
+    int repeats = t->last == read_at(address, caller) ? t->spins + 1 : 0;
+    if (repeats > MOST_REPEATS) return 0;
     t->inside = 1;
     KEEP_ORDER();
     cell *c = usual_cell(t, address);
     uint64_t what = caller + what_of_use((uint64_t)operation << 48 | size_and_order << 54, address);
     uint64_t *word = c ? word_near(t, c, operation, what) : 0;
-    int is_held = word && hold_quickly(t, word, operation, what);
-    if (!is_held) end_quick_hook(t);
+    int is_held = word && hold_quickly(t, word, operation, what, repeats);
+    if (is_held) t->spins = repeats;
+    else end_quick_hook(t);
     return is_held;
 }
 
 static inline void end_quick_atomic(uint64_t last) {
     thread *t = self;
     t->last = last;
-    t->spins = 0;                      /* it is the first of a row: others are not quick */
     end_quick_hook(t);
     if (__builtin_expect(t->deferred, 0)) deliver_deferred(t);
 }

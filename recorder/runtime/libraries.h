@@ -12,29 +12,13 @@ void *needed_symbol(const char *name);
     if (!real_) real_ = (__typeof__(&f))needed_symbol(#f); \
     real_; \
 })
-#define DONE(call) ({ call; 0; })      /* of a call that gives nothing */
 
 #define LOCKS(name, try, operation) TAKES_BY(void, name, operation, m, DONE(REAL(name)(m)), r, !REAL(try)(m), 1, (void *m))
 #define TRIES_LOCK(type, name, operation) TRIES_BY(type, name, operation, m, REAL(name)(m), 0, r, (void *m))
 #define UNLOCKS(name, operation) GIVES_BY(void, name, operation, m, 0, DONE(REAL(name)(m)), (void *m))
 #define POSTS(name, object, parameters, arguments) GIVES_BY(void, name, OP_POST, object, 0, DONE(REAL(name) arguments), parameters)
-/* A wait on the condition c, without the lock m. In a replay it wakes when the list says so, and takes the lock with the turn; where it had
-   no more time it has none left either (as locks.c has it). */
-#define WAITS_BY(type, name, taken, released, give, try, take, real, parameters) \
-    PUBLIC type name parameters { \
-        thread *t = enter(MAY_YIELD); \
-        if (!t) return (type)(real); \
-        put(t, OP_USE, c, 0, CALLER); \
-        put(t, released, m, 0, CALLER); \
-        if (!is_replaying) return (type)!SLEEPING_WITHOUT(t, m, taken, r, !(real)); \
-        give; \
-        waits_for_list(t); \
-        if (!(try)) BLOCKING(t, DONE(take)); \
-        int r = was_unusual(t) ? SLEEPING(t, real) : 1; \
-        put(t, taken, m, 0, CALLER); \
-        leave(t); \
-        return (type)r; \
-    }
+#define WAITS_FOR(type, name, taken, released, give, try, take, real, parameters) \
+    WAITS_BY(type, name, taken, released, DONE(give), try, take, !(real), !r, parameters)
 #define WAKES(name) GIVES_BY(void, name, OP_USE, c, 0, DONE(REAL(name)(c)), (void *c))
 
 /* A word that the library makes ready by a store with release, and reads with acquire. Lines of a header use it too, so of code with hooks

@@ -36,14 +36,7 @@ uint64_t begin_call(uint64_t caller) {
 void note_range(uint64_t seen, enum operation operation, const volatile void *p, uint64_t bytes) {
     uint64_t from = (uint64_t)p;
     if (!p || !bytes || bytes >= MAX_SIZE || from >= FIRST_DESCRIPTOR || bytes > FIRST_DESCRIPTOR - from) return;
-    if (hold_range(operation, from, bytes, seen)) return;
-    int saved = errno;
-    thread *t = enter_access(YIELDS_BY_LIST);
-    if (t) {
-        put(t, operation, p, bytes, seen);
-        leave(t);
-    }
-    errno = saved;
+    if (!hold_range(operation, from, bytes, seen)) note_bytes(YIELDS_BY_LIST, operation, p, bytes, seen);
 }
 
 /* ---- how far a function looks ---- */
@@ -111,7 +104,7 @@ AFTER(char *, strndup, (const char *s, size_t n), (s, n), READS(s, text_within(s
 AFTER(char *, __strdup, (const char *s), (s), READS(s, text(s)); if (r) WRITES(r, text(r)))
 AFTER(char *, __strndup, (const char *s, size_t n), (s, n), READS(s, text_within(s, n)); if (r) WRITES(r, text(r)))
 AFTER(char *, strtok, (char *s, const char *set), (s, set), READS(set, text(set)); if (r) READS(r, text(r)))
-/* The byte behind the piece becomes its end, unless it was the text's. */
+/* The byte after the piece becomes its end, unless it was the text's. */
 AFTER(char *, strtok_r, (char *s, const char *set, char **rest), (s, set, rest),
       READS(set, text(set)), WRITES(rest, sizeof *rest);
       if (r) READS(r, text(r));

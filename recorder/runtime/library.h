@@ -25,7 +25,6 @@ static inline void note_stream(enum operation operation, FILE *f, uint64_t calle
 }
 
 /* How far a text goes, with its end; of at most n bytes, where the end may not be met. */
-static inline size_t least(size_t n, size_t m) { return n < m ? n : m; }
 static inline size_t text(const char *s) { return strlen(s) + 1; }
 static inline size_t text_within(const char *s, size_t n) { return least(strnlen(s, n) + 1, n); }
 

@@ -90,30 +90,9 @@ BEGINS(mtx_init, OP_LOCK_INIT, m, 0, (mtx_t *m, int type), (m, type))
 ENDS(void, mtx_destroy, mtx_t)
 
 /* ---- conditions: the mutex is given up and taken again; a signal orders nothing by itself ---- */
-/* In a replay it wakes when the list says so, as a thread may that nobody woke; it has the turn and the mutex then.  0 where
-   there is no replay. */
-static int wakes_by_list(thread *t, void *mutex) {
-    if (!is_replaying || REAL(pthread_mutex_unlock)(mutex)) return 0;
-    waits_for_list(t);
-    if (REAL(pthread_mutex_trylock)(mutex) == EBUSY) BLOCKING(t, REAL(pthread_mutex_lock)(mutex));
-    return 1;
-}
-
-/* Where it had no more time in a replay, it has none left either: that is waited for. */
 #define WAITS(name, parameters, arguments) \
-    PUBLIC int name parameters { \
-        thread *t = enter(MAY_YIELD); \
-        if (!t) return REAL(name) arguments; \
-        put(t, OP_USE, c, 0, CALLER); \
-        put(t, OP_UNLOCK, m, 0, CALLER); \
-        if (wakes_by_list(t, m)) { \
-            int r = was_unusual(t) ? SLEEPING(t, REAL(name) arguments) : 0; \
-            put(t, OP_LOCK, m, 0, CALLER); \
-            leave(t); \
-            return r; \
-        } \
-        return SLEEPING_WITHOUT(t, m, OP_LOCK, r != 0, REAL(name) arguments); \
-    }
+    WAITS_BY(int, name, OP_LOCK, OP_UNLOCK, REAL(pthread_mutex_unlock)((void *)m), REAL(pthread_mutex_trylock)((void *)m) != EBUSY, \
+             REAL(pthread_mutex_lock)((void *)m), REAL(name) arguments, r, parameters)
 WAITS(pthread_cond_wait, (pthread_cond_t *c, pthread_mutex_t *m), (c, m))
 WAITS(pthread_cond_timedwait, (pthread_cond_t *c, pthread_mutex_t *m, deadline d), (c, m, d))
 WAITS(pthread_cond_clockwait, (pthread_cond_t *c, pthread_mutex_t *m, clockid_t k, deadline d), (c, m, k, d))
@@ -153,10 +132,8 @@ PUBLIC int pthread_barrier_wait(pthread_barrier_t *b) {
 
 /* What was done by here comes before what the next thread does that takes it: like a store and a load of an atomic. */
 static void note_atomic(enum operation operation, const void *p, uint64_t size, uint64_t caller) {
-    thread *t = others ? enter(MAY_YIELD) : 0;
-    if (!t) return;
-    put(t, operation, p, size | (operation == OP_ATOMIC_LOAD ? __ATOMIC_ACQUIRE : __ATOMIC_RELEASE) << ATOMIC_SIZE_BITS, caller);
-    leave(t);
+    int order = operation == OP_ATOMIC_LOAD ? __ATOMIC_ACQUIRE : __ATOMIC_RELEASE;
+    if (others) note_bytes(MAY_YIELD, operation, p, size | order << ATOMIC_SIZE_BITS, caller);
 }
 
 /* The C library keeps in its flag that it is done. It is tried again after a function that throws. */

@@ -17,10 +17,7 @@ void __libc_free(void *);
 /* ---- a new block is new variables; a free is a write. A thread may have slept in the call before; one that code without hooks calls
    may have a lock that nobody sees, so there the turn isn't given up ---- */
 void *allocated(void *p, size_t size, uint64_t caller) {
-    thread *t = p ? enter(instrumented(caller) ? MAY_YIELD : YIELDS_BY_LIST) : 0;
-    if (!t) return p;
-    put(t, OP_ALLOC, p, size ? size : 1, caller);
-    leave(t);
+    if (p) note_bytes(instrumented(caller) ? MAY_YIELD : YIELDS_BY_LIST, OP_ALLOC, p, size ? size : 1, caller);
     return p;
 }
 
@@ -39,18 +36,14 @@ PUBLIC size_t malloc_usable_size(void *p) {
 /* As many bytes of a block are written by its free. */
 static size_t bytes_freed(void *p) {
     enum { MOST_FREED = 1024 };
-    size_t usable = usable_size ? usable_size(p) : 1;
-    return usable < MOST_FREED ? usable : MOST_FREED;
+    return least(usable_size ? usable_size(p) : 1, MOST_FREED);
 }
 
 /* What uninstrumented code frees, it may have ordered by means that nobody sees. */
-static thread *enter_free(const void *p, uint64_t caller) { return p && others && instrumented(caller) ? enter(MAY_YIELD) : 0; }
+static int is_free_seen(const void *p, uint64_t caller) { return p && others && recording && instrumented(caller); }
 
 static void will_free(void *p, uint64_t caller) {
-    thread *t = enter_free(p, caller);
-    if (!t) return;
-    put(t, OP_FREE, p, bytes_freed(p), caller);
-    leave(t);
+    if (is_free_seen(p, caller)) note_bytes(MAY_YIELD, OP_FREE, p, bytes_freed(p), caller);
 }
 
 PUBLIC void *malloc(size_t n) { return allocated(__libc_malloc(n), n, CALLER); }
@@ -66,7 +59,7 @@ PUBLIC void free(void *p) {
 
 /* One that fails frees nothing. Where the turn was lost in it, another thread may have the old memory by now. */
 PUBLIC void *realloc(void *p, size_t n) {
-    thread *t = enter_free(p, CALLER);
+    thread *t = is_free_seen(p, CALLER) ? enter(MAY_YIELD) : 0;
     size_t bytes = t ? bytes_freed(p) : 0;
     if (t) t->inside = 0;              /* it may find that the heap is broken, and abort */
     void *new = __libc_realloc(p, n);
@@ -112,8 +105,8 @@ static int has_own_forms(void) {
     return some;
 }
 
-/* Of a form that may not throw, `nothrow` is not null; one for greater alignment has that before it. The C++ library's is
-   asked where there is no memory, to throw; it may be linked into the program, so that there is no way to throw. */
+/* In a form that may not throw, `nothrow` is not null; one for greater alignment has that before it. The C++ library's is
+   called if there is no memory, to throw; it may be linked into the program, so that there is no way to throw. */
 typedef void *(*new_function)(size_t, size_t, const void *);
 
 static void *called_new(new_function real, size_t n, size_t align, const void *nothrow, uint64_t caller) {
@@ -150,10 +143,7 @@ DELETES(_ZdlPvSt11align_val_tRKSt9nothrow_t) DELETES(_ZdaPvSt11align_val_tRKSt9n
 
 /* ---- ranges: never yields, for this may be the tail of a structure's copy ---- */
 static void note_part(enum operation operation, const void *p, size_t n, uint64_t caller) {
-    thread *t = hold_range(operation, (uint64_t)p, n, caller) ? 0 : enter_access(NEVER_YIELD);
-    if (!t) return;
-    put(t, operation, p, n, caller);
-    leave(t);
+    if (!hold_range(operation, (uint64_t)p, n, caller)) note_bytes(NEVER_YIELD, operation, p, n, caller);
 }
 
 static void note_copy(void *to, const void *from, size_t n, uint64_t caller) {

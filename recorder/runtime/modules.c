@@ -94,7 +94,7 @@ static int begins_with(const char *name, const char *begin) {
 void *next_symbol(const char *name) {
     thread *t = self && !self->inside ? self : 0;
     void *p = 0;
-    if (t) t->inside = 1;
+    if (t) begin_inside(t);
     if (begins_with(name, "pthread_cond_")) p = dlvsym(RTLD_NEXT, name, "GLIBC_2.3.2");   /* not the older interface */
     if (!p) p = dlsym(RTLD_NEXT, name);
     if (t) leave(t);
@@ -127,7 +127,7 @@ void *library_symbol(const char *name) {
     void *p = next_symbol(name);
     thread *t = self && !self->inside ? self : 0;
     module_names names = {.count = 0};
-    if (t) t->inside = 1;
+    if (t) begin_inside(t);
     if (!p) dl_iterate_phdr(add_name, &names);
     for (int i = 0; i < names.count && !p; i++) p = found_in(names.at[i], name);
     if (t) leave(t);

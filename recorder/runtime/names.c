@@ -1,20 +1,13 @@
 /* Names that gcc's libtsan has and that a program would not find in the C library, or not in the version that it gets without
    libtsan (forward.S). */
-#define _GNU_SOURCE
-#include <stdlib.h>
-#include <unistd.h>
+#include "libraries.h"
 #include "library.h"
 
 /* ---- functions that are handed on ---- */
 extern struct forwarded __start_forwarded[] __attribute__((weak, visibility("hidden")));
 extern struct forwarded __stop_forwarded[] __attribute__((weak, visibility("hidden")));
 
-void *find_forwarded(struct forwarded *which) {
-    which->function = next_symbol(which->name);
-    if (which->function) return which->function;
-    tell("shb recorder: no library has %s\n", which->name);
-    _exit(127);                        /* as the loader does */
-}
+void *find_forwarded(struct forwarded *which) { return which->function = needed_symbol(which->name); }
 
 /* All at once, for a handler of a signal may not look for a name. */
 __attribute__((constructor(101))) static void find_all(void) {

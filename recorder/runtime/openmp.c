@@ -64,7 +64,6 @@ static void end_region(team *m) {
     free(m);
 }
 
-#define DONE(call) ({ call; 0; })      /* of a call that gives nothing */
 #define REGION_BY(type, name, real, parameters) \
     PUBLIC type name parameters { \
         team *m = begin_region(f, data, CALLER); \
@@ -89,7 +88,7 @@ RUNTIME_LOOP(GOMP_parallel_loop_runtime)
 RUNTIME_LOOP(GOMP_parallel_loop_nonmonotonic_runtime)
 RUNTIME_LOOP(GOMP_parallel_loop_maybe_nonmonotonic_runtime)
 
-/* ---- barriers: by themselves, and at the ends of loops and sections; all tasks are done behind them ---- */
+/* ---- barriers: by themselves, and at the ends of loops and sections; all tasks are done after them ---- */
 static void arrive(uint64_t caller) {
     if (now) note(OP_ARRIVE, now->team->barrier, caller);
     let_others_run();
@@ -179,7 +178,7 @@ static void run_task(void *task_) {
     leave_task(t);
 }
 
-/* The task with its data behind it, as the library would copy it. */
+/* The task with its data after it, as the library would copy it. */
 static task *new_task(function f, void *data, void (*copy)(void *, void *), long size, long align) {
     task *t = calloc(1, sizeof *t + size + align);
     if (!t) abort();

@@ -1,6 +1,6 @@
 /* The shapes of the calls that order threads: each is recorded and passed on. A call that takes something (a lock, a token) is
    recorded after it, one that gives something before it; a call that may wait does so without the turn. `real` is the call itself, and r
-   what it gives; where it gives nothing, `real` gives a number beside. */
+   what it returns; if it returns nothing, `real` returns a number beside. */
 #pragma once
 #include "runtime.h"
 
@@ -8,10 +8,9 @@ enum { MOST_TRIES = 8 };
 /* A call that may sleep in a replay, where the list has it: with the turn. Handlers of signals run in it, also for those that came before
    in the hook, for it may be them that it waits for. */
 #define SLEEPING(t, call) ({ \
-    (t)->inside = 0; \
-    if ((t)->deferred) deliver_deferred(t); \
+    end_inside(t); \
     __typeof__(call) result_ = (call); \
-    (t)->inside = 1; \
+    begin_inside(t); \
     end_quick(t); \
     result_; \
 })
@@ -56,11 +55,11 @@ enum { MOST_TRIES = 8 };
         return (type)r; \
     }
 
-/* A wait without the lock that was given up for it, which is recorded as taken again behind it, also where the wait was cancelled. */
+/* A wait without the lock that was given up for it, which is recorded as taken again after it, also if the wait was cancelled. */
 struct waking { thread *t; void *lock; enum operation taken; uint64_t caller; int unusual; };
 static inline void has_woken(void *waking_) {
     struct waking *waking = waking_;
-    waking->t->inside = 1;
+    begin_inside(waking->t);
     take_turn(waking->t);
     if (waking->unusual) note_unusual(waking->t);
     put(waking->t, waking->taken, waking->lock, 0, waking->caller);
@@ -77,3 +76,22 @@ static inline void has_woken(void *waking_) {
     pthread_cleanup_pop(1); \
     r; \
 })
+/* A wait on the condition c without the lock m, by a call that returns an error, r, or 0. In a replay it wakes when the list says so, as a thread
+   may that nobody woke, and takes the lock with the turn. Where it had no more time it has none left either: that is waited for. */
+#define WAITS_BY(type, name, taken, released, give, try, take, error, result, parameters) \
+    PUBLIC type name parameters { \
+        thread *t = enter(MAY_YIELD); \
+        int r = 0; \
+        if (t) put(t, OP_USE, c, 0, CALLER); \
+        if (t) put(t, released, m, 0, CALLER); \
+        if (!t) r = (error); \
+        else if (!is_replaying || (give)) r = SLEEPING_WITHOUT(t, m, taken, r != 0, error); \
+        else { \
+            waits_for_list(t); \
+            if (!(try)) BLOCKING(t, DONE(take)); \
+            if (was_unusual(t)) r = SLEEPING(t, error); \
+            put(t, taken, m, 0, CALLER); \
+            leave(t); \
+        } \
+        return (type)(result); \
+    }

@@ -80,7 +80,7 @@ static void give_mutex(void *m) {
     else if (!__atomic_compare_exchange_n((uintptr_t *)m, &taken, 0, 0, __ATOMIC_RELEASE, __ATOMIC_RELAXED)) REAL(_ZN11QBasicMutex14unlockInternalEv)(m);
 }
 #define WAITS(name, more, arguments) \
-    WAITS_BY(bool, name, is_qt_5() ? OP_LOCK : OP_WRITE_LOCK, is_qt_5() ? OP_UNLOCK : OP_RW_UNLOCK, \
+    WAITS_FOR(bool, name, is_qt_5() ? OP_LOCK : OP_WRITE_LOCK, is_qt_5() ? OP_UNLOCK : OP_RW_UNLOCK, \
              give_mutex(m), try_mutex(m), take_mutex(m), REAL(name) arguments, (void *c, void *m, more))
 WAITS(_ZN14QWaitCondition4waitEP6QMutexm, unsigned long ms, (c, m, ms))
 WAITS(_ZN14QWaitCondition4waitEP6QMutex14QDeadlineTimer, deadline_timer end, (c, m, end))
@@ -93,7 +93,7 @@ static void take_both_ways(void *m) {
     else REAL(_ZN14QReadWriteLock11lockForReadEv)(m);
 }
 #define WAITS_BOTH_WAYS(name, more, arguments) \
-    WAITS_BY(bool, name, written == m ? OP_WRITE_LOCK : OP_READ_LOCK, OP_RW_UNLOCK, \
+    WAITS_FOR(bool, name, written == m ? OP_WRITE_LOCK : OP_READ_LOCK, OP_RW_UNLOCK, \
              REAL(_ZN14QReadWriteLock6unlockEv)(m), try_both_ways(m), take_both_ways(m), REAL(name) arguments, (void *c, void *m, more))
 WAITS_BOTH_WAYS(_ZN14QWaitCondition4waitEP14QReadWriteLockm, unsigned long ms, (c, m, ms))
 WAITS_BOTH_WAYS(_ZN14QWaitCondition4waitEP14QReadWriteLock14QDeadlineTimer, deadline_timer end, (c, m, end))

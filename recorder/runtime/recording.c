@@ -40,8 +40,6 @@ static int is_limit_given;             /* by SHB_RECORDS */
 static uint64_t reserve;               /* else: bytes of the disk that are left to others */
 static _Atomic int is_half_told;
 
-static uint64_t least_of(uint64_t a, uint64_t b) { return a < b ? a : b; }
-
 /* How many records, where SHB_RECORDS doesn't say: a position counts no more, and the converter has memory for them, 8 bytes for each
    and 20 for what they access. They are mapped, which takes no more than a quarter of the addresses that the program may have. */
 enum { BYTES_TO_CONVERT = 28, PARTS_OF_ADDRESSES = 4 };
@@ -49,8 +47,8 @@ static uint64_t most_by_default(void) {
     struct sysinfo machine;
     struct rlimit addresses;
     uint64_t most = 1ull << (POSITION_BITS - ORDER_BITS);
-    if (!sysinfo(&machine)) most = least_of(most, (uint64_t)machine.totalram * machine.mem_unit / BYTES_TO_CONVERT);
-    if (!getrlimit(RLIMIT_AS, &addresses)) most = least_of(most, addresses.rlim_cur / PARTS_OF_ADDRESSES / sizeof *records);
+    if (!sysinfo(&machine)) most = least(most, (uint64_t)machine.totalram * machine.mem_unit / BYTES_TO_CONVERT);
+    if (!getrlimit(RLIMIT_AS, &addresses)) most = least(most, addresses.rlim_cur / PARTS_OF_ADDRESSES / sizeof *records);
     return most;
 }
 
@@ -63,7 +61,7 @@ static void keep_reserve(void) {
 /* With so many records and so much space on the disk. */
 static void tell_half(uint64_t have, uint64_t space) {
     if (!have || have >= most_records) return;
-    uint64_t used = have * sizeof *records, left = least_of(most_records * sizeof *records - used, space - reserve);
+    uint64_t used = have * sizeof *records, left = least(most_records * sizeof *records - used, space - reserve);
     if (used < left || atomic_exchange(&is_half_told, 1)) return;
     tell("shb recorder: half of the room for the record is used: it has %lu MB, and ends after %lu MB more (SHB_RECORDS, disk space)\n",
          used >> 20, left >> 20);
@@ -166,9 +164,6 @@ static void add_contexts(thread *t) {
     }
 }
 
-static int is_plain(enum operation operation) { return operation == OP_READ || operation == OP_WRITE; }
-static int is_atomic(enum operation operation) { return operation >= OP_ATOMIC_LOAD && operation <= OP_ATOMIC_UPDATE; }
-
 static int has_depth_inside(enum operation operation, uint64_t size) { return is_plain(operation) && size <= 16 && !(size & (size - 1)); }
 
 /* What stands in the place of the size, with the depth where that is known by it. */
@@ -185,7 +180,7 @@ static int has_room(uint64_t count) {
     return written + count <= most_records && written + count <= atomic_load_explicit(&room, memory_order_relaxed);
 }
 
-/* While a thread works: afterwards there is room for so many records, or it answers 0. */
+/* While a thread works: afterwards there is room for so many records, or it returns 0. */
 static int make_room(uint64_t count) {
     while (recording && !has_room(count)) {
         if (written + count > most_records) stop_recording("SHB_RECORDS is reached");
@@ -217,9 +212,9 @@ static inline int is_repeated(thread *t, enum operation operation, struct record
 }
 
 /* ---- what is held back (cells.c) ---- */
-void put_late(struct record r, uint64_t position) {
+void put_late(struct record r, uint64_t word) {
     if (!make_room(2)) return;
-    records[written++] = (struct record){position & POSITIONS, position >> POSITION_BITS | (uint64_t)OP_LATE << 48};
+    records[written++] = (struct record){word & (IS_REPEATED | POSITIONS), word >> CONTEXT_AT | (uint64_t)OP_LATE << 48};
     records[written++] = r;
 }
 
@@ -233,20 +228,20 @@ static uint64_t positions_left(void) {
 /* That of an access that is made now, with its context. */
 static uint64_t position_now(const thread *t) {
     int is_known = is_numbered(t->in) && t->kind != NO_KIND;
-    return is_known && positions_left() ? (uint64_t)t->in->number << POSITION_BITS | (last_position + 1) : NO_POSITION;
+    return is_known && positions_left() ? (uint64_t)t->in->number << CONTEXT_AT | IS_REPEATED | (last_position + 1) : NO_POSITION;
 }
 
 /* A quick hook puts nothing. Each of its steps is a position. */
 uint64_t begin_quick(thread *t) {
     uint64_t left = others && has_cells ? positions_left() : 0;
-    t->base = last_position + 1 - t->steps;
+    t->base = (IS_REPEATED | (last_position + 1)) - t->steps;
     return left;
 }
 
 void end_quick(thread *t) {
     if (!t->limit) return;
     t->kept = steps_in_turns(t);
-    last_position = t->base + t->kept - 1;
+    last_position = (t->base + t->kept - 1) & POSITIONS;
     t->limit = 0;
 }
 
@@ -285,6 +280,7 @@ static void put_now(thread *t, enum operation operation, const volatile void *ad
 void put(thread *t, enum operation operation, const volatile void *address, uint64_t size, uint64_t caller) {
     enum { LONG_RANGE = 1 << 20 };
     if (begin_work(t)) put_now(t, operation, address, size, caller);
+    t->range = size;
     t->works = 0;
     if (size >= LONG_RANGE && operation != OP_START && !is_replaying) t->quantum = 0;
 }
@@ -315,16 +311,17 @@ void put_name(thread *t, thread *named, const char *name) {
     t->works = 0;
 }
 
-/* A hook of its own for one record. */
-void note(enum operation operation, const volatile void *object, uint64_t caller) {
+void note_bytes(enum yields yields, enum operation operation, const volatile void *p, uint64_t size, uint64_t caller) {
     int saved = errno;
-    thread *t = enter(MAY_YIELD);
+    thread *t = enter_access(yields);
     if (t) {
-        put(t, operation, object, 0, caller);
+        put(t, operation, p, size, caller);
         leave(t);
     }
     errno = saved;
 }
+
+void note(enum operation operation, const volatile void *object, uint64_t caller) { note_bytes(MAY_YIELD, operation, object, 0, caller); }
 
 /* ---- begin and end ---- */
 /* How the recording ended, for the converter; "" takes it back. */
@@ -380,7 +377,6 @@ static int use_map(void *map) {
 }
 
 int open_recording(const char *path, uint64_t most, uint64_t cells) {
-    begin_messages();
     if (!can_look_at_threads()) return 0;
     if (!keep_path(path)) return refuse(path);
     read_command();
@@ -415,9 +411,8 @@ static void note_whole(void) {
 }
 
 static void add_state_of(thread *t) {
-    uint64_t function = t->c11_function ? (uint64_t)t->c11_function : (uint64_t)t->function;
     forget_told(t);
-    if (t->stack_size) add(t, OP_START, (uint64_t)t->stack, t->stack_size, function);
+    if (t->stack_size) add(t, OP_START, (uint64_t)t->stack, t->stack_size, function_of(t));
     if (*t->name) add_name(t);
 }
 
@@ -508,7 +503,7 @@ void close_recording(void) {
 /* With the turn: the program may have so many addresses from here on. Is what has disk space a part of them that is small enough? */
 int limit_record(uint64_t addresses) {
     uint64_t page = getpagesize(), before = map_bytes(), most = addresses / PARTS_OF_ADDRESSES / page * page;
-    most_cells = least_of(most_cells, addresses / PARTS_OF_ADDRESSES);
+    most_cells = least(most_cells, addresses / PARTS_OF_ADDRESSES);
     limit_cells(most_cells);
     if (most >= before) return 1;
     if (most < HEADER_BYTES + atomic_load(&room) * sizeof *records) return 0;

@@ -15,11 +15,11 @@
 /* The functions that a thread is in are a node of a tree (calls.c): the innermost one, and the node of those further out. */
 typedef struct context {
     struct context *outer;
-    uint64_t caller, function, way;    /* way: as way_to gives it */
+    uint64_t caller, function, way;    /* way: as way_to returns it */
     uint64_t extent;                   /* how many bytes its stack pointer is below the one further out */
     uint64_t kind;                     /* as cells.h has it in a use */
     uint32_t number, depth;            /* in the record; how many functions it has */
-    uint32_t inner, after, next;       /* what was entered from here last, from the same one behind this; in its bucket */
+    uint32_t inner, after, next;       /* what was entered from here last, from the same one after this; in its bucket */
 } context;
 #define NOT_RECORDED (~0u)             /* in the place of a number */
 
@@ -42,7 +42,7 @@ typedef struct thread {
     volatile char works;               /* on the record, or for a new thread, where it may sleep: then nobody takes the turn over */
     uint64_t steps;                    /* replay.c: so far */
     uint64_t limit;                    /* hooks may be quick (hold.h) until it made so many steps; or 0 */
-    uint64_t base;                     /* then its steps and this are the position of the next access that is held back */
+    uint64_t base;                     /* then its steps and this are the position of the next access that is held back, and IS_REPEATED */
     uint64_t last;                     /* its last hook: a read as read_at, a write as write_at, or 0 */
     const context *in;                 /* the functions that it is in, the outermost MOST_FRAMES */
     uint64_t kind;                     /* of that */
@@ -61,6 +61,9 @@ typedef struct thread {
     struct read { uint64_t where, what, changes; const context *context; } recent[RECENT_READS];     /* its last ones in the record */
     unsigned next_recent;
     char joined;
+    char is_cancelled_anywhere;        /* by pthread_setcanceltype */
+    int cancel_state;                  /* when its hook ends */
+    uint64_t range;                    /* how many bytes its last record accesses */
     char name[NAME_ROOM];              /* that the program gave it */
     char idles;                        /* in a replay: it waits for what others are to do, so it is in no hurry */
     struct thread *next_ended;
@@ -75,7 +78,11 @@ typedef struct thread {
     frame *frames, own_frames[];       /* MOST_FRAMES, the outermost first; the second for all but fibers */
 } thread;
 
-/* Only right behind a write's hook may come that of the read of the same copy. */
+static inline uint64_t function_of(const thread *t) { return t->c11_function ? (uint64_t)t->c11_function : (uint64_t)t->function; }
+
+static inline size_t least(size_t n, size_t m) { return n < m ? n : m; }
+
+/* Only right after a write's hook may come that of the read of the same copy. */
 static inline int is_write(uint64_t last) { return (last >> 48 & 3) == OP_WRITE; }
 static inline void end_copy(thread *t) { if (is_write(t->last)) t->last = 0; }
 
@@ -86,14 +93,14 @@ static inline uint64_t steps_in_turns(const thread *t) {
     return t->limit && !t->asks ? steps : t->kept;
 }
 
-/* turn.c: who runs.  Each hook is enter .. leave; enter gives no thread where nothing is to be recorded. */
+/* turn.c: who runs.  Each hook is enter .. leave; enter returns no thread if nothing is to be recorded. */
 enum yields { NEVER_YIELD, YIELDS_BY_LIST, MAY_YIELD };      /* by the list alone: in a replay */
 extern __thread thread *self __attribute__((tls_model("initial-exec")));
 extern volatile int recording;
 void begin_turns(int slice, uint64_t seed);                  /* with 0 slices of many lengths */
 void restart_turns(thread *t);         /* in a process made by fork, where there is t alone; it has the turn */
 void for_all_threads(void (*step)(thread *t));               /* that are there; with the turn */
-int end_turns(void);                   /* all threads run free from here on; gives whether they took turns before */
+int end_turns(void);                   /* all threads run free from here on; returns whether they took turns before */
 thread *new_thread(void);
 void end_thread(thread *t);            /* it is joined, and the record has that */
 int number_thread(thread *t);
@@ -103,13 +110,15 @@ thread *newest_with(void *argument);   /* that isn't joined */
 thread *enter(enum yields yields);
 thread *enter_access(enum yields yields);                    /* to put one record, and nothing before */
 void leave(thread *t);
+void begin_inside(thread *t);          /* no signal is handled, nor the thread cancelled, until it has left the hook */
+void end_inside(thread *t);
 void deliver_deferred(thread *t);      /* the signals that came in its hook */
 void give_turn(thread *t);
 void take_turn(thread *t);
 int keep_turn(thread *t);
 void keep_turn_after_call(thread *t);
 int let_another_run(thread *t);        /* if it may help; says whether */
-int note_unusual(thread *t);           /* with the turn: what was asked for wasn't there, or the like; gives 1 */
+int note_unusual(thread *t);           /* with the turn: what was asked for wasn't there, or the like; returns 1 */
 int was_unusual(thread *t);            /* with the turn, in a replay: it was so at this step; else 0 */
 int waits_for_list(thread *t);         /* in a replay, in the place of a call that waits; 0 where the call has to */
 void note_spin(thread *t, uint64_t last);        /* in a hook that leaves the value as it was */
@@ -130,15 +139,16 @@ void end_replay(const char *why);
 int may_get_turn(const thread *t, const thread *holder);     /* by the list; the holder, or nobody, has not given it to t */
 uint32_t due_thread(void);             /* whose turn it is */
 int steps_to_go(const thread *t);      /* in its turn, which has begun */
-int next_is_unusual(const thread *t);  /* moves on behind what the list has of this step */
+int next_is_unusual(const thread *t);  /* moves on past what the list has of this step */
 void add_unusual(const thread *t);
 
+#define DONE(call) ({ call; 0; })      /* of a call that returns nothing */
 /* A call that may block, made inside a hook: without the turn, and its own hooks (of handlers, say) are recorded. */
 #define BLOCKING(t, call) ({ \
     give_turn(t); \
     leave(t); \
     __typeof__(call) result_ = (call); \
-    (t)->inside = 1; \
+    begin_inside(t); \
     take_turn(t); \
     result_; \
 })
@@ -169,7 +179,7 @@ unsigned next_kept(unsigned from);     /* the lowest such number from there on, 
 void leave_number(int descriptor);     /* so that the program can have it */
 int keep_path(const char *path);
 int has_number(void);                  /* is there a record for each process? */
-int refuse(const char *path);          /* says that it can't be written, as errno has it; gives 0 */
+int refuse(const char *path);          /* says that it can't be written, as errno has it; returns 0 */
 int open_file(const char *command, uint64_t first_bytes, uint64_t segment);             /* will it be allowed so many? */
 void drop_segment(uint64_t segment);   /* deletes its file, if that is there */
 int add_space(uint64_t from, uint64_t bytes);
@@ -208,6 +218,8 @@ int limit_record(uint64_t addresses);
 extern uint64_t changes;               /* records so far of anything but reads, and writes that were held back */
 int begin_work(thread *t);             /* afterwards t has the turn, unless the recording has ended, and keeps it while it works */
 void put(thread *t, enum operation operation, const volatile void *address, uint64_t size, uint64_t caller);
+/* A hook of its own for one record. */
+void note_bytes(enum yields yields, enum operation operation, const volatile void *p, uint64_t size, uint64_t caller);
 void note(enum operation operation, const volatile void *object, uint64_t caller);
 void put_of(thread *t, const thread *ended, enum operation operation, const volatile void *object, uint64_t caller);
 void put_name(thread *t, thread *named, const char *name);
@@ -246,7 +258,7 @@ int hold_range(enum operation operation, uint64_t address, uint64_t size, uint64
 int load_acquire(const int *p, uint64_t caller);             /* an atomic load by the caller, who waits for nobody */
 
 /* memory.c */
-void *allocated(void *p, size_t size, uint64_t caller);      /* notes new variables; gives p */
+void *allocated(void *p, size_t size, uint64_t caller);      /* notes new variables; returns p */
 
 /* signals.c */
 void watch_crashes(void);

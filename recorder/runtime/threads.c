@@ -2,6 +2,7 @@
 #define _GNU_SOURCE
 #include <errno.h>
 #include <limits.h>
+#include <linux/futex.h>
 #include <stdarg.h>
 #include <stdlib.h>
 #include <string.h>
@@ -14,6 +15,7 @@
 
 typedef const struct timespec *deadline;
 enum { CELL_MEGABYTES = 1024 };        /* without SHB_CELLS */
+#define MOST_SET (1ull << 40)          /* of records and megabytes: no machine has as many */
 volatile int others;
 
 /* ---- the program ---- */
@@ -21,10 +23,15 @@ extern void *__libc_stack_end;
 static pthread_key_t at_exit;
 static pid_t process;
 
-static uint64_t setting(const char *name, uint64_t otherwise) {
+/* A number from `least` to `most`. Any other text is ignored, and said to be. */
+static uint64_t setting(const char *name, uint64_t least, uint64_t most, uint64_t otherwise) {
     const char *value = getenv(name);
-    uint64_t n = value ? strtoull(value, 0, 10) : 0;
-    return n ? n : otherwise;
+    char *end;
+    errno = 0;
+    uint64_t n = value ? strtoull(value, &end, 10) : 0;
+    if (value && *value >= '0' && *value <= '9' && !*end && !errno && n >= least && n <= most) return n;
+    if (value) tell("shb recorder: %s takes a number from %lu to %lu, not `%s`, and is ignored\n", name, least, most, value);
+    return otherwise;
 }
 
 /* The thread's stack is new variables.  The main thread's is noted for its name alone. */
@@ -51,9 +58,19 @@ static void begin_thread(thread *t, uint64_t function) {
     leave(t);
 }
 
+/* The robust mutexes that it has: the system gives them on when it has ended. */
+static void release_robust(const thread *t) {
+    struct robust_list_head *all;
+    size_t size;
+    if (syscall(SYS_get_robust_list, 0, &all, &size)) return;
+    for (uint64_t next = (uint64_t)all->list.next & ~1ull; next != (uint64_t)all; next = *(uint64_t *)next & ~1ull)
+        note(OP_UNLOCK, (void *)(next + all->futex_offset), function_of(t) + 1);
+}
+
 static void thread_exits(void *t_) {   /* runs again in each round of destructors, until the last */
     thread *t = t_;
     if (++t->exit_rounds < PTHREAD_DESTRUCTOR_ITERATIONS) pthread_setspecific(at_exit, t);
+    else release_robust(t);
     set_depth(t, 0);                   /* of functions in C that pthread_exit left */
     let_others_run();
 }
@@ -74,16 +91,15 @@ static void in_child(void) {
     is_unrecorded_child = 0;
     process = getpid();
     restart_turns(self);
-    self->inside = 1;
+    begin_inside(self);
     put(self, OP_START, self->stack, self->stack_size, 0);
     leave(self);
 }
 
 /* It starts threads and nobody records them: it says so, once. */
 static void tell_of_child(void) {
-    static const char text[] = "shb recorder: a process made by fork starts threads and runs unrecorded (%p in SHB_RECORD "
-        "gives each process a record of its own)\n";
-    if (is_unrecorded_child) tell("%s", text);
+    if (is_unrecorded_child)
+        tell("shb recorder: a process made by fork starts threads and runs unrecorded (%%p in SHB_RECORD gives each process a record of its own)\n");
     is_unrecorded_child = 0;
 }
 
@@ -118,12 +134,11 @@ __attribute__((constructor(101))) static void begin(void) {
     const char *path = getenv("SHB_RECORD");
     if (!path || !*path || process) return;
     process = getpid();
-    stall_seconds = setting("SHB_STALL", 60);
-    const char *stacks = getenv("SHB_STACKS");
-    records_calls = !stacks || strcmp(stacks, "0");
-    segment_records = strstr(path, "%s") ? setting("SHB_SEGMENT", 0) : 0;
-    const char *cells = getenv("SHB_CELLS");
-    if (!open_recording(path, setting("SHB_RECORDS", 0), (cells ? strtoull(cells, 0, 10) : CELL_MEGABYTES) << 20)) return;
+    begin_messages();
+    stall_seconds = setting("SHB_STALL", 1, INT_MAX, 60);
+    records_calls = setting("SHB_STACKS", 0, 1, 1);
+    segment_records = strstr(path, "%s") ? setting("SHB_SEGMENT", 1, MOST_SET, 0) : 0;
+    if (!open_recording(path, setting("SHB_RECORDS", 1, MOST_SET, 0), setting("SHB_CELLS", 0, MOST_SET, CELL_MEGABYTES) << 20)) return;
     if (!has_number()) unsetenv("SHB_RECORD");               /* a program started by this one would write over it */
     note_modules();
     if (is_behind_the_c_library()) {
@@ -136,7 +151,7 @@ __attribute__((constructor(101))) static void begin(void) {
     if (!t || !number_thread(t) || pthread_key_create(&at_exit, thread_exits) || pthread_atfork(0, 0, in_child)) return;
     at_quick_exit(end);                                      /* the last of its handlers */
     if (getenv("SHB_REPLAY")) begin_replay(getenv("SHB_REPLAY"));
-    begin_turns(setting("SHB_SLICE", 0), setting("SHB_SEED", 0));
+    begin_turns(setting("SHB_SLICE", 1, INT_MAX / 2, 0), setting("SHB_SEED", 0, -1, 0));
     begin_thread(t, 0);
     watch_crashes();
 }
@@ -166,39 +181,30 @@ EXECS(execvp, (const char *path, words v), (path, v))
 EXECS(execvpe, (const char *path, words v, words e), (path, v, e))
 EXECS(fexecve, (int f, words v, words e), (f, v, e))
 
-/* The words of a list up to its null pointer, as an array; `more` stands behind that. */
-#define LISTED(first, array, more) \
-    va_list more; \
-    va_start(more, first); \
-    int count = 1; \
-    while (va_arg(more, char *)) count++; \
-    va_end(more); \
-    char *array[count + 1]; \
-    array[0] = (char *)first; \
-    va_start(more, first); \
-    for (int i = 1; i <= count; i++) array[i] = va_arg(more, char *);
-
-PUBLIC int execl(const char *path, const char *first, ...) {
-    LISTED(first, array, more)
-    va_end(more);
-    return execv(path, array);
-}
-PUBLIC int execlp(const char *path, const char *first, ...) {
-    LISTED(first, array, more)
-    va_end(more);
-    return execvp(path, array);
-}
-PUBLIC int execle(const char *path, const char *first, ...) {
-    LISTED(first, array, more)
-    char **environment = va_arg(more, char **);
-    va_end(more);
-    return execve(path, array, environment);
-}
+/* The words of a list up to its null pointer, as an array; `more` is after that. */
+#define EXECS_LISTED(name, call) \
+    PUBLIC int name(const char *path, const char *first, ...) { \
+        va_list more; \
+        int count = 1; \
+        va_start(more, first); \
+        while (va_arg(more, char *)) count++; \
+        va_end(more); \
+        char *array[count + 1]; \
+        array[0] = (char *)first; \
+        va_start(more, first); \
+        for (int i = 1; i <= count; i++) array[i] = va_arg(more, char *); \
+        int r = call; \
+        va_end(more); \
+        return r; \
+    }
+EXECS_LISTED(execl, execv(path, array))
+EXECS_LISTED(execlp, execvp(path, array))
+EXECS_LISTED(execle, execve(path, array, va_arg(more, char **)))
 
 /* ---- threads ---- */
 static void *run(void *t_) {
     thread *t = t_;
-    begin_thread(t, t->c11_function ? (uint64_t)t->c11_function : (uint64_t)t->function);
+    begin_thread(t, function_of(t));
     pthread_sigmask(SIG_SETMASK, &t->mask, 0);
     void *result = t->c11_function ? (void *)(long)t->c11_function(t->argument) : t->function(t->argument);
     let_others_run();
@@ -284,6 +290,11 @@ JOIN(pthread_tryjoin_np, (pthread_t h, void **value), (h, value))
 JOIN(pthread_timedjoin_np, (pthread_t h, void **value, deadline d), (h, value, d))
 JOIN(pthread_clockjoin_np, (pthread_t h, void **value, clockid_t c, deadline d), (h, value, c, d))
 JOIN(thrd_join, (thrd_t h, int *value), (h, value))
+
+PUBLIC int pthread_setcanceltype(int type, int *before) {
+    if (self) self->is_cancelled_anywhere = type == PTHREAD_CANCEL_ASYNCHRONOUS;
+    return REAL(pthread_setcanceltype)(type, before);
+}
 
 /* ---- names of threads ---- */
 void note_name(pthread_t handle, const char *name) {

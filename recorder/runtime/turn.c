@@ -5,7 +5,7 @@
      (a) at a later hook of its own, when it is no longer in the access before: it *gives* it, to a waiter or to nobody;
      (b) around a call that may block: it gives it likewise;
      (c) to a waiter that sees it asleep inside a system call: between a hook and its access there is none;
-     (d) to a waiter that sees that it has computed for 100 ms since its last hook: no access takes so long.
+     (d) to a waiter that sees that it has computed for 20 ms since its last hook: no access takes so long but those of long ranges.
    Not while it `works` on the record, where it may sleep for room: it says so before it asks whether it has the turn.
    In (c) and (d) the waiter *takes it over*.  The word `turn` has the holder and a count that each hook raises.  The
    waiter reads the word, then looks at the holder, then swaps itself in if the word is still the same: so there was no
@@ -38,7 +38,8 @@
 #define NOBODY 0
 #define HOLDER(word) ((uint32_t)((word) >> 48))
 #define NAME(t) ((t)->number + 1)
-#define COMPUTES_TICKS 10              /* of 10 ms */
+#define COMPUTES_TICKS 2               /* of 10 ms, */
+#define BYTES_OF_TICK (4 << 20)        /* and one more for each so many bytes that it accesses */
 #ifdef HASTY                           /* for the tests: turns are taken over sooner, and others run in between */
 #define PATIENCE_NS 10000
 #define TEST_YIELD() syscall(SYS_sched_yield)
@@ -51,7 +52,7 @@
 #else
 #define IS_PATIENT 0
 #endif
-#define START_NS 1000000000            /* the longest wait for a new thread: on a busy machine it begins late */
+#define START_SECONDS 1                /* the longest wait for a new thread: on a busy machine it begins late */
 #define FIRST_SLICES 4                 /* without SHB_SLICE slices begin with 1, 2, 4 or 8 hooks, on average, */
 #define SLICES_OF_A_SCALE 64           /* are twice as long after so many, and end with */
 #define LEAST_LAST_SLICE 100           /* 100, 200 or 400: to hand the turn over costs some 50 hooks */
@@ -228,14 +229,12 @@ static int take_free(thread *t) {
 
 /* Waits until a new thread is at its first hook.  It doesn't sleep, for then a waiter would take the turn over. */
 void wait_for_start(const thread *child) {
-    struct timespec now, end;
-    clock_gettime(CLOCK_MONOTONIC, &end);
-    end.tv_sec += (end.tv_nsec += START_NS) / 1000000000;
-    end.tv_nsec %= 1000000000;
-    while (recording && !child->began && are_slices_short()) {
+    struct timespec now;
+    clock_gettime(CLOCK_MONOTONIC, &now);
+    time_t end = now.tv_sec + START_SECONDS;
+    while (recording && !child->began && are_slices_short() && now.tv_sec <= end) {
         syscall(SYS_sched_yield);
         clock_gettime(CLOCK_MONOTONIC, &now);
-        if (now.tv_sec > end.tv_sec || (now.tv_sec == end.tv_sec && now.tv_nsec > end.tv_nsec)) return;
     }
 }
 
@@ -312,7 +311,7 @@ static int past_its_access(uint64_t word, struct watch *watch) {
     if (watch->ticks < 0 && !works) watch->ticks = ticks;
     if (now.tv_sec - watch->since > stall_seconds)
         stop_recording("one thread neither slept, computed nor came to a hook for SHB_STALL seconds");
-    return !works && ticks >= watch->ticks + COMPUTES_TICKS;
+    return !works && ticks >= watch->ticks + COMPUTES_TICKS + (long)(seen->range / BYTES_OF_TICK);
 }
 
 static int may_take_over(const thread *t, uint64_t word, struct watch *watch) {
@@ -427,9 +426,21 @@ static void count_quick(thread *t) {
     KEEP_ORDER();
 }
 
+/* Nothing ends the thread in a hook: it may have the guard, or stand among the waiters. */
+void begin_inside(thread *t) {
+    t->inside = 1;
+    if (t->is_cancelled_anywhere) pthread_setcancelstate(PTHREAD_CANCEL_DISABLE, &t->cancel_state);
+}
+
+void end_inside(thread *t) {
+    t->inside = 0;
+    if (t->deferred) deliver_deferred(t);
+    if (t->is_cancelled_anywhere) pthread_setcancelstate(t->cancel_state, 0);
+}
+
 /* At the end of a hook: the next ones may be quick until the slice ends, or where nobody waits, for a while. */
 static void let_be_quick(thread *t) {
-    uint64_t most = begin_quick(t), left = t->quantum > 1 ? (uint64_t)(t->quantum - 1) * quick_share() : 0;
+    uint64_t most = t->is_cancelled_anywhere ? 0 : begin_quick(t), left = t->quantum > 1 ? (uint64_t)(t->quantum - 1) * quick_share() : 0;
     if (!left && !waiters && !is_replaying) left = LEAST_LAST_SLICE;
     if (left > most) left = most;
     t->limit = left ? t->steps + left : 0;
@@ -441,7 +452,7 @@ thread *enter_access(enum yields yields) {
     if (!t) note_stranger();
     if (t && !t->inside && t->deferred) deliver_deferred(t); /* it came in a hook that began as a quick one */
     if (!t || !recording || t->inside) return 0;
-    t->inside = 1;
+    begin_inside(t);
     count_quick(t);
     if (--t->quantum <= 0 && (is_replaying ? yields : yields == MAY_YIELD && waiters)) hand_over(t, 1);
     else t->steps++;
@@ -464,8 +475,7 @@ void leave(thread *t) {
     TEST_YIELD();
     if (t == quick_holder) let_be_quick(t);
     t->quick_from = t->steps;
-    t->inside = 0;
-    if (t->deferred) deliver_deferred(t);
+    end_inside(t);
 }
 
 /* A loop that makes one read again and again, or an update that leaves the value as it is, waits for another thread: that one shall run. */

@@ -23,7 +23,7 @@ void let_others_run(void) {
     thread *t = self;
     if (!t || !recording || t->inside) return;
     end_copy(t);
-    t->inside = 1;
+    begin_inside(t);
     give_turn(t);
     leave(t);
 }

@@ -11,7 +11,7 @@ import typing
 GRAIN = 16  # what an allocation covers begins and ends at multiples of it
 MOST_FREED = 1024
 RELAXED, RELEASE = 0, 3  # memory orders; from RELEASE on each releases, and all others than these two acquire
-USES = {"LOCK", "UNLOCK", "READ_LOCK", "WRITE_LOCK", "RW_UNLOCK", "POST", "WAIT", "USE"}  # read the first byte of their object
+USES = {"LOCK", "UNLOCK", "READ_LOCK", "WRITE_LOCK", "RW_UNLOCK", "POST", "WAIT", "ARRIVE", "USE"}  # read the first byte
 
 
 class Step(typing.NamedTuple):
@@ -54,6 +54,20 @@ class Atomic:
         self.gifts = []
 
 
+class Barrier:
+    """`rounds` are the clocks of its rounds, and `round_of` has those that threads are in. A barrier with more users than
+    its count, or with several counts, has one round."""
+
+    def __init__(self):
+        self.counts, self.users, self.arrivals, self.round_of = set(), set(), 0, {}
+        self.rounds = collections.defaultdict(dict)
+
+    def arrive(self, t):
+        has_rounds = len(self.counts) == 1 and len(self.users) <= min(self.counts)
+        self.round_of[t] = self.arrivals // min(self.counts) if has_rounds else 0
+        self.arrivals += 1
+
+
 class Analysis:
     """`races` has for each two places, that of the first access first, the bytes that race there, as (number of the block, address)."""
 
@@ -65,6 +79,8 @@ class Analysis:
         self.writers, self.writer_gave, self.readers_gave = {}, collections.defaultdict(dict), collections.defaultdict(dict)
         self.noted, self.fenced = collections.defaultdict(list), set()
         self.races = collections.defaultdict(set)
+        self.barriers = collections.defaultdict(Barrier)
+        self.meet_barriers(steps)
         for step in steps:
             self.take_step(step, self.threads[step.thread])
 
@@ -161,6 +177,27 @@ class Analysis:
     def wait(self, step, t):
         for gave in self.posts[step.address]:
             take(self.clocks[t], gave)
+
+    # ---- barriers: who uses them is known before ----
+    def meet_barriers(self, steps):
+        begun = collections.Counter()  # by number: how many threads had it
+        for step in steps:
+            if step.operation == "FORK":
+                begun[step.address] += 1
+            elif step.operation == "BARRIER_INIT":
+                self.barriers[step.address].counts.add(step.size)
+            elif step.operation == "ARRIVE":
+                self.barriers[step.address].users.add((step.thread, begun[step.thread]))
+
+    def arrive(self, step, t):
+        self.barriers[step.address].arrive(t)
+        self.depart(step, t)
+
+    def depart(self, step, t):
+        barrier = self.barriers[step.address]
+        clock = barrier.rounds[barrier.round_of[t]]
+        take(self.clocks[t], clock)
+        take(clock, self.clocks[t])
 
     # ---- atomics ----
     def takes_value(self, step, t):

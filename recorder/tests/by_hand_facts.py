@@ -16,7 +16,7 @@ import tempfile
 
 HERE = pathlib.Path(__file__).resolve().parent
 sys.dont_write_bytecode = True
-sys.path[:0] = [str(HERE), *(str(HERE.parents[1] / name) for name in ("tests", "common"))]
+sys.path[:0] = [str(HERE), *(str(HERE.parents[1] / name) for name in ("tests", "python"))]
 
 import facts_reader
 import recorder
@@ -39,7 +39,7 @@ def record(source, folder):
     more = ["-fopenmp"] * ("omp" in source.read_text(errors="replace"))
     if recorder.call(compiler, "-w", "-g", "-O1", "-fsanitize=thread", "-pthread", *more, source, "-o", folder / "program", "-ldl").returncode:
         return None
-    recorder.call("timeout", "-k", "5", "60", recorder.BUILT / "shb-record", "-o", folder / "results", folder / "program", cwd=folder,
+    recorder.call("timeout", "-k", "5", "60", recorder.COMMAND, "-o", folder / "results", folder / "program", cwd=folder,
                   env={**os.environ, "SHB": str(recorder.SHB)})
     return folder / "results" if (folder / "results" / "places.json").exists() else None
 
@@ -47,7 +47,7 @@ def record(source, folder):
 def main(shb, *files):
     recorder.SHB = pathlib.Path(shb).resolve()
     named = [pathlib.Path(file).resolve() for file in files]
-    sources = named or [path for name in ("programs", "blamed") for path in sorted((HERE / name).glob("*.c*"))]
+    sources = named or [path for name in ("programs", "blamed", "remedied") for path in sorted((HERE / name).glob("*.c*"))]
     forms, refused = collections.Counter(), 0
     with tempfile.TemporaryDirectory() as room:
         recorder.build_recorder(pathlib.Path(room))

@@ -49,7 +49,7 @@ def findings(program, words, checkout, shb, seed, folder):
     """The places of one recording, as two locations and the variables, and how the command ended."""
     results = folder / "results"
     subprocess.run(["rm", "-rf", results], check=True)
-    status = subprocess.run(["timeout", "-k", "20", str(SECONDS), checkout / "recorder/shb-record", "-o", results, program, *words], cwd=folder,
+    status = subprocess.run(["timeout", "-k", "20", str(SECONDS), checkout / "python/shb-record", "-o", results, program, *words], cwd=folder,
                             stdin=subprocess.DEVNULL, stdout=subprocess.DEVNULL, stderr=subprocess.DEVNULL,
                             env={**os.environ, "SHB": str(shb), "SHB_SEED": str(seed)}).returncode
     table = results / "places.tsv"

@@ -21,6 +21,7 @@ sys.dont_write_bytecode = True
 sys.path[:0] = [str(HERE), str(SOURCES.parent / "tests")]
 
 import test_record
+from test_record import entry
 
 SANITIZERS = ["-fsanitize=address,undefined", "-fno-sanitize-recover=all"]
 HEADER = b"command a b\n0 ffff 0 /nowhere/a\n10000 20000 10000 /nowhere/libb.so\n"
@@ -31,7 +32,26 @@ def records():
     for options in range(32):
         for header in (b"", HEADER):
             yield bytes([options, len(header)]) + header + test_record.FRAMES + test_record.ENTRIES * 2
-    yield bytes([0, 0]) + b"".join(test_record.LATE_ENTRIES)
+    for entries in (test_record.LATE_ENTRIES, barriers(), large_blocks()):
+        yield bytes([0, 0]) + b"".join(entries)
+
+
+def barriers():
+    """Three rounds of a barrier of two threads, with an access in each; another count at the end."""
+    yield from (entry(0, "FORK", 1, 0x101), entry(0, "BARRIER_INIT", 0x7100, 0x102, 2))
+    for _ in range(3):
+        yield from (entry(thread, kind, 0x7100, 0x103) for kind in ("ARRIVE", "DEPART") for thread in (0, 1))
+        yield from (entry(thread, "WRITE", 0x5000, 0x104, 300) for thread in (0, 1))
+    yield entry(0, "BARRIER_INIT", 0x7100, 0x105, 3)
+
+
+def large_blocks():
+    """Blocks of whole pages at one address, which are used at their ends and over them."""
+    yield entry(0, "FORK", 1, 0x101)
+    for size in (4096, 8192, 65536):
+        yield entry(0, "ALLOC", 0x9000, 0x102, size)
+        yield from (entry(thread, "WRITE", 0x9000 + at, 0x103, 600) for thread in (0, 1) for at in (0, 1000, size - 300))
+        yield entry(0, "FREE", 0x9000, 0x104)
 
 
 SOURCE = """struct pair { int id; struct { long low; int high[4]; } range; } one;
@@ -105,14 +125,12 @@ int use(job *j, place *p, int k) { p[k].row = j->counts[k][0]; { place *q = &j->
 
 
 def texts():
-    """Lines as the reader takes expressions from, and names of other languages."""
-    lines = [*map(str.encode, USES.splitlines()), *NAMES]
+    """Lines as the reader takes expressions from."""
+    lines = [*map(str.encode, USES.splitlines()), *MORE_USES]
     yield from (bytes([where]) + line for line in lines for where in range(0, 256, 32))
 
 
-NAMES = (b"pthread_mutex_lock(&j->next->at); __atomic_load_n(&j->next, 0)", b"*j->next[2].at = (*p).row; if (k) (*j).done += ++p->row",
-         b"_RNvNtC3std3memINtB4_3VecxE4push", b"_RNCNvC4main1f0", b"_RNvXs_C1aNtB4_1bNtNtC4core3fmt5Debug3fmt", b"__counters_MOD_hits",
-         b"_D4bank4hitsi", b"_RNvMC1aAhKj4_3foo", b"_RINvC1a1fFUKCpEuDNtC1a1bp1cuEL_E")
+MORE_USES = (b"pthread_mutex_lock(&j->next->at); __atomic_load_n(&j->next, 0)", b"*j->next[2].at = (*p).row; if (k) (*j).done += ++p->row")
 
 
 LONGEST = {"records": 8192, "answers": 8192, "modules": 32768, "texts": 511}

@@ -57,14 +57,12 @@ static void put(const void *bytes, size_t count, off_t at) {
 }
 
 #ifdef FUZZ_TEXTS
-/* The first byte says which code of a module it is that the rest is a line of; what does that mean at each column? It is a name
-   too. Nothing of this ends the process. */
+/* The first byte says which code of a module it is that the rest is a line of; what does that mean at each column? Nothing of this ends the process. */
 static void read_text(const uint8_t *data, size_t size) {
     static struct debug *d;
     char line[LINE_BYTES] = "";
     if (!d) read_units(d = open_debug("./module-of-texts"));
     memcpy(line, data + 1, size <= sizeof line ? size - 1 : sizeof line - 1);
-    free(demangled(line));
     u64 low = d->spans[0].low, pc = low + data[0] * (d->spans[0].high - low) / 256 + d->bias;
     for (int column = 1; line[column - 1]; column++) meaning_in_line(d, pc, column % 2, line, column);
 }

@@ -20,7 +20,7 @@ static void add(struct record r) {
 }
 
 void put_late(struct record r, uint64_t word) {
-    add((struct record){word & POSITIONS, word >> POSITION_BITS | (uint64_t)OP_LATE << 48});
+    add((struct record){word & (IS_REPEATED | POSITIONS), word >> CONTEXT_AT | (uint64_t)OP_LATE << 48});
     add(r);
 }
 
@@ -50,7 +50,7 @@ static int is_range_held_quickly(uint64_t i, uint64_t bytes, uint64_t kind, uint
     uint64_t address = in[i].where & LOW_48_BITS, *words[MOST_CELLS];
     cell_use use = {what_of_use(in[i].what, address), kind};
     int count = word ? words_of_range(serials[in[i].where >> 48], use, address, address + bytes, words) : 0;
-    for (int k = 0; k < count; k++) *words[k] = word;
+    for (int k = 0; k < count; k++) *words[k] = word_after(*words[k], word);
     held_there += count != 0;
     return count != 0;
 }
@@ -65,7 +65,7 @@ static int is_held_quickly(uint64_t i, uint64_t bytes, uint64_t kind, uint64_t w
     uint16_t number = in[i].where >> 48;
     cell_use use = {what_of_use(in[i].what, address), c ? kind_in(c, in[i].what, kind, reader_of(serials[number], number)) : 0};
     uint64_t *held = c && word ? word_of_use(c, address, serials[number], number, use) : 0;
-    if (held) *held = word;
+    if (held) *held = word_after(*held, word);
     held_there += held != 0;
     return held != 0;
 }
@@ -73,7 +73,7 @@ static int is_held_quickly(uint64_t i, uint64_t bytes, uint64_t kind, uint64_t w
 /* The kind of a context is its number without the last bit. */
 static int is_held_back(uint64_t i, uint64_t bytes) {
     uint64_t order = held_there + 1, context = contexts[in[i].where >> 48], kind = context >> 1 << KIND_AT;
-    uint64_t word = held_there == MOST_HELD ? NO_POSITION : context << POSITION_BITS | written << ORDER_BITS | order;
+    uint64_t word = held_there == MOST_HELD ? NO_POSITION : context << CONTEXT_AT | IS_REPEATED | written << ORDER_BITS | order;
     uint32_t serial = serials[in[i].where >> 48];
     if ((i + 2) % 3 && is_held_quickly(i, bytes, kind, word)) return 1;      /* as hooks, of which some are slow */
     int is_held = hold_back(serial, in[i], bytes, kind, word);

@@ -2,7 +2,7 @@
 
 A program is a word for each thread; its letters are
   h  a hook of either kind and the access after it  s  a system call that sleeps, not wrapped
-  q  the same, and a quick one where it may be      c  a computation of more than 100 ms without a hook
+  q  the same, and a quick one where it may be      c  a computation of more than 20 ms without a hook
   b  a wrapped blocking call, recorded after it     x  the end of the recording
 Properties, in every state:
   window    no thread is between its record and its access while another writes a record or makes an access

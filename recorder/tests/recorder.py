@@ -11,8 +11,10 @@ from side_by_side import Case
 HERE = pathlib.Path(__file__).resolve().parent
 SOURCES = HERE.parent
 PROGRAMS = HERE / "programs"
+PYTHON = SOURCES.parent / "python"
 SHB = SOURCES.parent / "crates" / "shb" / "out" / "shb"
 BUILT = None  # where the recorder was built
+COMMAND = None  # shb-record beside it
 SECONDS = 600  # after so long a command hangs
 OWN_SLICES = 0  # the recorder draws them
 
@@ -32,16 +34,20 @@ def must(answer):
     return answer
 
 
+def put_commands(folder):
+    """Copies the commands and their packages into a folder, where they look for the recorder beside them."""
+    shutil.copytree(PYTHON, folder / "python", ignore=shutil.ignore_patterns("tests", "__pycache__"), dirs_exist_ok=True)
+    return folder / "python" / "shb-record"
+
+
 def build_recorder(folder, *settings):
     """Builds the recorder from its sources in a new folder."""
-    global BUILT
+    global BUILT, COMMAND
     copy = folder / "recorder"
     shutil.copytree(SOURCES, copy, ignore=shutil.ignore_patterns("lib", "shb-std", "module-reader", "tests"))
     must(call("make", "-C", copy, *settings))
-    for name in ("view", "common"):
-        if not (folder / name).exists():
-            (folder / name).symlink_to(SOURCES.parent / name)
-    BUILT = BUILT or copy
+    put_commands(folder)
+    BUILT, COMMAND = BUILT or copy, COMMAND or folder / "python" / "shb-record"
     return copy
 
 
@@ -82,7 +88,8 @@ def marked(source, word):
 
 def settings(path, seed=1, slice=200, **more):
     """The environment that has a program recorded."""
-    return {**os.environ, "SHB_RECORD": str(path), "SHB_SEED": str(seed), "SHB_SLICE": str(slice), **more}
+    of_slices = {"SHB_SLICE": str(slice)} if slice != OWN_SLICES else {}
+    return {**os.environ, "SHB_RECORD": str(path), "SHB_SEED": str(seed), **of_slices, **more}
 
 
 def convert(path, *options):

@@ -14,7 +14,7 @@ import tempfile
 HERE = pathlib.Path(__file__).resolve().parent
 sys.dont_write_bytecode = True
 sys.path.insert(0, str(HERE))
-sys.path += [str(HERE.parents[1] / name) for name in ("tests", "common", "view")]
+sys.path += [str(HERE.parents[1] / name) for name in ("tests", "python")]
 
 import recorder
 import side_by_side

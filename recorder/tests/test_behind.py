@@ -6,7 +6,7 @@ import sys
 
 import recorder
 
-sys.path[:0] = [str(recorder.SOURCES), str(recorder.SOURCES.parent / "common")]
+sys.path.insert(0, str(recorder.PYTHON))
 from shb_record import second
 from shb_common.analyser import Place
 from shb_common.report import Access, Report
@@ -41,8 +41,8 @@ class Behind(recorder.Case):
         (self.folder / "known").write_text(known)
         recorder.must(recorder.call("gcc", "-w", "-g", "-O1", "-fsanitize=thread", "-pthread", self.folder / "pay.c", "-o", self.folder / name))
         how = recorder.settings("unused", seed, 0, SHB=str(recorder.SHB))
-        del how["SHB_RECORD"], how["SHB_SLICE"]
-        ran = recorder.call(recorder.BUILT / "shb-record", "-o", self.folder / "out", "--known", self.folder / "known", self.folder / name,
+        del how["SHB_RECORD"]
+        ran = recorder.call(recorder.COMMAND, "-o", self.folder / "out", "--known", self.folder / "known", self.folder / name,
                             env=how, cwd=self.folder)
         return ran.returncode, ran.stderr.decode(), json.loads((self.folder / "out" / "places.json").read_text())
 

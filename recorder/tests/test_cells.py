@@ -1,12 +1,14 @@
 """What is held back brings no race: records drawn at random have the same places with all their accesses and with those that the cells
 leave. Of a variable that races each thread's accesses at each place are there."""
 
+import collections
 import os
+import struct
 import types
 
 import recorder
 import test_open
-from test_record import entry, late
+from test_record import OPERATIONS, entry, late
 
 RUNTIME = recorder.SOURCES / "runtime"
 HEADER_BYTES = 65536
@@ -32,15 +34,20 @@ def atomic(thread, operation, place, order=4, size=4):
     return entry(thread, f"ATOMIC_{operation}", X, place, size | order << 5)
 
 
+def repeated(before, which, access, context=0):
+    """It was held back earlier in its phase, too."""
+    return late(before, which, access, context, True)
+
+
 OTHER_USES = [write(1, 0x300 + k) for k in range(15)]
 CASES = {  # what a record has behind FORKS, and what is left of it
     "of one thread": ([write(1, 0x201), read(1, 0x202), write(1, 0x201), write(1, 0x203, X + 4, 1)], []),
     "a loop, and then another thread": (
         [write(1, 0x201), *[read(1, 0x202), write(1, 0x203)] * 3, write(2, 0x204)],
-        [late(2, 1, write(1, 0x201)), late(2, 6, read(1, 0x202)), late(2, 7, write(1, 0x203)), write(2, 0x204)]),
+        [late(2, 1, write(1, 0x201)), repeated(2, 6, read(1, 0x202)), repeated(2, 7, write(1, 0x203)), write(2, 0x204)]),
     "a later phase": (
         [write(1, 0x201), *[write(2, 0x204)] * 4, read(1, 0x205)],
-        [late(2, 1, write(1, 0x201)), write(2, 0x204), late(5, 3, write(2, 0x204)), read(1, 0x205)]),
+        [late(2, 1, write(1, 0x201)), write(2, 0x204), repeated(5, 3, write(2, 0x204)), read(1, 0x205)]),
     "a use once in a phase": (
         [write(1, 0x201), read(2, 0x204), write(1, 0x201)], [late(2, 1, write(1, 0x201)), read(2, 0x204), write(1, 0x201)]),
     "a reader that wrote": (
@@ -48,10 +55,10 @@ CASES = {  # what a record has behind FORKS, and what is left of it
     "readers alone": ([read(1, 0x201), read(2, 0x204), read(1, 0x201)], []),
     "readers, and then a write": (
         [read(1, 0x201), read(2, 0x204), read(1, 0x201), read(2, 0x204), write(1, 0x205)],
-        [late(2, 3, read(1, 0x201)), late(2, 4, read(2, 0x204)), write(1, 0x205)]),
+        [repeated(2, 3, read(1, 0x201)), repeated(2, 4, read(2, 0x204)), write(1, 0x205)]),
     "readers behind a write": (
         [write(1, 0x205), read(2, 0x204), *[read(1, 0x201), read(2, 0x204)] * 2, write(1, 0x206)],
-        [late(2, 1, write(1, 0x205)), read(2, 0x204), read(1, 0x201), late(6, 3, read(2, 0x204)), late(6, 2, read(1, 0x201)), write(1, 0x206)]),
+        [late(2, 1, write(1, 0x205)), read(2, 0x204), read(1, 0x201), repeated(6, 3, read(2, 0x204)), late(6, 2, read(1, 0x201)), write(1, 0x206)]),
     "a reader behind a free": (
         [entry(1, "ALLOC", BLOCK, 0x201, 32), read(1, 0x202, BLOCK + 8), entry(1, "FREE", BLOCK, 0x203), *[read(2, 0x204, BLOCK + 8)] * 3,
          write(1, 0x205, BLOCK + 8)],
@@ -60,8 +67,8 @@ CASES = {  # what a record has behind FORKS, and what is left of it
     "atomics of one thread": ([atomic(1, "STORE", 0x201), *[atomic(1, "UPDATE", 0x202), atomic(1, "LOAD", 0x203)] * 2], []),
     "a lock made of an atomic": (
         [*[atomic(1, "UPDATE", 0x201, 2), write(1, 0x202, X + 8), atomic(1, "STORE", 0x203, 3)] * 3, atomic(2, "UPDATE", 0x201, 2), read(2, 0x204, X + 8)],
-        [late(2, 7, atomic(1, "UPDATE", 0x201, 2)), late(2, 9, atomic(1, "STORE", 0x203, 3)), atomic(2, "UPDATE", 0x201, 2),
-         late(2, 8, write(1, 0x202, X + 8)), read(2, 0x204, X + 8)]),
+        [repeated(2, 7, atomic(1, "UPDATE", 0x201, 2)), repeated(2, 9, atomic(1, "STORE", 0x203, 3)), atomic(2, "UPDATE", 0x201, 2),
+         repeated(2, 8, write(1, 0x202, X + 8)), read(2, 0x204, X + 8)]),
     "an atomic in a later phase": (
         [write(1, 0x201), *[atomic(2, "UPDATE", 0x204)] * 3, read(1, 0x205)],
         [late(2, 1, write(1, 0x201)), atomic(2, "UPDATE", 0x204), late(5, 1, atomic(2, "UPDATE", 0x204)), read(1, 0x205)]),
@@ -72,23 +79,23 @@ CASES = {  # what a record has behind FORKS, and what is left of it
     "threads that wait by loads": (
         [*[atomic(1, "LOAD", 0x201), atomic(2, "LOAD", 0x204)] * 3, atomic(0, "STORE", 0x105), *[atomic(1, "LOAD", 0x201), atomic(2, "LOAD", 0x204)] * 2,
          atomic(0, "STORE", 0x106)],
-        [late(2, 5, atomic(1, "LOAD", 0x201)), late(2, 6, atomic(2, "LOAD", 0x204)), atomic(0, "STORE", 0x105), atomic(1, "LOAD", 0x201),
+        [repeated(2, 5, atomic(1, "LOAD", 0x201)), repeated(2, 6, atomic(2, "LOAD", 0x204)), atomic(0, "STORE", 0x105), atomic(1, "LOAD", 0x201),
          atomic(2, "LOAD", 0x204), late(9, 1, atomic(1, "LOAD", 0x201)), late(9, 2, atomic(2, "LOAD", 0x204)), atomic(0, "STORE", 0x106)]),
     "an atomic of two cells": (
         [*[atomic(1, "UPDATE", 0x201, size=16)] * 2, read(2, 0x204), atomic(1, "LOAD", 0x202, size=16)],
         [*[atomic(1, "UPDATE", 0x201, size=16)] * 2, read(2, 0x204), atomic(1, "LOAD", 0x202, size=16)]),
     "an atomic of two cells behind a write": (
         [*[write(1, 0x201)] * 2, atomic(2, "UPDATE", 0x204, size=16)],
-        [late(2, 2, write(1, 0x201)), atomic(2, "UPDATE", 0x204, size=16)]),
+        [repeated(2, 2, write(1, 0x201)), atomic(2, "UPDATE", 0x204, size=16)]),
     "parts of a cell": (
         [write(1, 0x201), write(1, 0x201, X + 4), read(2, 0x204, X + 6, 1)],
         [late(2, 1, write(1, 0x201)), late(2, 2, write(1, 0x201, X + 4)), read(2, 0x204, X + 6, 1)]),
     "calls from two places": (
         [context(1, 2), write(1, 0x201), context(1, 4), write(1, 0x201), context(1, 3), write(1, 0x201), write(2, 0x204)],
-        [context(1, 2), context(1, 4), context(1, 3), late(5, 1, write(1, 0x201), 3), late(4, 1, write(1, 0x201), 4), write(2, 0x204)]),
+        [context(1, 2), context(1, 4), context(1, 3), repeated(5, 1, write(1, 0x201), 3), late(4, 1, write(1, 0x201), 4), write(2, 0x204)]),
     "a range in calls of one kind": (
         [context(1, 2), write(1, 0x201, X, 16), context(1, 3), write(1, 0x201, X, 16), write(2, 0x204)],
-        [context(1, 2), context(1, 3), late(4, 1, write(1, 0x201, X, 16), 3), write(2, 0x204)]),
+        [context(1, 2), context(1, 3), repeated(4, 1, write(1, 0x201, X, 16), 3), write(2, 0x204)]),
     "calls of readers": (
         [read(2, 0x204), context(1, 2), read(1, 0x201), context(1, 4), *[read(1, 0x201)] * 2, write(2, 0x205)],
         [context(1, 2), context(1, 4), late(2, 1, read(2, 0x204)), late(3, 1, read(1, 0x201), 2), late(4, 1, read(1, 0x201), 4), write(2, 0x205)]),
@@ -110,21 +117,21 @@ CASES = {  # what a record has behind FORKS, and what is left of it
     "a lock": ([write(1, 0x201), entry(2, "LOCK", X, 0x205)], [late(2, 1, write(1, 0x201)), entry(2, "LOCK", X, 0x205)]),
     "a range over two cells": (
         [*[write(1, 0x201, X, 16)] * 2, write(2, 0x204, X + 8), write(2, 0x205)],
-        [late(2, 2, write(1, 0x201, X, 16)), write(2, 0x204, X + 8), late(2, 2, write(1, 0x201, X, 16)), write(2, 0x205)]),
+        [repeated(2, 2, write(1, 0x201, X, 16)), write(2, 0x204, X + 8), repeated(2, 2, write(1, 0x201, X, 16)), write(2, 0x205)]),
     "a range that was used by another thread": (
         [write(2, 0x204), write(1, 0x201, X, 16), write(1, 0x201, X, 16)],
         [late(2, 1, write(2, 0x204)), write(1, 0x201, X, 16), write(1, 0x201, X, 16)]),
     "a range again and again": (
         [*[write(1, 0x201, X + 4, 16)] * 4, read(1, 0x202, X + 8), write(1, 0x201, X + 4, 16), write(2, 0x204, X + 16)],
-        [late(2, 5, write(1, 0x201, X + 4, 16)), write(2, 0x204, X + 16)]),
+        [repeated(2, 5, write(1, 0x201, X + 4, 16)), write(2, 0x204, X + 16)]),
     "a range of which another thread has a cell": (
         [*[write(1, 0x201, X, 24)] * 2, read(2, 0x204, X + 16), write(1, 0x201, X, 24)],
-        [late(2, 2, write(1, 0x201, X, 24)), read(2, 0x204, X + 16), write(1, 0x201, X, 24)]),
+        [repeated(2, 2, write(1, 0x201, X, 24)), read(2, 0x204, X + 16), write(1, 0x201, X, 24)]),
     "a range that another thread has": (
         [write(2, 0x201, X, 16), write(1, 0x201, X, 16)], [*[late(2, 1, write(2, 0x201, X, 16))] * 2, write(1, 0x201, X, 16)]),
     "a page that one thread has": (
         [write(1, 0x201, PAGE, 4096), read(1, 0x202, PAGE + 8), read(1, 0x202, PAGE + 8), read(2, 0x204, PAGE + 8)],
-        [write(1, 0x201, PAGE, 4096), late(4, 2, read(1, 0x202, PAGE + 8)), read(2, 0x204, PAGE + 8)]),
+        [write(1, 0x201, PAGE, 4096), repeated(4, 2, read(1, 0x202, PAGE + 8)), read(2, 0x204, PAGE + 8)]),
     "a page that two threads have": (
         [write(1, 0x201, PAGE, 4096), write(2, 0x204, PAGE, 4096), read(2, 0x205, PAGE + 8)],
         [write(1, 0x201, PAGE, 4096), write(2, 0x204, PAGE, 4096), read(2, 0x205, PAGE + 8)]),
@@ -145,7 +152,7 @@ CASES = {  # what a record has behind FORKS, and what is left of it
     "a block that is freed unused": (
         [entry(1, "ALLOC", BLOCK, 0x201, 32), entry(1, "FREE", BLOCK, 0x202), *[write(2, 0x204, BLOCK + 8)] * 3, read(1, 0x203, BLOCK + 8)],
         [entry(1, "ALLOC", BLOCK, 0x201, 32), entry(1, "FREE", BLOCK, 0x202), write(2, 0x204, BLOCK + 8),
-         late(5, 2, write(2, 0x204, BLOCK + 8)), read(1, 0x203, BLOCK + 8)]),
+         repeated(5, 2, write(2, 0x204, BLOCK + 8)), read(1, 0x203, BLOCK + 8)]),
     "a use that another cell has in a block that is freed unused": (
         [write(2, 0x204), entry(1, "ALLOC", BLOCK, 0x201, 32), entry(1, "FREE", BLOCK, 0x202), write(2, 0x204, BLOCK + 8)],
         [entry(1, "ALLOC", BLOCK, 0x201, 32), entry(1, "FREE", BLOCK, 0x202), write(2, 0x204, BLOCK + 8)]),
@@ -184,16 +191,16 @@ FOUND_IN_DRAWN = 5  # of these faults so many are found in a few drawn records t
 FAULTS = {  # to plant: the file, what stands there, and what in its place
     "each phase counts as the first": ("cells.c", "int is_first = !c->owner && !is_freed(page, address);", "int is_first = 1;"),
     "the last use of a phase isn't recorded": ("cells.c", "    put_all_held(c, address);\n    free_table(c);\n", "    free_table(c);\n"),
-    "the position is that of the first use": ("cells.c", "    if (held) *held = word;\n", ""),
-    "the position is where it is recorded": ("hold_back.c", "{word & POSITIONS, ", "{written << ORDER_BITS | 1, "),
+    "the position is that of the first use": ("cells.c", "    if (held) *held = word_after(*held, word);\n", ""),
+    "the position is where it is recorded": ("hold_back.c", "{word & (IS_REPEATED | POSITIONS), ", "{written << ORDER_BITS | 1, "),
     "bytes of a cell are one use": (
         "cells.c", "{what_of_use(r.what, address), kind | ", "{r.what, kind | "),
     "calls from two places are one use": ("cells.c", "    use.from = kind;\n", "    use.from = 0;\n"),
     "calls from two places are one use of a reader": (
         "cells.c", "kind | reader_of(serial, r.where >> 48)};", "reader_of(serial, r.where >> 48)};"),
     "a use that makes room isn't recorded": ("cells.c", "    if (is_held(old)) put_held(c, old, address);\n", ""),
-    "atomic accesses end no phase": ("cells.c", "operation <= OP_ATOMIC_UPDATE && is_in_one", "is_plain_access(operation) && is_in_one"),
-    "atomic accesses of several cells end no phase": ("cells.c", "is_atomic ? !is_in_one(address, end)", "is_atomic ? 0"),
+    "atomic accesses end no phase": ("cells.c", "operation <= OP_ATOMIC_UPDATE && is_in_one", "is_plain(operation) && is_in_one"),
+    "atomic accesses of several cells end no phase": ("cells.c", "is_atomic(operation) ? !is_in_one(address, end)", "is_atomic(operation) ? 0"),
     "atomic accesses of all orders are one use": ("cells.h", "(has_depth(what) ? OF_ALL_DEPTHS : 0)", "OF_ALL_DEPTHS"),
     "atomic accesses of all kinds are one use": (
         "cells.h", "    return what | address % GRAIN", "    if (operation_of_use(what) > OP_WRITE) what |= 7ull << 48;\n    return what | address % GRAIN"),
@@ -224,16 +231,21 @@ FAULTS = {  # to plant: the file, what stands there, and what in its place
     "a use is new in a quick hook of a later phase": ("cells.c", "!c->is_first || is_full(c)) return 0;", "is_full(c)) return 0;"),
     "a write in a quick hook leaves a phase of reads": ("cells.c", "    if (!is_read(cell_uses[use].what)) c->is_only_read = 0;\n", ""),
     "a quick hook takes another thread's cell": ("cells.c", "if (c->owner != serial || !c->is_first", "if (!c->is_first"),
-    "a range that is repeated keeps its first position": ("cells.c", "k < count; k++) *words[k] = word;", "k < 0; k++) *words[k] = word;"),
+    "a range that is repeated keeps its first position": ("cells.c", "k < count; k++) *words[k] = word_after", "k < 0; k++) *words[k] = word_after"),
     "a range is repeated in cells that another thread has": ("cells.c", "c && c->owner == serial ? word_in", "c ? word_in"),
     "a range is repeated where its first cell has it": (
         "cells.c", "        if (!words[count++]) return 0;", "        if (words[count]) count++;"),
     "a range is counted once more than it was held back": (
-        "cells.c", "    if (count && *words[0] + 1 == word) return IS_HELD_ALREADY;\n", ""),
+        "cells.c", "    if (count && is_right_behind(*words[0], word)) return IS_HELD_ALREADY;\n", ""),
     "a table grows without its keys": (
         "cells.c", "        if (*key_at(c, k).use) insert_key(&grown, *key_at(c, k).use, *key_at(c, k).word);\n", "        ;\n"),
-    "the context is that of the first use": ("cells.c", "*held = word;", "*held = (*held & ~POSITIONS) | (word & POSITIONS);"),
-    "a position serves once more behind others": ("cells.c", "held && *held + 1 == word", "held && *held"),
+    "the context is that of the first use": (
+        "cells.c", "*held = word_after(*held, word)", "*held = (*held & ~POSITIONS) | (word & POSITIONS) | IS_REPEATED"),
+    "a position serves once more behind others": ("cells.c", "held && is_right_behind(*held, word)", "held && *held"),
+    "each use is repeated": ("cells.h", "? word : word & ~IS_REPEATED;", "? word : word;"),
+    "no use is repeated": ("cells.h", "? word : word & ~IS_REPEATED;", "? word & ~IS_REPEATED : word & ~IS_REPEATED;"),
+    "the first use of a phase is repeated": ("cells.c", "c->is_first ? word_after(0, word) : NO_POSITION", "c->is_first ? word : NO_POSITION"),
+    "what follows a use that isn't repeated is never right behind it": ("cells.h", "(before | IS_REPEATED) + 1 == word", "before + 1 == word"),
     "a long block is new variables": ("cells.c", "    if (end - address >= MAX_BLOCK) return;\n", ""),
 }
 
@@ -275,6 +287,24 @@ class Drawn(test_open.Drawn):
             self.add(operation, at + self.draw.choice((0, 0, 4096, 104)), self.draw.choice((4096, 8192, 8192, 1200)))
         else:
             self.add(operation, at + self.draw.choice((0, 8, 4100)), 4)
+
+
+class OfCells(Drawn):
+    """One whose cells stay those that they are, and whose accesses are told apart by their entries."""
+
+    all_words = [words for words in WORDS if not set(words) & set("BGC")]
+
+
+def is_late(entry):
+    return struct.unpack("<Q", entry[8:])[0] >> 48 & 63 == OPERATIONS.index("OP_LATE")
+
+
+def is_marked(entry):
+    return is_late(entry) and struct.unpack("<Q", entry[:8])[0] >> 40 & 1
+
+
+def split(entries):
+    return [entries[k:k + 16] for k in range(0, len(entries), 16)]
 
 
 class Cells(recorder.Case):
@@ -327,6 +357,21 @@ class Cells(recorder.Case):
         self.assertGreater(found, 500)
         self.assertLess(left_accesses, 0.98 * accesses)
 
+    def test_which_are_repeated(self):
+        """Of a use that is repeated there are fewer accesses in what is left; one of which there are fewer is repeated. All are put."""
+        programs, found = [self.program(self.folder / f"{keys}", keys) for keys in (7, 2)], 0
+        for seed in range(100):
+            entries = FORKS + OfCells(seed).entries
+            ends = [entry(60, "USE", address, 0x999) for address in {0x5000 + 8 * k for k in range(4)}]
+            left = split(self.left(programs[seed % 2], [*entries, entry(0, "FORK", 60, 0x104), *ends]))
+            marked = {access for before, access in zip(left, left[1:]) if is_marked(before)}
+            apart = [one for one, next in zip(entries, [*entries[1:], b""]) if one != next]
+            many, fewest, kept = (collections.Counter(some) for some in (entries, apart, left))
+            self.assertEqual([access for access in marked if many[access] <= kept[access]], [], seed)
+            self.assertEqual([access for access in fewest if fewest[access] > kept[access] and access not in marked], [], seed)
+            found += len(marked)
+        self.assertGreater(found, 500)
+
     def test_each_fault_is_found(self):
         whole = {}
         for number, (fault, plant) in enumerate(FAULTS.items()):
@@ -359,7 +404,7 @@ class Runs(recorder.Case):
         program = self.folder / "private_memory"
         recorder.build(recorder.PROGRAMS / "private_memory.c", "-O1", program)
         how = {**os.environ, "SHB": str(recorder.SHB), "SHB_RECORDS": self.RECORDS, **more}
-        ran = recorder.call(recorder.BUILT / "shb-record", program, *words, cwd=self.folder, env=how)
+        ran = recorder.call(recorder.COMMAND, program, *words, cwd=self.folder, env=how)
         return ran.returncode, ran.stderr.decode()
 
     def test_a_race_at_the_end(self):
@@ -372,6 +417,14 @@ class Runs(recorder.Case):
         self.assertEqual(status, 124, said)
         self.assertIn("SHB_RECORDS is reached", said)
         self.assertRegex(said, r"\): \d\d,\d{3} records, ")
+
+    def test_which_are_repeated(self):
+        """A write that was made once, and then five times one of a cell and one of four cells, each of which puts it."""
+        program, record = self.folder / "beats", self.folder / "beats.rec"
+        recorder.build(recorder.PROGRAMS / "beats.c", "-O0", program)
+        recorder.must(recorder.call(program, env=recorder.settings(record)))
+        late = [one for one in split(record.read_bytes()[HEADER_BYTES:]) if is_late(one)]
+        self.assertEqual([is_marked(one) for one in sorted(late)], [0, 1, 1, 1, 1, 1])
 
     def test_more_contexts_than_are_kept(self):
         status, said = self.recorded("deep", SHB_RECORDS="2000000")

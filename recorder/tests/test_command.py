@@ -40,7 +40,7 @@ class Command(recorder.Case):
     def record(self, *words, command=None, **more):
         """The command's status, the program's output, and what the command said."""
         how = {**os.environ, "SHB": str(recorder.SHB), **more}
-        ran = recorder.call(command or recorder.BUILT / "shb-record", *words, cwd=self.folder, env=how)
+        ran = recorder.call(command or recorder.COMMAND, *words, cwd=self.folder, env=how)
         return ran.returncode, ran.stdout.decode(), ran.stderr.decode()
 
     def known(self, text):
@@ -193,7 +193,7 @@ int main(int count, char **words) {
             self.assertEqual((status, "1 unknown place with races" in said), (wanted, wanted == 66), said)
 
     def test_how_often_shb_runs(self):
-        """Once for all places, and with a race for its schedule, and to judge that."""
+        """Once for all places, and with a race for its schedule, and to judge that; once more to try remedies."""
         fake, log = self.folder / "shb", self.folder / "log"
         fake.write_text(f'#!/bin/sh\necho "$@" >> {log}\nexec {recorder.SHB} "$@"\n')
         fake.chmod(0o755)
@@ -201,6 +201,8 @@ int main(int count, char **words) {
             self.record(self.program(), *words, SHB=str(fake))
         listed = "places --list --variables\n"
         self.assertRegex(text_of(log), rf"\A{listed}places --variables\ncheck /dev/fd/\d+\n{listed}\Z")
+        self.record("--until-found", "10", self.program("../blamed/flag_store.c"), SHB=str(fake))
+        self.assertRegex(text_of(log), rf"{listed}places --variables\ncheck /dev/fd/\d+\n{listed}\Z")
 
     def test_a_list_that_fails(self):
         fake = self.folder / "shb"
@@ -218,7 +220,7 @@ int main(int count, char **words) {
         for free, wanted in ((1023, 125), (1024, 66)):
             command.write_text("#!/usr/bin/env python3\nimport runpy, shutil\nuse = shutil.disk_usage('/')\n"
                                f"shutil.disk_usage = lambda path: use._replace(free={free})\n"
-                               f"runpy.run_path({str(recorder.BUILT / 'shb-record')!r}, run_name='__main__')\n")
+                               f"runpy.run_path({str(recorder.COMMAND)!r}, run_name='__main__')\n")
             command.chmod(0o755)
             status, _, said = self.record("--window", "16", program, "0", "race", command=command)
             self.assertEqual(status, wanted, said)
@@ -249,7 +251,7 @@ int main(int count, char **words) {
     def test_a_folder_whose_name_is_not_utf8(self):
         folder = os.fsencode(self.folder) + b"/r\xff"
         how = {**os.environ, "SHB": str(recorder.SHB)}
-        ran = subprocess.run([str(recorder.BUILT / "shb-record"), "-o", folder, str(self.program()), "0", "race"], env=how, capture_output=True,
+        ran = subprocess.run([str(recorder.COMMAND), "-o", folder, str(self.program()), "0", "race"], env=how, capture_output=True,
                              timeout=recorder.SECONDS)
         self.assertEqual((ran.returncode, b"1 place with races" in ran.stderr), (66, True), ran.stderr)
 
@@ -303,7 +305,7 @@ int main(int count, char **words) {
     def test_standard_error_that_is_closed_or_full(self):
         """The status says what was found, and the results are there."""
         for words in ("2>&-", "2>/dev/full", "2>/dev/full >&- <&-"):
-            status, _, _ = self.record("-c", f'"$@" {words}', "sh", recorder.BUILT / "shb-record", self.program(), "0", "race", command="sh")
+            status, _, _ = self.record("-c", f'"$@" {words}', "sh", recorder.COMMAND, self.program(), "0", "race", command="sh")
             self.assertEqual((status, "places.json" in self.names()), (66, True), words)
             shutil.rmtree(self.folder / "status.shb")
 
@@ -452,7 +454,7 @@ int main(int count, char **words) {
         results = log["runs"][0]["results"]
         self.assertEqual([bool(result["suppressions"]) for result in results], [True, False])
         said = "Data race on `balance` between stats.c:6 and [stats.c:6](1). stats.c:6 writes without a lock. " \
-               "Remedy: make it atomic if it is a flag or a counter; else hold one lock at stats.c:6, "
+               "Remedy: make it atomic if it is a flag or a counter; else hold one lock at stats.c:6."
         self.assertTrue(results[1]["message"]["text"].startswith(said), results[1])
 
     def test_what_a_quiet_run_means(self):
@@ -520,12 +522,12 @@ int main(int count, char **words) {
         """A known one isn't; where there is none all runs are made."""
         program, log = self.program(), self.folder / "log"
         script = f'echo >> {log}; [ $(wc -l < {log}) -lt 3 ] && exec {program} 0; exec {program} 0 race'
-        status, _, said = self.record("--until-found", "5", "-o", "out", "sh", "-c", script)
+        status, _, said = self.record("--until-found", "5", "--jobs", "1", "-o", "out", "sh", "-c", script)
         self.assertEqual((status, len(text_of(log))), (66, 3), said)
         self.assertIn("shb-record: run 3 of at most 5 is the first with a place with races; its seed is 3\n", said)
         known = self.known(text_of(self.folder / "out" / "unknown.places"))
         log.unlink()
-        status, _, said = self.record("--until-found", "5", "--known", known, "-o", "out", "sh", "-c", script)
+        status, _, said = self.record("--until-found", "5", "--jobs", "1", "--known", known, "-o", "out", "sh", "-c", script)
         self.assertEqual((status, len(text_of(log)), "is the first" in said), (0, 5, False), said)
         for words in (("--until-found", "0"), ("--until-found", "2", "--runs", "2"), ("--until-found", "x")):
             self.assertEqual(self.record(*words, program)[:2], (125, ""))
@@ -552,7 +554,7 @@ int main(int count, char **words) {
     def test_no_proc_is_the_cause_where_there_is_none(self):
         if os.getuid() or subprocess.run(["unshare", "--mount", "true"], stderr=subprocess.DEVNULL).returncode:
             self.skipTest("only who may mount folders can hide /proc")
-        status, _, said = self.record("--mount", "sh", "-c", 'mount -t tmpfs tmpfs /proc && exec "$@"', "sh", recorder.BUILT / "shb-record",
+        status, _, said = self.record("--mount", "sh", "-c", 'mount -t tmpfs tmpfs /proc && exec "$@"', "sh", recorder.COMMAND,
                                       self.program(), "0", command="unshare")
         self.assertEqual((status, said.count("There is no /proc here: mount it."), "rights of another user" in said), (125, 1, False), said)
 
@@ -663,7 +665,7 @@ int main(int count, char **words) {
         """Each has a folder of its own, and ends as one alone."""
         program, how = self.program(), {**os.environ, "SHB": str(recorder.SHB)}
         script = f"touch here.$$; while [ $(ls here.* | wc -l) -lt 4 ]; do sleep 0.01; done; exec {program} 0 race"
-        words = [str(recorder.BUILT / "shb-record"), "sh", "-c", script]
+        words = [str(recorder.COMMAND), "sh", "-c", script]
         ran = [subprocess.Popen(words, cwd=self.folder, env=how, stdout=subprocess.PIPE, stderr=subprocess.PIPE) for _ in range(4)]
         said = [call.communicate(timeout=recorder.SECONDS)[1].decode() for call in ran]
         self.assertEqual([call.returncode for call in ran], [66] * 4, said)
@@ -702,8 +704,8 @@ int main(int count, char **words) {
 
     def test_a_wrong_command_line(self):
         """Of every command: 3, but 125 where a program is run, whose own status may be 3."""
-        top = recorder.SOURCES.parent
-        commands = [recorder.SHB, recorder.BUILT / "shb-record", top / "view" / "shb-view", top / "farm" / "shb-farm",
+        top = recorder.PYTHON
+        commands = [recorder.SHB, recorder.COMMAND, top / "shb-view", top / "shb-farm",
                     recorder.BUILT / "shb-std"]
         for command in commands:
             wanted = 125 if command.name == "shb-record" else 3
@@ -721,8 +723,8 @@ int main(int count, char **words) {
 
     def test_versions(self):
         """Of every command but shb, whose words are fixed."""
-        top = recorder.SOURCES.parent
-        for command in (recorder.BUILT / "shb-record", top / "view" / "shb-view", top / "farm" / "shb-farm", top / "fix" / "shb-fix",
+        top = recorder.PYTHON
+        for command in (recorder.COMMAND, top / "shb-view", top / "shb-farm", top / "shb-fix",
                         recorder.BUILT / "shb-std"):
             answer = recorder.call(command, "--version", cwd=self.folder)
             self.assertEqual((answer.returncode, answer.stderr), (0, b""))
@@ -745,18 +747,14 @@ int main(int count, char **words) {
         """A command without its converter, which is to be put beside it."""
         home = self.folder / "recorder"
         home.mkdir()
-        for name in "shb-record", "module-reader":
-            shutil.copy(recorder.BUILT / name, home)
-        shutil.copytree(recorder.BUILT / "shb_record", home / "shb_record")
+        shutil.copy(recorder.BUILT / "module-reader", home)
         (home / "lib").symlink_to(recorder.BUILT / "lib")
-        for name in ("view", "common"):
-            (self.folder / name).symlink_to(recorder.SOURCES.parent / name)
-        return home / "shb-record"
+        return recorder.put_commands(self.folder)
 
     def with_converter(self, script):
         """A command with this script of a shell in place of its converter."""
         command = self.command_alone()
-        converter = command.with_name("shb-std")
+        converter = self.folder / "recorder" / "shb-std"
         converter.write_text(f"#!/bin/sh\n{script}\n")
         converter.chmod(0o755)
         return command
@@ -781,13 +779,11 @@ int main(int count, char **words) {
                 self.assertRegex(said, r"(?m)^shb-record: 1 place with races that can't be shown; not all could be looked at; the program's own")
                 self.assertNotIn("0 places", said)
                 shutil.rmtree(self.folder / "recorder")
-                for name in ("view", "common"):
-                    (self.folder / name).unlink()
 
     def test_a_converter_that_loses_an_event(self):
         """The file of uses lacks the second access of the race."""
         command = self.command_alone()
-        shutil.copy(planted(self.folder / "planted", "page.c", "wanted[wanted_at] == number)", "wanted[wanted_at] == number && !wanted_at)"), command.parent)
+        shutil.copy(planted(self.folder / "planted", "page.c", "wanted.at[wanted_at] == number)", "wanted.at[wanted_at] == number && !wanted_at)"), self.folder / "recorder")
         status, _, said = self.record(self.program(), "0", "race", command=command)
         self.assertEqual((status, "the page's trace lacks 1 event of `shb places --list`" in said), (125, True), said)
 
@@ -795,7 +791,7 @@ int main(int count, char **words) {
         """The third run leaves no record, for it can't begin one."""
         program = self.program()
         script = f"[ -e {self.folder}/two ] && exec true; [ -e {self.folder}/one ] && touch {self.folder}/two; touch {self.folder}/one; exec {program} 0 race"
-        status, _, said = self.record("--runs", "4", "sh", "-c", script)
+        status, _, said = self.record("--runs", "4", "--jobs", "1", "sh", "-c", script)
         self.assertEqual((status, "sh left no record" in said), (66, True), said)
         self.assertIn("1 place with races; not all could be looked at;", said)
         self.assertEqual(text_of(self.folder / "sh.shb" / "unknown.places"), UNKNOWN)
@@ -817,7 +813,7 @@ int main(int count, char **words) {
         for number, how, own, wait in ((signal.SIGTERM, "", 143, []), (signal.SIGINT, "", 130, []), (signal.SIGTERM, "trap '' TERM; ", 137, ["--wait", "30"])):
             ready = self.folder / f"ready{own}"
             words = [*wait, "sh", "-c", f"{how}exec {program} > {ready}"]
-            ran = subprocess.Popen([str(recorder.BUILT / "shb-record"), *words], cwd=self.folder, stderr=subprocess.PIPE,
+            ran = subprocess.Popen([str(recorder.COMMAND), *words], cwd=self.folder, stderr=subprocess.PIPE,
                                    env={**os.environ, "SHB": str(recorder.SHB)},
                                    preexec_fn=lambda: signal.signal(signal.SIGINT, signal.SIG_DFL))
             while not ready.exists() or ready.read_text() != "..":
@@ -833,9 +829,8 @@ int main(int count, char **words) {
         """The command, to which a program that it starts sends signals: the analyser or the converter."""
         tools, part = self.folder / f"tools of {at}" / "recorder", self.folder / "fake"
         tools.mkdir(parents=True, exist_ok=True)
-        beside = {tools.parent / name: recorder.BUILT.parent / name for name in ("view", "common")}
         parts = {tools / name: recorder.BUILT / name for name in ("lib", "shb-std") if name != at}
-        for place, path in {**beside, **parts}.items():
+        for place, path in parts.items():
             if not place.exists():
                 place.symlink_to(path)
         real = recorder.SHB if at == "shb" else recorder.BUILT / at
@@ -845,9 +840,8 @@ int main(int count, char **words) {
         sent.unlink(missing_ok=True)
         fake.write_text(f'#!/bin/sh\nif [ ! -e {sent} ]; then echo $$ > {sent}; {sends}{waits}fi\nexec {real} "$@"\n')
         fake.chmod(0o755)
-        shutil.copy(recorder.BUILT / "shb-record", tools)
-        shutil.copytree(recorder.BUILT / "shb_record", tools / "shb_record", dirs_exist_ok=True)
-        return self.record(*words, self.program(), "0", "race", command=tools / "shb-record", SHB=str(part if at == "shb" else recorder.SHB))
+        command = recorder.put_commands(tools.parent)
+        return self.record(*words, self.program(), "0", "race", command=command, SHB=str(part if at == "shb" else recorder.SHB))
 
     def test_a_signal_after_the_run_lets_it_be_shown(self):
         for at in "shb", "shb-std":
@@ -904,11 +898,11 @@ int main(int count, char **words) {
         """Sends signals to the command when it begins a page, which does this then."""
         command = self.folder / "command"
         command.write_text("#!/usr/bin/env python3\nimport os, runpy, signal, sys\n"
-                           f"sys.path[:0] = [{str(recorder.SOURCES.parent / 'view')!r}, {str(recorder.SOURCES.parent / 'common')!r}]\n"
+                           f"sys.path.insert(0, {str(recorder.PYTHON)!r})\n"
                            "import shb_view.command\nmade = shb_view.command.explain\n"
                            "def explain(*words, **how):\n"
                            f"    for name in {numbers!r}:\n        os.kill(os.getpid(), getattr(signal, name))\n    {then}\n    return made(*words, **how)\n"
-                           f"shb_view.command.explain = explain\nrunpy.run_path({str(recorder.BUILT / 'shb-record')!r}, run_name='__main__')\n")
+                           f"shb_view.command.explain = explain\nrunpy.run_path({str(recorder.COMMAND)!r}, run_name='__main__')\n")
         command.chmod(0o755)
         status, _, said = self.record(*words, self.program(), "0", "race", command=command)
         return status, said
@@ -938,12 +932,11 @@ int main(int count, char **words) {
         home = prefix / "lib" / "shb"
         (prefix / "bin").mkdir(parents=True)
         shutil.copytree(recorder.BUILT / "lib", home, symlinks=True)
-        shutil.copytree(recorder.SOURCES.parent / "common" / "shb_common", home / "shb_common")
-        shutil.copytree(recorder.BUILT / "shb_record", home / "shb_record")
-        for name in ("shb-record", "shb-std", "module-reader"):
-            shutil.copy(recorder.BUILT / name, home)
+        for name in ("shb_common", "shb_record", "shb_view"):
+            shutil.copytree(recorder.PYTHON / name, home / name)
+        for path in (recorder.COMMAND, recorder.BUILT / "shb-std", recorder.BUILT / "module-reader"):
+            shutil.copy(path, home)
         (prefix / "bin" / "shb-record").symlink_to("../lib/shb/shb-record")
         (prefix / "bin" / "shb").symlink_to(recorder.SHB)
-        shutil.copytree(recorder.SOURCES.parent / "view" / "shb_view", home / "shb_view")
         status, _, said = self.record(self.program(), "0", "race", command=prefix / "bin" / "shb-record", SHB="")
         self.assertEqual((status, "status.c:9" in said), (66, True), said)

@@ -62,7 +62,7 @@ class Crash(recorder.Case):
     def test_the_text_and_the_page_begin_with_it(self):
         program = self.folder / "crash"
         recorder.build(SOURCE, "-O0", program)
-        ran = recorder.call(recorder.BUILT / "shb-record", program, "store", cwd=self.folder, env={**os.environ, "SHB": str(recorder.SHB)})
+        ran = recorder.call(recorder.COMMAND, program, "store", cwd=self.folder, env={**os.environ, "SHB": str(recorder.SHB)})
         said = ran.stderr.decode()
         note = f"The program crashed: SIGSEGV at address 0x40 in thread T1.work: fail {LINES['STORE']}, from work {LINES['CALL']}."
         self.assertEqual((ran.returncode, said.splitlines()[1]), (66, note), said)

@@ -12,14 +12,22 @@ from analysis import Analysis
 from shb_common.report import Report
 from test_record import HEADER, entry
 
+POSITION_BITS, ENTRY_BYTES = 40, 16
 BLOCK = re.compile(rb"0x[0-9a-f]+#(\d+)(?:\+(\d+))?")
 
 
 class Drawn(test_open.Drawn):
-    """Besides: accesses of any bytes of a few cells, blocks that are freed and allocated again, ends of locks and semaphores, counters."""
+    """Besides: accesses of any bytes of a few cells, blocks that are freed and allocated again, ends of locks and semaphores,
+    counters; long ranges, large blocks, and barriers, which a thread may leave before others come."""
 
     all_words = [words + more for words in test_open.WORDS for more in ("", "B", "BD", "RWBB")] + ["RWGG", "RWGAF"]
+    all_words += ["RWN", "NNB", "RRKKK", "WKKKL", "NKKK", "RWTT", "RWTTL", "NTTT"]
     sizes = 1, 2, 3, 4, 8, 16, 24
+    large, barrier = 0x9000, 0x7100
+
+    def __init__(self, seed):
+        self.inside = set()  # of the barrier
+        super().__init__(seed)
 
     def step(self, word):
         if word in "RW":
@@ -34,35 +42,62 @@ class Drawn(test_open.Drawn):
             if self.draw.random() < 0.3:
                 super().step("W")
             self.add("ATOMIC_LOAD", cell, 4 | 2 << 5)
+        elif word == "N":
+            cell = self.draw.choice([*self.cells, *self.blocks()]) + self.draw.randrange(0, 600, 4)
+            self.add(self.draw.choice(("READ", "WRITE")), cell, self.draw.choice((256, 300, 504, 512, 600)))
+        elif word == "K":
+            self.use_large_block()
+        elif word == "T":
+            self.pass_barrier()
         elif word == "D":
             self.add("DESTROY", self.draw.choice((0x6000, 0x7000)))
         else:
             super().step(word)
+
+    def use_large_block(self):
+        kind = self.draw.choice(("ALLOC", "FREE", "READ", "WRITE", "READ", "WRITE"))
+        if kind == "FREE":
+            self.add("FREE", self.large)
+        elif kind == "ALLOC":
+            self.add("ALLOC", self.large, self.draw.choice((1024, 2000, 4096, 8192)))
+        else:
+            at = self.draw.choice((0, 500, 510, 516, 1000, 1020, 4000, 4092))
+            self.add(kind, self.large + at, self.draw.choice(self.sizes))
+
+    def pass_barrier(self):
+        if not any(step.operation == "BARRIER_INIT" for step in self.steps) or self.draw.random() < 0.02:
+            self.add("BARRIER_INIT", self.barrier, self.draw.randrange(1, 6))
+        self.add("DEPART" if self.thread in self.inside else "ARRIVE", self.barrier)
+        self.inside ^= {self.thread}
+
+    def end(self, thread, chance=1):
+        if thread not in self.inside:
+            super().end(thread, chance)
 
     def blocks(self):
         return [step.address for step in self.steps if step.operation == "ALLOC"][-3:]
 
 
 def file_of(drawn, draw):
-    """The record of drawn steps. Some plain accesses come late, as the recorder's do, and some of these twice."""
-    file, late, order, before = [], [], 0, None
+    """The record of drawn steps. Some plain accesses of one entry come late, as the recorder's do, and some of these twice."""
+    file, late, order, before = bytearray(), [], 0, None
     for step in drawn.steps:
         written = entry(step.thread, step.operation, step.address, step.place, step.size)
-        if step.operation in ("READ", "WRITE") and draw.random() < drawn.late:
-            order = order + 1 if before == len(file) else 1
-            before = len(file)
+        if step.operation in ("READ", "WRITE") and len(written) == ENTRY_BYTES and draw.random() < drawn.late:
+            order = order + 1 if before == len(file) // ENTRY_BYTES else 1
+            before = len(file) // ENTRY_BYTES
             late.append((before << 12 | order, written))
         else:
-            file.append(written)
+            file += written
         if draw.random() < 0.1:
             come(file, late, draw)
     come(file, late, draw)
-    return HEADER + b"".join(file)
+    return HEADER + file
 
 
 def come(file, late, draw):
     for position, written in [*late, *draw.sample(late, len(late) // 4)]:
-        file += [entry(0, "LATE", position & (1 << 48) - 1, 0), written]
+        file += entry(0, "LATE", position | draw.randrange(2) << POSITION_BITS, 0) + written
     late.clear()
 
 
@@ -120,6 +155,36 @@ class Decided(recorder.Case):
             self.assertEqual(recorder.must(recorder.call(few, path)).stdout, recorder.must(recorder.convert(path)).stdout, seed)
 
 
+MANY = 2**18 + 1  # variables; tables of recent ones have 2**16 and 2**18
+
+
+def is_right_of_many(folder, converter):
+    """Each variable is read by one thread at one place, and then written by another one."""
+    variables = range(0x100000, 0x100000 + 8 * MANY, 8)
+    record = folder / "many.rec"
+    accesses = [(1, "READ", "r", 0x201), (0, "WRITE", "w", 0x102)]
+    record.write_bytes(HEADER + entry(0, "FORK", 1, 0x101)
+                       + b"".join(entry(t, kind, at, place, 8) for t, kind, _, place in accesses for at in variables))
+    wanted = ["main|fork(T1)|0x101", *(f"{'main' if t == 0 else 'T1'}|{word}({at:#x})|{place:#x}"
+                                       for t, _, word, place in accesses for at in variables)]
+    return recorder.must(recorder.call(converter, "--scan", record)).stdout.decode().splitlines() == wanted
+
+
+class Many(recorder.Case):
+    def test_more_variables_than_tables_of_recent_ones_have(self):
+        self.assertTrue(is_right_of_many(self.folder, recorder.BUILT / "shb-std"))
+
+    def test_each_fault_is_found(self):
+        for number, (name, before, after) in enumerate(FAULTS_OF_MANY):
+            with self.subTest(before):
+                converter = test_open.planted(self.folder / str(number), name, before, after)
+                self.assertFalse(is_right_of_many(self.folder, converter))
+
+
+FAULTS_OF_MANY = (
+    ("events.c", "if (recent[at].piece != number) {", "if (!recent[at].piece) {"),
+    ("accesses.c", " && last->piece == number", ""),
+)
 FAULTS = {  # to plant in the converter: the file, what stands there, and what in its place
     "users": ("accesses.c", "if (b->user != t + 1 || with_others) b->many_users = 1;", "if (with_others) b->many_users = 1;"),
     "cuts": ("accesses.c", "if (operation_of(i) != OP_FREE) cut(end_of(i));", ""),
@@ -129,10 +194,20 @@ FAULTS = {  # to plant in the converter: the file, what stands there, and what i
     "scan_name": ("events.c", "        part name = variable_name(p->at, block", "        part name = variable_name(p->at & ~1ul, block"),
     "shared_lock": ("objects.c", "    int orders = o->many_users || whole_trace;", "    int orders = whole_trace || is_atomic(operation_of(i));"),
     "repeats": ("accesses.c", " && last->writes == this.writes", ""),
-    "fences": ("objects.c", "if (releases(i)) fences[thread_of(i)].fenced = 1;", ""),
-    "what others gave is dropped": ("objects.c", "if (o->gifts[k].giver != t && o->gifts[k].version > last)", "if (0)"),
-    "more than gifts is given on": ("objects.c", " || last_of[t].object != (u64)(o - objects + 1)", ""),
+    "fences": ("objects.c", "if (releases(i)) threads[thread_of(i)].is_fenced = 1;", ""),
+    "what others gave is dropped": ("objects.c", "if (g->giver != t && g->version > last)", "if (0)"),
+    "more than gifts is given on": ("objects.c", " || threads[t].gave != index_of(o) + 1", ""),
     "no begin of a thread that did nothing": ("main.c", "if (!has_events(child) &&", "if (0 &&"),
+    "half of what is freed": ("records.c", "MAX_FREED = 1024", "MAX_FREED = 512"),
+    "ranges of 256 bytes and more": (
+        "records.c", "inside & IS_RANGE ? inside - IS_RANGE", "inside & IS_RANGE ? (inside - IS_RANGE) % 256"),
+    "blocks of whole pages": ("memory.c", "if (stop - from == PAGE) p->whole = number;", "if (stop - from == PAGE) p->whole = 0;"),
+    "a barrier has one round": ("objects.c", "u32 round = has_rounds ? o->arrivals / o->count : 0;", "u32 round = 0;"),
+    "a barrier always has rounds": ("objects.c", "o->count && o->users <= o->count && !o->recounted", "o->count"),
+    "who leaves a barrier gets nothing": ("objects.c", "    case OP_DEPART: pass_lock(", "    case OP_DEPART: if (0) pass_lock("),
+    "a fork ends no repeats": (
+        "events.c", "if (*operation != 'r' || operation[1]) threads", "if (!strchr(\"rf\", *operation)) threads"),
+    "acquire fences": ("objects.c", "if (acquires(i)) take_noted(thread_of(i), hand, caller_of(i));", ""),
     "numbers that are used again": ("records.c", "if (is_joined[number]) with_number[number] = thread_bound();", ""),
 }
 
@@ -140,7 +215,7 @@ FAULTS = {  # to plant in the converter: the file, what stands there, and what i
 FAULTS_OF_PAGES = {
     "no page for what is written atomically": ("page.c", "if (sign) add_name(", "if (0) add_name("),
     "a write that is passed over orders nothing": ("events.c", "threads[t].epoch += writes;", ""),
-    "locks before what is passed over aren't counted": ("events.c", "    if (holds_unwritten(t)) write_holds(t);\n    meet_page();", "    meet_page();"),
+    "locks before what is passed over aren't counted": ("events.c", "    write_holds(t);\n    meet_span();", "    meet_span();"),
     "the second pass goes on with the reads of the first": ("accesses.c", "if (recent) memset", "if (0) memset"),
 }
 

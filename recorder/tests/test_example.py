@@ -1,4 +1,4 @@
-"""The example's stored trace; install/tests/test_followed.py runs the commands of README."""
+"""The example's stored trace; packaging/tests/test_followed.py runs the commands of README."""
 
 import recorder
 

@@ -5,8 +5,13 @@ import re
 import resource
 import signal
 import subprocess
+import sys
 
 import recorder
+
+# Runs a program from a process that takes little memory itself, and prints the most that it took.
+MOST_MEMORY = ("import resource, subprocess, sys; subprocess.run(sys.argv[1:], check=True); "
+               "print(resource.getrusage(resource.RUSAGE_CHILDREN).ru_maxrss)")
 
 
 class Failures(recorder.Case):
@@ -21,10 +26,20 @@ class Failures(recorder.Case):
             ran = recorder.must(recorder.call(program, env=recorder.settings(path)))
             self.assertIn(reason + b"; the program runs unrecorded", ran.stderr)
 
+    def test_settings_that_are_no_numbers(self):
+        """Each is said, and the program recorded as without it."""
+        wrong = {"SHB_RECORDS": ("abc", 1, 1 << 40), "SHB_CELLS": ("x", 0, 1 << 40), "SHB_SLICE": ("0", 1, (1 << 30) - 1), "SHB_STALL": ("0", 1, (1 << 31) - 1),
+                 "SHB_STACKS": ("2", 0, 1), "SHB_SEGMENT": ("1x", 1, 1 << 40), "SHB_SEED": ("-1", 0, (1 << 64) - 1)}
+        env = recorder.settings(self.folder / "app.%s.rec", **{name: text for name, (text, _, _) in wrong.items()})
+        ran = recorder.must(recorder.call(self.program("mutex_ok.c"), env=env))
+        said = [f"shb recorder: {name} takes a number from {least} to {most}, not `{text}`, and is ignored" for name, (text, least, most) in wrong.items()]
+        self.assertEqual(sorted(ran.stderr.decode().splitlines()), sorted(said))
+        recorder.must(recorder.convert(self.folder / "app.1.rec"))
+
     def test_a_limit_of_the_converters_addresses(self):
         few = (300 << 20, 300 << 20)
         ran = recorder.call(recorder.BUILT / "shb-std", "--version", preexec_fn=lambda: resource.setrlimit(resource.RLIMIT_AS, few))
-        said = b"shb-std: there are too few addresses for its tables, which take 440 MB of them (ulimit -v)\n"
+        said = b"shb-std: there are too few addresses for its tables, which take 400 MB of them (ulimit -v)\n"
         self.assertEqual((ran.returncode, ran.stderr), (2, said))
 
     def test_a_limit_of_the_size_of_files(self):
@@ -100,12 +115,9 @@ class Failures(recorder.Case):
         program, record = self.folder / "app", self.folder / "app.rec"
         recorder.must(recorder.call("gcc", "-w", "-g", "-O1", "-DSTEPS=3000000", "-fsanitize=thread", "-pthread", f"-B{recorder.BUILT}/lib/",
                                     recorder.PROGRAMS / "long_run.c", "-o", program))
-        with subprocess.Popen([program], env=recorder.settings(record, SHB_CELLS="0")) as ran:
-            _, status, used = os.wait4(ran.pid, 0)
-            ran.returncode = status
-        self.assertEqual(status, 0)
+        ran = recorder.must(recorder.call(sys.executable, "-c", MOST_MEMORY, program, env=recorder.settings(record, SHB_CELLS="0")))
         self.assertGreater(record.stat().st_size, 160 << 20)
-        self.assertLess(used.ru_maxrss << 10, record.stat().st_size // 2)
+        self.assertLess(int(ran.stdout) << 10, record.stat().st_size // 2)
         recorder.must(recorder.convert(record))
 
     def test_loops_that_wait_do_not_reach_it(self):

@@ -6,7 +6,7 @@ import sys
 
 import recorder
 
-sys.path.insert(0, str(recorder.SOURCES.parent / "common"))
+sys.path.insert(0, str(recorder.PYTHON))
 from shb_common.stacks import Stacks  # noqa: E402
 
 

@@ -58,7 +58,7 @@ class Text(recorder.Case):
             self.skipTest(f"{compiler} isn't installed")
         recorder.must(recorder.call(compiler, *words, cwd=self.folder, env={**os.environ, "RUSTC_BOOTSTRAP": "1"}))
         how = {**os.environ, "SHB": str(recorder.SHB)}
-        said = recorder.call(recorder.BUILT / "shb-record", "-o", "out", "./app", cwd=self.folder, env=how).stderr.decode()
+        said = recorder.call(recorder.COMMAND, "-o", "out", "./app", cwd=self.folder, env=how).stderr.decode()
         return said
 
     def test_gcc_s_libraries_order_nothing_unseen(self):

@@ -87,6 +87,14 @@ class Libraries(recorder.Case):
             self.assertEqual(shown.count("Perhaps ordered: code of both sides calls, or is called by, libbox.so, whose locks and queues aren't seen."), 1)
         self.assertEqual(page.read_text().count('class="tag perhaps"'), 1)
 
+    def test_what_a_sanitizer_adds_orders_nothing(self):
+        """A race isn't doubted because both sides have calls of libubsan."""
+        words = ["-g", "-Og", "-fsanitize=thread,undefined", recorder.HERE.parents[1] / "examples" / "account.c", "-o", "account"]
+        recorder.must(recorder.call("gcc", *words, cwd=self.folder))
+        ran = recorder.call(recorder.COMMAND, "./account", cwd=self.folder, env={**os.environ, "SHB": str(recorder.SHB)})
+        said = ran.stderr.decode()
+        self.assertEqual((ran.returncode, "1. balance: " in said, "Perhaps" in said, "libubsan" in said), (66, True, False, False), said)
+
     def test_perhaps_ordered_as_callbacks(self):
         """A library without hooks starts the threads that call the program back, one at a time; the program's own threads aren't its. With its
         names and debug information or without, it is known in call stacks."""
@@ -113,7 +121,7 @@ class Libraries(recorder.Case):
         for words in ([*kept, "-shared", "-fPIC", "box.c", "-o", "libbox.so"], ["-fsanitize=thread", "use.c", "-o", "use", "./libbox.so"]):
             recorder.must(recorder.call("gcc", "-g", "-O1", "-pthread", *words, cwd=self.folder))
         shutil.rmtree(self.folder / "out", ignore_errors=True)
-        ran = recorder.call(recorder.BUILT / "shb-record", "-o", "out", "./use", cwd=self.folder, env={**os.environ, "SHB": str(recorder.SHB)})
+        ran = recorder.call(recorder.COMMAND, "-o", "out", "./use", cwd=self.folder, env={**os.environ, "SHB": str(recorder.SHB)})
         found = json.loads((self.folder / "out" / "places.json").read_text())
         by = {place["variables"][0]["name"].partition("#")[0]: found["groups"][place["group"] - 1].get("perhaps_ordered_by") for place in found["places"]}
         self.assertEqual(by, wanted, ran.stderr)

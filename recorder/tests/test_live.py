@@ -28,9 +28,9 @@ class Live(recorder.Case):
         return dict(sorted((int(path.name.split(".")[-2]), path) for path in self.folder.rglob("*.rec")))
 
     def live(self, then, *words):
-        """Looks at the program, with segments of 5,000 records, until both races are shown; then does this. Gives the status and all that was
+        """Looks at the program, with segments of 5,000 records, until both races are shown; then does this. Returns the status and all that was
         said."""
-        words = [recorder.BUILT / "shb-record", "--live", *words, self.program(), "0"]
+        words = [recorder.COMMAND, "--live", *words, self.program(), "0"]
         with subprocess.Popen([str(word) for word in words], cwd=self.folder, stdin=subprocess.PIPE, stderr=subprocess.PIPE, text=True,
                               env={**os.environ, "SHB": str(recorder.SHB), "SHB_SEGMENT": "5000"}) as ran:
             said = []
@@ -70,7 +70,7 @@ class Live(recorder.Case):
     def test_known_places_are_passed_over(self):
         path = self.folder / "known"
         path.write_text("".join(f"{place}\t{place}\n" for place in sorted(RACING)))
-        ran = recorder.call(recorder.BUILT / "shb-record", "--live", "--known", path, self.program(), "400", cwd=self.folder,
+        ran = recorder.call(recorder.COMMAND, "--live", "--known", path, self.program(), "400", cwd=self.folder,
                             env={**os.environ, "SHB": str(recorder.SHB), "SHB_SEGMENT": "5000"})
         said = ran.stderr.decode()
         self.assertNotEqual(ran.returncode, 66, said)
@@ -84,7 +84,7 @@ class Live(recorder.Case):
         known.write_text("status.c:9\tstatus.c:9\n")
         copies = "for n in 1 2 3; do cp $0 $(echo $SHB_RECORD | sed s/%p/7/\\;s/%s/$n/); done"
         for words, status, pages in ((), 66, 1), (("--known", known), 0, 0):
-            ran = recorder.call(recorder.BUILT / "shb-record", "--live", "-o", f"out{pages}", *words, "sh", "-c", copies, record, cwd=self.folder,
+            ran = recorder.call(recorder.COMMAND, "--live", "-o", f"out{pages}", *words, "sh", "-c", copies, record, cwd=self.folder,
                                 env={**os.environ, "SHB": str(recorder.SHB)})
             said = ran.stderr.decode()
             self.assertEqual(ran.returncode, status, said)
@@ -135,10 +135,10 @@ class Live(recorder.Case):
         self.assertIn(b"the recording is not the whole run: " + reason, recorder.part(recorder.convert(self.records()[1])).stderr)
 
     def test_a_program_without_hooks(self):
-        ran = recorder.call(recorder.BUILT / "shb-record", "--live", "true", cwd=self.folder, env={**os.environ, "SHB": str(recorder.SHB)})
+        ran = recorder.call(recorder.COMMAND, "--live", "true", cwd=self.folder, env={**os.environ, "SHB": str(recorder.SHB)})
         self.assertEqual((ran.returncode, b"true left no record. Was it compiled and linked with" in ran.stderr), (125, True), ran.stderr)
 
     def test_words_that_do_not_go_together(self):
         for words in (["--keep"], ["--replay", "x.turns"], ["--runs", "2"], ["--until-found", "2"]):
-            ran = recorder.call(recorder.BUILT / "shb-record", "--live", *words, "true")
+            ran = recorder.call(recorder.COMMAND, "--live", *words, "true")
             self.assertEqual((ran.returncode, b"--live" in ran.stderr), (125, True), ran.stderr)

@@ -11,7 +11,7 @@ import recorder
 import test_members
 from test_record import entry
 
-sys.path.insert(0, str(recorder.SOURCES.parent / "common"))
+sys.path.insert(0, str(recorder.PYTHON))
 from shb_common.stacks import Stacks  # noqa: E402
 
 END = 0x40000000  # of the main thread's stack
@@ -79,7 +79,7 @@ class Programs(recorder.Case):
             for option in ("-O0", "-O1", "-O2"):
                 record = self.recorded(compiler, option, "dead_locals.c")
                 trace.write_bytes(recorder.must(recorder.convert(record, "--stacks", path)).stdout)
-                view = recorder.SOURCES.parent / "view" / "shb-view"
+                view = recorder.PYTHON / "shb-view"
                 shown = recorder.call(sys.executable, "-B", view, "--stacks", path, trace, env={**os.environ, "SHB": str(recorder.SHB)})
                 with self.subTest(compiler=compiler, option=option):
                     self.assertIn(b"1. flag of wait_for", recorder.must(shown).stdout)
@@ -143,7 +143,7 @@ class MadeByHand(recorder.Case):
         local = END - gap + self.at + inside
         entries = [entry(0, "START", END - 8192, 0, 8192), entry(0, "FORK", 1, 0x101), entry(1, "START", 0x30000000, 0x500, 4096), before,
                    frames, entry(0, "WRITE", local, self.main + 20, 4), entry(1, "WRITE", local, 0x200, 4), behind]
-        header = b"shb-record 10\n0 ffffff 0 " + os.fsencode(self.program) + b"\n"
+        header = b"shb-record 11\n0 ffffff 0 " + os.fsencode(self.program) + b"\n"
         self.record.write_bytes(header.ljust(65536 - 256, b"\0") + b"whole".ljust(256, b"\0") + b"".join(entries))
 
     def names(self, converter=None):

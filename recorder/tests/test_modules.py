@@ -176,7 +176,7 @@ class Readers(Recorded):
     def reader(self, name, *changes):
         """The reader with other texts in its sources."""
         folder = self.folder / name
-        shutil.copytree(recorder.SOURCES, folder, ignore=shutil.ignore_patterns("lib", "tests", "runtime", "shb_record"))
+        shutil.copytree(recorder.SOURCES, folder, ignore=shutil.ignore_patterns("lib", "tests", "runtime"))
         for path, before, after in changes:
             text = (folder / path).read_text()
             self.assertEqual(text.count(before), 1, before)

@@ -8,7 +8,7 @@ import struct
 
 import recorder
 
-HEADER = b"shb-record 10\n".ljust(65536 - 256, b"\0") + b"whole".ljust(256, b"\0")
+HEADER = b"shb-record 11\n".ljust(65536 - 256, b"\0") + b"whole".ljust(256, b"\0")
 DEFINED = re.search(r"enum operation \{(.*?)\n\};", (recorder.SOURCES / "record.h").read_text(), re.S)[1]
 OPERATIONS = re.findall(r"OP_\w+", re.sub(r"/\*.*?\*/", "", DEFINED))
 SIZE_FOLLOWS = 1023
@@ -121,14 +121,15 @@ class Canned(recorder.Case):
         self.assertIn(b"the trace is cut where its accesses of long ranges take too much work", answer.stderr)
 
 
-def late(before, which, access, context=0):
+def late(before, which, access, context=0, is_repeated=False):
     """What was held back, as the entry with this number was to come; which one of those held back there."""
-    return entry(0, "LATE", before << 12 | which, context) + access
+    return entry(0, "LATE", is_repeated << 40 | before << 12 | which, context) + access
 
 
 LATE_ENTRIES = [  # held back before T1's first write, and behind its second, of which the same comes twice
     entry(0, "FORK", 1, 0x101), entry(1, "WRITE", RANGE, 0x201, 4), late(1, 2, entry(0, "READ", RANGE, 0x102, 4)),
-    late(1, 1, entry(0, "WRITE", RANGE, 0x103, 4)), entry(1, "WRITE", RANGE, 0x202, 4), *[late(7, 1, entry(0, "READ", RANGE, 0x104, 4))] * 2,
+    late(1, 1, entry(0, "WRITE", RANGE, 0x103, 4)), entry(1, "WRITE", RANGE, 0x202, 4),
+    *[late(7, 1, entry(0, "READ", RANGE, 0x104, 4), is_repeated=True)] * 2,
 ]
 SORTED = ["main|fork(T1)|0x101", "main|w(0x40000000)|0x103", "main|r(0x40000000)|0x102", "T1|w(0x40000000)|0x201",
           "T1|w(0x40000000)|0x202", "main|r(0x40000000)|0x104"]
@@ -151,7 +152,8 @@ class Late(recorder.Case):
     def test_a_damaged_one(self):
         access, before = entry(0, "READ", RANGE, 0x103, 4), entry(0, "FORK", 1, 0x101) + entry(0, "WRITE", RANGE, 0x104, 600)
         for damaged in (late(4, 1, access), late((1 << 28) - 1, 1, access), late(2, 1, access), late(1, 1, entry(0, "LOCK", LOCK, 0x102)),
-                        late(1, 1, entry(0, "READ", RANGE, 0x103, 600)), late(1, 1, late(1, 1, access)), late(1, 1, entry(65535, "READ", RANGE, 0x103, 4))):
+                        late(1, 1, entry(0, "READ", RANGE, 0x103, 600)), late(1, 1, late(1, 1, access)), late(1 << 29, 1, access),
+                        late(1, 1, entry(65535, "READ", RANGE, 0x103, 4))):
             answer = self.convert(before + damaged)
             self.assertEqual((answer.returncode, answer.stdout), (2, b""))
             self.assertIn(b"is damaged", answer.stderr)
@@ -307,7 +309,7 @@ def damaged_records():
         yield bytes(record)
     yield from (HEADER + random_bytes(draw, 16 * entries) for entries in range(20))
     yield random_bytes(draw, 70000)
-    yield b"shb-record 10\nffff 1 2 \n1 2\nx y z\n0 fff 0 --help\n0 ffffffffffff 0 /\n".ljust(65536, b"1") + ENTRIES
+    yield b"shb-record 11\nffff 1 2 \n1 2\nx y z\n0 fff 0 --help\n0 ffffffffffff 0 /\n".ljust(65536, b"1") + ENTRIES
 
 
 def damaged_programs(good):
@@ -346,7 +348,7 @@ class Damaged(recorder.Case):
     def test_a_program_with_damaged_debug_information(self):
         converter, record, program = recorder.sanitized(self.folder), self.folder / "app.rec", self.folder / "app"
         recorder.must(recorder.call("gcc", "-g", *recorder.two_of_one_name(self.folder / "sources"), "-o", program, "-pthread"))
-        module = b"shb-record 10\n0 ffffff 0 " + os.fsencode(program) + b"\n"
+        module = b"shb-record 11\n0 ffffff 0 " + os.fsencode(program) + b"\n"
         record.write_bytes(module.ljust(65536 - 256, b"\0") + b"whole".ljust(256, b"\0") + ENTRIES)
         for number, damaged in enumerate(damaged_programs(program.read_bytes())):
             program.write_bytes(damaged)
@@ -359,7 +361,7 @@ class Damaged(recorder.Case):
             self.skipTest("clang isn't installed")
         converter, record, program = recorder.sanitized(self.folder, "clang"), self.folder / "app.rec", self.folder / "app"
         recorder.must(recorder.call("gcc", "-g", *recorder.two_of_one_name(self.folder / "sources"), "-o", program, "-pthread"))
-        record.write_bytes((b"shb-record 10\n0 ffffff 0 " + os.fsencode(program) + b"\n").ljust(65536 - 256, b"\0")
+        record.write_bytes((b"shb-record 11\n0 ffffff 0 " + os.fsencode(program) + b"\n").ljust(65536 - 256, b"\0")
                            + b"whole".ljust(256, b"\0") + ENTRIES)
         program.write_bytes(program.read_bytes().replace(b".debug_line_str", b".debug_line_xxx"))
         self.assertEqual(self.convert(converter, record), 0)
@@ -415,8 +417,8 @@ class Damaged(recorder.Case):
 
     def test_a_record_of_another_version(self):
         path = self.folder / "app.rec"
-        for version in (b"5", b"11"):
-            path.write_bytes(HEADER.replace(b"10", version, 1).ljust(65536, b"\0")[:65536])
+        for version in (b"5", b"12"):
+            path.write_bytes(HEADER.replace(b"11", version, 1).ljust(65536, b"\0")[:65536])
             answer = recorder.convert(path)
             self.assertEqual((answer.returncode, answer.stdout), (2, b""))
             self.assertIn(b"is a record of version " + version + b", by another version of the recorder", answer.stderr)

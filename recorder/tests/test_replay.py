@@ -32,7 +32,7 @@ class Replays(recorder.Case):
         return ran.stderr.decode(), (self.folder / f"{name}.turns").read_bytes()[HEADER:]
 
     def record(self, *words):
-        ran = recorder.call(recorder.BUILT / "shb-record", *words, cwd=self.folder, env={**os.environ, "SHB": str(recorder.SHB)})
+        ran = recorder.call(recorder.COMMAND, *words, cwd=self.folder, env={**os.environ, "SHB": str(recorder.SHB)})
         return ran.returncode, ran.stderr.decode()
 
     def test_a_found_race_is_found_again(self):

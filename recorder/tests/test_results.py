@@ -80,7 +80,7 @@ class Results(recorder.Case):
 
     def record(self, *words, folder=None):
         how = {**os.environ, "SHB": str(recorder.SHB)}
-        ran = recorder.call(recorder.BUILT / "shb-record", *words, env=how, cwd=folder or self.folder)
+        ran = recorder.call(recorder.COMMAND, *words, env=how, cwd=folder or self.folder)
         return ran.returncode, ran.stderr.decode()
 
     def test_memory_without_a_name_is_known_in_the_next_run(self):
@@ -157,7 +157,7 @@ class Results(recorder.Case):
             [result] = run["results"]
             self.assertEqual(result["locations"][0]["physicalLocation"]["artifactLocation"], {"uri": "source/lib/app.c", "uriBaseId": "SRCROOT"})
             self.assertEqual(result["message"]["text"], "Data race on `hits` between app.c:5 and [app.c:5](1). app.c:5 writes without a "
-                             "lock. Remedy: make it atomic if it is a flag or a counter; else hold one lock at app.c:5, or order them by a join, or by a release and an acquire.")
+                             "lock. Remedy: make it atomic if it is a flag or a counter; else hold one lock at app.c:5.")
             flows = result["codeFlows"][0]["threadFlows"]
             self.assertEqual([step["location"]["physicalLocation"]["region"]["startLine"] for flow in flows for step in flow["locations"]], [5, 5])
             self.assertTrue(run["tool"]["driver"]["version"])
@@ -172,7 +172,19 @@ class Results(recorder.Case):
         self.assertEqual(lines, [8, 10])
         self.assertIn("between app.c:8 and [app.c:10](1). app.c:8 reads without door", result["message"]["text"])
         [place] = json.loads((self.folder / "out" / "places.json").read_text())["places"]
-        self.assertEqual([access["in_trace"] for access in place["accesses"] if access.get("is_blamed")], ["app.c:8"])
+        self.assertEqual((place["blamed"]["in_trace"], place["blamed"]["functions"]), ("app.c:8", ["pay"]))
+
+    def test_an_alert_at_an_atomic(self):
+        """It is neither of the two lines that race, and has both as related ones."""
+        source = recorder.HERE / "blamed" / "flag_store.c"
+        program = self.build(source.read_text())
+        self.assertEqual(self.record("--until-found", "10", "-o", "out", program)[0], 66)
+        [result] = json.loads((self.folder / "out" / "places.sarif").read_text())["runs"][0]["results"]
+        lines = [one["physicalLocation"]["region"]["startLine"] for one in (*result["locations"], *result["relatedLocations"])]
+        self.assertEqual(lines, [8, 12, 7])
+        self.assertIn("between [app.c:12](1) and [app.c:7](2). app.c:8 writes ready without release", result["message"]["text"])
+        [place] = json.loads((self.folder / "out" / "places.json").read_text())["places"]
+        self.assertEqual((place["blamed"]["in_trace"], os.path.basename(place["blamed"]["file"])), ("app.c:8", "app.c"))
 
     def test_what_did_not_race_is_not_said(self):
         """There are no suspicions: no word, no file, no option, and nothing of them in the sources."""
@@ -185,7 +197,7 @@ class Results(recorder.Case):
         self.assertNotRegex(said, "hits|uspici")
         status, said = self.record("--fail-on-suspicion", program)
         self.assertEqual((status, "unrecognized arguments: --fail-on-suspicion" in said), (125, True))
-        paths = [path for folder in ("recorder", "view", "farm", "fix", "common") for path in (recorder.HERE.parents[1] / folder).rglob("*")]
+        paths = [path for folder in ("recorder", "python") for path in (recorder.HERE.parents[1] / folder).rglob("*")]
         sources = [path for path in paths if path.suffix in (".c", ".h", ".py", ".js") and "tests" not in path.parts]
         self.assertGreater(len(sources), 100)
         self.assertEqual([path for path in sources if b"uspici" in path.read_bytes()], [])

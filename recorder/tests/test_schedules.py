@@ -27,8 +27,9 @@ int main(void) {{
     return 0;
 }}
 """
-SMALL = "import sys; sys.path[:0] = sys.argv[1:4]; from shb_view import view; view.MOST_REPORT = 70; " \
-        "from shb_record.command import main; sys.exit(main(sys.argv[4:]))"
+SMALL = "import sys; sys.path.insert(0, sys.argv[1]); from shb_view import view; " \
+        "view.MOST_REPORT = int(sys.argv[2]); " \
+        "from shb_record.command import main; sys.exit(main(sys.argv[3:]))"
 
 
 class Schedules(recorder.Case):
@@ -38,7 +39,7 @@ class Schedules(recorder.Case):
         program = self.folder / source.stem
         flags = ["-w", "-g", "-O1", "-fsanitize=thread", "-pthread"]
         recorder.must(recorder.call("gcc", *flags, source, "-o", program))
-        words = [*(starts or [recorder.BUILT / "shb-record"]), "--until-found", "10", "-o", "out", program]
+        words = [*(starts or [recorder.COMMAND]), "--until-found", "10", "-o", "out", program]
         ran = recorder.call(*words, env={**os.environ, "SHB": str(shb or recorder.SHB)}, cwd=self.folder)
         document = json.loads((self.folder / "out" / "places.json").read_text())
         [page] = (path.read_text() for path in (self.folder / "out").glob("run*.html"))
@@ -98,6 +99,11 @@ class Schedules(recorder.Case):
         self.assertEqual((len(document["groups"]), page.count("<summary>")), (MANY, MANY))
         self.assertLess(len(page.encode()), 8_000_000)
 
+    def test_schedules_end_before_their_races(self):
+        """All 12 events of the example would take 84 bytes; those before its race take fewer."""
+        *_, document, _, _ = self.record(starts=[sys.executable, "-c", SMALL, recorder.COMMAND.parent, "80"])
+        self.assertTrue(document["groups"][0]["schedule"]["is_checked"])
+
     def test_a_bad_verdict(self):
         """Nothing is shown in the order of such a schedule, and the status is that of a failed check."""
         made = self.with_fake("check*", "cat > /dev/null; echo bad race 1; exit 5")
@@ -110,8 +116,7 @@ class Schedules(recorder.Case):
 
     def test_why_there_are_no_schedules(self):
         """The places of the run stand: they are those of its own list."""
-        parts = [recorder.BUILT.parent / name for name in ("recorder", "view", "common")]
-        small = [sys.executable, "-c", SMALL, *parts]
+        small = [sys.executable, "-c", SMALL, recorder.COMMAND.parent, "20"]
         for made, words in (
                 (self.record(starts=small), "No schedules were made, since they would take over 100 MB."),
                 (self.with_fake("'places --variables'", "echo no room >&2; exit 4"),

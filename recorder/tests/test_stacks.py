@@ -9,7 +9,7 @@ import sys
 import recorder
 from test_record import BLOCK, HEADER, entry, late
 
-sys.path.insert(0, str(recorder.SOURCES.parent / "common"))
+sys.path.insert(0, str(recorder.PYTHON))
 from shb_common.stacks import Stacks, Tables  # noqa: E402
 
 

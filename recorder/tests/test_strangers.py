@@ -10,7 +10,7 @@ import unittest.mock
 
 import recorder
 
-sys.path += [str(recorder.SOURCES), str(recorder.SOURCES.parent / "common")]
+sys.path.append(str(recorder.PYTHON))
 from shb_record import results
 
 NOBODY = 65534
@@ -25,7 +25,7 @@ class Strangers(recorder.Case):
         return out
 
     def record(self, *words):
-        ran = recorder.call(recorder.BUILT / "shb-record", *words, cwd=self.folder, env={**os.environ, "SHB": str(recorder.SHB)})
+        ran = recorder.call(recorder.COMMAND, *words, cwd=self.folder, env={**os.environ, "SHB": str(recorder.SHB)})
         return ran.returncode, ran.stderr.decode()
 
     @AS_ROOT

@@ -1,8 +1,9 @@
 """The table of uses, which facts of locks count from."""
 
 import recorder
+from test_record import HEADER, LATE_ENTRIES, RANGE, entry, late
 
-# Of the worker's reads all but the first are left out of the trace, as repeated; and so is what its lock, which no other thread uses, does there.
+# The trace has the worker's first read alone, for the others repeat it, and nothing of the lock there, which no other thread uses.
 PROGRAM = """#include <pthread.h>
 static long x;
 static pthread_mutex_t m = PTHREAD_MUTEX_INITIALIZER;
@@ -34,3 +35,29 @@ class Uses(recorder.Case):
         fields = [line.split("\t") for line in (self.folder / "u.uses").read_text().splitlines() if line.startswith("use\t")]
         reads = [(int(count), locks) for _, count, word, _, _, _, _, _, *locks in fields if word == "r"]
         self.assertEqual((sum(count for count, _ in reads), {tuple(locks) for _, locks in reads}), (6, {("m",)}))
+
+    def repeated(self, entries, race):
+        """The events of the page's trace of a race that stand for others, and that trace."""
+        record, races, uses = (self.folder / name for name in ("app.rec", "races", "uses"))
+        record.write_bytes(HEADER + b"".join(entries))
+        races.write_text(f"{race} {hex(RANGE)}\n")
+        trace = recorder.must(recorder.convert(record, "--only", races, "--uses", uses)).stdout.decode().splitlines()
+        lines = [line.split("\t") for line in uses.read_text().splitlines()]
+        return sorted(trace[int(fields[1]) - 1] for fields in lines if fields[0] == "repeated")
+
+    def test_a_late_access_that_stands_for_earlier_ones(self):
+        """The last entry of these comes twice, and says so; with and without that."""
+        self.assertEqual(self.repeated(LATE_ENTRIES, "2 4"), ["main|r(0x40000000)|0x104"])
+        first = [entry(0, "FORK", 1, 0x101), entry(1, "WRITE", RANGE, 0x201, 4)]
+        for which, is_repeated in enumerate([(0, 0), (0, 1), (1, 0), (1, 1)]):
+            beat = entry(0, "WRITE", RANGE, 0x102, 4)
+            both = [late(2, 1, beat, is_repeated=repeated) for repeated in is_repeated]
+            self.assertEqual(self.repeated([*first, *both], "2 3"), ["main|w(0x40000000)|0x102"] * any(is_repeated), which)
+
+    def test_a_read_that_stands_for_later_ones(self):
+        """Until the variable is written, or the thread orders another."""
+        read, written = entry(0, "READ", RANGE, 0x102, 4), entry(1, "WRITE", RANGE, 0x201, 4)
+        lock = [entry(thread, kind, RANGE + 64, 0x103) for thread in (1, 0) for kind in ("LOCK", "UNLOCK")]
+        for between, is_repeated in (([], True), ([written], False), (lock, False), ([entry(0, "READ", RANGE, 0x104, 4)], True)):
+            found = self.repeated([entry(0, "FORK", 1, 0x101), written, read, *between, read], "2 3")
+            self.assertEqual(found, ["main|r(0x40000000)|0x102"] * is_repeated)

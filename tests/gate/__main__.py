@@ -10,7 +10,7 @@
 `rt ci` proves the crates in a copy of the repository that has no must-fail edits; it takes over what an
 earlier run on this machine has proved of the same files over the same libraries. As soon as a crate is proved its edits
 are tried over the libraries that are built by then (joint.py), those that the record (record.py) doesn't answer for and of
-the others a tenth; as soon as the program is linked the tests of tests/, recorder/, farm/, install/ and common/ run on it, and
+the others a tenth; as soon as the program is linked the tests of tests/, recorder/, python/ and packaging/ run on it, and
 what it costs is counted (tests/costs.py), two of these at once. Each part ends with a line 'N passed, N failed', and so does the whole.
 """
 
@@ -37,8 +37,7 @@ import steps
 ROOT = pathlib.Path(__file__).resolve().parent.parent.parent
 SUMS = ROOT / "tests" / "gate" / "refused.sums"
 MEMORY = 3_000_000_000  # a check of edits waits until so many bytes are free; most take less than 2.5 GB
-SUITES = ("recorder/tests/run.py", "tests/run.py", "tests/costs.py", "farm/tests/run.py", "install/tests/run.py",
-          "common/tests/run.py")  # the longest first
+SUITES = ("recorder/tests/run.py", "tests/run.py", "tests/costs.py", "python/tests/run.py", "packaging/tests/run.py")  # the longest first
 AT_ONCE = 2  # suites
 CLOSING = re.compile(r"(\d+) passed, (\d+) failed(?:, \d+ skipped)?")
 

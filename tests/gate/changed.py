@@ -27,11 +27,10 @@ SUMS = ROOT / "tests" / "gate" / "refused.sums"
 FORMS = ("edits.py", "layout.py", "documents.py", "surface.py", "refusals.py", "endless.py", "weight.py")
 # Which folders' changes are tested by which tests, all on the built program.
 SUITES = {
-    "tests": ("tests/", "view/", "common/", "farm/", "fix/", "plain/", "examples/", "crates/"),
-    "recorder/tests": ("recorder/", "view/", "common/", "tests/side_by_side.py"),
-    "common/tests": ("common/", "tests/side_by_side.py"),
-    "farm/tests": ("farm/", "common/", "tests/side_by_side.py"),
-    "install/tests": ("install/", "Makefile", "recorder/", "farm/", "fix/", "view/", "common/", "tests/side_by_side.py"),
+    "tests": ("tests/", "python/", "reference/", "examples/", "crates/"),
+    "recorder/tests": ("recorder/", "python/", "tests/side_by_side.py"),
+    "python/tests": ("python/", "tests/side_by_side.py"),
+    "packaging/tests": ("packaging/", "Makefile", "recorder/", "python/", "tests/side_by_side.py"),
 }
 
 

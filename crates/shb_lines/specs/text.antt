@@ -11,7 +11,6 @@ pub mod Messages
 pub mod TraceData
 pub mod Taking
 pub mod Lines
-pub mod OwnedNames
 pub mod Numbering
 pub mod Taken
 -- what the reader and the trace hold

@@ -108,7 +108,7 @@ impl EventReader {
     }
 
     /// Takes the line that was given last.
-    fn take_given(&mut self, alloc: Global, limits: &Limits, ended: bool) -> Result<Taken, NoMemory>
+    fn take_given(&mut self, limits: &Limits, ended: bool) -> Result<Taken, NoMemory>
         requires wide { AreWide limits.now }
         requires few { self.old.line < 2 ^ 64 - 1 }
         requires within { IsWithin limits.now self.old.numbering }
@@ -125,7 +125,7 @@ impl EventReader {
         self.line += 1;
         match self
             .numbering
-            .take_line(alloc, limits, self.lines.line(), self.lines.wide())?
+            .take_line(limits, self.lines.line(), self.lines.wide())?
         {
             Ok(None) => Ok(Taken::Nothing),
             Ok(Some(step)) => Ok(Taken::Step(step)),
@@ -140,7 +140,6 @@ impl EventReader {
     /// `Source` where the source fails, at once, and only there. `Memory` where a growth is refused.
     pub fn take_next<S: Source>(
         &mut self,
-        alloc: Global,
         source: &mut S,
         limits: &Limits,
     ) -> Result<Taken, ReadError>
@@ -162,8 +161,8 @@ impl EventReader {
             return Ok(Taken::End);
         }
         match self.lines.next(source, limits.line) {
-            Ok(Next::Line) => Ok(self.take_given(alloc, limits, false)?),
-            Ok(Next::Last) => Ok(self.take_given(alloc, limits, true)?),
+            Ok(Next::Line) => Ok(self.take_given(limits, false)?),
+            Ok(Next::Last) => Ok(self.take_given(limits, true)?),
             Ok(Next::TooLong) => {
                 self.line += 1;
                 Ok(Taken::Fault(Fault::LineTooLong))
@@ -180,7 +179,6 @@ impl EventReader {
     /// `Source` where the source fails, at once, and only there. `Memory` where a growth is refused.
     pub fn next_event<S: Source>(
         &mut self,
-        alloc: Global,
         source: &mut S,
         limits: &Limits,
     ) -> Result<Taken, ReadError>
@@ -199,7 +197,7 @@ impl EventReader {
         ensures counted { CountsFailure read_failed (S.failure_count source.old) (S.failure_count source.new) result }
     {
         while self.line < u64::MAX {
-            match self.take_next(alloc, source, limits)? {
+            match self.take_next(source, limits)? {
                 Taken::Nothing => {}
                 taken => return Ok(taken),
             }

@@ -21,7 +21,7 @@ use std::hash::{BuildHasher, Hash, Hasher};
 use std::random::RandomSource;
 
 /// The longest text that is hashed at once, by its ends.
-pub const MOST_AT_ONCE: usize = 16;
+const MOST_AT_ONCE: usize = 16;
 
 /// Both halves of the 128 bits of a product, joined by xor.
 #[tactic(auto, unfolding(crate::specs::text::Hashing::folded_product))]
@@ -180,22 +180,6 @@ fn ends_of(bytes: &[u8]) -> (u64, u64)
     }
 }
 
-/// A key of a text, made of its ends and its length. It has no secret, so texts can be chosen that have one key: it serves
-/// for guesses alone.
-#[inline(always)]
-pub fn key_of(bytes: &[u8]) -> u64 {
-    let n = bytes.len();
-    let (first, last) = if n > 8 {
-        (eight(&bytes[..8]), eight(&bytes[n - 8..]))
-    } else {
-        ends_of(bytes)
-    };
-    folded_product(
-        first ^ 0x9E37_79B9_7F4A_7C15,
-        last ^ n as u64 ^ 0xD6E8_FEB8_6659_FD93,
-    )
-}
-
 /// The state after at most 16 bytes: their ends have them all.
 #[tactic(auto, unfolding(crate::specs::text::Hashing::short_hash))]
 fn short_hash(state: u64, key: u64, bytes: &[u8]) -> u64
@@ -269,6 +253,14 @@ impl HashKeys {
         Ok(HashKeys {
             keys: Keys::random(rt)?,
         })
+    }
+
+    /// The hash of a text.
+    #[inline(always)]
+    pub(crate) fn hash_of(self, bytes: &[u8]) -> u64
+        ensures { result ≡ spec.hash_in self bytes.now }
+    {
+        hash(self.keys.first(), self.keys.second(), bytes)
     }
 }
 

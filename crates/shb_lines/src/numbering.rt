@@ -7,7 +7,6 @@ ghost use Rattle.shb_lines.specs.text.Tables.{with_names, with_operand, with_thr
 ghost use Rattle.shb_lines.specs.text.Grammar.{NamedEvent};
 ghost use Rattle.shb_lines.specs.text.Numbering.{AreWide, HasLastThread, HasNumbered, IsBarOf, IsFound, IsKept, IsStepOf, IsWithin, tables_of};
 ghost use Rattle.shb_lines.specs.text.Numbers.{IsOperation, op_for};
-ghost use Rattle.shb_lines.specs.text.OwnedNames.{names_of};
 ghost use Rattle.shb_lines.specs.text.Reading.{Begins, HasNoBar, HasNumberIn, IsNumberedIn, named};
 ghost use Rattle.shb_lines.specs.text.Text.{threads_among};
 
@@ -16,6 +15,7 @@ use crate::fault::Fault;
 use crate::grammar::{KnownThread, LineEvent, read_line};
 use crate::limits::Limits;
 use crate::owned_names::OwnedNames;
+use crate::stored::op_with;
 use shb_io::NoMemory;
 use std::alloc::Global;
 use std::random::RandomSource;
@@ -51,23 +51,6 @@ impl Drop for Numbering {
             last: _,
             bar: _,
         } = self;
-    }
-}
-
-/// The operation of this kind with this number, which a mark lacks.
-#[inline(always)]
-fn op_of(kind: Kind, number: u32) -> Op
-    ensures { result ≡ op_for kind number }
-{
-    match kind {
-        Kind::Read => Op::Read(number),
-        Kind::Write => Op::Write(number),
-        Kind::Acquire => Op::Acquire(number),
-        Kind::Release => Op::Release(number),
-        Kind::Fork => Op::Fork(number),
-        Kind::Join => Op::Join(number),
-        Kind::BeginMark => Op::BeginMark,
-        Kind::EndMark => Op::EndMark,
     }
 }
 
@@ -138,43 +121,41 @@ impl Numbering {
     }
 
     /// The number of an operand, and 0 for a mark, which has none.
-    fn operand_number(&mut self, alloc: Global, kind: Kind, name: &[u8]) -> Result<u32, NoMemory>
-        requires threads { length (names_of self.old.threads) < 2 ^ 32 }
-        requires locks { length (names_of self.old.locks) < 2 ^ 32 }
-        requires variables { length (names_of self.old.variables) < 2 ^ 32 }
+    fn operand_number(&mut self, kind: Kind, name: &[u8]) -> Result<u32, NoMemory>
+        requires threads { length self.old.threads < 2 ^ 32 }
+        requires locks { length self.old.locks < 2 ^ 32 }
+        requires variables { length self.old.variables < 2 ^ 32 }
         ensures events { self.new.events ≡ self.old.events }
         ensures tables { OnOk result (tables_of self.new ≡ with_operand (tables_of self.old) kind name.now) }
         ensures operation { IfOk result (λ number. IsOperation (tables_of self.new) (op_for kind number) kind name.now) }
     {
         match kind {
-            Kind::Read | Kind::Write => self.variables.number_of(alloc, name),
-            Kind::Acquire | Kind::Release => self.locks.number_of(alloc, name),
-            Kind::Fork | Kind::Join => self.threads.number_of(alloc, name),
+            Kind::Read | Kind::Write => self.variables.number_of(name),
+            Kind::Acquire | Kind::Release => self.locks.number_of(name),
+            Kind::Fork | Kind::Join => self.threads.number_of(name),
             Kind::BeginMark | Kind::EndMark => Ok(0),
         }
     }
 
     /// The event of a line that was read, with its names numbered.
     #[inline(always)]
-    fn step_of(&mut self, alloc: Global, found: &LineEvent<'_>) -> Result<Step, NoMemory>
-        requires threads { length (names_of self.old.threads) + 1 < 2 ^ 32 }
-        requires locks { length (names_of self.old.locks) < 2 ^ 32 }
-        requires variables { length (names_of self.old.variables) < 2 ^ 32 }
+    fn step_of(&mut self, found: &LineEvent<'_>) -> Result<Step, NoMemory>
+        requires threads { length self.old.threads + 1 < 2 ^ 32 }
+        requires locks { length self.old.locks < 2 ^ 32 }
+        requires variables { length self.old.variables < 2 ^ 32 }
         requires no_bar { HasNoBar found.now.thread.now }
-        requires number { HasNumberIn (names_of self.old.threads) found.now }
+        requires number { HasNumberIn self.old.threads found.now }
         ensures events { self.new.events ≡ self.old.events }
         ensures last { OnOk result (HasLastThread self.new) }
         ensures tables { OnOk result (tables_of self.new ≡ with_operand (with_thread (tables_of self.old) found.now.thread.now) found.now.kind found.now.operand.now) }
         ensures step { IfOk result (λ step. IsStepOf (tables_of self.new) step (named found.now)) }
     {
-        let thread = self
-            .threads
-            .known_or_number_of(alloc, found.number, found.thread)?;
-        let number = self.operand_number(alloc, found.kind, found.operand)?;
+        let thread = self.threads.known_or_number_of(found.number, found.thread)?;
+        let number = self.operand_number(found.kind, found.operand)?;
         self.last = thread;
         Ok(Step {
             thread,
-            op: op_of(found.kind, number),
+            op: op_with(found.kind, number),
         })
     }
 
@@ -183,7 +164,7 @@ impl Numbering {
     fn last_thread(&self) -> Option<KnownThread<'_>>
         requires { HasLastThread self.now }
         ensures no_bar { IfSome result (λ known. HasNoBar known.name.now) }
-        ensures number { IfSome result (IsNumberedIn (names_of self.now.threads)) }
+        ensures number { IfSome result (IsNumberedIn self.now.threads) }
     {
         match self.threads.known(self.last) {
             Some(name) => Some(KnownThread {
@@ -196,7 +177,7 @@ impl Numbering {
 
     /// Whether no event has named the thread.
     fn is_new_thread(&self, name: &[u8]) -> bool
-        ensures { result ≡ not (list_any (bytes_eq name.now) (names_of self.now.threads)) }
+        ensures { result ≡ not (list_any (bytes_eq name.now) self.now.threads) }
     {
         !self.threads.contains(name)
     }
@@ -204,8 +185,8 @@ impl Numbering {
     /// How many new threads an event would name.
     fn new_threads(&self, kind: Kind, thread: &[u8], operand: &[u8]) -> usize
         ensures bound { result ≤ 2 }
-        ensures count { length (with_names (names_of self.now.threads) (thread.now ∷ threads_among kind operand.now))
-            ≡ length (names_of self.now.threads) + result }
+        ensures count { length (with_names self.now.threads (thread.now ∷ threads_among kind operand.now))
+            ≡ length self.now.threads + result }
     {
         let own = usize::from(self.is_new_thread(thread));
         match kind {
@@ -223,7 +204,7 @@ impl Numbering {
     /// Whether there are more threads than the limit with those of an event.
     #[inline(always)]
     fn has_too_many_threads(&self, limits: &Limits, found: &LineEvent<'_>) -> bool
-        ensures { result ≡ nat_lt limits.now.threads (length (with_names (names_of self.now.threads)
+        ensures { result ≡ nat_lt limits.now.threads (length (with_names self.now.threads
             (found.now.thread.now ∷ threads_among found.now.kind found.now.operand.now))) }
     {
         let known = self.threads.len();
@@ -240,7 +221,6 @@ impl Numbering {
     #[inline(always)]
     pub fn take_line(
         &mut self,
-        alloc: Global,
         limits: &Limits,
         line: &[u8],
         wide: &[u8],
@@ -266,7 +246,7 @@ impl Numbering {
         if self.has_too_many_threads(limits, &found) {
             return Ok(Err(Fault::TooManyThreads));
         }
-        let step = self.step_of(alloc, &found)?;
+        let step = self.step_of(&found)?;
         self.events += 1;
         self.bar = found.bar;
         Ok(Ok(Some(step)))

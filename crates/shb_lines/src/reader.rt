@@ -5,7 +5,7 @@ ghost use Rattle.shb_lines.specs.text.Faults.{HasLineFault, number_of};
 ghost use Rattle.shb_lines.specs.text.Limits.{AreStandard};
 ghost use Rattle.shb_lines.specs.text.Numbering.{IsWithin};
 ghost use Rattle.shb_lines.specs.text.Numbers.{events_of};
-ghost use Rattle.shb_lines.specs.text.OwnedNames.{names_of};
+ghost use Rattle.shb_lines.specs.text.Parts.{parts_in};
 ghost use Rattle.shb_lines.specs.text.Parsed.{HasRead, lines_read, part};
 ghost use Rattle.shb_lines.specs.text.TraceData.{IsReading};
 ghost use Rattle.shb_lines.specs.Lowest.{IsLowest};
@@ -13,7 +13,6 @@ ghost use Rattle.shb_lines.specs.Lowest.{IsLowest};
 use crate::fault::{Fault, LineFault};
 use crate::limits::Limits;
 use crate::line::{with_more, without_carriage_return};
-use crate::names::Names;
 use crate::numbering::Numbering;
 use crate::stored::Events;
 use crate::trace::Parts;
@@ -77,7 +76,6 @@ impl Reader {
     /// Takes the line from `start` to `end`, and answers its fault if it has one.
     fn take_line(
         &mut self,
-        alloc: Global,
         text: &[u8],
         limits: &Limits,
         line: u32,
@@ -112,7 +110,7 @@ impl Reader {
         }
         let wide = with_more(text, start, end);
         let bytes = without_carriage_return(raw);
-        let step = match self.numbering.take_line(alloc, limits, bytes, wide)? {
+        let step = match self.numbering.take_line(limits, bytes, wide)? {
             Ok(None) => return Ok(None),
             Ok(Some(step)) => step,
             Err(fault) => return Ok(Some(fault)),
@@ -125,7 +123,6 @@ impl Reader {
     /// Takes the lines of the text up to the first fault, and answers it.
     pub fn take_lines(
         &mut self,
-        alloc: Global,
         text: &[u8],
         limits: &Limits,
     ) -> Result<Option<LineFault>, NoMemory>
@@ -142,7 +139,7 @@ impl Reader {
         while start <= text.len() {
             line += 1;
             let end = line_end(text, start);
-            if let Some(fault) = self.take_line(alloc, text, limits, line, start, end)? {
+            if let Some(fault) = self.take_line(text, limits, line, start, end)? {
                 return Ok(Some(LineFault { line, fault }));
             }
             start = end + 1;
@@ -150,13 +147,9 @@ impl Reader {
         Ok(None)
     }
 
-    /// Where what was read stands, with the names copied. Each table of names goes as it is copied.
-    pub fn into_parts(self, alloc: Global) -> Result<Parts, NoMemory>
-        ensures events { IfOk result (λ parts. parts.events ≡ self.events) }
-        ensures starts { IfOk result (λ parts. parts.starts ≡ self.starts) }
-        ensures threads { IfOk result (λ parts. parts.threads ≡ names_of self.numbering.threads) }
-        ensures locks { IfOk result (λ parts. parts.locks ≡ names_of self.numbering.locks) }
-        ensures variables { IfOk result (λ parts. parts.variables ≡ names_of self.numbering.variables) }
+    /// Where what was read stands, and the names.
+    pub fn into_parts(self) -> Parts
+        ensures { result ≡ parts_in self }
     {
         let Reader {
             events,
@@ -164,15 +157,12 @@ impl Reader {
             numbering,
         } = self;
         let (threads, locks, variables) = numbering.into_names();
-        let threads = Names::kept(alloc, threads)?;
-        let locks = Names::kept(alloc, locks)?;
-        let variables = Names::kept(alloc, variables)?;
-        Ok(Parts {
+        Parts {
             events,
             starts,
-            threads,
-            locks,
-            variables,
-        })
+            threads: threads.into_names(),
+            locks: locks.into_names(),
+            variables: variables.into_names(),
+        }
     }
 }

@@ -52,7 +52,8 @@ fn note_lines(skipped: &mut Vec<Skipped>, k: u32, lines: u32) -> Result<(), NoMe
 }
 
 /// The operation of this kind with this number, which a mark lacks.
-fn op_with(kind: Kind, number: u32) -> Op
+#[inline(always)]
+pub(crate) fn op_with(kind: Kind, number: u32) -> Op
     ensures { result ≡ op_for kind number }
 {
     match kind {

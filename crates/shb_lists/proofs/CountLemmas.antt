@@ -1,14 +1,15 @@
 -- Races that are counted, one by one or by the number of their earlier location.
-use Rattle.std.proofs.lemmas.Grind.{common_steps}
-use Rattle.std.proofs.Common.{◌≡◌, ℕ, zero, suc, ◌+◌, ◌<◌, ◌≤◌, ◌&&◌, Bool, true, false, cond, List, [], ◌∷◌, ◌++◌, length, get_or, map, nat_eq, take, All, IfSome, Option, refl, sym, ap, subst, ◌∙◌, append_assoc, inl, inr, arith}
+use Rattle.std.proofs.Common.{◌≡◌, ℕ, zero, suc, ◌+◌, ◌<◌, ◌≤◌, Bool, true, false, cond, List, [], ◌∷◌, ◌++◌, Some, length, get_or, map, take, All, IfSome, Option, refl, sym, ap, subst, ◌∙◌, append_assoc, inl, inr, arith}
 use Rattle.std.specs.Prelude.{◌==◌, sum}
-use Rattle.std.proofs.lemmas.Bool.{cases_Bool, cases_lt}
-use Rattle.std.proofs.lemmas.Bool.Decides.{eqb_tells}
+use Rattle.std.proofs.lemmas.Bool.{cases_Bool, cases_eq, eq-eqb, ne_eqb}
 use Rattle.std.proofs.lemmas.List.{length-append, length-map, length-take-le, map-append, map_push, take_all, take_more}
 use Rattle.std.proofs.lemmas.List.Sums.{sum_by-cons}
+use Rattle.std.proofs.lemmas.Option.{get_or_from_slice_get, slice_get_within}
 use Rattle.shb_lines.specs.declared.event.Event.{Event}
 use Rattle.shb_lines.specs.declared.event.Pair.{Pair}
+use Rattle.shb_lines.specs.events.Race.{variable_at}
 use Rattle.shb_lines.specs.events.Reach.{is_race, numbers_where}
+use Rattle.shb_lines.proofs.events.Reach.{reflect_race}
 use Rattle.shb_lists.specs.Occurs.{with_key}
 use Rattle.shb_pairs.specs.Races.{races_with}
 use Rattle.shb_pairs.proofs.Counting.{numbers_all}
@@ -17,9 +18,10 @@ use Rattle.shb_format.specs.Keyed.{Key, Keyed, counted_of, same_key, with_more}
 use Rattle.shb_format.specs.Report.{pair_of}
 use Rattle.shb_format.specs.declared.places.PlaceCount.{PlaceCount}
 use Rattle.shb_lists.specs.Counted.{HasCounted, IsCounted, by_number, only, times, with_places}
-use Rattle.shb_lists.specs.RacingCounts.{AreBelow, AreRacingCounts, number_in}
+use Rattle.shb_lists.specs.OwnNumbers.{AreOwnOf}
+use Rattle.shb_lists.specs.RacingCounts.{Accessed, AreRacingCounts, location_number, locations_of, number_in}
 use Rattle.shb_lists.specs.declared.counter.RaceCounter.{RaceCounter}
-use Rattle.shb_lists.proofs.CountsByPlace.{at_key, grown_at, grown_same, grown_zero, key_of, more_grown, not_yet, only_none, only_self, other_first, same_number}
+use Rattle.shb_lists.proofs.CountsByPlace.{at_key, grown_at, grown_same, grown_zero, key_of, more_grown}
 use Rattle.shb_lists.proofs.LeadingPlaces.{places_differ, places_empty}
 
 -- ---- what is counted of each place
@@ -139,15 +141,15 @@ take_few (x ∷ counts) (suc r) =
     let rest = take_few counts r in
     omega (arith, all, some, rest)
 
-pub number_counted : (start : List Keyed) (old : Key → ℕ) (n second r more : ℕ) (counts : List ℕ) (counter : RaceCounter) → r < length counts → more ≡ get_or counts r 0
-    → IsCounted start (λ k. old k + by_number second counts r k + only (key_of r second) more k) (n + sum (take r counts) + more) counter
-    → IsCounted start (λ k. old k + by_number second counts (r + 1) k) (n + sum (take (r + 1) counts)) counter
-number_counted start old n second r more counts counter within is h =
+pub number_counted : (start : List Keyed) (old : Key → ℕ) (names : List ℕ) (n second r more : ℕ) (counts : List ℕ) (counter : RaceCounter) → r < length counts → more ≡ get_or counts r 0
+    → IsCounted start (λ k. old k + by_number names second counts r k + only (key_of (number_in names r) second) more k) (n + sum (take r counts) + more) counter
+    → IsCounted start (λ k. old k + by_number names second counts (r + 1) k) (n + sum (take (r + 1) counts)) counter
+number_counted start old names n second r more counts counter within is h =
     let size = sum_more counts r within in
-    counted_same start (λ k. old k + by_number second counts r k + only (key_of r second) more k) (λ k. old k + by_number second counts (r + 1) k) (n + sum (take r counts) + more) (n + sum (take (r + 1) counts)) counter
+    counted_same start (λ k. old k + by_number names second counts r k + only (key_of (number_in names r) second) more k) (λ k. old k + by_number names second counts (r + 1) k) (n + sum (take r counts) + more) (n + sum (take (r + 1) counts)) counter
     (λ k.
-    let next = ap (λ (m : ℕ). by_number second counts m k) (let e : suc r ≡ r + 1 = omega arith in e) in
-    let same = ap (λ (m : ℕ). only (key_of r second) m k) is in
+    let next = ap (λ (m : ℕ). by_number names second counts m k) (let e : suc r ≡ r + 1 = omega arith in e) in
+    let same = ap (λ (m : ℕ). only (key_of (number_in names r) second) m k) is in
     omega (arith, next, same))
     (omega (arith, size, is)) h
 
@@ -164,12 +166,12 @@ only_zero key other = by (same_key key other)
     by true = refl
     by false = refl
 
-pub number_skipped : (start : List Keyed) (old : Key → ℕ) (n second r : ℕ) (counts : List ℕ) (counter : RaceCounter) → r < length counts → get_or counts r 0 ≡ 0
-    → IsCounted start (λ k. old k + by_number second counts r k) (n + sum (take r counts)) counter → IsCounted start (λ k. old k + by_number second counts (r + 1) k) (n + sum (take (r + 1) counts)) counter
-number_skipped start old n second r counts counter within none h =
-    number_counted start old n second r 0 counts counter within (sym none)
-    (counted_same start (λ k. old k + by_number second counts r k) (λ k. old k + by_number second counts r k + only (key_of r second) 0 k) (n + sum (take r counts)) (n + sum (take r counts) + 0) counter
-    (λ k. (let zero_more = only_zero (key_of r second) k in omega (arith, zero_more))) (omega arith) h)
+pub number_skipped : (start : List Keyed) (old : Key → ℕ) (names : List ℕ) (n second r : ℕ) (counts : List ℕ) (counter : RaceCounter) → r < length counts → get_or counts r 0 ≡ 0
+    → IsCounted start (λ k. old k + by_number names second counts r k) (n + sum (take r counts)) counter → IsCounted start (λ k. old k + by_number names second counts (r + 1) k) (n + sum (take (r + 1) counts)) counter
+number_skipped start old names n second r counts counter within none h =
+    number_counted start old names n second r 0 counts counter within (sym none)
+    (counted_same start (λ k. old k + by_number names second counts r k) (λ k. old k + by_number names second counts r k + only (key_of (number_in names r) second) 0 k) (n + sum (take r counts)) (n + sum (take r counts) + 0) counter
+    (λ k. (let zero_more = only_zero (key_of (number_in names r) second) k in omega (arith, zero_more))) (omega arith) h)
 
 -- how often a number stands in a list with one element more
 times_cons : (f : ℕ → ℕ) (n k : ℕ) (ks : List ℕ) → length (with_key f (k ∷ ks) n) ≡ cond (f k == n) 1 0 + length (with_key f ks n)
@@ -183,95 +185,96 @@ with_map trace j = refl
 abbrev pairs_with : ℕ → List ℕ → List Pair
 pairs_with j firsts = map pair_of (map (λ i. (i, j)) firsts)
 
-and_true : (b : Bool) → (b && true) ≡ b
-and_true b = grind (arith, common_steps)
+only_sum : (key : Key) (m n : ℕ) (other : Key) → only key (m + n) other ≡ only key m other + only key n other
+only_sum key m n other = by (same_key key other)
+  where
+    by : (b : Bool) → cond {A = ℕ} b (m + n) 0 ≡ cond {A = ℕ} b m 0 + cond {A = ℕ} b n 0
+    by true = refl
+    by false = refl
 
-and_false : (b : Bool) → (b && false) ≡ false
-and_false b = grind (arith, common_steps)
+module _ (names : List ℕ) (second : ℕ) where
+  -- so many for the place of each of the first names
+  abbrev by_each : (ℕ → ℕ) → ℕ → Key → ℕ
+  by_each c zero key = 0
+  by_each c (suc r) key = by_each c r key + only (key_of (number_in names r) second) (c r) key
 
-module _ (numbers : List ℕ) (j : ℕ) where
-  -- how many pairs with one later access have a place
-  times_key : (r : ℕ) (firsts : List ℕ) → times numbers (pairs_with j firsts) (key_of r (number_in numbers j)) ≡ length (with_key (number_in numbers) firsts r)
-  times_key r [] = refl
-  times_key r (i ∷ firsts) =
-      let same : cond {A = ℕ} (nat_eq (number_in numbers i) r && nat_eq (number_in numbers j) (number_in numbers j)) 1 0 ≡ cond {A = ℕ} (nat_eq (number_in numbers i) r) 1 0
-      = ap (λ (b : Bool). cond {A = ℕ} (nat_eq (number_in numbers i) r && b) 1 0) (same_number (number_in numbers j)) ∙ ap (λ (b : Bool). cond {A = ℕ} b 1 0) (and_true (nat_eq (number_in numbers i) r)) in
-      let one = times_cons (number_in numbers) r i firsts in
-      let rest = times_key r firsts in
-      omega (arith, same, one, rest)
+  each_same : (counts : List ℕ) (c : ℕ → ℕ) (n : ℕ) (key : Key) → ((r : ℕ) → r < n → get_or counts r 0 ≡ c r) → by_number names second counts n key ≡ by_each c n key
+  each_same counts c zero key same = refl
+  each_same counts c (suc n) key same =
+      let before = each_same counts c n key (λ r lt. same r (omega (arith, lt))) in
+      let here = ap (λ (m : ℕ). only (key_of (number_in names n) second) m key) (same n (omega arith)) in
+      omega (arith, before, here)
 
-  times_other : (key : Key) → nat_eq (number_in numbers j) key.1 ≡ false → (firsts : List ℕ) → times numbers (pairs_with j firsts) key ≡ 0
-  times_other key other [] = refl
-  times_other key other (i ∷ firsts) =
-      let none : cond {A = ℕ} (nat_eq (number_in numbers i) key.0 && nat_eq (number_in numbers j) key.1) 1 0 ≡ 0
-      = ap (λ (b : Bool). cond {A = ℕ} (nat_eq (number_in numbers i) key.0 && b) 1 0) other ∙ ap (λ (b : Bool). cond {A = ℕ} b 1 0) (and_false (nat_eq (number_in numbers i) key.0)) in
-      let rest = times_other key other firsts in
-      omega (arith, none, rest)
+  each_alike : (c d : ℕ → ℕ) (n : ℕ) (key : Key) → ((r : ℕ) → r < n → c r ≡ d r) → by_each c n key ≡ by_each d n key
+  each_alike c d zero key same = refl
+  each_alike c d (suc n) key same =
+      let before = each_alike c d n key (λ r lt. same r (omega (arith, lt))) in
+      let here = ap (λ (m : ℕ). only (key_of (number_in names n) second) m key) (same n (omega arith)) in
+      omega (arith, before, here)
 
-  times_past : (n : ℕ) (key : Key) → n ≤ key.0 → (firsts : List ℕ) → All (λ i. number_in numbers i < n) firsts → times numbers (pairs_with j firsts) key ≡ 0
-  times_past n key history [] below = refl
-  times_past n key history (i ∷ firsts) below =
-      let here = below 0 i (omega arith) in
-      let none : cond {A = ℕ} (same_key (key_of (number_in numbers i) (number_in numbers j)) key) 1 0 ≡ 0 = ap (λ (b : Bool). cond {A = ℕ} b 1 0) (other_first (number_in numbers i) (number_in numbers j) key (λ e. omega (arith, here, history, e))) in
-      let rest = times_past n key history firsts (λ k d lt. below (suc k) d (omega arith)) in
-      omega (arith, none, rest)
+  each_zero : (n : ℕ) (key : Key) → by_each (λ r. 0) n key ≡ 0
+  each_zero zero key = refl
+  each_zero (suc n) key = let before = each_zero n key in let here = only_zero (key_of (number_in names n) second) key in omega (arith, before, here)
 
-  module _ (counts firsts : List ℕ) where
-    by_times : (n : ℕ) (key : Key) → ((r : ℕ) → r < n → get_or counts r 0 ≡ length (with_key (number_in numbers) firsts r)) → key.0 < n → by_number (number_in numbers j) counts n key ≡ times numbers (pairs_with j firsts) key
-    by_times zero key are lt = absurd (omega (arith, lt))
-    by_times (suc n) key are lt = elim (cases_lt key.0 n) [
-      | inl less ↦ (
-          let before = by_times n key (λ r l. are r (omega arith)) less in
-          let here = only_none (key_of n (number_in numbers j)) (get_or counts n 0) key (other_first n (number_in numbers j) key (λ e. omega (arith, less, e))) in
-          omega (arith, before, here))
-      | inr history ↦ (
-          let same : n ≡ key.0 = omega (arith, lt, history) in
-          elim (eqb_tells (number_in numbers j) key.1) [
-            | inl e ↦ (
-                let is : key_of n (number_in numbers j) ≡ key = ap (λ (a : ℕ). key_of a (number_in numbers j)) same ∙ ap (key_of key.0) e.1 in
-                let before = not_yet (number_in numbers j) counts n (key_of n (number_in numbers j)) (omega arith) in
-                let here = only_self (key_of n (number_in numbers j)) (get_or counts n 0) in
-                let many = are n (omega arith) in
-                let all = times_key n firsts in
-                subst (λ (k : Key). by_number (number_in numbers j) counts (suc n) k ≡ times numbers (pairs_with j firsts) k) is (omega (arith, before, here, many, all)))
-            | inr e ↦ (
-                let before = not_yet (number_in numbers j) counts n key history in
-                let here = only_none (key_of n (number_in numbers j)) (get_or counts n 0) key (ap (λ (b : Bool). nat_eq n key.0 && b) e.0 ∙ and_false (nat_eq n key.0)) in
-                let all = times_other key e.0 firsts in
-                omega (arith, before, here, all))
-          ])
-    ]
+  -- one more of number k
+  each_more : (c : ℕ → ℕ) (k n : ℕ) (key : Key) → k < n → by_each (λ r. cond (k == r) 1 0 + c r) n key ≡ only (key_of (number_in names k) second) 1 key + by_each c n key
+  each_more c k zero key lt = absurd (omega (arith, lt))
+  each_more c k (suc n) key lt =
+      let sum = only_sum (key_of (number_in names n) second) (cond (k == n) 1 0) (c n) key in
+      elim (cases_eq k n) [
+        | inl same ↦ (
+            let before = each_alike (λ r. cond (k == r) 1 0 + c r) c n key (λ r low. (let none : cond {A = ℕ} (k == r) 1 0 ≡ 0 = ap (λ (b : Bool). cond {A = ℕ} b 1 0) (ne_eqb k r (λ e. omega (arith, e, low, same))) in omega (arith, none))) in
+            let one : cond {A = ℕ} (k == n) 1 0 ≡ 1 = ap (λ (b : Bool). cond {A = ℕ} b 1 0) (eq-eqb k n same) in
+            let here = ap (λ (m : ℕ). only (key_of (number_in names n) second) m key) one in
+            let there = ap (λ (m : ℕ). only (key_of (number_in names m) second) 1 key) same in
+            omega (arith, sum, before, here, there))
+        | inr ne ↦ (
+            let before = each_more c k n key (omega (arith, lt, ne)) in
+            let none : cond {A = ℕ} (k == n) 1 0 ≡ 0 = ap (λ (b : Bool). cond {A = ℕ} b 1 0) (ne_eqb k n ne) in
+            let here = ap (λ (m : ℕ). only (key_of (number_in names n) second) m key) none in
+            let zero_more = only_zero (key_of (number_in names n) second) key in
+            omega (arith, sum, before, here, zero_more))
+      ]
 
-    all_times : (n : ℕ) → ((r : ℕ) → r < n → get_or counts r 0 ≡ length (with_key (number_in numbers) firsts r)) → All (λ i. number_in numbers i < n) firsts
-        → (key : Key) → by_number (number_in numbers j) counts n key ≡ times numbers (pairs_with j firsts) key
-    all_times n are below key = elim (cases_lt key.0 n) [
-      | inl less ↦ by_times n key are less
-      | inr history ↦ not_yet (number_in numbers j) counts n key history ∙ sym (times_past n key history firsts below)
-    ]
+-- the pairs with one later access, by the own numbers of the earlier ones
+all_times : (numbers names : List ℕ) (f : ℕ → ℕ) (j n : ℕ) (key : Key) (firsts : List ℕ) → All (λ i. (f i < n) × (get_or names (f i) 0 ≡ number_in numbers i)) firsts
+    → by_each names (number_in numbers j) (λ r. length (with_key f firsts r)) n key ≡ times numbers (pairs_with j firsts) key
+all_times numbers names f j n key [] named = each_zero names (number_in numbers j) n key
+all_times numbers names f j n key (i ∷ firsts) named =
+    let here = named 0 i (omega arith) in
+    let rest = all_times numbers names f j n key firsts (λ k d lt. named (suc k) d (omega arith)) in
+    let alike = each_alike names (number_in numbers j) (λ r. length (with_key f (i ∷ firsts) r)) (λ r. cond (f i == r) 1 0 + length (with_key f firsts r)) n key (λ r lt. times_cons f r i firsts) in
+    let more = each_more names (number_in numbers j) (λ r. length (with_key f firsts r)) (f i) n key here.0 in
+    let one : only (key_of (number_in names (f i)) (number_in numbers j)) 1 key ≡ only (key_of (number_in numbers i) (number_in numbers j)) 1 key = ap (λ (m : ℕ). only (key_of m (number_in numbers j)) 1 key) here.1 in
+    omega (arith, rest, alike, more, one)
 
-module _ (trace : List Event) (numbers : List ℕ) (classes : ℕ) (counts : List ℕ) (j : ℕ) (are : AreBelow trace numbers classes) (within : j < length trace) (racing : AreRacingCounts trace numbers j classes counts) where
-  earlier : All (λ i. i < j) (numbers_where (λ i. is_race trace i j) j)
-  earlier = numbers_all (λ i. i < j) (λ i. is_race trace i j) j (λ k lt h. lt)
+module _ (a : Accessed) (numbers : List ℕ) (of : AreOwnOf a.trace a.x numbers a.own) (j : ℕ) (access : variable_at a.trace j ≡ Some a.x) (counts : List ℕ) (racing : AreRacingCounts a j counts) where
+  named : All (λ i. (location_number a i < length (locations_of a)) × (get_or (locations_of a) (location_number a i) 0 ≡ number_in numbers i)) (numbers_where (λ i. is_race a.trace i j) j)
+  named = numbers_all (λ i. (location_number a i < length (locations_of a)) × (get_or (locations_of a) (location_number a i) 0 ≡ number_in numbers i)) (λ i. is_race a.trace i j) j (λ i lt h.
+      let race = (reflect_race a.trace i j).0 h in
+      let same : race.conflict.variable ≡ a.x = (let e : Some race.conflict.variable ≡ Some a.x = sym race.conflict.second_accesses ∙ access in cc) in
+      let found = of.of_locations.each i (race.conflict.first_accesses ∙ ap (λ (x : ℕ). Some x) same) in
+      (slice_get_within (locations_of a) (location_number a i) (number_in numbers i) found, get_or_from_slice_get (locations_of a) (location_number a i) (number_in numbers i) 0 found))
 
-  pub sum_racing : sum counts ≡ length (races_with trace j)
+  pub sum_racing : sum counts ≡ length (races_with a.trace j)
   sum_racing =
-      let ks = numbers_where (λ i. is_race trace i j) j in
-      sum_whole (number_in numbers) classes ks counts racing (λ q d lt. (let below = earlier q d lt in are.below (get_or ks q d) (omega (arith, below, within))))
-      ∙ sym (length-map ks (λ i. (i, j))) ∙ ap length (sym (with_map trace j))
+      let ks = numbers_where (λ i. is_race a.trace i j) j in
+      sum_whole (location_number a) (length (locations_of a)) ks counts racing (λ q d lt. (named q d lt).0)
+      ∙ sym (length-map ks (λ i. (i, j))) ∙ ap length (sym (with_map a.trace j))
 
-  racing_times : (key : Key) → by_number (number_in numbers j) counts (length counts) key ≡ times numbers (map pair_of (races_with trace j)) key
+  racing_times : (key : Key) → by_number (locations_of a) (number_in numbers j) counts (length counts) key ≡ times numbers (map pair_of (races_with a.trace j)) key
   racing_times key =
-      let ks = numbers_where (λ i. is_race trace i j) j in
-      let many = racing.as_many in
-      all_times numbers j counts ks (length counts) (λ r lt. racing.each r (omega (arith, lt, many)))
-      (λ k d lt. (let below = earlier k d lt in let inside = are.below (get_or ks k d) (omega (arith, below, within)) in omega (arith, inside, many))) key
-      ∙ ap (λ (l : List (ℕ × ℕ)). times numbers (map pair_of l) key) (sym (with_map trace j))
+      let ks = numbers_where (λ i. is_race a.trace i j) j in
+      ap (λ (n : ℕ). by_number (locations_of a) (number_in numbers j) counts n key) racing.as_many
+      ∙ (each_same (locations_of a) (number_in numbers j) counts (λ r. length (with_key (location_number a) ks r)) (length (locations_of a)) key racing.each
+      ∙ (all_times numbers (locations_of a) (location_number a) j (length (locations_of a)) key ks named
+      ∙ ap (λ (l : List (ℕ × ℕ)). times numbers (map pair_of l) key) (sym (with_map a.trace j))))
 
-  pub racing_counted : (leading : List Pair) (races : List (ℕ × ℕ)) (number : ℕ) (new : RaceCounter) → number ≡ number_in numbers j
-      → IsCounted (with_places numbers [] leading) (λ k. times numbers (map pair_of races) k + by_number number counts (length counts) k) (length races + sum counts) new → HasCounted numbers leading (races ++ races_with trace j) new
-  racing_counted leading races number new is h =
-      races_counted numbers leading races (races_with trace j) (by_number number counts (length counts)) (sum counts) new
-      (λ k. ap (λ (m : ℕ). by_number m counts (length counts) k) is ∙ racing_times k) sum_racing h
+  pub racing_counted : (leading : List Pair) (races : List (ℕ × ℕ)) (number : ℕ) (names : List ℕ) (new : RaceCounter) → names ≡ locations_of a → number ≡ number_in numbers j
+      → IsCounted (with_places numbers [] leading) (λ k. times numbers (map pair_of races) k + by_number names number counts (length counts) k) (length races + sum counts) new → HasCounted numbers leading (races ++ races_with a.trace j) new
+  racing_counted leading races number names new are is h =
+      races_counted numbers leading races (races_with a.trace j) (by_number names number counts (length counts)) (sum counts) new
+      (λ k. ap (λ (ns : List ℕ). by_number ns number counts (length counts) k) are ∙ (ap (λ (m : ℕ). by_number (locations_of a) m counts (length counts) k) is ∙ racing_times k)) sum_racing h
 
 -- ---- the races of one later access that are found one by one
 
@@ -281,7 +284,6 @@ found_races trace j found is = ap (map (λ i. (i, j))) is ∙ sym (with_map trac
 pub found_length : (trace : List Event) (j : ℕ) (found : List ℕ) → found ≡ numbers_where (λ i. is_race trace i j) j → length found ≡ length (races_with trace j)
 found_length trace j found is = sym (length-map found (λ i. (i, j))) ∙ ap length (found_races trace j found is)
 
-pub found_within : (trace : List Event) (numbers : List ℕ) (classes j : ℕ) (found : List ℕ) → AreBelow trace numbers classes → j < length trace → found ≡ numbers_where (λ i. is_race trace i j) j → All (λ i. i < length numbers) found
-found_within trace numbers classes j found are within is =
-    let many = are.as_many in
+pub found_within : (trace : List Event) (numbers : List ℕ) (j : ℕ) (found : List ℕ) → length numbers ≡ length trace → j < length trace → found ≡ numbers_where (λ i. is_race trace i j) j → All (λ i. i < length numbers) found
+found_within trace numbers j found many within is =
     subst (All (λ i. i < length numbers)) (sym is) (numbers_all (λ i. i < length numbers) (λ i. is_race trace i j) j (λ k lt h. omega (arith, lt, within, many)))

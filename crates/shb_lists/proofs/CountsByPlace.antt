@@ -1,6 +1,6 @@
 -- Places that grow, and why that is what counts each pair in its turn.
 use Rattle.std.proofs.lemmas.Grind.{common_steps}
-use Rattle.std.proofs.Common.{◌≡◌, ◌≢◌, ℕ, zero, suc, ◌+◌, ◌≤◌, ◌&&◌, ◌++◌, Bool, true, false, cond, nat_eq, List, [], ◌∷◌, Option, None, Some, IfSome, is_some, get_or, refl, sym, ap, subst, ◌∙◌, inl, inr, arith, true≢false}
+use Rattle.std.proofs.Common.{◌≡◌, ℕ, ◌+◌, ◌&&◌, ◌++◌, Bool, true, false, cond, nat_eq, List, [], ◌∷◌, Option, None, Some, IfSome, is_some, refl, sym, ap, subst, ◌∙◌, inl, inr, arith, true≢false}
 use Rattle.std.specs.List.{AllByRecursion}
 use Rattle.std.proofs.lemmas.Bool.{cases_Bool}
 use Rattle.std.proofs.lemmas.Bool.Decides.{eqb_tells}
@@ -11,7 +11,7 @@ use Rattle.shb_format.specs.Keyed.{Key, Keyed, counted_of, counting, same_key, w
 use Rattle.shb_format.specs.Places.{with_one_more}
 use Rattle.shb_format.specs.declared.places.PlaceCount.{PlaceCount}
 use Rattle.shb_format.proofs.KeyedLemmas.{put_last}
-use Rattle.shb_lists.specs.Counted.{Differ, by_number, grown, key_in, keyed_after, only, times, with_places}
+use Rattle.shb_lists.specs.Counted.{Differ, grown, key_in, keyed_after, only, times, with_places}
 
 abbrev pub key_of : ℕ → ℕ → Key
 key_of first second = (first, second)
@@ -205,15 +205,3 @@ at_key P key (e ∷ places) all = by (same_key key e.0) (at_key P key places all
     by : (b : Bool) → IfSome (counted_of places key) P → IfSome (cond b (Some e.1) (counted_of places key)) P
     by true rest = all.0
     by false rest = rest
-
--- the counts by number, one number after the other
-pub other_first : (a second : ℕ) (key : Key) → a ≢ key.0 → same_key (key_of a second) key ≡ false
-other_first a second key differ = elim (eqb_tells a key.0) [ inl e ↦ absurd (differ e.1) | inr e ↦ ap (λ (b : Bool). b && nat_eq second key.1) e.0 ]
-
-module _ (second : ℕ) (counts : List ℕ) where
-  pub not_yet : (n : ℕ) (key : Key) → n ≤ key.0 → by_number second counts n key ≡ 0
-  not_yet zero key le = refl
-  not_yet (suc n) key le =
-      let before = not_yet n key (omega arith) in
-      let here = only_none (key_of n second) (get_or counts n 0) key (other_first n second key (λ e. omega (arith, e, le))) in
-      omega (arith, before, here)

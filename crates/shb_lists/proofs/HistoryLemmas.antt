@@ -15,7 +15,8 @@ use Rattle.shb_lists.specs.Rivals.{HasRivals, IsNewest}
 use Rattle.shb_lists.specs.declared.history.AccessHistory.{AccessHistory}
 use Rattle.shb_lists.specs.declared.rivals.Newest.{Newest}
 use Rattle.shb_lists.specs.declared.rivals.Rivals.{Rivals}
-use Rattle.shb_lists.proofs.RivalLemmas.{get_cases, rivals_none, rivals_other}
+use Rattle.shb_lists.proofs.Lists.{get_cases}
+use Rattle.shb_lists.proofs.RivalLemmas.{rivals_none, rivals_other}
 
 -- before the first event
 pub past_none : (trace : List Event) (flags : List Bool) (variables : ℕ) (history : AccessHistory) → length history.rivals.items ≡ variables → All (λ (rivals : Rivals). rivals.each.items ≡ []) history.rivals.items → history.earlier.items ≡ [] → IsHistory trace flags 0 variables history

@@ -20,8 +20,8 @@ pub mod LeadSteps
 pub mod SortedEntries
 pub mod CoveredLeading
 pub mod NearestLead
-pub mod PieceLemmas
 pub mod NumberLemmas
+pub mod OwnLemmas
 pub mod CountsByPlace
 pub mod LeadingPlaces
 pub mod CountLemmas
@@ -32,3 +32,4 @@ pub mod PlaceLemmas
 pub mod LimitLemmas
 pub mod PlanLemmas
 pub mod PartLemmas
+pub mod GivenLemmas

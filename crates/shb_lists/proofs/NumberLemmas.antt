@@ -1,24 +1,15 @@
 -- Numbers of locations, one event more.
 use Rattle.std.proofs.lemmas.Grind.{common_steps}
-use Rattle.std.proofs.Common.{◌≡◌, ℕ, ◌+◌, ◌<◌, ◌≤◌, inl, inr, Bool, true, false, List, [], ◌∷◌, ◌++◌, Some, length, get_or, slice_get, arith, ap, subst, ◌∙◌}
-use Rattle.std.specs.Prelude.{max}
+use Rattle.std.proofs.Common.{◌≡◌, ℕ, ◌+◌, ◌<◌, ◌≤◌, inl, inr, Bool, true, List, [], ◌∷◌, ◌++◌, Some, length, get_or, slice_get, arith, ap, subst, ◌∙◌}
 use Rattle.std.specs.Str.{bytes_eq}
 use Rattle.std.proofs.lemmas.Bool.{cases_Bool, cases_lt}
 use Rattle.std.proofs.lemmas.List.{get_or_append_left, get_or_push, length_push}
-use Rattle.std.proofs.lemmas.Option.{slice_get_within}
 use Rattle.indexmap.specs.IndexSet.{insert_key}
 use Rattle.shb_lines.specs.text.TraceData.{TraceData}
 use Rattle.shb_format.specs.Places.{location_at}
 use Rattle.shb_format.proofs.KeyedLemmas.{number_stays}
 use Rattle.shb_stamps.specs.Open.{accesses_open}
 use Rattle.shb_lists.specs.Counted.{AreNumbered, IsNumbered}
-
--- the number of an event is that of a location
-pub number_below : (trace : TraceData) (flags : List Bool) (e count : ℕ) (numbers : List ℕ) (locations : List (List ℕ)) → AreNumbered trace flags count numbers locations → e < count → get_or numbers e 0 < max (length locations) 1
-number_below trace flags e count numbers locations h lt = elim (cases_Bool (accesses_open flags trace.events e)) [
-  | inl is ↦ (let low = slice_get_within locations (get_or numbers e 0) (location_at trace e) (h.located e lt is) in omega (arith, low))
-  | inr isnt ↦ (let low = h.others e lt isnt in omega (arith, low))
-]
 
 pub one_more_location : (locations : List (List ℕ)) (text : List ℕ) → length (insert_key bytes_eq locations text) ≤ length locations + 1
 one_more_location locations text = grind (arith, common_steps, length_push)
@@ -54,18 +45,9 @@ module _ (trace : TraceData) (flags : List Bool) (e number : ℕ) (numbers new_n
         (ap (slice_get wider) last ∙ next.located (ap (accesses_open flags trace.events) here ∙ is)))
   ]
 
-  none_else : (k : ℕ) → k < e + 1 → accesses_open flags trace.events k ≡ false → get_or new_numbers k 0 ≡ 0
-  none_else k below isnt = elim (cases_lt k e) [
-    | inl low ↦ before k low ∙ h.others k low isnt
-    | inr history ↦ (
-        let here : e ≡ k = omega (arith, below, history) in
-        subst (λ j. get_or new_numbers j 0 ≡ 0) here (last ∙ next.none (ap (accesses_open flags trace.events) here ∙ isnt)))
-  ]
-
   pub next_numbered : AreNumbered trace flags (e + 1) new_numbers wider
   next_numbered = record {
     as_many = ap length pushed ∙ (length_push numbers number ∙ ap (λ (n : ℕ). n + 1) h.as_many);
     few = (let more = few_more trace flags e number locations wider next in let few = h.few in omega (arith, more, few));
     located = there;
-    others = none_else;
   }

@@ -1,11 +1,9 @@
 -- What is counted of the race list is what the report says of its places.
-use Rattle.std.proofs.Common.{◌≡◌, ℕ, ◌<◌, inl, inr, Bool, true, List, length, map, get_or, All, subst, sym, ap, ◌∙◌, arith}
-use Rattle.std.specs.Prelude.{max}
+use Rattle.std.proofs.Common.{◌≡◌, ℕ, ◌<◌, inl, inr, Bool, true, List, length, map, get_or, All, subst, ap, ◌∙◌, arith}
 use Rattle.std.specs.List.{IsDistinct}
 use Rattle.std.proofs.lemmas.Bool.{cases_Bool}
 use Rattle.std.specs.Str.{bytes_eq}
 use Rattle.std.proofs.lemmas.List.Elements.{All-map, Contains-get_or}
-use Rattle.shb_lines.specs.declared.event.Event.{Event}
 use Rattle.shb_lines.specs.declared.event.Pair.{Pair}
 use Rattle.shb_lines.specs.events.Race.{IsRaceList, ends}
 use Rattle.shb_lines.specs.text.TraceData.{TraceData}
@@ -20,11 +18,9 @@ use Rattle.shb_lists.proofs.LeadingLemmas.{leading_listed}
 use Rattle.shb_stamps.specs.Open.{is_open}
 use Rattle.shb_pairs.specs.Open.{AreOpen}
 use Rattle.shb_lists.specs.Counted.{AreNumbered, HasCounted, IsLocated}
-use Rattle.shb_lists.specs.RacingCounts.{AreBelow}
 use Rattle.shb_lists.specs.declared.counter.RaceCounter.{RaceCounter}
 use Rattle.shb_lists.proofs.BatchLemmas.{accessed_within}
 use Rattle.shb_lists.proofs.ListedLemmas.{open_access}
-use Rattle.shb_lists.proofs.NumberLemmas.{number_below}
 use Rattle.shb_lists.proofs.LeadingPlaces.{leading_counts}
 
 -- the race list has pairs of events of the trace
@@ -49,18 +45,6 @@ leading_within trace n leading many lists k d lt =
       omega (arith, first, many),
       omega (arith, second, many),
     )
-
-pub numbers_below : (trace : TraceData) (flags : List Bool) (events : List Event) (numbers seen : List ℕ) (locations : List (List ℕ)) (classes : ℕ) → events ≡ trace.events → AreNumbered trace flags (length trace.events) numbers locations → seen ≡ numbers → classes ≡ max (length locations) 1
-    → AreBelow events seen classes
-numbers_below trace flags events numbers seen locations classes same are is many =
-    let long = ap length same in
-    record {
-      as_many = ap length is ∙ (are.as_many ∙ sym long);
-      below = λ e lt.
-          let low = number_below trace flags e (length trace.events) numbers locations are (omega (arith, long, lt)) in
-          let here = ap (λ (l : List ℕ). get_or l e 0) is in
-          omega (arith, low, here, many);
-    }
 
 -- the races of open variables are located
 listed_located : (trace : TraceData) (flags : List Bool) (numbers : List ℕ) (locations : List (List ℕ)) (races : List (ℕ × ℕ)) → AreNumbered trace flags (length trace.events) numbers locations → AreOpen trace.events flags → IsRaceList trace.events races

@@ -1,5 +1,5 @@
 -- The threads that accessed a variable, an event at a time.
-use Rattle.std.proofs.Common.{◌≡◌, ◌≢◌, ℕ, zero, suc, ◌+◌, ◌<◌, ◌≤◌, ◌⊎◌, inl, inr, Bool, true, false, List, [], ◌∷◌, ◌++◌, Some, length, get_or, slice_get, refl, arith, ap, sym, subst, ◌∙◌, add-one}
+use Rattle.std.proofs.Common.{◌≡◌, ◌≢◌, ℕ, zero, suc, ◌+◌, ◌<◌, ◌≤◌, inl, inr, Bool, true, false, List, [], ◌∷◌, ◌++◌, Some, get_or, slice_get, refl, arith, ap, sym, subst, ◌∙◌, add-one}
 use Rattle.std.specs.Prelude.{cond, ◌==◌, count_by}
 use Rattle.std.proofs.Math.ListN.{set}
 use Rattle.std.proofs.lemmas.Bool.{cases_Bool, cases_eq, cases_lt, eq-eqb}
@@ -12,6 +12,7 @@ use Rattle.shb_lines.specs.events.Race.{variable_at}
 use Rattle.shb_lines.specs.events.Reach.{any_below, writes_at}
 use Rattle.shb_lines.proofs.events.Reach.{any_below_is}
 use Rattle.shb_pairs.proofs.Counting.{key_no}
+use Rattle.shb_lists.proofs.Lists.{get_cases}
 use Rattle.shb_lists.specs.Rivals.{HasRivals, IsNewest, is_met, newest_for, newest_where}
 use Rattle.shb_lists.specs.declared.rivals.Newest.{Newest}
 use Rattle.shb_lists.specs.declared.rivals.Rival.{Rival}
@@ -30,16 +31,6 @@ any_more_yes f n h = rw (add-one, h) refl
 any_more_no : (f : ℕ → Bool) (n : ℕ) → f n ≡ false → any_below f (n + 1) ≡ any_below f n
 unfolding any_below
 any_more_no f n h = rw (add-one, h) refl
-
--- an entry of a list with one more is one of before, or the last
-pub get_cases : {T : Type 0} (entries : List T) (last : T) (p : ℕ) (entry : T) → slice_get (entries ++ last ∷ []) p ≡ Some entry → (slice_get entries p ≡ Some entry) ⊎ ((p ≡ length entries) × (last ≡ entry))
-get_cases [] last zero entry at = inr (refl, cc)
-get_cases [] last (suc p) entry at = absurd cc
-get_cases (e ∷ entries) last zero entry at = inl at
-get_cases (e ∷ entries) last (suc p) entry at = elim (get_cases entries last p entry at) [
-  | inl there ↦ inl there
-  | inr is ↦ (let e = is.0 in inr (omega (arith, e), is.1))
-]
 
 -- entries that are counted
 count_one : (t : ℕ) (rivals : List Rival) (i : ℕ) (r : Rival) → slice_get rivals i ≡ Some r → r.thread ≡ t → 1 ≤ of_rivals t rivals

@@ -14,27 +14,27 @@ use Rattle.shb_stamps.specs.Open.{accesses_open, is_open}
 use Rattle.shb_pairs.specs.Races.{races_with}
 use Rattle.shb_lists.specs.History.{IsAccess, IsHistory}
 use Rattle.shb_lists.specs.Planned.{HasPlanned}
+use Rattle.shb_lists.specs.OwnNumbers.{AreOwn}
 use Rattle.shb_lists.specs.RacingCounts.{IsRacingCounts, number_in}
 use Rattle.shb_lists.specs.declared.counter.RaceCounter.{RaceCounter}
 use Rattle.shb_lists.specs.declared.counting.Counting.{Counting}
+use Rattle.shb_lists.specs.declared.own_numbers.Own.{Own}
 use Rattle.shb_lists.specs.declared.racing.Racing.{Racing}
 use Rattle.shb_lists.specs.declared.search.Access.{Access}
 use Rattle.shb_lists.specs.declared.tables.Table.{Table}
 use Rattle.shb_lists.specs.declared.racing_counts.RacingCounts.{RacingCounts}
 
--- each of the first `count` events that accesses an open variable has the number of its location, and each other 0
+-- each of the first `count` events that accesses an open variable has the number of its location
 pub record AreNumbered (trace : TraceData) (flags : List Bool) (count : ℕ) (numbers : List ℕ) (locations : List (List ℕ)) : Type 0 where
   pub as_many : length numbers ≡ count
   pub few : length locations ≤ count
   pub located : (e : ℕ) → e < count → accesses_open flags trace.events e ≡ true → slice_get locations (slice_index_or numbers e 0) ≡ Some (location_at trace e)
-  pub others : (e : ℕ) → e < count → accesses_open flags trace.events e ≡ false → slice_index_or numbers e 0 ≡ 0
 
 -- an event has this number, and these are the locations with its own
 pub record IsNumbered (trace : TraceData) (flags : List Bool) (e : ℕ) (locations wider : List (List ℕ)) (number : ℕ) : Type 0 where
   pub known : accesses_open flags trace.events e ≡ true → wider ≡ insert_key bytes_eq locations (location_at trace e)
   pub located : accesses_open flags trace.events e ≡ true → slice_get wider number ≡ Some (location_at trace e)
   pub same : accesses_open flags trace.events e ≡ false → wider ≡ locations
-  pub none : accesses_open flags trace.events e ≡ false → number ≡ 0
 
 -- both locations of a pair are known by their numbers
 pub record IsLocated (trace : TraceData) (numbers : List ℕ) (locations : List (List ℕ)) (pair : Pair) : Type 0 where
@@ -66,10 +66,10 @@ grown more places = map (λ place. (place.0, counting place.1 (more place.0))) p
 abbrev pub only : Key → ℕ → Key → ℕ
 only key more other = cond (same_key key other) more 0
 
--- so many for the place of each of the first numbers and the second location
-abbrev pub by_number : ℕ → List ℕ → ℕ → Key → ℕ
-by_number second counts zero key = 0
-by_number second counts (suc r) key = by_number second counts r key + only (r, second) (slice_index_or counts r 0) key
+-- so many for the place of each of the first names and the second location
+abbrev pub by_number : List ℕ → ℕ → List ℕ → ℕ → Key → ℕ
+by_number names second counts zero key = 0
+by_number names second counts (suc r) key = by_number names second counts r key + only (number_in names r, second) (slice_index_or counts r 0) key
 
 -- no two places have the same numbers
 abbrev pub Differ : List Keyed → Type 0
@@ -99,16 +99,17 @@ pub record MayCount (asks : ℕ → Bool) (trace : List Event) (numbers : List �
 abbrev pub side_of : Bool → Racing → RacingCounts
 side_of writes racing = cond writes racing.with_writes racing.with_reads
 
-abbrev pub AreRacing : List Event → ℕ → List ℕ → ℕ → ℕ → ℕ → Racing → Type 0
-AreRacing trace x numbers classes threads n racing = (writes : Bool) → IsRacingCounts (record { trace = trace; x = x; writes = writes }) numbers classes threads n (side_of writes racing)
+abbrev pub AreRacing : List Event → ℕ → Own → ℕ → Racing → Type 0
+AreRacing trace x own n racing = (writes : Bool) → IsRacingCounts (record { trace = trace; x = x; writes = writes; own = own }) n (side_of writes racing)
 
 -- the tables of each open variable have its accesses before n
-pub record AreTables (trace : List Event) (sizes : Sizes) (flags : List Bool) (numbers : List ℕ) (classes n : ℕ) (tables : List Table) : Type 0 where
+pub record AreTables (trace : List Event) (sizes : Sizes) (flags : List Bool) (own : Own) (n : ℕ) (tables : List Table) : Type 0 where
   pub as_many : length tables ≡ sizes.variables
-  pub each : (x : ℕ) (table : Table) → is_open flags x ≡ true → slice_get tables x ≡ Some table → IfSome table.racing (AreRacing trace x numbers classes sizes.threads n)
+  pub each : (x : ℕ) (table : Table) → is_open flags x ≡ true → slice_get tables x ≡ Some table → IfSome table.racing (AreRacing trace x own n)
 
 -- what is known of the accesses of open variables before n
-pub record IsCounting (trace : List Event) (sizes : Sizes) (flags : List Bool) (numbers : List ℕ) (classes n : ℕ) (counting : Counting) : Type 0 where
+pub record IsCounting (trace : List Event) (sizes : Sizes) (flags : List Bool) (numbers : List ℕ) (n : ℕ) (counting : Counting) : Type 0 where
   pub history : IsHistory trace flags n sizes.variables counting.history
-  pub tables : AreTables trace sizes flags numbers classes n counting.tables.items
+  pub own : AreOwn trace flags numbers counting.own
+  pub tables : AreTables trace sizes flags counting.own n counting.tables.items
   pub planned : HasPlanned trace flags n sizes.variables counting.races.items

@@ -5,7 +5,9 @@ pub mod PlaceRaces
 pub mod Listed
 pub mod Occurs
 pub mod Parts
+pub mod Given
 pub mod History
 pub mod Planned
 pub mod Rivals
+pub mod OwnNumbers
 pub mod RacingCounts

@@ -9,13 +9,13 @@ ghost use Rattle.shb_lists.specs.Counted.{HasCounted};
 ghost use Rattle.shb_lists.specs.Listed.{races_before};
 ghost use Rattle.shb_lists.specs.PlaceRaces.{HaveNearest};
 ghost use Rattle.shb_lists.specs.Planned.{IsPlan};
-ghost use Rattle.shb_lists.specs.RacingCounts.{AreBelow};
 
 use crate::counter::RaceCounter;
 use crate::counting::Counting;
 use crate::history::AccessHistory;
 use crate::leading::leading_races;
 use crate::numbering::location_numbers;
+use crate::own_numbers::Own;
 use crate::plan::BatchPlan;
 use crate::settled::Settled;
 use crate::tables::tables_of;
@@ -38,16 +38,16 @@ pub struct RaceCount {
     pub batches: BatchPlan,
 }
 
-/// Counts the races of all events; `numbers` has the number of each event's location, of which there are `classes`.
-fn count_events(
+/// Counts the races of all events; `numbers` has the number of each event's location.
+fn count_events<R: RandomSource>(
+    rt: &R,
     alloc: Global,
     settled: &Settled<'_>,
     counter: &mut RaceCounter,
     numbers: &[u32],
-    classes: usize,
     most: u64,
 ) -> Result<BatchPlan, NoMemory>
-    requires numbers { AreBelow settled.now.disciplined.now.events.now numbers.now classes }
+    requires numbers { length numbers.now ≡ length settled.now.disciplined.now.events.now }
     requires counted { (leading : List Pair) × HasCounted numbers.now leading [] counter.old }
     ensures counted { OnOk result ((leading : List Pair) → HasCounted numbers.now leading [] counter.old
         → HasCounted numbers.now leading (races_before settled.now.disciplined.now.events.now settled.now.flags.now (length settled.now.disciplined.now.events.now)) counter.new) }
@@ -55,9 +55,12 @@ fn count_events(
     ensures most { IfOk result (λ plan. plan.most ≡ most) }
 {
     let variables = settled.disciplined.sizes.variables;
+    let own = Own::of(rt, alloc, settled, numbers)?;
+    let tables = tables_of(alloc, settled, &own)?;
     let mut counting = Counting {
         history: AccessHistory::new(alloc, variables)?,
-        tables: tables_of(alloc, settled, classes)?,
+        own,
+        tables,
         found: Vec::new(alloc),
         races: vec![in alloc; 0; variables as usize]?,
     };
@@ -75,10 +78,10 @@ fn count_events(
 /// the nearest race. The places are those of the leading races, of each place the first race of the race list, in the
 /// order of that list; so the races can be counted in any order.
 ///
-/// One sweep counts them by variable and by place. A variable that has tables costs an access a step for each thread, and
-/// where it races with as many others as there are locations one for each location; each other race is a step. Memory: 4
-/// bytes per event, 8 per variable, some 64 per location and place, and what a sweep takes; tables of at most 64 per access,
-/// and 64 MB.
+/// One sweep counts them by variable and by place. A variable that has tables costs an access a step for each thread that
+/// accessed the variable before, and where it races with as many others as the variable has locations one for each
+/// location; each other race is a step. Memory: 12 bytes per event, 56 per variable, some 64 per location and place, and for
+/// each thread and location of a variable, and what a sweep takes; tables of at most 64 per access, and 64 MB.
 ///
 /// # Errors
 ///
@@ -102,8 +105,7 @@ pub fn counted_races<R: RandomSource>(
     let numbers = located.numbers.as_slice();
     let mut counter = RaceCounter::new(rt, alloc, numbers, &leading)?;
     located.locations.are_different();
-    let classes = located.locations.len().max(1);
-    let batches = count_events(alloc, settled, &mut counter, numbers, classes, most)?;
+    let batches = count_events(rt, alloc, settled, &mut counter, numbers, most)?;
     let places = counter.places.to_places(alloc)?;
     Ok(RaceCount {
         races: counter.races,

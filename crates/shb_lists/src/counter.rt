@@ -1,6 +1,6 @@
 //! What is counted of races, by the numbers of their locations.
 
-ghost use Rattle.std.specs.Prelude.{◌≡◌, ◌++◌, ◌+◌, ◌<◌, ◌^◌, ℕ, [], ◌∷◌, All, IfOk, List, length, map, sum};
+ghost use Rattle.std.specs.Prelude.{◌≡◌, ◌++◌, ◌+◌, ◌<◌, ◌≤◌, ◌^◌, ℕ, [], ◌∷◌, All, IfOk, List, length, map, sum};
 ghost use Rattle.shb_lines.specs.declared.event.Event.{Event};
 ghost use Rattle.shb_lines.specs.declared.event.Pair.{Pair};
 ghost use Rattle.shb_format.specs.Keyed.{Key, Keyed};
@@ -106,17 +106,18 @@ impl RaceCounter {
         }
     }
 
-    /// Counts so many races of each earlier location with a later one.
-    pub(crate) fn count_numbered(&mut self, counts: &[u32], second: usize)
+    /// Counts so many races of each earlier location with a later one; `names` has the numbers of the earlier ones.
+    pub(crate) fn count_numbered(&mut self, names: &[u32], counts: &[u32], second: usize)
+        requires names { length counts.now ≤ length names.now }
         requires room { self.old.races + sum counts.now < 2 ^ 64 }
         requires counted { (start : List Keyed) × (old : Key → ℕ) × (n : ℕ) × IsCounted start old n self.old }
         ensures { (start : List Keyed) (old : Key → ℕ) (n : ℕ) → IsCounted start old n self.old
-            → IsCounted start (λ k. old k + by_number second counts.now (length counts.now) k) (n + sum counts.now) self.new }
+            → IsCounted start (λ k. old k + by_number names.now second counts.now (length counts.now) k) (n + sum counts.now) self.new }
     {
         for r in 0..counts.len() {
             let more = counts[r];
             if more > 0 {
-                self.add((r, second), u64::from(more));
+                self.add((names[r] as usize, second), u64::from(more));
             }
         }
     }

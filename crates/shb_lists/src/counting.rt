@@ -6,10 +6,10 @@ ghost use Rattle.shb_stamps.specs.Open.{accesses_open, is_open as is_open_in};
 ghost use Rattle.shb_pairs.specs.Races.{races_with};
 ghost use Rattle.shb_lists.specs.Counted.{HasCounted, IsCounting, MayCount};
 ghost use Rattle.shb_lists.specs.Planned.{HasAdded, planned};
-ghost use Rattle.shb_lists.specs.RacingCounts.{AreBelow};
 
 use crate::counter::RaceCounter;
 use crate::history::{AccessHistory, access_at};
+use crate::own_numbers::Own;
 use crate::search::Access;
 use crate::tables::{Table, count_tabled, note_tabled};
 use shb_io::NoMemory;
@@ -19,6 +19,8 @@ use shb_stamps::{Order, Ordered};
 #[derive(Drop)]
 pub(crate) struct Counting {
     pub(crate) history: AccessHistory,
+    /// The numbers of threads and locations in the tables.
+    pub(crate) own: Own,
     /// By variable.
     pub(crate) tables: Vec<Table>,
     /// Room for the accesses that race with one.
@@ -50,15 +52,16 @@ impl Counting {
         access: Access,
     ) -> Result<(), NoMemory>
         requires may_count { MayCount (O.asks ordered.now.order.now) ordered.now.disciplined.now.events.now numbers.now access counter.old }
-        requires counting { (flags : List Bool) × (classes : ℕ) × (is_open_in flags access.variable ≡ true) × AreBelow ordered.now.disciplined.now.events.now numbers.now classes
-            × IsCounting ordered.now.disciplined.now.events.now ordered.now.disciplined.now.sizes flags numbers.now classes access.event self.old }
-        ensures counting { (flags : List Bool) (classes : ℕ) → is_open_in flags access.variable ≡ true → AreBelow ordered.now.disciplined.now.events.now numbers.now classes
-            → IsCounting ordered.now.disciplined.now.events.now ordered.now.disciplined.now.sizes flags numbers.now classes access.event self.old
-            → OnOk result (IsCounting ordered.now.disciplined.now.events.now ordered.now.disciplined.now.sizes flags numbers.now classes access.event self.new) }
+        requires counting { (flags : List Bool) × (is_open_in flags access.variable ≡ true)
+            × IsCounting ordered.now.disciplined.now.events.now ordered.now.disciplined.now.sizes flags numbers.now access.event self.old }
+        ensures counting { (flags : List Bool) → is_open_in flags access.variable ≡ true
+            → IsCounting ordered.now.disciplined.now.events.now ordered.now.disciplined.now.sizes flags numbers.now access.event self.old
+            → OnOk result (IsCounting ordered.now.disciplined.now.events.now ordered.now.disciplined.now.sizes flags numbers.now access.event self.new) }
         ensures counted { OnOk result ((leading : List Pair) (races : List (ℕ × ℕ)) → HasCounted numbers.now leading races counter.old
             → HasCounted numbers.now leading (races ++ races_with ordered.now.disciplined.now.events.now access.event) counter.new) }
     {
-        if count_tabled(&mut self.tables, counter, numbers, ordered, access) {
+        let tables = &mut self.tables;
+        if count_tabled(tables, &self.own, counter, numbers, ordered, access)? {
             return Ok(());
         }
         self.history.find(ordered, access, &mut self.found)?;
@@ -79,17 +82,17 @@ impl Counting {
         access: Access,
     ) -> Result<(), NoMemory>
         requires may_count { MayCount (O.asks ordered.now.order.now) ordered.now.disciplined.now.events.now numbers.now access counter.old }
-        requires counting { (flags : List Bool) × (classes : ℕ) × (is_open_in flags access.variable ≡ true) × AreBelow ordered.now.disciplined.now.events.now numbers.now classes
-            × IsCounting ordered.now.disciplined.now.events.now ordered.now.disciplined.now.sizes flags numbers.now classes access.event self.old }
-        ensures counting { (flags : List Bool) (classes : ℕ) → is_open_in flags access.variable ≡ true → AreBelow ordered.now.disciplined.now.events.now numbers.now classes
-            → IsCounting ordered.now.disciplined.now.events.now ordered.now.disciplined.now.sizes flags numbers.now classes access.event self.old
-            → OnOk result (IsCounting ordered.now.disciplined.now.events.now ordered.now.disciplined.now.sizes flags numbers.now classes (access.event + 1) self.new) }
+        requires counting { (flags : List Bool) × (is_open_in flags access.variable ≡ true)
+            × IsCounting ordered.now.disciplined.now.events.now ordered.now.disciplined.now.sizes flags numbers.now access.event self.old }
+        ensures counting { (flags : List Bool) → is_open_in flags access.variable ≡ true
+            → IsCounting ordered.now.disciplined.now.events.now ordered.now.disciplined.now.sizes flags numbers.now access.event self.old
+            → OnOk result (IsCounting ordered.now.disciplined.now.events.now ordered.now.disciplined.now.sizes flags numbers.now (access.event + 1) self.new) }
         ensures counted { OnOk result ((leading : List Pair) (races : List (ℕ × ℕ)) → HasCounted numbers.now leading races counter.old
             → HasCounted numbers.now leading (races ++ races_with ordered.now.disciplined.now.events.now access.event) counter.new) }
     {
         let before = counter.races;
         self.count_races(counter, numbers, ordered, access)?;
-        note_tabled(&mut self.tables, numbers, ordered, access)?;
+        note_tabled(&mut self.tables, &self.own, numbers, ordered, access)?;
         self.history.note(ordered, access)?;
         add(&mut self.races, access.variable, counter.races - before);
         Ok(())
@@ -110,13 +113,10 @@ impl Counting {
     ) -> Result<(), NoMemory>
         requires in_range { e < length ordered.now.disciplined.now.events.now }
         requires asked { O.asks ordered.now.order.now e ≡ true }
-        requires counting { (classes : ℕ) × AreBelow ordered.now.disciplined.now.events.now numbers.now classes
-            × IsCounting ordered.now.disciplined.now.events.now ordered.now.disciplined.now.sizes flags.now numbers.now classes e self.old }
+        requires counting { IsCounting ordered.now.disciplined.now.events.now ordered.now.disciplined.now.sizes flags.now numbers.now e self.old }
         requires room { counter.old.races + length (cond (accesses_open flags.now ordered.now.disciplined.now.events.now e) (races_with ordered.now.disciplined.now.events.now e) []) < 2 ^ 64 }
         requires counted { (leading : List Pair) × (races : List (ℕ × ℕ)) × HasCounted numbers.now leading races counter.old }
-        ensures counting { (classes : ℕ) → AreBelow ordered.now.disciplined.now.events.now numbers.now classes
-            → IsCounting ordered.now.disciplined.now.events.now ordered.now.disciplined.now.sizes flags.now numbers.now classes e self.old
-            → OnOk result (IsCounting ordered.now.disciplined.now.events.now ordered.now.disciplined.now.sizes flags.now numbers.now classes (e + 1) self.new) }
+        ensures counting { OnOk result (IsCounting ordered.now.disciplined.now.events.now ordered.now.disciplined.now.sizes flags.now numbers.now (e + 1) self.new) }
         ensures counted { OnOk result ((leading : List Pair) (races : List (ℕ × ℕ)) → HasCounted numbers.now leading races counter.old
             → HasCounted numbers.now leading (races ++ cond (accesses_open flags.now ordered.now.disciplined.now.events.now e) (races_with ordered.now.disciplined.now.events.now e) []) counter.new) }
     {

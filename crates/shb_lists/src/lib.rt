@@ -7,11 +7,13 @@
 //! those from the newest one back to the first that is below (`search`): a rival without a race costs a comparison, and
 //! each race a step.
 //!
-//! [`kept_races`] keeps what the sweep finds, and sorts it into the order of the race list; workers make pairs of it in
-//! pieces ([`pairs_in_pieces`]). Where there are too many, [`counted_races`] counts those of each place and variable in one
-//! sweep, many of them by the numbers of their locations, without a step for each (`racing_counts`). The [`BatchPlan`] that it
-//! gives finds those of as many variables as have few enough races, and [`RaceParts`] those of one variable a part at a
-//! time. The order of the places comes from the nearest races of the trace, which the caller gives (`leading`).
+//! [`kept_races`] keeps what the sweep finds, and sorts it into the order of the race list. Where there are too many,
+//! [`counted_races`] counts those of each place and variable in one sweep, many of them by the numbers of their locations,
+//! without a step for each (`racing_counts`). The order of the places comes from the nearest races of the trace, which the
+//! caller gives (`leading`).
+//!
+//! A [`RaceList`] gives the races of a report a part at a time: kept ones all at once; else those of as many variables as
+//! have few enough races (`BatchPlan`), or some of those of one variable that has too many (`RaceParts`).
 #![tactic(auto)]
 
 mod batches;
@@ -21,9 +23,10 @@ mod counting;
 mod history;
 mod kept;
 mod leading;
+mod list;
 mod numbering;
+mod own_numbers;
 mod parts;
-mod pieces;
 mod place_races;
 mod plan;
 mod racing;
@@ -35,7 +38,5 @@ mod tables;
 
 pub use counted::counted_races;
 pub use kept::kept_races;
-pub use parts::RaceParts;
-pub use pieces::pairs_in_pieces;
-pub use plan::BatchPlan;
+pub use list::RaceList;
 pub use settled::Settled;

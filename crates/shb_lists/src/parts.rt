@@ -1,6 +1,6 @@
 //! The races of one variable, a part at a time.
 
-ghost use Rattle.std.specs.Prelude.{◌≡◌, ◌<◌, ◌++◌, ℕ, IfOk, OnOk, length, map};
+ghost use Rattle.std.specs.Prelude.{◌≡◌, ◌<◌, ◌≤◌, ◌++◌, ℕ, IfOk, OnOk, length, map};
 ghost use Rattle.shb_pairs.specs.Listed.{pair_in};
 ghost use Rattle.shb_lists.specs.Parts.{IsPartly, races_until};
 
@@ -17,7 +17,7 @@ use std::alloc::Global;
 /// A search for the races of one variable by a sweep, which can stop after each event.
 #[derive(Drop)]
 pub struct RaceParts<'a> {
-    variable: u32,
+    pub(crate) variable: u32,
     /// Flags that leave open this variable alone.
     flags: Vec<bool>,
     history: AccessHistory,
@@ -73,6 +73,7 @@ impl<'a> RaceParts<'a> {
         ensures races { (x : ℕ) → IsPartly settled.now.disciplined.now.events.now settled.now.disciplined.now.sizes.variables x self.old
             → IfOk result (λ part. races_until settled.now.disciplined.now.events.now x self.new.next
             ≡ races_until settled.now.disciplined.now.events.now x self.old.next ++ map pair_in part.items) }
+        ensures forward { OnOk result (self.old.next ≤ self.new.next) }
         ensures more { OnOk result (self.old.next < length settled.now.disciplined.now.events.now → self.old.next < self.new.next) }
     {
         let mut part = Vec::new(alloc);

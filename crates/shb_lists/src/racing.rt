@@ -6,9 +6,12 @@ ghost use Rattle.shb_lines.specs.declared.event.Pair.{Pair};
 ghost use Rattle.shb_pairs.specs.Races.{races_with};
 ghost use Rattle.shb_lists.specs.Counted.{AreRacing, HasCounted, MayCount};
 ghost use Rattle.shb_lists.specs.History.{IsAccess};
-ghost use Rattle.shb_lists.specs.RacingCounts.{AreBelow, IsRacingCounts, accessed_by, number_in};
+ghost use Rattle.shb_lists.specs.OwnNumbers.{AreOwnOf, names_of};
+ghost use Rattle.shb_lists.specs.RacingCounts.{IsRacingCounts, accessed_by};
+ghost use Rattle.shb_lists.specs.declared.own_numbers.Own.{Own};
 
 use crate::counter::RaceCounter;
+use crate::own_numbers::Own;
 use crate::racing_counts::RacingCounts;
 use crate::search::Access;
 use shb_io::NoMemory;
@@ -27,40 +30,41 @@ pub(crate) struct Racing {
 /// Counts the races of an access by location, and says whether it did: not where they are fewer than the locations.
 fn count_learned<O: Order>(
     racing_counts: &mut RacingCounts,
+    own: &Own,
     counter: &mut RaceCounter,
     numbers: &[u32],
     ordered: &Ordered<'_, O>,
     access: Access,
-) -> bool
+) -> Result<bool, NoMemory>
     requires may_count { MayCount (O.asks ordered.now.order.now) ordered.now.disciplined.now.events.now numbers.now access counter.old }
-    requires racing_counts { (classes : ℕ) × AreBelow ordered.now.disciplined.now.events.now numbers.now classes
-        × IsRacingCounts (accessed_by ordered.now.disciplined.now.events.now access) numbers.now classes ordered.now.disciplined.now.sizes.threads access.event racing_counts.old }
-    ensures racing_counts { (classes : ℕ) → AreBelow ordered.now.disciplined.now.events.now numbers.now classes
-        → IsRacingCounts (accessed_by ordered.now.disciplined.now.events.now access) numbers.now classes ordered.now.disciplined.now.sizes.threads access.event racing_counts.old
-        → IsRacingCounts (accessed_by ordered.now.disciplined.now.events.now access) numbers.now classes ordered.now.disciplined.now.sizes.threads access.event racing_counts.new }
-    ensures counted { IsTrue result → (leading : List Pair) (races : List (ℕ × ℕ)) → HasCounted numbers.now leading races counter.old
-        → HasCounted numbers.now leading (races ++ races_with ordered.now.disciplined.now.events.now access.event) counter.new }
-    ensures left { result ≡ false → counter.new ≡ counter.old }
+    requires own { AreOwnOf ordered.now.disciplined.now.events.now access.variable numbers.now own.now }
+    requires racing_counts { IsRacingCounts (accessed_by ordered.now.disciplined.now.events.now own.now access) access.event racing_counts.old }
+    ensures racing_counts { OnOk result (IsRacingCounts (accessed_by ordered.now.disciplined.now.events.now own.now access) access.event racing_counts.new) }
+    ensures counted { IfOk result (λ did. IsTrue did → (leading : List Pair) (races : List (ℕ × ℕ)) → HasCounted numbers.now leading races counter.old
+        → HasCounted numbers.now leading (races ++ races_with ordered.now.disciplined.now.events.now access.event) counter.new) }
+    ensures left { IfOk result (λ did. did ≡ false → counter.new ≡ counter.old) }
 {
-    racing_counts.learn(ordered, numbers, access);
-    let counts = racing_counts.counts(access.thread);
-    if racing_counts.are_few(access.thread, counts.len()) {
-        return false;
+    let thread = racing_counts.learn(ordered, own, access)?;
+    let side = &racing_counts.sides[thread];
+    if side.are_few() {
+        return Ok(false);
     }
     let number = numbers[access.event as usize] as usize;
-    counter.count_numbered(counts, number);
-    true
+    let names = own.locations.names_of(access.variable);
+    counter.count_numbered(names, side.counts.as_slice(), number);
+    Ok(true)
 }
 
 impl Racing {
-    /// No accesses, by so many threads and at so many locations. Memory: 8 bytes for each two threads, and 8 for each
+    /// No accesses, by these threads and at so many locations. Memory: 8 bytes for each two threads, and 8 for each
     /// thread and location.
     ///
     /// # Errors
     ///
     /// `NoMemory` where memory is refused.
-    pub(crate) fn new(alloc: Global, threads: u32, classes: usize) -> Result<Racing, NoMemory>
-        ensures { (trace : List Event) (x : ℕ) (numbers : List ℕ) → IfOk result (AreRacing trace x numbers classes threads 0) }
+    pub(crate) fn new(alloc: Global, threads: &[u32], classes: usize) -> Result<Racing, NoMemory>
+        ensures { (trace : List Event) (x : ℕ) (own : Own) → names_of own.threads x ≡ threads.now → length (names_of own.locations x) ≡ classes
+            → IfOk result (AreRacing trace x own 0) }
     {
         Ok(Racing {
             with_writes: RacingCounts::new(alloc, threads, classes)?,
@@ -69,44 +73,56 @@ impl Racing {
     }
 
     /// Counts the races of an access by location, and says whether it did: not where they are fewer than the locations.
-    pub(crate) fn count<O: Order>(
-        &mut self,
-        counter: &mut RaceCounter,
-        numbers: &[u32],
-        ordered: &Ordered<'_, O>,
-        access: Access,
-    ) -> bool
-        requires may_count { MayCount (O.asks ordered.now.order.now) ordered.now.disciplined.now.events.now numbers.now access counter.old }
-        requires racing { (classes : ℕ) × AreBelow ordered.now.disciplined.now.events.now numbers.now classes
-            × AreRacing ordered.now.disciplined.now.events.now access.variable numbers.now classes ordered.now.disciplined.now.sizes.threads access.event self.old }
-        ensures racing { (classes : ℕ) → AreBelow ordered.now.disciplined.now.events.now numbers.now classes
-            → AreRacing ordered.now.disciplined.now.events.now access.variable numbers.now classes ordered.now.disciplined.now.sizes.threads access.event self.old
-            → AreRacing ordered.now.disciplined.now.events.now access.variable numbers.now classes ordered.now.disciplined.now.sizes.threads access.event self.new }
-        ensures counted { IsTrue result → (leading : List Pair) (races : List (ℕ × ℕ)) → HasCounted numbers.now leading races counter.old
-            → HasCounted numbers.now leading (races ++ races_with ordered.now.disciplined.now.events.now access.event) counter.new }
-        ensures left { result ≡ false → counter.new ≡ counter.old }
-    {
-        if access.writes {
-            return count_learned(&mut self.with_writes, counter, numbers, ordered, access);
-        }
-        count_learned(&mut self.with_reads, counter, numbers, ordered, access)
-    }
-
-    /// Takes an access in, whose location has this number.
     ///
     /// # Errors
     ///
     /// `NoMemory` where a growth was refused; nothing is known of the accesses then.
-    pub(crate) fn note(&mut self, access: Access, number: usize) -> Result<(), NoMemory>
-        requires { (trace : List Event) × (numbers : List ℕ) × (classes threads : ℕ) × (access.thread < threads) × (number < classes) × (access.event + 1 < 2 ^ 32)
-            × IsAccess trace access × (number_in numbers access.event ≡ number) × AreRacing trace access.variable numbers classes threads access.event self.old }
-        ensures { (trace : List Event) (numbers : List ℕ) (classes threads : ℕ) → IsAccess trace access → number_in numbers access.event ≡ number
-            → AreRacing trace access.variable numbers classes threads access.event self.old
-            → OnOk result (AreRacing trace access.variable numbers classes threads (access.event + 1) self.new) }
+    pub(crate) fn count<O: Order>(
+        &mut self,
+        own: &Own,
+        counter: &mut RaceCounter,
+        numbers: &[u32],
+        ordered: &Ordered<'_, O>,
+        access: Access,
+    ) -> Result<bool, NoMemory>
+        requires may_count { MayCount (O.asks ordered.now.order.now) ordered.now.disciplined.now.events.now numbers.now access counter.old }
+        requires own { AreOwnOf ordered.now.disciplined.now.events.now access.variable numbers.now own.now }
+        requires racing { AreRacing ordered.now.disciplined.now.events.now access.variable own.now access.event self.old }
+        ensures racing { OnOk result (AreRacing ordered.now.disciplined.now.events.now access.variable own.now access.event self.new) }
+        ensures counted { IfOk result (λ did. IsTrue did → (leading : List Pair) (races : List (ℕ × ℕ)) → HasCounted numbers.now leading races counter.old
+            → HasCounted numbers.now leading (races ++ races_with ordered.now.disciplined.now.events.now access.event) counter.new) }
+        ensures left { IfOk result (λ did. did ≡ false → counter.new ≡ counter.old) }
     {
-        self.with_writes.note(access.event, access.thread, number)?;
         if access.writes {
-            self.with_reads.note(access.event, access.thread, number)?;
+            return count_learned(
+                &mut self.with_writes,
+                own,
+                counter,
+                numbers,
+                ordered,
+                access,
+            );
+        }
+        count_learned(&mut self.with_reads, own, counter, numbers, ordered, access)
+    }
+
+    /// Takes an access in.
+    ///
+    /// # Errors
+    ///
+    /// `NoMemory` where a growth was refused; nothing is known of the accesses then.
+    pub(crate) fn note(&mut self, own: &Own, access: Access) -> Result<(), NoMemory>
+        requires { (trace : List Event) × (numbers : List ℕ) × (access.event + 1 < 2 ^ 32) × IsAccess trace access
+            × AreOwnOf trace access.variable numbers own.now × AreRacing trace access.variable own.now access.event self.old }
+        ensures { (trace : List Event) (numbers : List ℕ) → IsAccess trace access → AreOwnOf trace access.variable numbers own.now
+            → AreRacing trace access.variable own.now access.event self.old
+            → OnOk result (AreRacing trace access.variable own.now (access.event + 1) self.new) }
+    {
+        let thread = own.threads.numbers[access.event as usize] as usize;
+        let location = own.locations.numbers[access.event as usize] as usize;
+        self.with_writes.note(access.event, thread, location)?;
+        if access.writes {
+            self.with_reads.note(access.event, thread, location)?;
         }
         Ok(())
     }

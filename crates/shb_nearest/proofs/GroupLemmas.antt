@@ -1,5 +1,5 @@
 -- The groups of a variable, an access more.
-use Rattle.std.proofs.Common.{◌≡◌, ℕ, zero, suc, ◌+◌, ◌<◌, ◌≤◌, ◌⊎◌, inl, inr, Bool, true, false, cond, ◌&&◌, List, [], ◌∷◌, ◌++◌, None, Option, Some, length, take, filter, get_or, arith, refl, sym, ap, subst, ◌∙◌}
+use Rattle.std.proofs.Common.{◌≡◌, ℕ, suc, ◌+◌, ◌<◌, ◌≤◌, ◌⊎◌, inl, inr, Bool, true, false, cond, ◌&&◌, List, [], ◌∷◌, ◌++◌, None, Option, Some, length, take, filter, get_or, arith, refl, sym, ap, subst, ◌∙◌}
 use Rattle.std.specs.Bool.{beq}
 use Rattle.std.specs.Prelude.{All, AllPairs, Contains, nat_eq, slice_get}
 use Rattle.std.specs.List.{remove}
@@ -366,10 +366,3 @@ retained_passing R test f says (x ∷ xs) ys h =
     let said = says x h.0 h.1 h.2 h.3 in
     let rest = retained_passing R test f says xs h.4 (subst (λ g. RetainsInTurn R g xs h.4) said.1 h.5) in
     h.6 ∙ (λ i. cond (said.0 i) (said.2 i ∷ rest i) (rest i))
-
--- an access in place of the last one
-pub last_replaced : (old : List KeptAccess) (at : ℕ) (access : KeptAccess) → at + 1 ≡ length old → set old at access ≡ remove old at ++ access ∷ []
-last_replaced [] at access is = absurd (omega (arith, is))
-last_replaced (a ∷ []) zero access is = refl
-last_replaced (a ∷ (b ∷ old)) zero access is = absurd (omega (arith, is))
-last_replaced (a ∷ old) (suc at) access is = ap (λ (l : List KeptAccess). a ∷ l) (last_replaced old at access (omega (arith, is)))

@@ -14,14 +14,11 @@ use Rattle.shb_lines.specs.events.Discipline.{IsDisciplined}
 use Rattle.shb_lines.specs.events.Events.{op_at, thread_at, variable_of}
 use Rattle.shb_lines.specs.events.Order.{BelowPred, IsBelowPredCount, happens_before, same_thread}
 use Rattle.shb_lines.specs.events.Race.{Race, variable_at}
-use Rattle.shb_lines.proofs.events.Events.{thread_is}
 use Rattle.shb_lines.proofs.events.Increasing.{contains_none}
-use Rattle.shb_lines.proofs.events.Reach.{event_at_access}
 use Rattle.shb_lines.proofs.events.Prefix.{below_from_local, local_from_below}
 use Rattle.shb_lines.proofs.events.Schedulable.{below_pred_closed}
 use Rattle.shb_nearest.specs.declared.access.FoundAccess.{FoundAccess}
 use Rattle.shb_nearest.specs.declared.access.Spot.{Spot}
-use Rattle.shb_nearest.specs.declared.classes.Class.{Class}
 use Rattle.shb_nearest.specs.declared.groups.Group.{Group}
 use Rattle.shb_nearest.specs.declared.groups.Groups.{Groups}
 use Rattle.shb_nearest.specs.declared.groups.KeptAccess.{KeptAccess}

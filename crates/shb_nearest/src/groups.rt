@@ -17,6 +17,7 @@ use crate::access::{FoundAccess, Spot};
 use crate::classes::{Class, Classes};
 use crate::late::Late;
 use crate::sites::Sites;
+use crate::thresholds::{ACCESSES_BEFORE_SITES, ACCESSES_IN_TURN, GROUPS_IN_TURN};
 use shb_io::NoMemory;
 use smallvec::SmallVec;
 use std::alloc::Global;
@@ -61,15 +62,6 @@ pub struct Groups {
     /// The locations of what they keep, from then on.
     pub sites: Option<Box<Sites>>,
 }
-
-/// A group that keeps so many accesses, or fewer, keeps one for each location: the next one there replaces it.
-const FEW: usize = 64;
-
-/// So many accesses come to the groups of a variable before it has sites.
-const UNSITED: u32 = 32;
-
-/// So many groups have no table of their indices, and aren't looked at before it is asked whether all their places are known.
-const MANY: usize = 8;
 
 /// Of some accesses by a thread, of a kind, the last one at each location.
 fn newest_of(
@@ -124,7 +116,7 @@ pub fn is_at(groups: &[Group], at: usize, thread: u32, writes: bool) -> bool
 fn index_among(groups: &[Group], thread: u32, writes: bool) -> Option<usize>
     ensures { IfSome result (λ at. (group : Group) × (slice_get groups.now at ≡ Some group) × IsOfGroup group thread writes) }
 {
-    for at in 0..groups.len().min(MANY) {
+    for at in 0..groups.len().min(GROUPS_IN_TURN) {
         let found = is_at(groups, at, thread, writes);
         if found {
             return Some(at);
@@ -187,7 +179,7 @@ impl Group {
             thread,
             writes,
             kept: SmallVec::new(alloc),
-            most: FEW,
+            most: ACCESSES_IN_TURN,
         }
     }
 
@@ -196,23 +188,6 @@ impl Group {
         ensures { result ≡ true → IsOfGroup self.now thread writes }
     {
         self.thread == thread && self.writes == writes
-    }
-
-    /// Keeps an access in place of the last one, which is at this index and at its location, and answers that one.
-    fn replace_last(&mut self, at: usize, access: KeptAccess) -> u32
-        requires last { at + 1 ≡ length self.old.kept.items }
-        requires location { (a : KeptData) × (slice_get self.old.kept.items at ≡ Some a) × (a.spot.location ≡ access.spot.location) }
-        ensures kept { (x : ℕ) → HasKept x access self.old self.new }
-        ensures before { IsAt self.old.kept.items access.spot.location result }
-    {
-        match self.kept.get_mut(at) {
-            Some(last) => {
-                let before = last.event;
-                *last = access;
-                before
-            }
-            None => 0,
-        }
     }
 
     /// Keeps an access in place of the last one at its location, where there is one, and answers that one, or 0.
@@ -228,11 +203,6 @@ impl Group {
             self.kept.push(access)?;
             return Ok(0);
         };
-        let is_last = at + 1 == self.kept.len();
-        if is_last {
-            let before = self.replace_last(at, access);
-            return Ok(before);
-        }
         let before = self.kept.remove(at);
         self.kept.push(access)?;
         Ok(before.event)
@@ -265,7 +235,7 @@ impl Group {
             self.kept.as_slice(),
         )?;
         forget(&mut self.kept, &newest, variable, self.thread, self.writes);
-        self.most = self.kept.len().saturating_mul(2).max(FEW);
+        self.most = self.kept.len().saturating_mul(2).max(ACCESSES_IN_TURN);
         Ok(())
     }
 }
@@ -300,7 +270,7 @@ impl Groups {
         ensures writes { result ≡ true → (sites : Box SitesData GlobalData) × (self.now.sites ≡ Some sites) × IsDone sites.value.all.items sites.value.writes second since }
         ensures reads { result ≡ true → writes ≡ true → (sites : Box SitesData GlobalData) × (self.now.sites ≡ Some sites) × IsDone sites.value.all.items sites.value.reads second since }
     {
-        if self.each.len() < MANY {
+        if self.each.len() < GROUPS_IN_TURN {
             return false;
         }
         match &self.sites {
@@ -357,7 +327,7 @@ impl Groups {
             let known = sites.note(alloc, at, late.writes, late.location, late.event)?;
             return Ok(known);
         }
-        if self.count < UNSITED {
+        if self.count < ACCESSES_BEFORE_SITES {
             self.count += 1;
             return Ok(0);
         }
@@ -400,7 +370,7 @@ impl Groups {
             return Ok(noted);
         }
         let at = self.each.len();
-        if at >= MANY {
+        if at >= GROUPS_IN_TURN {
             indices.put(class, at.min(u32::MAX as usize) as u32)?;
         }
         self.each.push(Group::new(alloc, thread, writes))?;
@@ -444,7 +414,7 @@ impl Groups {
         let Some(group) = self.each.get_mut(at) else {
             return Ok(0);
         };
-        if group.kept.len() <= FEW {
+        if group.kept.len() <= ACCESSES_IN_TURN {
             let before = group.replace(kept)?;
             return Ok(before);
         }

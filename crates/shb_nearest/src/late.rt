@@ -6,6 +6,7 @@ ghost use Rattle.shb_nearest.specs.Late.{IsInstead, IsInsteadOne, access_in};
 ghost use Rattle.shb_nearest.specs.declared.late.Late.{Late as LateData};
 
 use crate::classes::{Class, Classes};
+use crate::thresholds::ACCESSES_COMPARED;
 use shb_io::NoMemory;
 
 /// An access that comes to the groups, at once or later, in 20 bytes.
@@ -22,9 +23,6 @@ pub struct Late {
     /// Whether it is known to be after all accesses of its variable before it.
     pub after_all: bool,
 }
-
-/// With so many accesses an access is compared; a table has the others.
-const FEW: usize = 16;
 
 impl Late {
     /// Its class, as an access of a variable.
@@ -98,11 +96,11 @@ pub fn is_again(accesses: &[Late], indices: &mut Classes, late: Late) -> Result<
     ensures { IfOk result (λ again. again ≡ true → IsInsteadOne accesses.now late) }
 {
     let count = accesses.len();
-    if count <= FEW {
+    if count <= ACCESSES_COMPARED {
         let again = is_among(accesses, late);
         return Ok(again);
     }
-    let (few, _) = accesses.split_at(FEW);
+    let (few, _) = accesses.split_at(ACCESSES_COMPARED);
     let again = is_among(few, late);
     if again {
         return Ok(true);

@@ -60,6 +60,7 @@ mod rivals;
 mod search;
 mod sites;
 mod tables;
+mod thresholds;
 
 pub use access::{FoundAccess, FoundRace, Spot};
 pub use search::NearestRaces;

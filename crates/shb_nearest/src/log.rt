@@ -1,6 +1,6 @@
 //! The accesses of all variables that wait, in one list.
 
-ghost use Rattle.std.specs.Prelude.{◌≡◌, ◌+◌, ◌≤◌, [], ℕ, false, true, List, IfOk, MatchOption, OnOk, length, reverse};
+ghost use Rattle.std.specs.Prelude.{◌≡◌, ◌⊎◌, ◌+◌, ◌*◌, ◌<◌, ◌≤◌, [], ℕ, false, true, List, IfOk, MatchOption, OnOk, length, max, reverse};
 ghost use Rattle.shb_lines.specs.declared.event.Event.{Event};
 ghost use Rattle.shb_nearest.specs.Late.{AreLate, AreWaiting, HasPut, HasWritten, IsChain, IsEntryAt, IsLate, StayWaiting};
 ghost use Rattle.shb_nearest.specs.Searched.{AreVariables};
@@ -12,6 +12,7 @@ ghost use Rattle.shb_nearest.specs.declared.log.Entry.{Entry as EntryData};
 use crate::classes::Classes;
 use crate::late::{Late, is_again, is_instead};
 use crate::tables::Variable;
+use crate::thresholds::{ENTRIES, ENTRIES_TIMES};
 use shb_io::NoMemory;
 use std::alloc::Global;
 
@@ -44,12 +45,6 @@ pub enum Accesses {
     /// Groups of all of them, at this index.
     Grouped(u32),
 }
-
-/// So many accesses may wait whatever their classes are.
-const FEW: usize = 1 << 20;
-
-/// When some went, so many times as many as are left may wait.
-const MORE: usize = 4;
 
 /// The entry at a place.
 fn entry_at(entries: &[Entry], place: u32) -> Option<Entry>
@@ -164,7 +159,7 @@ impl Log {
     {
         Log {
             entries: Vec::new(alloc),
-            most: FEW,
+            most: ENTRIES,
             gathered: Vec::new(alloc),
             classes,
         }
@@ -224,6 +219,8 @@ impl Log {
         ensures variables { (trace : List Event) (spots : List SpotData) (n : ℕ) (groups : List GroupsData) → length self.old.entries.items ≤ 4294967295 → AreVariables trace spots n self.old.entries.items groups variables.old.items
             → OnOk result (AreVariables trace spots n self.new.entries.items groups variables.new.items) }
         ensures long { OnOk result (length self.new.entries.items ≤ length self.old.entries.items) }
+        ensures room { length self.old.entries.items ≤ 4294967295 → OnOk result (length self.new.entries.items < self.new.most) }
+        ensures most { OnOk result ((self.new.most ≡ self.old.most) ⊎ (self.new.most ≤ max 1048576 (4 * max (length self.new.entries.items) (length variables.new.items)))) }
     {
         if self.entries.len() < self.most {
             return Ok(());
@@ -239,12 +236,12 @@ impl Log {
             }
             moved.push(variable)?;
         }
-        let left = entries.len().max(variables.len());
-        self.most = left.saturating_mul(MORE).max(FEW);
         if entries.len() < self.entries.len() {
             self.entries = entries;
             *variables = moved;
         }
+        let left = self.entries.len().max(variables.len());
+        self.most = left.saturating_mul(ENTRIES_TIMES).max(ENTRIES);
         Ok(())
     }
 }

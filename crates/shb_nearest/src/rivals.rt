@@ -10,6 +10,7 @@ ghost use Rattle.shb_nearest.specs.declared.groups.Group.{Group as GroupData};
 
 use crate::access::FoundAccess;
 use crate::groups::{Group, Groups, KeptAccess, Run};
+use crate::thresholds::ACCESSES_UNASKED;
 use shb_io::NoMemory;
 use shb_lines::{item_or, put};
 use shb_stamps::StreamClocks;
@@ -22,9 +23,6 @@ pub struct Rivals {
     /// For each location the index of its access, if one is found. Others mean nothing.
     indices: Vec<u32>,
 }
-
-/// So many accesses of a group are looked at no sooner than it is asked whether their places are known.
-const MANY: usize = 8;
 
 /// Whether a kept access, and so each one before it, needs no look: it is one of the first `below` events of its thread,
 /// or before the event `since`.
@@ -150,10 +148,10 @@ fn can_race(group: &Group, access: FoundAccess) -> bool
 /// Whether more than a few of what a group keeps need a look.
 fn need_many(group: &Group, below: u32, since: u32) -> bool {
     let kept = group.kept.as_slice();
-    if kept.len() < MANY {
+    if kept.len() < ACCESSES_UNASKED {
         return false;
     }
-    let over = is_over(kept[kept.len() - MANY], below, since);
+    let over = is_over(kept[kept.len() - ACCESSES_UNASKED], below, since);
     !over
 }
 

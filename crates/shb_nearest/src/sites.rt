@@ -8,6 +8,7 @@ ghost use Rattle.shb_nearest.specs.declared.sites.Site.{Site as SiteData};
 
 use crate::access::FoundAccess;
 use crate::groups::{Group, KeptAccess};
+use crate::thresholds::SITES_UNPAIRED;
 use indexmap::IndexMap;
 use shb_io::NoMemory;
 use shb_lines::HashKeys;
@@ -40,12 +41,6 @@ pub struct Sites {
     numbers: IndexMap<u32, u32, HashKeys>,
 }
 
-/// Among so few sites a location is looked for; if there are more, the table is asked.
-const FEW: u32 = 8;
-
-/// So many sites whose place isn't known are asked whether an access came there.
-const MOST: usize = 16;
-
 // By hand: a derived one stands in each function that drops it, with a step for each part of the table.
 impl Drop for Sites {
     fn drop(self) {
@@ -68,19 +63,6 @@ fn is_at(all: &[Site], number: u32, location: u32) -> bool
         Some(site) => site.location == location,
         None => false,
     }
-}
-
-/// The number of the site of a location among the first few, if it is there.
-fn among_few(all: &[Site], location: u32) -> Option<u32>
-    ensures { IfSome result (IsSite all.now location) }
-{
-    for number in 0..FEW {
-        let found = is_at(all, number, location);
-        if found {
-            return Some(number);
-        }
-    }
-    None
 }
 
 /// Makes empty sets, so that there is one of this index.
@@ -122,9 +104,6 @@ impl Sites {
     fn number(&self, location: u32) -> Option<u32>
         ensures { IfSome result (IsSite self.now.all.items location) }
     {
-        if self.all.len() <= FEW as usize {
-            return among_few(self.all.as_slice(), location);
-        }
         let Some(number) = self.numbers.get(&location) else {
             return None;
         };
@@ -241,7 +220,7 @@ impl Sites {
             return false;
         }
         let mut from = 0;
-        for _ in 0..MOST {
+        for _ in 0..SITES_UNPAIRED {
             let Some(number) = numbers.first_not_in(&own.paired, from, u32::MAX) else {
                 return true;
             };

@@ -1,5 +1,5 @@
 -- Sets of numbers of which some are kept one by one.
-use Rattle.std.specs.Prelude.{◌≡◌, ℕ, ◌<◌, ◌≤◌, Bool, false, List, IsTrue}
+use Rattle.std.specs.Prelude.{ℕ, Bool, List}
 use Rattle.std.specs.FinSet as set
 use Rattle.std.specs.List.{list_any}
 use Rattle.std.specs.Ordering.{eq_by_cmp, nat_cmp}
@@ -12,13 +12,3 @@ has_key keys q = list_any (eq_by_cmp nat_cmp q) keys
 -- the set of these and those
 unfoldable pub both : Numbers → List ℕ → Numbers
 both near far = set.union near (set.from_list far)
-
--- none of these is `from` or above
-abbrev pub HasNoKey : List ℕ → ℕ → Type 0
-HasNoKey keys from = (q : ℕ) → from ≤ q → has_key keys q ≡ false
-
--- the least of these that is `from` or above
-pub record IsLeastKey (keys : List ℕ) (from key : ℕ) : Type 0 where
-  pub low : from ≤ key
-  pub has : IsTrue (has_key keys key)
-  pub least : (q : ℕ) → from ≤ q → q < key → has_key keys q ≡ false

@@ -1,14 +1,14 @@
 //! A set of numbers of which some are 64 or more, a bit each where they are near.
 
-ghost use Rattle.std.specs.Prelude.{◌≡◌, ◌+◌, ◌<◌, ◌≤◌, ◌∷◌, [], ℕ, false, true, IfNone, IfSome, MatchOption, OnErr, OnOk};
+ghost use Rattle.std.specs.Prelude.{◌≡◌, ◌+◌, ◌<◌, ◌≤◌, ◌∷◌, ◌≢◌, [], ℕ, true, MatchOption, OnErr, OnOk, length, slice_index};
 ghost use Rattle.std.specs.FinSet as set;
-ghost use Rattle.shb_numbers.specs.Far.{HasNoKey, IsLeastKey, both, has_key};
+ghost use Rattle.std.specs.List.Sorted.{IsStrictlyIncreasing};
+ghost use Rattle.shb_numbers.specs.Far.{both, has_key};
 ghost use Rattle.shb_numbers.specs.Numbers.{HasNone, IsLeast, marked};
 
 use crate::dense::Dense;
 use shb_io::NoMemory;
 use std::alloc::Global;
-use std::collections::BTreeSet;
 use std::marker::Model;
 
 /// So many words, of 64 numbers each, a number may cost.
@@ -18,12 +18,14 @@ const MOST_WORDS: usize = 16;
 /// they are so many that bits take less. So a set takes at most some hundred bytes a number.
 pub struct LargeSet {
     near: Dense,
-    far: BTreeSet<u32, Global>,
+    /// In their order.
+    far: Vec<u32>,
 }
 
 impl Model for LargeSet {
     ghost use Rattle.std.specs.Coded.{coded_ℕ};
     ghost use Rattle.std.specs.FinSet as set;
+    ghost use Rattle.std.specs.List.Sorted.{IsStrictlyIncreasing};
     ghost use Rattle.shb_numbers.specs.Far.{both};
     ghost use Rattle.shb_numbers.specs.Numbers.{Numbers};
 
@@ -31,7 +33,9 @@ impl Model for LargeSet {
 
     ghost coded = { set.code coded_ℕ };
 
-    ghost view = { λ s. both s.near s.far.keys };
+    ghost view = { λ s. both s.near s.far.items };
+
+    ghost invariant = { λ s. IsStrictlyIncreasing s.far.items };
 }
 
 // By hand: a derived one stands in each function that drops it, with a step for each part.
@@ -48,7 +52,7 @@ impl LargeSet {
     {
         LargeSet {
             near: Dense::of_word(alloc, word),
-            far: BTreeSet::new(alloc),
+            far: Vec::new(alloc),
         }
     }
 
@@ -71,7 +75,7 @@ impl LargeSet {
         if self.near.contains(number) {
             return true;
         }
-        self.far.contains(&number)
+        has(self.far.as_slice(), number)
     }
 
     /// The least number, from `from` on and below `end`, that is in this set and not in the other. It
@@ -82,8 +86,9 @@ impl LargeSet {
             (HasNone (set.difference self.now other.now) from end)
             (IsLeast (set.difference self.now other.now) from end) }
     {
-        if self.far.is_empty() {
-            if other.far.is_empty() {
+        let (far, there) = (self.far.as_slice(), other.far.as_slice());
+        if far.len() == 0 {
+            if there.len() == 0 {
                 return self.near.first_not_in(&other.near, from, end);
             }
         }
@@ -97,31 +102,46 @@ impl LargeSet {
             (HasNone (set.difference self.now other.now) from end)
             (IsLeast (set.difference self.now other.now) from end) }
     {
-        match near_not_in(&self.near, other, from, end) {
-            Some(near) => match far_not_in(&self.far, other, from, near) {
-                Some(far) => Some(far),
-                None => Some(near),
-            },
-            None => match far_not_in(&self.far, other, from, end) {
-                Some(far) => Some(far),
-                None => None,
-            },
+        let near = near_not_in(&self.near, other, from, end);
+        let until = near.unwrap_or(end);
+        far_not_in(self.far.as_slice(), other, from, until).or(near)
+    }
+}
+
+/// Whether a number is one of some in their order.
+fn has(numbers: &[u32], number: u32) -> bool
+    requires rising { IsStrictlyIncreasing numbers.now }
+    ensures { result ≡ has_key numbers.now number }
+{
+    numbers.binary_search(&number).is_ok()
+}
+
+/// Puts a number into those that are far.
+fn insert_far(far: &mut Vec<u32>, number: u32) -> Result<(), NoMemory>
+    requires rising { IsStrictlyIncreasing far.old.items }
+    ensures rises { IsStrictlyIncreasing far.new.items }
+    ensures there { OnOk result (has_key far.new.items number ≡ true) }
+    ensures others { OnOk result ((q : ℕ) → q ≢ number → has_key far.new.items q ≡ has_key far.old.items q) }
+    ensures kept { OnErr result (far.new.items ≡ far.old.items) }
+{
+    match far.binary_search(&number) {
+        Ok(_) => Ok(()),
+        Err(at) => {
+            far.insert(at, number)?;
+            Ok(())
         }
     }
 }
 
 /// Puts a number past the near ones into the set.
-fn insert_past(
-    near: &mut Dense,
-    far: &mut BTreeSet<u32, Global>,
-    number: u32,
-) -> Result<(), NoMemory>
-    ensures inserted { OnOk result (both near.new far.new.keys ≡ set.insert (both near.old far.old.keys) number) }
-    ensures kept { OnErr result (both near.new far.new.keys ≡ both near.old far.old.keys) }
+fn insert_past(near: &mut Dense, far: &mut Vec<u32>, number: u32) -> Result<(), NoMemory>
+    requires rising { IsStrictlyIncreasing far.old.items }
+    ensures rises { IsStrictlyIncreasing far.new.items }
+    ensures inserted { OnOk result (both near.new far.new.items ≡ set.insert (both near.old far.old.items) number) }
+    ensures kept { OnErr result (both near.new far.new.items ≡ both near.old far.old.items) }
 {
-    if are_too_few(near, far, number) {
-        far.insert(number)?;
-        return Ok(());
+    if are_too_few(near, far.as_slice(), number) {
+        return insert_far(far, number);
     }
     bring_near(near, far)?;
     near.insert(number)
@@ -129,24 +149,22 @@ fn insert_past(
 
 /// Whether a bit for each number up to the last would take more than [`MOST_WORDS`] for each that is far. Only what takes
 /// less time and memory depends on it.
-fn are_too_few(near: &Dense, far: &BTreeSet<u32, Global>, number: u32) -> bool {
+fn are_too_few(near: &Dense, far: &[u32], number: u32) -> bool {
     let last = far.last().copied().unwrap_or(0).max(number);
     let words = (last as usize / 64).saturating_sub(near.words_more());
     words > far.len().saturating_add(1).saturating_mul(MOST_WORDS)
 }
 
 /// Gives each far number a bit.
-fn bring_near(near: &mut Dense, far: &mut BTreeSet<u32, Global>) -> Result<(), NoMemory>
-    ensures { both near.new far.new.keys ≡ both near.old far.old.keys }
+fn bring_near(near: &mut Dense, far: &mut Vec<u32>) -> Result<(), NoMemory>
+    requires rising { IsStrictlyIncreasing far.old.items }
+    ensures rises { IsStrictlyIncreasing far.new.items }
+    ensures same { both near.new far.new.items ≡ both near.old far.old.items }
 {
-    for _ in 0..far.len() {
-        let Some(last) = far.last() else {
-            return Ok(());
-        };
-        let last = *last;
-        near.insert(last)?;
-        far.remove(&last);
+    for at in 0..far.len() {
+        near.insert(far[at])?;
     }
+    far.clear();
     Ok(())
 }
 
@@ -161,7 +179,8 @@ fn near_not_in(near: &Dense, other: &LargeSet, from: u32, end: u32) -> Option<u3
         let Some(k) = near.first_not_in(&other.near, at, end) else {
             return None;
         };
-        if !other.far.contains(&k) {
+        let far = has(other.far.as_slice(), k);
+        if !far {
             return Some(k);
         }
         at = k + 1;
@@ -169,37 +188,54 @@ fn near_not_in(near: &Dense, other: &LargeSet, from: u32, end: u32) -> Option<u3
     None
 }
 
-/// The least far number from one on.
-fn first_from(far: &BTreeSet<u32, Global>, from: u32) -> Option<u32>
-    ensures { MatchOption result (HasNoKey far.now.keys from) (IsLeastKey far.now.keys from) }
+/// The index, from `low` on, of the first number that isn't below `from`.
+fn index_from(numbers: &[u32], low: usize, from: u32) -> usize
+    requires { (k : ℕ) → k < low → slice_index numbers.now k < from }
+    ensures below { (k : ℕ) → k < result → slice_index numbers.now k < from }
+    ensures from { result < length numbers.now → from ≤ slice_index numbers.now result }
 {
-    if far.is_empty() {
-        return None;
+    let mut at = low;
+    while at < numbers.len() {
+        if numbers[at] >= from {
+            return at;
+        }
+        at += 1;
     }
-    match far.range(from..).next() {
-        Some(key) => Some(*key),
-        None => None,
-    }
+    at
 }
 
-/// The least of the far numbers, from `from` on and below `end`, that isn't in a set.
-fn far_not_in(far: &BTreeSet<u32, Global>, other: &LargeSet, from: u32, end: u32) -> Option<u32>
-    ensures { MatchOption result
-        (HasNone (set.difference (set.from_list far.now.keys) other.now) from end)
-        (IsLeast (set.difference (set.from_list far.now.keys) other.now) from end) }
+/// Whether a number is one of some in their order, where it would be at an index.
+fn is_at(numbers: &[u32], at: usize, number: u32) -> bool
+    requires rising { IsStrictlyIncreasing numbers.now }
+    requires below { (k : ℕ) → k < at → slice_index numbers.now k < number }
+    requires from { at < length numbers.now → number ≤ slice_index numbers.now at }
+    ensures { result ≡ has_key numbers.now number }
 {
-    let mut at = from;
-    while at < end {
-        let Some(k) = first_from(far, at) else {
-            return None;
-        };
-        if k >= end {
+    at < numbers.len() && numbers[at] == number
+}
+
+/// The least of the far numbers, from `from` on and below `end`, that isn't in a set: one pass over the far numbers of both.
+fn far_not_in(far: &[u32], other: &LargeSet, from: u32, end: u32) -> Option<u32>
+    requires rising { IsStrictlyIncreasing far.now }
+    ensures { MatchOption result
+        (HasNone (set.difference (set.from_list far.now) other.now) from end)
+        (IsLeast (set.difference (set.from_list far.now) other.now) from end) }
+{
+    let there = other.far.as_slice();
+    let mut passed = 0;
+    for at in index_from(far, 0, from)..far.len() {
+        let number = far[at];
+        if number >= end {
             return None;
         }
-        if !other.contains(k) {
-            return Some(k);
+        passed = index_from(there, passed, number);
+        let found = is_at(there, passed, number);
+        if !found {
+            let near = other.near.contains(number);
+            if !near {
+                return Some(number);
+            }
         }
-        at = k + 1;
     }
     None
 }

@@ -3,5 +3,5 @@ pub mod OwnReport
 pub mod Reports
 pub mod Endings
 pub mod Outcomes
-pub mod Lists
+pub mod Within
 pub mod NearestLists

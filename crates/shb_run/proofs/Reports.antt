@@ -1,10 +1,8 @@
 -- The races of a report.
-use Rattle.std.proofs.Common.{◌≡◌, ℕ, ◌<◌, Bool, List, length, map, get_or, All, Contains, Option, sym, subst}
-use Rattle.std.proofs.lemmas.List.{get_or-map, length-map}
-use Rattle.std.proofs.lemmas.List.Elements.{Contains-get_or, All-from_get_or}
+use Rattle.std.proofs.Common.{◌≡◌, ℕ, Bool, List, get_or, All, Contains, Option, sym, subst}
+use Rattle.std.proofs.lemmas.List.Elements.{Contains-get_or}
 use Rattle.shb_lines.specs.declared.event.Event.{Event}
-use Rattle.shb_lines.specs.declared.event.Pair.{Pair}
-use Rattle.shb_lines.specs.events.Race.{Race, ends}
+use Rattle.shb_lines.specs.events.Race.{Race}
 use Rattle.shb_lines.specs.text.TraceData.{TraceData}
 use Rattle.shb_format.specs.Report.{IsReportOn}
 use Rattle.shb_scan.proofs.OneScan.{races_listed as nearest_are_races}
@@ -20,18 +18,10 @@ listed_are_races choices.All trace races lists = all_are_races trace races lists
 listed_are_races (choices.Nearest by_variable) trace races lists = nearest_are_races by_variable trace races lists
 
 -- the events of the trace may have another name
-pub races_listed : (choice : Choice) (trace : TraceData) (events : List Event) (races : List Pair) → events ≡ trace.events → ListedBy choice trace (map ends races)
-    → All (λ pair. Race events pair.first pair.second) races
-races_listed choice trace events races same lists =
-    All-from_get_or (λ pair. Race events pair.first pair.second) races none (λ i lt.
-    let within : i < length (map ends races) = rw (length-map races ends) lt in
-    let here : get_or (map ends races) i (ends none) ≡ ends (get_or races i none) = get_or-map ends races i none (ends none) lt in
-    subst (λ e. Race e (get_or races i none).first (get_or races i none).second) (sym same)
-    (listed_are_races choice trace (map ends races) lists (get_or races i none).first (get_or races i none).second
-    (subst (Contains (map ends races)) here (Contains-get_or (map ends races) i (ends none) within))))
-  where
-    none : Pair
-    none = record { first = 0; second = 0 }
+pub races_listed : (choice : Choice) (trace : TraceData) (events : List Event) (races : List (ℕ × ℕ)) → events ≡ trace.events → ListedBy choice trace races → All (λ race. Race events race.0 race.1) races
+races_listed choice trace events races same lists k d lt =
+    let race = get_or races k d in
+    subst (λ e. Race e race.0 race.1) (sym same) (listed_are_races choice trace races lists race.0 race.1 (Contains-get_or races k d lt))
 
 -- a report on these races is one on the races of which they are known to be
 module _ (Lists : TraceData → List (ℕ × ℕ) → Type 0) (ws : Bool) (trace : TraceData) (races : List (ℕ × ℕ)) (lists : Lists trace races) where

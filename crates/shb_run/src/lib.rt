@@ -1,17 +1,15 @@
 //! From the text of a trace to the report of its races.
 //!
-//! [`run`] is three stages over any source and sink: read (`parse`), judge (`judge` of `shb_check`), find
-//! the races and write them (`write_search` of `shb_write`, by workers). [`run_gated`] is the same with
+//! [`run`] is four stages over any source and sink: read (`parse`), judge (`judge` of `shb_check`), find
+//! the races (`RaceList` of `shb_lists`), and write them (`write_races` of `shb_write`, by workers). [`run_gated`] is the same with
 //! gates for tests. Both have the main theorem as their contract. [`run_places`] is the same body, and
 //! lists of each place the nearest race. [`check`], from a trace and a report to a verdict, is that of
 //! `shb_check`, and so are the errors. [`run_scan`], from a source that is read once to the nearest race of
 //! each place, is that of `shb_scan`.
 #![tactic(auto)]
 
-mod all;
-mod known;
 pub mod laws;
-mod nearest;
+mod lists;
 mod pipeline;
 mod places;
 mod settings;

@@ -6,15 +6,17 @@ ghost use Rattle.shb_format.specs.Report.{counts_of};
 ghost use Rattle.shb_format.specs.Value.{AreShown, IsShown};
 ghost use Rattle.shb_run.specs.Runs.{summary_of};
 
-use crate::all::report_all;
-use crate::nearest::report_nearest;
-use crate::settings::{Choice, Gates, Settings, Summary, Task};
+use crate::lists::races_asked;
+use crate::settings::{Choice, Settings, Summary};
 use shb_check::{RunError, judge, read_trace};
 use shb_discipline::Disciplined;
 use shb_fan::{FreeGate, Gate};
 use shb_io::{Sink, Source};
 use shb_lines::Trace;
-use shb_write::WriteError;
+use shb_links::links_of;
+use shb_lists::Settled;
+use shb_pairs::open_variables;
+use shb_write::{BlockPlan, WriteError, write_races};
 use std::alloc::Global;
 use std::random::RandomSource;
 use std::sync::Wait;
@@ -34,30 +36,40 @@ pub(crate) fn summary_of(trace: &Trace, races: u64) -> Summary
     }
 }
 
+/// Finds the races of a settled trace that are asked for, and writes their report.
+fn report_settled<R: Threads + Wait + Sync + RandomSource, K: Sink, P: Gate + Sync, W: Gate + Sync>(
+    rt: &R,
+    alloc: Global,
+    sink: &mut K,
+    settled: &Settled<'_>,
+    choice: Choice,
+    plan: &BlockPlan<'_, '_, P, W>,
+) -> Result<Summary, WriteError>
+    requires countable { K.failure_count sink.old < 2 ^ 64 - 1 }
+    ensures { HasSummed choice plan.now.schedules settled.now.disciplined.now.trace.now K.taken K.failure_count sink.old sink.new result }
+{
+    let mut list = races_asked(rt, alloc, settled, choice, plan.schedules)?;
+    let count = list.count;
+    write_races(rt, alloc, sink, settled, &mut list, plan)?;
+    Ok(summary_of(settled.disciplined.trace, count))
+}
+
 /// Writes the report of a trace that is asked for.
 fn report_asked<R: Threads + Wait + Sync + RandomSource, K: Sink, P: Gate + Sync, W: Gate + Sync>(
     rt: &R,
     alloc: Global,
     sink: &mut K,
     disciplined: &Disciplined<'_>,
-    task: Task,
-    gates: &Gates<'_, '_, P, W>,
+    choice: Choice,
+    plan: &BlockPlan<'_, '_, P, W>,
 ) -> Result<Summary, WriteError>
     requires countable { K.failure_count sink.old < 2 ^ 64 - 1 }
-    ensures { HasSummed task.choice task.settings.schedules disciplined.now.trace.now K.taken K.failure_count sink.old sink.new result }
+    ensures { HasSummed choice plan.now.schedules disciplined.now.trace.now K.taken K.failure_count sink.old sink.new result }
 {
-    match task.choice {
-        Choice::All => report_all(rt, alloc, sink, disciplined, task.settings, gates),
-        Choice::Nearest { by_variable } => report_nearest(
-            rt,
-            alloc,
-            by_variable,
-            sink,
-            disciplined,
-            task.settings,
-            gates.witness,
-        ),
-    }
+    let links = links_of(alloc, &*disciplined)?;
+    let flags = open_variables(alloc, &*disciplined, &links)?;
+    let settled = Settled::new(&*disciplined, &links, &flags);
+    report_settled(rt, alloc, sink, &settled, choice, plan)
 }
 
 /// Reads a trace, finds its races, and writes its report.
@@ -117,15 +129,13 @@ pub fn run_gated<
     ensures { IsOutcome All settings.schedules S.remaining S.given_count S.failure_count source.old source.new
         K.taken K.failure_count sink.old sink.new result }
 {
-    let task = Task {
-        settings,
-        choice: Choice::All,
-    };
-    let gates = Gates {
+    let plan = BlockPlan {
+        workers: settings.workers,
+        schedules: settings.schedules,
         pair: &*pair_gate,
         witness: &*witness_gate,
     };
-    run_task(rt, alloc, source, sink, task, &gates)
+    run_task(rt, alloc, source, sink, Choice::All, &plan)
 }
 
 /// Reads a trace, finds its races, and writes the report of those that are asked for: the body of [`run`],
@@ -141,17 +151,17 @@ pub(crate) fn run_task<
     alloc: Global,
     source: &mut S,
     sink: &mut K,
-    task: Task,
-    gates: &Gates<'_, '_, P, W>,
+    choice: Choice,
+    plan: &BlockPlan<'_, '_, P, W>,
 ) -> Result<Summary, RunError>
     requires source_countable { S.failure_count source.old < 2 ^ 64 - 1 }
     requires sink_countable { K.failure_count sink.old < 2 ^ 64 - 1 }
-    ensures { IsOutcome task.choice task.settings.schedules S.remaining S.given_count S.failure_count source.old source.new
+    ensures { IsOutcome choice plan.now.schedules S.remaining S.given_count S.failure_count source.old source.new
         K.taken K.failure_count sink.old sink.new result }
 {
     let parsed = read_trace(rt, alloc, source)?;
     let trace = judge(alloc, &parsed)?;
-    match report_asked(rt, alloc, sink, &trace, task, gates) {
+    match report_asked(rt, alloc, sink, &trace, choice, plan) {
         Ok(summary) => Ok(summary),
         Err(WriteError::Sink) => Err(RunError::Sink),
         Err(WriteError::Memory(refused)) => Err(RunError::Memory(refused)),

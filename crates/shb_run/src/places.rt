@@ -4,10 +4,11 @@ ghost use Rattle.shb_run.specs.declared.settings.Choice.TheVariants.{Nearest};
 ghost use Rattle.shb_run.specs.Outcomes.{IsOutcome};
 
 use crate::pipeline::run_task;
-use crate::settings::{Choice, Gates, Settings, Summary, Task};
+use crate::settings::{Choice, Settings, Summary};
 use shb_check::RunError;
 use shb_fan::FreeGate;
 use shb_io::{Sink, Source};
+use shb_write::BlockPlan;
 use std::alloc::Global;
 use std::random::RandomSource;
 use std::sync::Wait;
@@ -39,13 +40,18 @@ pub fn run_places<S: Source, K: Sink, R: Threads + Wait + Sync + RandomSource>(
     ensures { IsOutcome (Nearest by_variable) settings.schedules S.remaining S.given_count S.failure_count source.old source.new
         K.taken K.failure_count sink.old sink.new result }
 {
-    let task = Task {
-        settings,
-        choice: Choice::Nearest { by_variable },
-    };
-    let gates = Gates {
+    let plan = BlockPlan {
+        workers: settings.workers,
+        schedules: settings.schedules,
         pair: &FreeGate,
         witness: &FreeGate,
     };
-    run_task(rt, alloc, source, sink, task, &gates)
+    run_task(
+        rt,
+        alloc,
+        source,
+        sink,
+        Choice::Nearest { by_variable },
+        &plan,
+    )
 }

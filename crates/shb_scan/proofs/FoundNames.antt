@@ -10,7 +10,6 @@ use Rattle.shb_lines.specs.events.Race.{variable_at}
 use Rattle.shb_lines.specs.text.Grammar.{is_mark}
 use Rattle.shb_lines.specs.text.Meaning.{is_bar}
 use Rattle.shb_lines.specs.text.Numbers.{IsNumber, IsOperation, Tables}
-use Rattle.shb_lines.specs.text.OwnedNames.{names_of}
 use Rattle.shb_lines.specs.text.TraceData.{IsTraceOf, TraceData, call_line, location_after, location_of, tables_in}
 use Rattle.shb_lines.proofs.text.AccessLines.{GivesEvent, gives_event}
 use Rattle.shb_lines.proofs.text.NamedLines.{made_of_its_names}
@@ -62,7 +61,7 @@ races_located trace locations spots spots_are races h k d below =
 
 -- an access of a trace is made of the names behind its numbers
 module _ (lines : List (List ℕ)) (names : ScanNames) (trace : TraceData) (spots : List Spot) (trace_is : IsTraceOf lines trace)
-    (threads_are : names_of names.threads.now ≡ trace.threads) (variables_are : names_of names.variables.now ≡ trace.variables) (spots_are : AreSpots trace (names_of names.locations.now) spots) where
+    (threads_are : names.threads.now ≡ trace.threads) (variables_are : names.variables.now ≡ trace.variables) (spots_are : AreSpots trace names.locations.now spots) where
   pub access_made_of : (x : ℕ) (access : FoundAccess) → IsFoundAccess trace.events spots x access → IsMadeOf names trace x access
   access_made_of x access h =
       let gives : GivesEvent trace access.event access.thread (access_op access.writes x) = gives_event lines trace access.event access.thread (access_op access.writes x) trace_is h.thread_is h.op_is in
@@ -94,8 +93,8 @@ module _ (lines : List (List ℕ)) (names : ScanNames) (trace : TraceData) (spot
 
 -- the line that is made of the texts behind the numbers of an access is that of its event
 pub line_is : (names : ScanNames) (trace : TraceData) (x : ℕ) (access : FoundAccess) (thread name location : List ℕ) (after : Option (List ℕ)) → IsMadeOf names trace x access
-    → slice_get (names_of names.threads.now) access.thread ≡ Some thread → slice_get (names_of names.variables.now) x ≡ Some name
-    → slice_get (names_of names.locations.now) access.spot.location ≡ Some location → after ≡ location_if access.spot.barred location
+    → slice_get names.threads.now access.thread ≡ Some thread → slice_get names.variables.now x ≡ Some name
+    → slice_get names.locations.now access.spot.location ≡ Some location → after ≡ location_if access.spot.barred location
     → line_of_event trace access.event ≡ call_line thread (access_kind access.writes) name after
 line_is names trace x access thread name location after h thread_is name_is location_is after_location =
     let thread_same : h.thread ≡ thread = (let both = sym h.thread_is ∙ thread_is in cc) in

@@ -11,7 +11,6 @@ use Rattle.shb_lines.specs.events.Race.{variable_at}
 use Rattle.shb_lines.specs.text.Names.{with_name}
 use Rattle.shb_lines.specs.text.Numbering.{IsWithin, event_of, with_step}
 use Rattle.shb_lines.specs.text.Numbers.{Tables}
-use Rattle.shb_lines.specs.text.OwnedNames.{names_of}
 use Rattle.shb_lines.specs.text.Taken.{HasTaken}
 use Rattle.shb_lines.specs.text.TraceData.{TraceData, location_of}
 use Rattle.shb_lines.proofs.text.NameLemmas.{length-with_name_le, slice_get-with_name}
@@ -64,7 +63,7 @@ module _ (trace : TraceData) (tables : Tables) (step : Step) (number : ℕ) (tex
 
   -- an event more was noted
   pub noted_more : (locations later : OwnedNames) (state after : State) (nearest next : NearestRaces) → HasNoted trace spots locations state nearest → MayCome trace.events (event_of step number)
-      → old ≡ names_of locations → new ≡ names_of later → IsStateAfter (trace.events ++ event_of step number ∷ []) after → HasSearched (trace.events ++ event_of step number ∷ []) (spots ++ spot ∷ []) next → HasSpot old new step.op text spot
+      → old ≡ locations → new ≡ later → IsStateAfter (trace.events ++ event_of step number ∷ []) after → HasSearched (trace.events ++ event_of step number ∷ []) (spots ++ spot ∷ []) next → HasSpot old new step.op text spot
       → HasNoted now (spots ++ spot ∷ []) later after next
   noted_more locations later state after nearest next h may from to state_is searched here =
       let old_is : AreSpots trace old spots = subst (λ names. AreSpots trace names spots) (sym from) h.located in
@@ -103,7 +102,7 @@ none_distinct : (names : List (List ℕ)) → names ≡ [] → IsDistinct bytes_
 unfolding IsDistinct
 none_distinct names none = subst (IsDistinct bytes_eq) (sym none) tt
 
-pub scanned_none : (left : Option (List ℕ)) (scan : Scan) → HasTaken scan_bounds [] [] left scan.reader → IsWithin scan_bounds scan.reader.numbering → names_of scan.locations ≡ [] → IsStateAfter [] scan.state → HasSearched [] [] scan.nearest → HasScanned [] [] left scan
+pub scanned_none : (left : Option (List ℕ)) (scan : Scan) → HasTaken scan_bounds [] [] left scan.reader → IsWithin scan_bounds scan.reader.numbering → scan.locations ≡ [] → IsStateAfter [] scan.state → HasSearched [] [] scan.nearest → HasScanned [] [] left scan
 scanned_none left scan taken within none state searched = record {
   taken = taken;
   within = within;
@@ -116,7 +115,7 @@ scanned_none left scan taken within none state searched = record {
     state_is = state;
     searched = searched;
     located = λ k x s var at. absurd (no_access k x var);
-    distinct = none_distinct (names_of scan.locations) none;
+    distinct = none_distinct scan.locations none;
     few = omega (arith, ap length none);
   };
 }

@@ -8,7 +8,6 @@ use Rattle.shb_lines.specs.declared.event.Event.{Event}
 use Rattle.shb_lines.specs.events.Race.{Race, variable_at}
 use Rattle.shb_lines.specs.declared.owned_names.OwnedNames.{OwnedNames}
 use Rattle.shb_lines.specs.text.Numbering.{tables_of}
-use Rattle.shb_lines.specs.text.OwnedNames.{names_of}
 use Rattle.shb_lines.specs.text.Text.{lines_of}
 use Rattle.shb_lines.specs.text.TraceData.{TraceData}
 use Rattle.shb_lines.proofs.text.Numbers.{one_number}
@@ -83,7 +82,7 @@ pub found_in : (text : List ℕ) (left : Option (List ℕ)) (scan : Scan) (found
     → IsFoundIn text found
 found_in text left scan found h reader locations form races places =
     let s = h.scanned in
-    let located : AreSpots s.trace (names_of found.locations) s.spots = subst (λ l. AreSpots s.trace (names_of l) s.spots) (sym locations) s.noted.located in
+    let located : AreSpots s.trace found.locations s.spots = subst (λ l. AreSpots s.trace l s.spots) (sym locations) s.noted.located in
     let count : scan.reader.numbering.events ≡ length s.trace.events = s.taken.numbered.count_is ∙ sym (events_count (lines_of text) s.trace s.trace_is) in
     let are = subst (λ (b : Bool). AreNearestRaces b s.trace.events s.spots found.races.items) form (races s.trace.events s.spots s.noted.searched) in
     record {
@@ -96,8 +95,8 @@ found_in text left scan found h reader locations form races places =
       spots = s.spots;
       located = located;
       nearest = nearest_by s.trace.events (site_in found.by_variable s.trace.events s.spots) (site_at found.by_variable s.trace) (λ x. Unit {0}) (λ i j race. tt)
-          (sites_alike (λ x. Unit {0}) s.trace (names_of scan.locations) s.spots s.noted.distinct s.noted.searched.as_many (λ k x spot accesses all at. (s.noted.located k x spot accesses at).location) found.by_variable) (map ends_of found.races.items) are.nearest;
+          (sites_alike (λ x. Unit {0}) s.trace scan.locations s.spots s.noted.distinct s.noted.searched.as_many (λ k x spot accesses all at. (s.noted.located k x spot accesses at).location) found.by_variable) (map ends_of found.races.items) are.nearest;
       accesses = are.accesses;
-      few = omega (arith, ap (λ (l : OwnedNames). length (names_of l)) locations, s.noted.few, count, s.within.few);
-      places = places s.trace (names_of found.locations) (subst (λ (l : OwnedNames). IsDistinct bytes_eq (names_of l)) (sym locations) s.noted.distinct) (races_located s.trace (names_of found.locations) s.spots located found.races.items are.accesses);
+      few = omega (arith, ap (λ (l : OwnedNames). length l) locations, s.noted.few, count, s.within.few);
+      places = places s.trace found.locations (subst (λ (l : OwnedNames). IsDistinct bytes_eq l) (sym locations) s.noted.distinct) (races_located s.trace found.locations s.spots located found.races.items are.accesses);
     }

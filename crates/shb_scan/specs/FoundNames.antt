@@ -1,7 +1,6 @@
 -- The names behind the numbers of races that were found, and what makes them those of a trace.
 use Rattle.std.specs.Prelude.{◌≡◌, ◌<◌, ℕ, Bool, List, length, slice_get, is_some, Option, None, Some, if◌then◌else◌}
 use Rattle.shb_lines.specs.events.Race.{variable_at}
-use Rattle.shb_lines.specs.text.OwnedNames.{names_of}
 use Rattle.shb_lines.specs.text.TraceData.{TraceData, call_line, location_after, location_of}
 use Rattle.shb_format.specs.Places.{location_at}
 use Rattle.shb_format.specs.Report.{line_of_event}
@@ -17,18 +16,18 @@ location_if barred location = if barred then Some location else None
 
 -- the numbers of an access, and of its variable, have names
 pub record HasNames (names : ScanNames) (x : ℕ) (access : FoundAccess) : Type 0 where
-  pub thread : access.thread < length (names_of names.threads.now)
-  pub variable : x < length (names_of names.variables.now)
-  pub location : access.spot.location < length (names_of names.locations.now)
+  pub thread : access.thread < length names.threads.now
+  pub variable : x < length names.variables.now
+  pub location : access.spot.location < length names.locations.now
 
 -- the line of an access is made of the names of its thread, of its variable and of its location
 pub record IsMadeOf (names : ScanNames) (trace : TraceData) (x : ℕ) (access : FoundAccess) : Type 0 where
   pub thread : List ℕ
   pub name : List ℕ
   pub location : List ℕ
-  pub thread_is : slice_get (names_of names.threads.now) access.thread ≡ Some thread
-  pub name_is : slice_get (names_of names.variables.now) x ≡ Some name
-  pub location_is : slice_get (names_of names.locations.now) access.spot.location ≡ Some location
+  pub thread_is : slice_get names.threads.now access.thread ≡ Some thread
+  pub name_is : slice_get names.variables.now x ≡ Some name
+  pub location_is : slice_get names.locations.now access.spot.location ≡ Some location
   pub line : line_of_event trace access.event ≡ call_line thread (access_kind access.writes) name (location_if access.spot.barred location)
 
 -- the spot of an access with this line: the number of its location, and whether the line has a second bar

@@ -14,7 +14,6 @@ use Rattle.shb_lines.specs.events.Events.{variable_of}
 use Rattle.shb_lines.specs.text.Lines.{Moves}
 use Rattle.shb_lines.specs.text.Names.{with_name}
 use Rattle.shb_lines.specs.text.Numbering.{IsWithin, tables_of}
-use Rattle.shb_lines.specs.text.OwnedNames.{names_of}
 use Rattle.shb_lines.specs.text.Taken.{HasTaken, IsTakenNext, IsWithinAfter, rest_of}
 use Rattle.shb_lines.specs.text.Text.{lines_of}
 use Rattle.shb_lines.specs.text.TraceData.{IsTraceOf, TraceData, location_of, tables_in}
@@ -52,9 +51,9 @@ pub record HasNoted (trace : TraceData) (spots : List Spot) (locations : OwnedNa
   pub disciplined : IsDisciplined trace.events
   pub state_is : IsStateAfter trace.events state
   pub searched : HasSearched trace.events spots nearest
-  pub located : AreSpots trace (names_of locations) spots
-  pub distinct : IsDistinct bytes_eq (names_of locations)
-  pub few : length (names_of locations) ≤ length trace.events
+  pub located : AreSpots trace locations spots
+  pub distinct : IsDistinct bytes_eq locations
+  pub few : length locations ≤ length trace.events
 
 -- of the bytes that were read so far these lines were taken, and their events were noted
 pub record HasScanned (read : List ℕ) (lines : List (List ℕ)) (left : Option (List ℕ)) (scan : Scan) : Type 0 where
@@ -103,11 +102,11 @@ pub record IsFoundIn (text : List ℕ) (found : FoundScan) : Type 0 where
   pub names_are : tables_of found.reader.numbering ≡ tables_in trace
   pub count_is : found.reader.numbering.events ≡ length trace.events
   pub spots : List Spot
-  pub located : AreSpots trace (names_of found.locations) spots
+  pub located : AreSpots trace found.locations spots
   pub nearest : AreNearest trace.events (site_at found.by_variable trace) (map ends_of found.races.items)
   pub accesses : All (IsFoundRace trace.events spots) found.races.items
-  pub few : length (names_of found.locations) ≤ 2 ^ 32
-  pub places : AreKeyed (names_of found.locations) found.places (places_in trace found.races.items)
+  pub few : length found.locations ≤ 2 ^ 32
+  pub places : AreKeyed found.locations found.places (places_in trace found.races.items)
 
 -- what the reading of a source answers, and what it leaves: the races that are found in all of its text; the first fault of the text; or that it has more lines than are counted. The source lost what was read
 pub record HasReadScan (old new : Option (List ℕ)) (given_before given_after failed_before failed_after : ℕ) (answer : Result FoundScan ScanError) : Type 0 where
@@ -122,7 +121,7 @@ pub record HasReadScan (old new : Option (List ℕ)) (given_before given_after f
 abbrev pub counts_in : Numbering → Counts
 counts_in numbering = record {
   events = numbering.events;
-  threads = length (names_of numbering.threads);
-  locks = length (names_of numbering.locks);
-  variables = length (names_of numbering.variables);
+  threads = length numbering.threads;
+  locks = length numbering.locks;
+  variables = length numbering.variables;
 }

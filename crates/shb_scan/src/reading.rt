@@ -10,7 +10,6 @@ ghost use Rattle.shb_lines.specs.text.Lines.{Moves};
 ghost use Rattle.shb_lines.specs.text.Names.{with_name};
 ghost use Rattle.shb_lines.specs.text.Numbering.{IsWithin, event_of, with_step};
 ghost use Rattle.shb_lines.specs.text.Numbers.{Tables, events_of};
-ghost use Rattle.shb_lines.specs.text.OwnedNames.{names_of};
 ghost use Rattle.shb_lines.specs.text.Taken.{HasBar, IsBarred};
 ghost use Rattle.shb_lines.specs.text.TraceData.{TraceData, location_after, location_of};
 ghost use Rattle.shb_nearest.specs.declared.access.Spot.{Spot as SpotData};
@@ -62,26 +61,22 @@ pub(crate) fn is_access(op: Op) -> bool
 }
 
 /// Where an access stands, by the location in its line, if there is one. A location that is new is put last.
-fn spot_of(
-    alloc: Global,
-    locations: &mut OwnedNames,
-    location: Option<&[u8]>,
-) -> Result<Spot, NoMemory>
-    requires room { length (names_of locations.old) < 2 ^ 32 }
-    ensures spot { (line : List ℕ) → option_copied location.entry ≡ location_after line → IfOk result (IsSpotOf (names_of locations.new) line) }
+fn spot_of(locations: &mut OwnedNames, location: Option<&[u8]>) -> Result<Spot, NoMemory>
+    requires room { length locations.old < 2 ^ 32 }
+    ensures spot { (line : List ℕ) → option_copied location.entry ≡ location_after line → IfOk result (IsSpotOf locations.new line) }
     ensures names { (line : List ℕ) → option_copied location.entry ≡ location_after line
-        → OnOk result (names_of locations.new ≡ with_name (names_of locations.old) (location_of line)) }
+        → OnOk result (locations.new ≡ with_name locations.old (location_of line)) }
 {
     match location {
         Some(text) => {
-            let location = locations.number_of(alloc, text)?;
+            let location = locations.number_of(text)?;
             Ok(Spot {
                 location,
                 barred: true,
             })
         }
         None => {
-            let location = locations.number_of(alloc, b"")?;
+            let location = locations.number_of(b"")?;
             Ok(Spot {
                 location,
                 barred: false,
@@ -105,16 +100,16 @@ impl Scan {
     }
 
     /// Where the event of the line that was given last stands. Of an event that is no access the spot says nothing.
-    fn spot(&mut self, alloc: Global, op: Op) -> Result<Spot, NoMemory>
-        requires room { length (names_of self.old.locations) < 2 ^ 32 }
+    fn spot(&mut self, op: Op) -> Result<Spot, NoMemory>
+        requires room { length self.old.locations < 2 ^ 32 }
         requires bar { HasBar self.old.reader }
         ensures reader { self.new.reader ≡ self.old.reader }
         ensures state { self.new.state ≡ self.old.state }
         ensures nearest { self.new.nearest ≡ self.old.nearest }
-        ensures spot { IfOk result (HasSpot (names_of self.old.locations) (names_of self.new.locations) op (strip_carriage_return self.old.reader.lines.line)) }
+        ensures spot { IfOk result (HasSpot self.old.locations self.new.locations op (strip_carriage_return self.old.reader.lines.line)) }
     {
         if is_access(op) {
-            return spot_of(alloc, &mut self.locations, self.reader.location());
+            return spot_of(&mut self.locations, self.reader.location());
         }
         Ok(Spot {
             location: 0,
@@ -124,7 +119,7 @@ impl Scan {
 
     /// Takes note of an event that may come, and where it stands.
     fn note(&mut self, alloc: Global, step: Step) -> Result<(), NoMemory>
-        requires room { length (names_of self.old.locations) < 2 ^ 32 }
+        requires room { length self.old.locations < 2 ^ 32 }
         requires bar { HasBar self.old.reader }
         ensures reader { self.new.reader ≡ self.old.reader }
         ensures form { self.new.nearest.by_variable ≡ self.old.nearest.by_variable }
@@ -134,7 +129,7 @@ impl Scan {
             (spots ++ spot ∷ []) self.new.locations self.new.state self.new.nearest) }
     {
         self.state.note(step.thread, step.op)?;
-        let spot = self.spot(alloc, step.op)?;
+        let spot = self.spot(step.op)?;
         self.nearest.take(alloc, step, spot)
     }
 
@@ -154,7 +149,7 @@ impl Scan {
     ///
     /// `Trace` where it is a fault, or an event that may not come. `TooManyLines` where nothing was taken.
     fn take(&mut self, alloc: Global, taken: Taken) -> Result<bool, ScanError>
-        requires room { length (names_of self.old.locations) < 2 ^ 32 }
+        requires room { length self.old.locations < 2 ^ 32 }
         requires bar { IsBarred self.old.reader taken }
         ensures reader { self.new.reader ≡ self.old.reader }
         ensures form { self.new.nearest.by_variable ≡ self.old.nearest.by_variable }
@@ -185,7 +180,7 @@ impl Scan {
     ) -> Result<bool, ScanError>
         requires limits { limits.now ≡ scan_bounds }
         requires within { IsWithin limits.now self.old.reader.numbering }
-        requires room { length (names_of self.old.locations) < 2 ^ 32 }
+        requires room { length self.old.locations < 2 ^ 32 }
         requires countable { S.failure_count source.old < 2 ^ 64 - 1 }
         ensures stepped { (read : List ℕ) (lines : List (List ℕ)) → HasScanned read lines (S.remaining source.old) self.old
             → (more : List ℕ) × Moves (S.remaining source.old) (S.remaining source.new) (S.given_count source.old) (S.given_count source.new) more
@@ -193,7 +188,7 @@ impl Scan {
         ensures counted { CountsFailure source_failed (S.failure_count source.old) (S.failure_count source.new) result }
         ensures form { self.new.nearest.by_variable ≡ self.old.nearest.by_variable }
     {
-        let taken = self.reader.next_event(alloc, source, limits)?;
+        let taken = self.reader.next_event(source, limits)?;
         self.take(alloc, taken)
     }
 

@@ -2,7 +2,6 @@
 ghost use Rattle.std.specs.Prelude.{◌≡◌, ◌-◌, ◌^◌, ◌<◌, ◌≤◌, All, List, None, length, map};
 ghost use Rattle.std.specs.Option.{option_copied};
 ghost use Rattle.shb_io.specs.Devices.{IsCounted, Writes};
-ghost use Rattle.shb_lines.specs.text.OwnedNames.{names_of};
 ghost use Rattle.shb_lines.specs.text.TraceData.{TraceData};
 ghost use Rattle.shb_format.specs.AccessText.{HasLineOf};
 ghost use Rattle.shb_format.specs.Keyed.{AreKeyed};
@@ -108,10 +107,10 @@ pub fn write_scan<S: Sink>(
 ) -> Result<(), Failed>
     requires countable { S.failure_count sink.old < 2 ^ 64 - 1 }
     requires named { All (HasRaceNames names.now) races.now }
-    requires few { length (names_of names.now.locations.now) ≤ 2 ^ 32 }
-    requires keyed { (placed : List PlaceOf) × AreKeyed (names_of names.now.locations.now) places.now placed }
+    requires few { length names.now.locations.now ≤ 2 ^ 32 }
+    requires keyed { (placed : List PlaceOf) × AreKeyed names.now.locations.now places.now placed }
     ensures written { (trace : TraceData) → counts.now ≡ counts_of trace → All (IsRaceMadeOf names.now trace) races.now
-        → AreKeyed (names_of names.now.locations.now) places.now (places_in trace races.now)
+        → AreKeyed names.now.locations.now places.now (places_in trace races.now)
         → Writes (S.taken sink.old) (S.taken sink.new) result (listing_bytes trace (map ends_of races.now)) }
     ensures counted { IsCounted (S.failure_count sink.old) (S.failure_count sink.new) result }
 {

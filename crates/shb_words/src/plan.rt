@@ -54,6 +54,10 @@ impl From<NoMemory> for WordsFault {
     }
 }
 
+/// What a user is told whose first word is no command, such as a file.
+const ABOUT_COMMANDS: &str =
+    "The commands are races, places and check. Begin with 'shb places --list TRACE'.\n";
+
 /// What a user is told whose number of workers is none.
 const ABOUT_WORKERS: &str = "--workers takes a number from 1 to 64.\n";
 
@@ -146,9 +150,12 @@ fn plan_of_error(alloc: Global, error: Error) -> Result<Plan, WordsFault> {
     if matches!(kind, ErrorKind::DisplayHelp) {
         return Ok(Plan::Help { text });
     }
-    if matches!(kind, ErrorKind::ValueValidation) {
-        text.push_str(ABOUT_WORKERS).map_err(NoMemory::from)?;
-    }
+    let hint = match kind {
+        ErrorKind::ValueValidation => ABOUT_WORKERS,
+        ErrorKind::InvalidSubcommand => ABOUT_COMMANDS,
+        _ => "",
+    };
+    text.push_str(hint).map_err(NoMemory::from)?;
     Err(WordsFault::Refused { text })
 }
 

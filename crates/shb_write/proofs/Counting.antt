@@ -1,22 +1,14 @@
 -- The events of races are events of the trace.
-use Rattle.std.proofs.Common.{◌≡◌, ℕ, zero, suc, ◌<◌, List, [], ◌∷◌, length, map, All, subst, arith}
+use Rattle.std.proofs.Common.{◌≡◌, ℕ, zero, suc, ◌<◌, List, [], ◌∷◌, length, map, All, arith}
 use Rattle.shb_lines.specs.declared.event.Event.{Event}
 use Rattle.shb_lines.specs.declared.event.Pair.{Pair}
-use Rattle.shb_lines.specs.events.Race.{Race, ends}
+use Rattle.shb_lines.specs.events.Race.{ends}
 use Rattle.shb_lines.specs.text.TraceData.{TraceData}
-use Rattle.shb_lines.proofs.events.Reach.{event_at_access}
-use Rattle.std.proofs.lemmas.Option.{slice_get_within}
+use Rattle.shb_lists.proofs.GivenLemmas.{race_of_trace}
 use Rattle.std.proofs.lemmas.List.Elements.{All-nil}
 use Rattle.shb_format.specs.Places.{IsPairOf}
 use Rattle.shb_witness.specs.Schedules.{AreRaces}
 use Rattle.shb_write.specs.Listed.{IsRaceOf}
-
--- the events of a race are events of the trace, which may be seen under another name
-pub race_of_trace : (trace : TraceData) (events : List Event) (i j : ℕ) → events ≡ trace.events → Race events i j → IsRaceOf trace (i, j)
-race_of_trace trace events i j same race =
-    let first = event_at_access events i race.conflict.variable race.conflict.first_accesses in
-    let second = event_at_access events j race.conflict.variable race.conflict.second_accesses in
-    (subst (λ t. i < length t) same (slice_get_within events i first.0 first.1), subst (λ t. j < length t) same (slice_get_within events j second.0 second.1))
 
 pub pairs_in_range : (trace : TraceData) (events : List Event) (races : List Pair) → events ≡ trace.events → AreRaces events races → All (IsPairOf trace) races
 pairs_in_range trace events races same are k d lt = let both = race_of_trace trace events _ _ same (are k d lt) in record { first = both.0; second = both.1 }

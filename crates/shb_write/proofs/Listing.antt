@@ -1,18 +1,15 @@
 -- The races of a trace, listed part by part.
 use Rattle.std.proofs.Common.{◌≡◌, ℕ, suc, ◌+◌, ◌^◌, ◌<◌, ◌≤◌, Bool, false, true, List, [], ◌∷◌, ◌++◌, length, map, get_or, All, Option, Result, Ok, Err, IsErrAnd, refl, sym, ap, subst, ◌∙◌, arith}
-use Rattle.std.proofs.lemmas.List.{get_or-map, get_or_append_left, length-append, length-map, map-append}
-use Rattle.std.proofs.lemmas.List.Elements.{All-from_get_or, All-map, Contains-get_or}
+use Rattle.std.proofs.lemmas.List.{get_or_append_left, length-append, length-map, map-append}
+use Rattle.std.proofs.lemmas.List.Elements.{All-map}
 use Rattle.std.specs.Prelude.{if◌then◌else◌}
 use Rattle.std.specs.Io.KnownBytes.{Appends}
 use Rattle.shb_io.specs.Devices.{CountsFailure}
 use Rattle.shb_io.specs.declared.no_memory.NoMemory.{NoMemory}
 use Rattle.shb_io.proofs.Growth.{Appends-nil}
 use Rattle.shb_lines.specs.declared.event.Event.{Event}
-use Rattle.shb_lines.specs.declared.event.Pair.{Pair}
-use Rattle.shb_lines.specs.events.Race.{IsRaceList, Race, ends}
+use Rattle.shb_lines.specs.events.Race.{Race}
 use Rattle.shb_lines.specs.text.TraceData.{TraceData}
-use Rattle.shb_lists.specs.Batches.{races_below, races_between}
-use Rattle.shb_lists.proofs.BatchLemmas.{below_between}
 use Rattle.shb_format.specs.Places.{IsPairOf, IsPlaceOf, counts_in, places_of_pairs}
 use Rattle.shb_format.specs.declared.places.PlaceCount.{PlaceCount}
 use Rattle.shb_format.specs.Report.{ShownRace, blocks_from, pair_of}
@@ -24,7 +21,7 @@ use Rattle.shb_write.specs.Blocks.{HasShown, HasStopped, HasWritten, WritesFront
 use Rattle.shb_write.specs.Written.{AppendsFront, write_failed}
 use Rattle.shb_write.specs.Listed.{HasListed, IsRaceOf, MayList}
 use Rattle.shb_write.proofs.Blocks.{stopped_after, stopped_then, written_then}
-use Rattle.shb_write.proofs.Counting.{race_of_trace}
+use Rattle.shb_lists.proofs.GivenLemmas.{race_of_trace}
 
 module _ {A : Type 0} (P : A → Type 0) where
   all_left : (xs ys : List A) → All P (xs ++ ys) → All P xs
@@ -69,21 +66,8 @@ module _ {K : Type 0} (taken : K → Option (List ℕ)) (failures : K → ℕ) (
 -- ---- the races of a trace
 
 -- both events of each are events of the trace, which may be seen under another name
-pub listed_of_trace : (trace : TraceData) (events : List Event) (races : List (ℕ × ℕ)) → events ≡ trace.events → IsRaceList events races → All (IsRaceOf trace) races
-listed_of_trace trace events races same lists = All-from_get_or (IsRaceOf trace) races (0, 0) each
-  where
-    each : (k : ℕ) → k < length races → IsRaceOf trace (get_or races k (0, 0))
-    each k lt = race_of_trace trace events (get_or races k (0, 0)).0 (get_or races k (0, 0)).1 same ((lists.all (get_or races k (0, 0)).0 (get_or races k (0, 0)).1).0 (Contains-get_or races k (0, 0) lt))
-
-pub races_of_list : (events : List Event) (races : List (ℕ × ℕ)) → IsRaceList events races → All (λ race. Race events race.0 race.1) races
-races_of_list events races lists k d lt = (lists.all (get_or races k d).0 (get_or races k d).1).0 (Contains-get_or races k d lt)
-
--- some races as pairs
-pub pairs_race : (events : List Event) (pairs : List Pair) (races : List (ℕ × ℕ)) → map ends pairs ≡ races → All (λ race. Race events race.0 race.1) races → All (λ (p : Pair). Race events p.first p.second) pairs
-pairs_race events pairs races same are k d lt =
-    let long = length-map pairs ends in
-    let there = subst (λ (l : List (ℕ × ℕ)). All (λ race. Race events race.0 race.1) l) (sym same) are in
-    subst (λ (q : ℕ × ℕ). Race events q.0 q.1) (get_or-map ends pairs k d (ends d) lt) (there k (ends d) (omega (arith, long, lt)))
+pub races_of_trace : (trace : TraceData) (events : List Event) (races : List (ℕ × ℕ)) → events ≡ trace.events → All (λ race. Race events race.0 race.1) races → All (IsRaceOf trace) races
+races_of_trace trace events races same are k d lt = race_of_trace trace events _ _ same (are k d lt)
 
 -- the places of such races are places of the trace
 pub places_of_trace : (trace : TraceData) (races : List (ℕ × ℕ)) (places : List PlaceCount) → All (IsRaceOf trace) races → places ≡ counts_in (places_of_pairs trace (map pair_of races)) → All (IsPlaceOf trace) places
@@ -122,11 +106,3 @@ module _ {K : Type 0} (taken : K → Option (List ℕ)) (failures : K → ℕ) (
 pub shown_so : (with_schedules : Bool) (trace : TraceData) (events : List Event) (races : List (ℕ × ℕ)) → events ≡ trace.events → map (shown_in with_schedules events) races ≡ (if with_schedules then map (scheduled trace) races else map alone races)
 shown_so true trace events races same = ap (λ (es : List Event). map (scheduled_in es) races) same
 shown_so false trace events races same = refl
-
--- ---- the races of one batch more
-
-pub batch_next : (trace : List Event) (from to : ℕ) (more : List (ℕ × ℕ)) → from ≤ to → more ≡ races_between trace from to → races_below trace to ≡ races_below trace from ++ more
-batch_next trace from to more le are = below_between trace from to le ∙ ap (λ (l : List (ℕ × ℕ)). races_below trace from ++ l) (sym are)
-
-pub batch_split : (trace : List Event) (from to n : ℕ) (more : List (ℕ × ℕ)) → to ≤ n → races_below trace to ≡ races_below trace from ++ more → races_below trace n ≡ (races_below trace from ++ more) ++ races_between trace to n
-batch_split trace from to n more le next = below_between trace to n le ∙ ap (λ (l : List (ℕ × ℕ)). l ++ races_between trace to n) next

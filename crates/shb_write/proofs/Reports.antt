@@ -5,8 +5,6 @@ use Rattle.std.proofs.Math.Seq.{take-append-add}
 use Rattle.shb_io.specs.Devices.{AppendsPrefix, CountsFailure}
 use Rattle.shb_io.specs.declared.no_memory.NoMemory.{NoMemory}
 use Rattle.shb_io.proofs.Growth.{Appends-trans, AppendsPrefix-after}
-use Rattle.shb_lines.specs.declared.event.Pair.{Pair}
-use Rattle.shb_lines.specs.events.Race.{ends}
 use Rattle.shb_lines.specs.text.TraceData.{TraceData}
 use Rattle.shb_format.specs.declared.places.PlaceCount.{PlaceCount}
 use Rattle.shb_format.specs.Places.{counts_in, places_of_pairs, section_bytes}
@@ -16,7 +14,6 @@ use Rattle.shb_write.specs.declared.errors.WriteError.TheVariants.{Sink, Memory}
 use Rattle.shb_write.specs.Blocks.{blocks_of}
 use Rattle.shb_write.specs.Written.{AppendsFront, CutsBlocksOn, CutsReportOn, HasReported, These, WritesReport, write_failed}
 use Rattle.shb_write.proofs.Blocks.{are_blocks, front_lacks}
-use Rattle.shb_format.proofs.Blocks.{pairs_back}
 
 -- the head and the places
 pub front_is : (trace : TraceData) (races : List (ℕ × ℕ)) (count : ℕ) (places : List PlaceCount) → count ≡ length races → places ≡ counts_in (places_of_pairs trace (map pair_of races))
@@ -24,10 +21,6 @@ pub front_is : (trace : TraceData) (races : List (ℕ × ℕ)) (count : ℕ) (pl
 front_is trace races count places counted are =
     ap (λ n. head_bytes (counts_of trace) n ++ section_bytes trace places) counted
     ∙ ap (λ p. head_bytes (counts_of trace) (length races) ++ section_bytes trace p) are
-
--- the places of some pairs are those of their ends
-pub places_of_ends : (trace : TraceData) (races : List Pair) (places : List PlaceCount) → places ≡ counts_in (places_of_pairs trace races) → places ≡ counts_in (places_of_pairs trace (map pair_of (map ends races)))
-places_of_ends trace races places are = are ∙ ap (λ l. counts_in (places_of_pairs trace l)) (sym (pairs_back races))
 
 module _ (ws : Bool) (trace : TraceData) (races : List (ℕ × ℕ)) where
   abbrev report : IsReportOn (These races) ws trace (front_bytes trace races ++ (blocks_of ws trace races ++ tail_bytes))
@@ -59,12 +52,6 @@ module _ (ws : Bool) (trace : TraceData) (races : List (ℕ × ℕ)) where
     -- the whole report was written
     pub reported : (x : T) → Appends (taken old) (taken new) (front_bytes trace races ++ (blocks_of ws trace races ++ tail_bytes)) → failures new ≡ failures old → HasReported (These races) ws trace taken failures old new (Ok x)
     reported x written counted = record { report = report_written _ _ written; cut = tt; memory = tt; counted = counted }
-
-    -- memory was refused before anything was written
-    pub unreported : (r : Result T WriteError) (refused : NoMemory) → IsErrAnd r (λ e. e ≡ Memory refused) → new ≡ old → HasReported (These races) ws trace taken failures old new r
-    unreported (Ok x) refused is same = absurd is
-    unreported (Err e) refused is same = subst (λ (e : WriteError). HasReported {T = T} (These races) ws trace taken failures old new (Err e)) (sym is)
-        (record { report = tt; cut = tt; memory = inl same; counted = ap failures same })
 
     -- the sink failed
     pub report_failed : (r : Result T WriteError) → IsErrAnd r (λ e. e ≡ Sink) → AppendsPrefix (taken old) (taken new) (front_bytes trace races ++ (blocks_of ws trace races ++ tail_bytes)) → failures new ≡ failures old + 1

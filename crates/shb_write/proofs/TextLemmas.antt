@@ -15,8 +15,9 @@ use Rattle.shb_pairs.specs.declared.listed.ListedRace.{ListedRace}
 use Rattle.shb_write.specs.Blocks.{alone}
 use Rattle.shb_write.specs.Listed.{IsRaceOf}
 use Rattle.shb_write.specs.Texts.{HasText, piece_text, text_of}
-use Rattle.shb_write.specs.declared.texts.TextPiece.{TextPiece}
+use Rattle.shb_write.specs.declared.pieces.Piece.{Piece}
 use Rattle.shb_write.specs.Written.{AppendsFront}
+use Rattle.shb_write.proofs.PieceLemmas.{flat_joined}
 use Rattle.shb_write.proofs.Blocks.{blocks-append, front_after, front_more, front_of}
 
 -- the text of some races and of those after them
@@ -26,7 +27,7 @@ text-append trace before after xs ys is =
     ∙ blocks-append trace (before + 1) (after + 1) (map alone xs) (map alone ys) (omega (arith, is, length-map xs alone))
 
 -- one piece more is cut
-pub text_more : (trace : TraceData) (before : ℕ) (pieces new : List TextPiece) (piece : TextPiece) (races : List ListedRace) (start end : ℕ) → start < end → end ≤ length races
+pub text_more : (trace : TraceData) (before : ℕ) (pieces new : List Piece) (piece : Piece) (races : List ListedRace) (start end : ℕ) → start < end → end ≤ length races
     → flat_map (piece_text trace) pieces ≡ text_of trace before (map pair_in (take start races)) → piece.races.now ≡ slice_range races start end → piece.before ≡ start + before → new ≡ pieces ++ piece ∷ []
     → flat_map (piece_text trace) new ≡ text_of trace before (map pair_in (take end races))
 text_more trace before pieces new piece races start end lt within front is number more =
@@ -41,7 +42,7 @@ text_more trace before pieces new piece races start end lt within front is numbe
     ∙ ap (λ l. text_of trace before (map pair_in l)) (sym (take-add start (end - start) races) ∙ ap (λ (n : ℕ). take n races) e))))))
 
 -- a piece has a text where all races have
-pub piece_has_text : (trace : TraceData) (before : ℕ) (piece : TextPiece) (races : List ListedRace) (start end : ℕ) → start < end → end ≤ length races → HasText trace before (map pair_in races) → piece.races.now ≡ slice_range races start end
+pub piece_has_text : (trace : TraceData) (before : ℕ) (piece : Piece) (races : List ListedRace) (start end : ℕ) → start < end → end ≤ length races → HasText trace before (map pair_in races) → piece.races.now ≡ slice_range races start end
     → piece.before ≡ start + before → HasText trace piece.before (map pair_in piece.races.now)
 piece_has_text trace before piece races start end lt within has is number = record {
   room =
@@ -53,10 +54,6 @@ piece_has_text trace before piece races start end lt within has is number = reco
       subst (All (IsRaceOf trace)) (sym same) (All-take (IsRaceOf trace) (end - start) (drop start (map pair_in races)) (All-drop (IsRaceOf trace) start (map pair_in races) has.in_range));
 }
 
-flat_joined : {X A : Type 0} (f : X → List A) (xs : List X) → flat_map (λ (l : List A). l) (map f xs) ≡ flat_map f xs
-flat_joined f [] = refl
-flat_joined f (x ∷ xs) = ap (λ (rest : List _). f x ++ rest) (flat_joined f xs)
-
 abbrev joined : List (List ℕ) → List ℕ
 joined texts = flat_map (λ (l : List ℕ). l) texts
 
@@ -66,7 +63,7 @@ values_taken texts (suc k) le =
     let up : k + 1 ≡ suc k = omega arith in
     ap (λ l. l ++ slice_index_or texts k [] ∷ []) (values_taken texts k (omega (arith, le))) ∙ sym (take_more texts k [] (omega (arith, le))) ∙ ap (λ (n : ℕ). take n texts) up
 
-module _ (trace : TraceData) (before : ℕ) (races : List ListedRace) (pieces : List TextPiece) (texts : List (List ℕ)) (given : List (Vec ℕ Global)) (old new : Option (List ℕ)) (made : texts ≡ map (piece_text trace) pieces)
+module _ (trace : TraceData) (before : ℕ) (races : List ListedRace) (pieces : List Piece) (texts : List (List ℕ)) (given : List (Vec ℕ Global)) (old new : Option (List ℕ)) (made : texts ≡ map (piece_text trace) pieces)
     (are : flat_map (piece_text trace) pieces ≡ text_of trace before (map pair_in races)) where
   -- the texts that came are the first ones
   came : (k : ℕ) → k ≤ length texts → map (λ (text : Vec ℕ Global). text.items) given ≡ values_of (λ i. slice_index_or texts i []) k → flat_map (λ (text : Vec ℕ Global). text.items) given ≡ joined (take k texts)

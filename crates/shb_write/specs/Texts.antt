@@ -9,7 +9,7 @@ use Rattle.shb_write.specs.Listed.{IsRaceOf}
 use Rattle.shb_write.specs.Written.{AppendsFront}
 use Rattle.shb_write.specs.declared.errors.WriteError.{WriteError}
 use Rattle.shb_write.specs.declared.errors.WriteError.TheVariants.{Sink as SinkFailed}
-use Rattle.shb_write.specs.declared.texts.TextPiece.{TextPiece}
+use Rattle.shb_write.specs.declared.pieces.Piece.{Piece}
 use Rattle.shb_write.specs.declared.text_writer.TextWriter.{TextWriter}
 
 -- a text in memory: its bytes, and how many writes failed
@@ -22,7 +22,7 @@ abbrev pub text_of : TraceData → ℕ → List (ℕ × ℕ) → List ℕ
 text_of trace before races = blocks_from trace (before + 1) (map alone races)
 
 -- the blocks of a piece
-abbrev pub piece_text : TraceData → TextPiece → List ℕ
+abbrev pub piece_text : TraceData → Piece → List ℕ
 piece_text trace piece = text_of trace piece.before (map pair_in piece.races.now)
 
 -- these races can be numbered, and are of the trace

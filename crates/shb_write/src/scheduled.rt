@@ -19,13 +19,13 @@ use std::sync::Wait;
 use std::thread::Threads;
 
 /// Writes the blocks of some races more, each as soon as workers have made its schedule.
-pub(crate) fn schedule_races<R: Threads + Wait + Sync, K: Sink, O: Order + Sync, G: Gate + Sync>(
+pub(crate) fn schedule_races<R: Threads + Wait + Sync, K: Sink, O: Order + Sync, P, W: Gate + Sync>(
     rt: &R,
     alloc: Global,
     writer: &mut BlockWriter<'_, '_, K>,
     ordered: &Ordered<'_, O>,
     races: &[Pair],
-    plan: &BlockPlan<'_, G>,
+    plan: &BlockPlan<'_, '_, P, W>,
 ) -> Result<(), WriteError>
     requires countable { K.failure_count writer.old.sink.now < 2 ^ 64 - 1 }
     requires room { length races.now + writer.old.written < 2 ^ 64 }
@@ -50,7 +50,7 @@ pub(crate) fn schedule_races<R: Threads + Wait + Sync, K: Sink, O: Order + Sync,
         races,
         numbers: &prepared.numbers,
     };
-    match stream(rt, alloc, &job, plan.gate, plan.workers, &mut taker) {
+    match stream(rt, alloc, &job, plan.witness, plan.workers, &mut taker) {
         Ok(_) => {
             writer.written += races.len() as u64;
             Ok(())

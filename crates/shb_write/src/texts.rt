@@ -1,65 +1,46 @@
 //! The blocks of races as work in pieces, which workers make texts of.
-ghost use Rattle.std.specs.Prelude.{◌≡◌, ◌+◌, ◌-◌, ◌^◌, ◌<◌, ◌≤◌, ℕ, List, All, IfOk, IsTrue, [], flat_map, length, map, slice_index_or, slice_range};
+ghost use Rattle.std.specs.Prelude.{◌≡◌, ◌+◌, ◌-◌, ◌^◌, ◌<◌, ℕ, List, All, IfOk, [], length, map, slice_index_or};
+ghost use Rattle.shb_io.specs.Devices.{IsCounted};
+ghost use Rattle.shb_lines.specs.events.Race.{ends};
+ghost use Rattle.shb_format.specs.Places.{IsPairOf};
 ghost use Rattle.shb_pairs.specs.Listed.{pair_in};
+ghost use Rattle.shb_write.specs.Blocks.{WritesFront};
 ghost use Rattle.shb_write.specs.Texts.{HasText, piece_text, text_of};
 
+use crate::block_writer::BlockWriter;
+use crate::pieces::Piece;
 use crate::text::Text;
-use crate::write::write_listed;
 use shb_fan::Job;
-use shb_io::NoMemory;
-use shb_lines::Trace;
-use shb_pairs::{ListedRace, pairs_of};
+use shb_io::{Failed, NoMemory, Sink};
+use shb_lines::{Pair, Trace};
+use shb_pairs::pairs_of;
 use std::alloc::Global;
 use std::collections::LinkedList;
 use std::marker::Model;
 
-/// How many races a piece has at most. The number is this project's own.
-const PIECE_LENGTH: usize = 256;
-
-/// Neighbours in the race list, and how many races come before them.
-#[derive(Drop)]
-pub(crate) struct TextPiece<'r> {
-    pub(crate) races: &'r [ListedRace],
-    pub(crate) before: u64,
-}
-
-/// The races from one index up to another as a piece, where so many others come before all of them.
-fn piece_at(races: &[ListedRace], start: usize, end: usize, before: u64) -> TextPiece<'_>
-    requires ordered { start ≤ end }
-    requires within { end ≤ length races.now }
-    requires room { length races.now + before < 2 ^ 64 }
-    ensures races { result.races.now ≡ slice_range races.now start end }
-    ensures before { result.before ≡ start + before }
-{
-    TextPiece {
-        races: &races[start..end],
-        before: start as u64 + before,
-    }
-}
-
-/// Cuts races, of which so many others come before, into pieces.
-pub(crate) fn pieces_of<'r>(
-    alloc: Global,
+/// Writes the blocks of some races, of which so many others come before, without schedules.
+fn write_listed<K: Sink>(
+    sink: &mut K,
     trace: &Trace,
-    races: &'r [ListedRace],
+    races: &[Pair],
     before: u64,
-) -> Result<Vec<TextPiece<'r>>, NoMemory>
-    requires { HasText trace.now before (map pair_in races.now) }
-    ensures pieces { IfOk result (λ pieces. All (λ piece. HasText trace.now piece.before (map pair_in piece.races.now)) pieces.items) }
-    ensures texts { IfOk result (λ pieces. flat_map (piece_text trace.now) pieces.items ≡ text_of trace.now before (map pair_in races.now)) }
+) -> Result<(), Failed>
+    requires countable { K.failure_count sink.old < 2 ^ 64 - 1 }
+    requires room { length races.now + before < 2 ^ 64 }
+    requires in_range { All (IsPairOf trace.now) races.now }
+    ensures blocks { WritesFront (K.taken sink.old) (K.taken sink.new) result (text_of trace.now before (map ends races.now)) }
+    ensures counted { IsCounted (K.failure_count sink.old) (K.failure_count sink.new) result }
 {
-    let mut pieces = Vec::new(alloc);
-    let mut start = 0;
-    while start < races.len() {
-        let end = races.len().min(start.saturating_add(PIECE_LENGTH));
-        pieces.push(piece_at(races, start, end, before))?;
-        start = end;
-    }
-    Ok(pieces)
+    let mut writer = BlockWriter {
+        sink: &mut *sink,
+        trace,
+        written: before,
+    };
+    writer.list(races)
 }
 
 /// The blocks of a piece.
-fn made_text(alloc: Global, trace: &Trace, piece: &TextPiece<'_>) -> Result<Vec<u8>, NoMemory>
+fn made_text(alloc: Global, trace: &Trace, piece: &Piece<'_>) -> Result<Vec<u8>, NoMemory>
     requires { HasText trace.now piece.now.before (map pair_in piece.now.races.now) }
     ensures { IfOk result (λ text. text.items ≡ piece_text trace.now piece.now) }
 {
@@ -75,7 +56,7 @@ fn made_text(alloc: Global, trace: &Trace, piece: &TextPiece<'_>) -> Result<Vec<
 #[derive(Drop)]
 pub(crate) struct TextJob<'a> {
     trace: &'a Trace,
-    pieces: &'a [TextPiece<'a>],
+    pieces: &'a [Piece<'a>],
 }
 
 impl<'a> Model for TextJob<'a> {
@@ -88,7 +69,7 @@ impl<'a> Model for TextJob<'a> {
 
 impl<'a> TextJob<'a> {
     /// The making of the texts of these pieces.
-    pub(crate) fn new(trace: &'a Trace, pieces: &'a [TextPiece<'a>]) -> TextJob<'a>
+    pub(crate) fn new(trace: &'a Trace, pieces: &'a [Piece<'a>]) -> TextJob<'a>
         requires { All (λ piece. HasText trace.now piece.before (map pair_in piece.races.now)) pieces.now }
         ensures { result ≡ map (piece_text trace.now) pieces.now }
     {

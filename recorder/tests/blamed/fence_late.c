@@ -1,4 +1,4 @@
-/* The fence with acquire comes behind the read that it should order. */
+/* The fence with acquire comes after the read that it should order. */
 #include <pthread.h>
 #include <sched.h>
 #include <stdatomic.h>

@@ -1,4 +1,4 @@
-/* helgrind's manual: the condition is signalled under the lock, and the data is written behind it. */
+/* helgrind's manual: the condition is signalled under the lock, and the data is written after it. */
 #include <pthread.h>
 static pthread_mutex_t m = PTHREAD_MUTEX_INITIALIZER;
 static pthread_cond_t c = PTHREAD_COND_INITIALIZER;

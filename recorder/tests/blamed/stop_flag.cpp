@@ -1,4 +1,4 @@
-// A worker is stopped by a plain flag; what it counts is read behind the join.
+// A worker is stopped by a plain flag; what it counts is read after the join.
 #include <thread>
 static bool stop;
 static long rounds;

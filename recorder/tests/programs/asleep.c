@@ -1,4 +1,4 @@
-/* With SLEEPS set it sleeps at places where the recorder is in a hook, and right behind them, so that another thread takes the turn over
+/* With SLEEPS set it sleeps at places where the recorder is in a hook, and right after them, so that another thread takes the turn over
    twice with no step between. Without, a replay shows whether each access comes in its own turn all the same. */
 #define _GNU_SOURCE
 #include <dlfcn.h>

@@ -35,6 +35,8 @@ static void *work(void *x) {
     size = sizeof whole;               /* AT size */
     memset(&whole, 0, size);           /* AT whole, size */
     plain = 1;                         /* AT plain */
+    static volatile int last;
+    last = 1;                          /* AT work::last */
     return 0;
 }
 int main(void) {

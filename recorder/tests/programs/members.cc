@@ -3,6 +3,7 @@
 #include <mutex>
 #include <thread>
 #include <utility>
+#include <vector>
 namespace bank {
 struct base {
     long padding, id;
@@ -34,12 +35,14 @@ template <class T> struct box {
 };
 template <class T> T box<T>::last;
 box<std::pair<int, int>> pairs;
+box<std::vector<char>> letters{std::vector<char>(9)};
 static void work() {
     bank::first.pay();
     bank::both[1].pay();
     bank::first.take();
     pairs.in.second = 1;                   // AT pairs.in.second
     box<bank::base>::last.id = 1;          // AT box<bank::base>::last.id
+    letters.in.pop_back();                 // AT letters.in._M_finish
 }
 int main() {
     std::thread t(work);

@@ -1,4 +1,4 @@
-// A function that is done once comes before what each thread does behind it, and before the next try where it throws.
+// A function that is done once comes before what each thread does after it, and before the next try if it throws.
 #include <mutex>
 #include <pthread.h>
 #include <thread>

@@ -83,6 +83,12 @@ static void wake_futex(void) {
     syscall(SYS_futex, &word, FUTEX_WAKE_PRIVATE, 1, 0, 0, 0);
 }
 
+/* Loops without a call: of loads of a value that the thread wrote itself, and of exchanges that leave it as it is. */
+#define OF_LOOP(name, word_now) static void name(void) { atomic_store(&word, 0); atomic_store(&is_ready, 1); while (!(word_now)) ; }
+OF_LOOP(by_loads, atomic_load(&word))
+OF_LOOP(by_exchanges, atomic_exchange(&word, 0))
+static void set_word(void) { atomic_store(&word, 1); }
+
 /* A process that ends when a byte comes. */
 #define OF_PROCESS(name, call) \
     static void name(void) { \
@@ -161,7 +167,7 @@ static const struct way { const char *name; void (*wait)(void), (*wake)(void); i
     WAY(poll_call, send_byte), WAY(ppoll_call, send_byte), WAY(select, send_byte), WAY(pselect, send_byte),
     WAY(select_call, send_byte), WAY(pselect_call, send_byte), WAY(epoll_wait, send_byte), WAY(epoll_pwait, send_byte),
     WAY(epoll_pwait2, send_byte), WAY(epoll_wait_call, send_byte), WAY(epoll_pwait_call, send_byte),
-    WAY(futex, wake_futex), WAY(futex_of_bits, wake_futex),
+    WAY(futex, wake_futex), WAY(futex_of_bits, wake_futex), WAY(loads, set_word), WAY(exchanges, set_word),
     WAY(wait, send_byte), WAY(wait3, send_byte), WAY(wait4, send_byte), WAY(waitpid, send_byte), WAY(waitid, send_byte),
     WAY(wait4_call, send_byte), WAY(waitid_call, send_byte),
     WAY(sigwait, send_signals), WAY(sigwaitinfo, send_signals), WAY(sigtimedwait, send_signals), WAY(sigtimedwait_call, send_signals),

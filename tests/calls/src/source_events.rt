@@ -62,7 +62,7 @@ fn read_events(rt: &HostRuntime, source: &mut Text<'_>, limits: &Limits) -> Resu
         if source.failures() > 9 {
             return Ok(found);
         }
-        match reader.next_event(alloc, source, limits) {
+        match reader.next_event(source, limits) {
             Ok(Taken::Step(step)) => found.extend_from_slice(&letter(step))?,
             Ok(Taken::Fault(fault)) => {
                 found.push(b'0' + fault.number().min(9))?;

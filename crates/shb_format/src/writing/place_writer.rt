@@ -2,7 +2,6 @@
 ghost use Rattle.std.specs.Prelude.{◌≡◌, ◌+◌, ◌-◌, ◌^◌, ◌<◌, ◌≤◌, ◌++◌, ◌∷◌, [], All, List, codes, length};
 ghost use Rattle.shb_io.specs.Devices.{IsCounted, Writes};
 ghost use Rattle.shb_lines.specs.declared.event.Pair.{Pair};
-ghost use Rattle.shb_lines.specs.text.OwnedNames.{names_of};
 ghost use Rattle.shb_lines.specs.text.TraceData.{TraceData};
 ghost use Rattle.shb_format.specs.Keyed.{AreKeyed};
 ghost use Rattle.shb_format.specs.Writing.{Puts, place_text};
@@ -101,9 +100,9 @@ fn put_named_places<S: Sink>(
     places: &PlaceTable,
 ) -> Result<(), Failed>
     requires countable { S.failure_count sink.old < 2 ^ 64 - 1 }
-    requires few { length (names_of locations.now) ≤ 2 ^ 32 }
-    requires keyed { (placed : List PlaceOf) × AreKeyed (names_of locations.now) places.now placed }
-    ensures put { (trace : TraceData) (pairs : List Pair) → AreKeyed (names_of locations.now) places.now (places_of_pairs trace pairs)
+    requires few { length locations.now ≤ 2 ^ 32 }
+    requires keyed { (placed : List PlaceOf) × AreKeyed locations.now places.now placed }
+    ensures put { (trace : TraceData) (pairs : List Pair) → AreKeyed locations.now places.now (places_of_pairs trace pairs)
         → Puts (S.taken sink.old) (S.taken sink.new) result held.old held.new (places_bytes trace (counts_in (places_of_pairs trace pairs))) }
     ensures counted { IsCounted (S.failure_count sink.old) (S.failure_count sink.new) result }
 {
@@ -129,9 +128,9 @@ pub fn named_place_lines<S: Sink>(
     places: &PlaceTable,
 ) -> Result<(), Failed>
     requires countable { S.failure_count sink.old < 2 ^ 64 - 1 }
-    requires few { length (names_of locations.now) ≤ 2 ^ 32 }
-    requires keyed { (placed : List PlaceOf) × AreKeyed (names_of locations.now) places.now placed }
-    ensures written { (trace : TraceData) (pairs : List Pair) → AreKeyed (names_of locations.now) places.now (places_of_pairs trace pairs)
+    requires few { length locations.now ≤ 2 ^ 32 }
+    requires keyed { (placed : List PlaceOf) × AreKeyed locations.now places.now placed }
+    ensures written { (trace : TraceData) (pairs : List Pair) → AreKeyed locations.now places.now (places_of_pairs trace pairs)
         → Writes (S.taken sink.old) (S.taken sink.new) result (section_bytes trace (counts_in (places_of_pairs trace pairs))) }
     ensures counted { IsCounted (S.failure_count sink.old) (S.failure_count sink.new) result }
 {

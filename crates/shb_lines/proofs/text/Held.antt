@@ -13,10 +13,9 @@ use Rattle.shb_lines.specs.text.Limits.{AreStandard, most_events}
 use Rattle.shb_lines.specs.text.Meaning.{meaning}
 use Rattle.shb_lines.specs.text.Numbering.{GivesStep, HasNumbered, IsWithin, event_of, tables_of, with_step}
 use Rattle.shb_lines.specs.text.Numbers.{IsEventOf, events_of}
-use Rattle.shb_lines.specs.text.OwnedNames.{names_of}
 use Rattle.shb_lines.specs.text.Parsed.{HasRead, line_from, trace_in}
 use Rattle.shb_lines.specs.text.Text.{IsLineText, LocatedEvent, trace_of}
-use Rattle.shb_lines.specs.text.Parts.{AreParts, trace_at}
+use Rattle.shb_lines.specs.text.Parts.{AreParts, parts_in}
 use Rattle.shb_lines.specs.text.TraceData.{IsReading, IsTraceOf, TraceData, tables_in}
 use Rattle.shb_lines.proofs.text.Numbers.{well_formed}
 use Rattle.shb_lines.proofs.text.TraceLemmas.{trace_of-none, trace_of-some}
@@ -40,42 +39,20 @@ length-starts : (text : List ℕ) (reader : Reader) (lines : List (List ℕ)) �
 length-starts text reader lines h =
     sym (length-map reader.starts.items (line_from text)) ∙ ap length h.trace_is.lines_are ∙ length-map (trace_of lines) (λ e. e.text) ∙ length-events lines (trace_in text reader) h.trace_is
 
--- the parts are those that a reader has noted
-pub record AreNoted (reader : Reader) (parts : Parts) : Type 0 where
-  pub events : parts.events ≡ reader.events
-  pub starts : parts.starts ≡ reader.starts
-  pub threads : parts.threads ≡ names_of reader.numbering.threads
-  pub locks : parts.locks ≡ names_of reader.numbering.locks
-  pub variables : parts.variables ≡ names_of reader.numbering.variables
-
-module _ (text : List ℕ) (reader : Reader) (parts : Parts) (noted : AreNoted reader parts) (lines : List (List ℕ)) (read : HasRead text reader lines) where
-  trace_same : trace_in text reader ≡ trace_at text parts
-  trace_same = λ i. record {
-    events = sym noted.events i;
-    lines = map (line_from text) (sym noted.starts i).items;
-    threads = sym noted.threads i;
-    locks = sym noted.locks i;
-    variables = sym noted.variables i;
-  }
-
-  pub trace_held : IsTraceOf lines (trace_at text parts)
-  trace_held = subst (IsTraceOf lines) trace_same read.trace_is
-
-  pub parts_held : (limits : Limits) → AreStandard limits → IsWithin limits reader.numbering → AllByRecursion IsLineText (map (λ e. e.text) (trace_of lines)) → AreParts text parts
-  parts_held limits standard within line_texts =
-      let events_len : length parts.events ≡ length reader.events = ap length noted.events in
-      let starts_len : length parts.starts.items ≡ length reader.events = ap (λ v. length v.items) noted.starts ∙ length-starts text reader lines read in
-      let count : length reader.events ≡ reader.numbering.events = sym (length-events lines (trace_in text reader) read.trace_is) ∙ sym (length-map (trace_of lines) (λ e. e.event)) ∙ sym read.numbered.count_is in
-      let few : length reader.events ≤ most_events = omega (arith, count, within.few, standard.events) in
-      record {
-        a_line_each = starts_len ∙ sym events_len;
-        starts = subst (AllByRecursion (λ (start : ℕ). start ≤ length text)) (sym (ap (λ v. v.items) noted.starts)) read.starts;
-        threads = omega (arith, ap length noted.threads, within.threads, standard.threads);
-        locks = omega (arith, ap length noted.locks, within.locks, count, few);
-        variables = omega (arith, ap length noted.variables, within.variables, count, few);
-        well_formed = well_formed lines (trace_at text parts) trace_held (omega (arith, events_len, few))
-            (length-map parts.starts.items (line_from text) ∙ starts_len ∙ sym events_len) line_texts;
-      }
+-- what a reader has noted of some lines are parts of a trace
+pub parts_held : (text : List ℕ) (reader : Reader) (lines : List (List ℕ)) → HasRead text reader lines → (limits : Limits) → AreStandard limits → IsWithin limits reader.numbering
+    → AllByRecursion IsLineText (map (λ e. e.text) (trace_of lines)) → AreParts text (parts_in reader)
+parts_held text reader lines read limits standard within line_texts =
+    let count : length reader.events ≡ reader.numbering.events = sym (length-events lines (trace_in text reader) read.trace_is) ∙ sym (length-map (trace_of lines) (λ e. e.event)) ∙ sym read.numbered.count_is in
+    let few : length reader.events ≤ most_events = omega (arith, count, within.few, standard.events) in
+    record {
+      a_line_each = length-starts text reader lines read;
+      starts = read.starts;
+      threads = omega (arith, within.threads, standard.threads);
+      locks = omega (arith, within.locks, count, few);
+      variables = omega (arith, within.variables, count, few);
+      well_formed = well_formed lines (trace_in text reader) read.trace_is few (length-map reader.starts.items (line_from text) ∙ length-starts text reader lines read) line_texts;
+    }
 
 -- a line that gives nothing changes nothing
 pub read_none : (text : List ℕ) (old : Reader) (numbering : Numbering) (lines : List (List ℕ)) (line : List ℕ) → meaning (strip_carriage_return line) ≡ Ok None → numbering ≡ old.numbering
@@ -105,9 +82,9 @@ read_some text old new lines line start step limits found events_are starts_are 
     let longer : with_step (trace_in text old) (tables_of new.numbering) step (1 + length lines) (strip_carriage_return line) ≡ trace_in text new = λ i. record {
       events = sym events_are i;
       lines = sym lines_are i;
-      threads = names_of new.numbering.threads;
-      locks = names_of new.numbering.locks;
-      variables = names_of new.numbering.variables;
+      threads = new.numbering.threads;
+      locks = new.numbering.locks;
+      variables = new.numbering.variables;
     } in
     record {
       numbered = numbered;

@@ -2,10 +2,8 @@
 use Rattle.std.proofs.Common.{◌≡◌, ◌+◌, ◌-◌, ◌≤◌, ◌<◌, ℕ, List, [], ◌∷◌, ◌++◌, length, take, drop, zero, suc, get_or, Some, slice_get, refl, sym, ap, subst, ◌∙◌, arith, append_assoc, length-append, length-drop}
 use Rattle.std.proofs.Math.Seq.{drop-append_seam}
 use Rattle.std.proofs.lemmas.List.{drop-append-le, take-append-le, take_all}
-use Rattle.shb_lines.specs.declared.owned_names.OwnedText.{OwnedText}
 use Rattle.shb_lines.specs.text.KeptNames.{AreEnds, names_between}
-use Rattle.shb_lines.specs.text.OwnedNames.{texts_in}
-use Rattle.shb_lines.specs.text.Parsed.{part}
+use Rattle.shb_lines.specs.text.KeptNames.{part}
 
 ends_within : (len start : ℕ) (ends : List ℕ) → AreEnds len start ends → start ≤ len
 ends_within len start [] h = omega (arith, h)
@@ -41,15 +39,16 @@ ends_order len start [] k d h below = absurd (omega arith)
 ends_order len start (end ∷ ends) zero d h below = (h.0, ends_within len end ends h.1)
 ends_order len start (end ∷ ends) (suc k) d h below = ends_order len end ends k d h.1 (omega arith)
 
--- the names that were copied and those left are all names after one more was copied too
-pub copied_more : (bytes ends new_bytes new_ends : List ℕ) (key : OwnedText) (texts rest : List OwnedText) (all : List (List ℕ)) → names_between bytes 0 ends ++ texts_in texts ≡ all → AreEnds (length bytes) 0 ends
-    → texts ≡ key ∷ rest → new_bytes ≡ bytes ++ key.bytes.items → new_ends ≡ ends ++ length new_bytes ∷ []
-    → (names_between new_bytes 0 new_ends ++ texts_in rest ≡ all) × AreEnds (length new_bytes) 0 new_ends
-copied_more bytes ends new_bytes new_ends key texts rest all names h next longer more =
-    let name : List ℕ = key.bytes.items in
+-- one name more, as its bytes and its end are put last
+pub appended_names : (bytes ends new_bytes new_ends name : List ℕ) → AreEnds (length bytes) 0 ends → new_bytes ≡ bytes ++ name → new_ends ≡ ends ++ length new_bytes ∷ []
+    → names_between new_bytes 0 new_ends ≡ names_between bytes 0 ends ++ name ∷ []
+appended_names bytes ends new_bytes new_ends name h longer more =
     let lengths : length new_bytes ≡ length bytes + length name = ap length longer ∙ length-append bytes name in
-    let ends_are : new_ends ≡ ends ++ (length bytes + length name) ∷ [] = more ∙ ap (λ n. ends ++ n ∷ []) lengths in (
-      ap (λ b. names_between b 0 new_ends ++ texts_in rest) longer ∙ ap (λ es. names_between (bytes ++ name) 0 es ++ texts_in rest) ends_are ∙ ap (λ ls. ls ++ texts_in rest) (names_more bytes name 0 ends h)
-          ∙ append_assoc (names_between bytes 0 ends) (name ∷ []) (texts_in rest) ∙ ap (λ ts. names_between bytes 0 ends ++ texts_in ts) (sym next) ∙ names,
-      subst (λ n. AreEnds n 0 new_ends) (sym lengths) (subst (AreEnds (length bytes + length name) 0) (sym ends_are) (ends_more (length bytes) (length name) 0 ends h)),
-    )
+    let ends_are : new_ends ≡ ends ++ (length bytes + length name) ∷ [] = more ∙ ap (λ n. ends ++ n ∷ []) lengths in
+    ap (λ b. names_between b 0 new_ends) longer ∙ ap (λ es. names_between (bytes ++ name) 0 es) ends_are ∙ names_more bytes name 0 ends h
+
+pub appended_ends : (bytes ends new_bytes new_ends name : List ℕ) → AreEnds (length bytes) 0 ends → new_bytes ≡ bytes ++ name → new_ends ≡ ends ++ length new_bytes ∷ [] → AreEnds (length new_bytes) 0 new_ends
+appended_ends bytes ends new_bytes new_ends name h longer more =
+    let lengths : length new_bytes ≡ length bytes + length name = ap length longer ∙ length-append bytes name in
+    let ends_are : new_ends ≡ ends ++ (length bytes + length name) ∷ [] = more ∙ ap (λ n. ends ++ n ∷ []) lengths in
+    subst (λ n. AreEnds n 0 new_ends) (sym lengths) (subst (AreEnds (length bytes + length name) 0) (sym ends_are) (ends_more (length bytes) (length name) 0 ends h))

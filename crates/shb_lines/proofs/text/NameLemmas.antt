@@ -72,9 +72,9 @@ any-with_name (known ∷ names) name other = by (bytes_eq name known) refl (byte
     by false same false is rest = ap (λ (x : Bool). x || list_any (bytes_eq other) (with_name names name)) is ∙ rest
 
 -- a known name changes no table
-pub with_name-known : (names : List (List ℕ)) (name : List ℕ) (number : ℕ) → slice_get names number ≡ Some name → with_name names name ≡ names
-with_name-known [] name number h = absurd cc
-with_name-known (first ∷ names) name number h = by (bytes_eq name first) refl number h (with_name-known names name)
+pub known_stays : (names : List (List ℕ)) (name : List ℕ) (number : ℕ) → slice_get names number ≡ Some name → with_name names name ≡ names
+known_stays [] name number h = absurd cc
+known_stays (first ∷ names) name number h = by (bytes_eq name first) refl number h (known_stays names name)
   where
     by : (b : Bool) → bytes_eq name first ≡ b → (number : ℕ) → slice_get (first ∷ names) number ≡ Some name → ((k : ℕ) → slice_get names k ≡ Some name → with_name names name ≡ names)
         → cond b (first ∷ names) (first ∷ with_name names name) ≡ first ∷ names

@@ -1,6 +1,8 @@
 -- What a hasher of texts computes, by words under two keys.
-use Rattle.std.specs.Prelude.{◌≡◌, ◌<◌, ◌≤◌, ℕ, zero, suc, ◌+◌, ◌-◌, ◌*◌, ◌/◌, ◌^◌, List, length, take, slice_range, get_or, if◌then◌else◌, nat_le, nat_lt, bit_and, bit_xor}
+use Rattle.std.specs.Prelude.{◌≡◌, ◌<◌, ◌≤◌, ℕ, true, nat_eq, zero, suc, ◌+◌, ◌-◌, ◌*◌, ◌/◌, ◌^◌, List, length, take, slice_range, get_or, if◌then◌else◌, nat_le, nat_lt, bit_and, bit_xor}
 use Rattle.std.specs.Int.{w16, w32, w64, from_le_bytes}
+use Rattle.std.specs.List.{list_any}
+use Rattle.std.specs.Str.{bytes_eq}
 use Rattle.shb_lines.specs.declared.hashing.KeyedHasher.{KeyedHasher}
 use Rattle.shb_lines.specs.declared.hashing.HashKeys.{HashKeys}
 
@@ -63,3 +65,11 @@ keyed keys = record { state = keys.keys.first; key = keys.keys.second }
 -- two texts have the same bytes from an offset on up to another
 abbrev pub AreAlike : List ℕ → List ℕ → ℕ → ℕ → Type 0
 AreAlike a b from to = (k : ℕ) → from ≤ k → k < to → get_or a k 0 ≡ get_or b k 0
+
+-- the hash of a text under two keys
+abbrev pub hash_in : HashKeys → List ℕ → ℕ
+hash_in keys bytes = hash keys.keys.first keys.keys.second bytes
+
+-- the hash of each name is among these
+abbrev pub AreHashed : HashKeys → List ℕ → List (List ℕ) → Type 0
+AreHashed keys hashes names = (name : List ℕ) → list_any (bytes_eq name) names ≡ true → list_any (nat_eq (hash_in keys name)) hashes ≡ true

@@ -1,6 +1,9 @@
 -- Names that stand one after the other in one memory.
-use Rattle.std.specs.Prelude.{◌≡◌, ◌≤◌, ℕ, List, [], ◌∷◌}
-use Rattle.shb_lines.specs.text.Parsed.{part}
+use Rattle.std.specs.Prelude.{◌≡◌, ◌-◌, ◌≤◌, ℕ, List, [], ◌∷◌, drop, take}
+
+-- the bytes of the text from start to end
+abbrev pub part : List ℕ → ℕ → ℕ → List ℕ
+part text start end = take (end - start) (drop start text)
 
 -- the names between an offset and the first of these ends, and between each end and the next
 abbrev pub names_between : List ℕ → ℕ → List ℕ → List (List ℕ)

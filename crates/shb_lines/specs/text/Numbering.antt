@@ -12,7 +12,6 @@ use Rattle.shb_lines.specs.text.Grammar.{NamedEvent}
 use Rattle.shb_lines.specs.text.Limits.{most_line}
 use Rattle.shb_lines.specs.text.Meaning.{meaning}
 use Rattle.shb_lines.specs.text.Numbers.{IsNumber, IsOperation, Tables, tables_of_events}
-use Rattle.shb_lines.specs.text.OwnedNames.{names_of}
 use Rattle.shb_lines.specs.text.TraceData.{TraceData}
 use Rattle.shb_lines.specs.Lowest.{IsLowest}
 
@@ -23,7 +22,7 @@ pub record AreWide (limits : Limits) : Type 0 where
   pub threads : limits.threads < 2 ^ 16
 
 abbrev pub tables_of : Numbering → Tables
-tables_of numbering = record { threads = names_of numbering.threads; locks = names_of numbering.locks; variables = names_of numbering.variables }
+tables_of numbering = record { threads = numbering.threads; locks = numbering.locks; variables = numbering.variables }
 
 -- the numbers of a step are those of the event's names
 pub record IsStepOf (tables : Tables) (step : Step) (named : NamedEvent) : Type 0 where
@@ -51,11 +50,11 @@ pub record HasNumbered (before : List NamedEvent) (numbering : Numbering) : Type
 
 -- the name of the thread of the last event, if there is one, is that of a thread: it has no bar
 abbrev pub HasLastThread : Numbering → Type 0
-HasLastThread numbering = IfSome (slice_get (names_of numbering.threads) numbering.last) HasNoBar
+HasLastThread numbering = IfSome (slice_get numbering.threads numbering.last) HasNoBar
 
 -- a line that gives no event changes nothing
 abbrev pub IsKept : Numbering → Numbering → Result (Option Step) Fault → Type 0
-IsKept old new (Ok (Some step)) = step.thread < length (names_of new.threads)
+IsKept old new (Ok (Some step)) = step.thread < length new.threads
 IsKept old new _ = new ≡ old
 
 -- where a line gives an event, the place of its second bar is kept
@@ -66,9 +65,9 @@ IsBarOf line new _ = Unit {0}
 -- there are no more events and threads than the limits, and no more locks and variables than events
 pub record IsWithin (limits : Limits) (numbering : Numbering) : Type 0 where
   pub few : numbering.events ≤ limits.events
-  pub threads : length (names_of numbering.threads) ≤ limits.threads
-  pub locks : length (names_of numbering.locks) ≤ numbering.events
-  pub variables : length (names_of numbering.variables) ≤ numbering.events
+  pub threads : length numbering.threads ≤ limits.threads
+  pub locks : length numbering.locks ≤ numbering.events
+  pub variables : length numbering.variables ≤ numbering.events
   pub last : HasLastThread numbering
 
 -- the line has no fault, and what it gives is numbered

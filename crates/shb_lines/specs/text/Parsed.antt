@@ -1,31 +1,36 @@
 -- What a reader holds of the lines that it has read.
-use Rattle.std.specs.Prelude.{◌==◌, ◌-◌, ◌≤◌, ℕ, List, [], ◌∷◌, ◌++◌, length, map, take, drop, Option, None, Some}
+use Rattle.std.specs.Prelude.{◌==◌, ◌≤◌, ℕ, List, [], ◌∷◌, ◌++◌, length, map, drop, Option, None, Some}
 use Rattle.std.specs.List.{AllByRecursion, before_first}
 use Rattle.std.specs.Str.Lines.{strip_carriage_return}
 use Rattle.shb_lines.specs.declared.fault.Fault.{Fault}
 use Rattle.shb_lines.specs.declared.reader.Reader.{Reader}
+use Rattle.shb_lines.specs.declared.trace.Parts.{Parts}
+pub use Rattle.shb_lines.specs.text.KeptNames.{part}
 use Rattle.shb_lines.specs.text.Numbering.{HasNumbered}
 use Rattle.shb_lines.specs.text.Numbers.{events_of}
-use Rattle.shb_lines.specs.text.OwnedNames.{names_of}
 use Rattle.shb_lines.specs.text.TraceData.{IsTraceOf, TraceData}
-
--- the bytes of the text from start to end
-abbrev pub part : List ℕ → ℕ → ℕ → List ℕ
-part text start end = take (end - start) (drop start text)
 
 -- the line that begins at an offset of the text, without the carriage return at its end
 abbrev pub line_from : List ℕ → ℕ → List ℕ
 line_from text start = strip_carriage_return (before_first (λ b. b == 10) (drop start text))
 
+-- the parts that a reader has noted
+abbrev pub parts_in : Reader → Parts
+parts_in reader = record { events = reader.events; starts = reader.starts; threads = reader.numbering.threads; locks = reader.numbering.locks; variables = reader.numbering.variables }
+
+-- the trace that these parts stand for over the text
+abbrev pub trace_at : List ℕ → Parts → TraceData
+trace_at text parts = record {
+  events = parts.events;
+  lines = map (line_from text) parts.starts.items;
+  threads = parts.threads;
+  locks = parts.locks;
+  variables = parts.variables;
+}
+
 -- the trace of what was read so far
 abbrev pub trace_in : List ℕ → Reader → TraceData
-trace_in text reader = record {
-  events = reader.events;
-  lines = map (line_from text) reader.starts.items;
-  threads = names_of reader.numbering.threads;
-  locks = names_of reader.numbering.locks;
-  variables = names_of reader.numbering.variables;
-}
+trace_in text reader = trace_at text (parts_in reader)
 
 -- the names and the trace are those of the lines, which begin within the text
 pub record HasRead (text : List ℕ) (reader : Reader) (lines : List (List ℕ)) : Type 0 where

@@ -2,18 +2,8 @@
 use Rattle.std.specs.Prelude.{◌≡◌, ◌<◌, ◌≤◌, ◌^◌, ℕ, List, length, map}
 use Rattle.std.specs.List.{AllByRecursion}
 use Rattle.shb_lines.specs.declared.trace.Parts.{Parts}
-use Rattle.shb_lines.specs.text.Parsed.{line_from}
+pub use Rattle.shb_lines.specs.text.Parsed.{parts_in, trace_at}
 use Rattle.shb_lines.specs.text.TraceData.{IsWellFormed, TraceData}
-
--- the trace that these parts stand for over the text
-abbrev pub trace_at : List ℕ → Parts → TraceData
-trace_at text parts = record {
-  events = parts.events;
-  lines = map (line_from text) parts.starts.items;
-  threads = parts.threads;
-  locks = parts.locks;
-  variables = parts.variables;
-}
 
 -- each event has a line, which begins within the text, names can be counted, and the trace is well-formed
 pub record AreParts (text : List ℕ) (parts : Parts) : Type 0 where

@@ -9,7 +9,7 @@ use Rattle.shb_lists.proofs.RaceTotals.{before_next, before_none, next_room}
 use Rattle.shb_lists.proofs.counted.count_events.Goals as goal
 
 pub loop-e-init : goal.loop-e-init
-loop-e-init c =
+loop-e-init g c =
     let trace = c.args.settled.now.disciplined.now in
     let flags = c.args.settled.now.flags.now in
     record {
@@ -17,17 +17,18 @@ loop-e-init c =
       next = search rules;
       counting = record {
         history = c.in_ok-new.ensures trace.events.now flags;
-        tables = c.in_ok-tables_of.ensures trace.events.now flags c.args.numbers.now;
+        own = c.in_ok-own.ensures;
+        tables = c.in_ok-tables.ensures trace.events.now flags;
         planned = planned_none trace.events.now flags trace.sizes.variables _ (search rules);
       };
       counted = λ leading has. subst (λ (l : List (ℕ × ℕ)). HasCounted c.args.numbers.now leading l c.args.counter.now) (sym (before_none trace.events.now flags)) has;
     }
 
 pub pass-requires-clause-counting : goal.pass-requires-clause-counting
-pass-requires-clause-counting c = rw c.new-ordered.ensures.disciplined (c.args.classes, c.requires.numbers, c.loop-e.invariant.counting)
+pass-requires-clause-counting g c = rw c.new-ordered.ensures.disciplined c.loop-e.invariant.counting
 
 pub pass-requires-clause-room : goal.pass-requires-clause-room
-pass-requires-clause-room c =
+pass-requires-clause-room g c =
     let trace = c.args.settled.now.disciplined.now in
     let flags = c.args.settled.now.flags.now in
     let e = c.loop-e.e in
@@ -37,34 +38,34 @@ pass-requires-clause-room c =
     rw c.new-ordered.ensures.disciplined (omega (arith, so_far, next, few))
 
 pub pass-requires-clause-counted : goal.pass-requires-clause-counted
-pass-requires-clause-counted c = (
+pass-requires-clause-counted g c = (
   c.requires.counted.0,
   races_before c.args.settled.now.disciplined.now.events.now c.args.settled.now.flags.now c.loop-e.e,
   c.loop-e.invariant.counted c.requires.counted.0 c.requires.counted.1,
 )
 
 pub loop-e-preserved : goal.loop-e-preserved
-loop-e-preserved c =
+loop-e-preserved g c =
     let trace = c.args.settled.now.disciplined.now.events.now in
     let flags = c.args.settled.now.flags.now in
     let e = c.loop-e.e in
     record {
       of_trace = search rules;
       next = search rules;
-      counting = (rw c.new-ordered.ensures.disciplined at c.in_ok-pass.ensures.counting) c.args.classes c.requires.numbers c.loop-e.invariant.counting;
+      counting = (rw c.new-ordered.ensures.disciplined at c.in_ok-pass.ensures.counting);
       counted = λ leading has.
           subst (λ (l : List (ℕ × ℕ)). HasCounted c.args.numbers.now leading l c.pass.new.counter) (sym (before_next trace flags e))
           ((rw c.new-ordered.ensures.disciplined at c.in_ok-pass.ensures.counted) leading (races_before trace flags e) (c.loop-e.invariant.counted leading has));
     }
 
 pub returns-clause-counted : goal.returns-clause-counted
-returns-clause-counted c leading has =
+returns-clause-counted g c leading has =
     let trace = c.args.settled.now.disciplined.now.events.now in
     let all : c.loop-e.e ≡ length trace = omega arith in
     subst (λ (n : ℕ). HasCounted c.args.numbers.now leading (races_before trace c.args.settled.now.flags.now n) c.loop-e.counter) all (c.loop-e.invariant.counted leading has)
 
 pub returns-clause-planned : goal.returns-clause-planned
-returns-clause-planned c =
+returns-clause-planned g c =
     let trace = c.args.settled.now.disciplined.now in
     let all : c.loop-e.e ≡ length trace.events.now = omega arith in
     planned_all trace.events.now c.args.settled.now.flags.now trace.sizes.variables c.loop-e.counting.races.items c.args.settled.now.settled

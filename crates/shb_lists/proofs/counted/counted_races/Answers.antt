@@ -1,6 +1,5 @@
 -- The race list is counted, and its places are those of the leading races.
 use Rattle.std.proofs.Common.{◌∙◌, ℕ, List, ap, length, map, subst, sym}
-use Rattle.std.specs.Prelude.{max}
 use Rattle.shb_lines.specs.declared.event.Event.{Event}
 use Rattle.shb_lines.specs.declared.event.Pair.{Pair}
 use Rattle.shb_lines.specs.events.Race.{IsRaceList, ends}
@@ -8,7 +7,7 @@ use Rattle.shb_lists.specs.Leading.{LeadingRaces}
 use Rattle.shb_pairs.specs.Open.{AreOpen}
 use Rattle.shb_lists.specs.Counted.{AreNumbered, HasCounted}
 use Rattle.shb_lists.proofs.EventSums.{counted_below}
-use Rattle.shb_lists.proofs.PlaceLemmas.{counted_places, leading_within, numbers_below}
+use Rattle.shb_lists.proofs.PlaceLemmas.{counted_places, leading_within}
 use Rattle.shb_lists.proofs.PartLemmas.{list_is_below}
 use Rattle.shb_lists.proofs.counted.counted_races.Goals as goal
 
@@ -17,10 +16,7 @@ new-requires g c =
     leading_within c.args.settled.now.disciplined.now.trace.now (length c.as_slice-numbers.result.now) c.deref.result.now (ap length c.as_slice-numbers.ensures.value ∙ c.in_ok-located.ensures.as_many ∙ ap length c.args.settled.now.disciplined.now.of_trace) (subst (λ (ls : List Pair). LeadingRaces c.args.settled.now.disciplined.now.trace.now (map ends ls)) (sym c.deref.ensures.value) c.in_ok-leading.ensures)
 
 pub count_events-requires-clause-numbers : goal.count_events-requires-clause-numbers
-count_events-requires-clause-numbers g c =
-    let trace = c.args.settled.now.disciplined.now in
-    numbers_below trace.trace.now c.args.settled.now.flags.now trace.events.now c.in_ok-located.located.numbers.items c.as_slice-numbers.result.now c.in_ok-located.located.locations c.max-classes.result trace.of_trace
-    (subst (λ (es : List Event). AreNumbered trace.trace.now c.args.settled.now.flags.now (length es) c.in_ok-located.located.numbers.items c.in_ok-located.located.locations) trace.of_trace c.in_ok-located.ensures) c.as_slice-numbers.ensures.value (c.max-classes.ensures ∙ ap (λ n. max n 1) c.len.ensures)
+count_events-requires-clause-numbers g c = ap length c.as_slice-numbers.ensures.value ∙ c.in_ok-located.ensures.as_many
 
 pub returns-clause-races : goal.returns-clause-races
 returns-clause-races g c listed lists =

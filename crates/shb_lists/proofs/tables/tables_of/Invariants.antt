@@ -7,5 +7,5 @@ use Rattle.shb_lists.proofs.tables.tables_of.Given as goal
 abbrev pub invariant-loop-x : goal.invariant-loop-x
 invariant-loop-x l = record {
   as_many : length l.tables.items ≡ l.x;
-  each : (trace : List Event) (numbers : List ℕ) (x : ℕ) (t : Table) → slice_get l.tables.items x ≡ Some t → IfSome t.racing (AreRacing trace x numbers l.classes l.settled.disciplined.now.sizes.threads 0);
+  each : (trace : List Event) (x : ℕ) (t : Table) → slice_get l.tables.items x ≡ Some t → IfSome t.racing (AreRacing trace x l.own 0);
 }

@@ -1,13 +1,11 @@
-use Rattle.std.proofs.Common.{◌-◌, ◌≤◌}
-use Rattle.std.specs.FinSet as fin
-use Rattle.shb_numbers.specs.Numbers.{HasNone}
+use Rattle.std.proofs.Common.{ℕ, ◌<◌, ◌≤◌, length}
+use Rattle.std.specs.Prelude.{slice_index}
+use Rattle.shb_numbers.proofs.FarLemmas.{HasPassed}
 use Rattle.shb_numbers.proofs.large_set.far_not_in.Given as goal
 
 abbrev pub invariant-loop-at : goal.invariant-loop-at
 invariant-loop-at l = record {
-  start : l.from ≤ l.at;
-  passed : HasNone (fin.difference (fin.from_list l.far.keys) l.other) l.from l.at;
+  start : l.at < length l.far → l.from ≤ slice_index l.far l.at;
+  passed : HasPassed l.far l.other l.from l.at;
+  behind : (k : ℕ) → k < l.passed → l.at < length l.far → slice_index l.there k < slice_index l.far l.at;
 }
-
-abbrev pub decreases-loop-at : goal.decreases-loop-at
-decreases-loop-at l = l.end - l.at

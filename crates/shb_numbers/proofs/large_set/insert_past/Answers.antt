@@ -1,15 +1,20 @@
 use Rattle.std.proofs.Common.{◌∙◌, ap}
-use Rattle.std.proofs.lemmas.Result.{on_ok_weaker}
+use Rattle.std.proofs.lemmas.Result.{on_err_weaker, on_ok_weaker}
 use Rattle.std.specs.FinSet as fin
-use Rattle.shb_numbers.proofs.FarLemmas.{far_more, near_more}
+use Rattle.shb_numbers.specs.Far.{both}
+use Rattle.shb_numbers.proofs.FarLemmas.{far_more, near_more, on_both}
 use Rattle.shb_numbers.proofs.large_set.insert_past.Goals as goal
 
 pub returns-then-are_too_few-clause-inserted : goal.returns-then-are_too_few-clause-inserted
 returns-then-are_too_few-clause-inserted c =
-    far_more c.args.near.now c.args.far.now.keys c.insert.new.self.keys c.args.number c.in_ok-insert.ensures.updates.1 c.in_ok-insert.ensures.updates.2
+    on_both c.insert_far.result (λ there others. far_more c.args.near.now c.args.far.now.items c.insert_far.new.far.items c.args.number there others)
+    c.insert_far.ensures.there c.insert_far.ensures.others
+
+pub returns-then-are_too_few-clause-kept : goal.returns-then-are_too_few-clause-kept
+returns-then-are_too_few-clause-kept c = on_err_weaker c.insert_far.result (ap (both c.args.near.now)) c.insert_far.ensures.kept
 
 pub returns-clause-inserted : goal.returns-clause-inserted
 returns-clause-inserted c =
-    on_ok_weaker c.insert-2.result
-    (λ is. near_more c.bring_near.new.near c.insert-2.new.self c.bring_near.new.far.keys c.args.number is ∙ ap (λ s. fin.insert s c.args.number) c.bring_near.ensures)
-    c.insert-2.ensures.inserted
+    on_ok_weaker c.insert.result
+    (λ is. near_more c.bring_near.new.near c.insert.new.self c.bring_near.new.far.items c.args.number is ∙ ap (λ s. fin.insert s c.args.number) c.bring_near.ensures.same)
+    c.insert.ensures.inserted

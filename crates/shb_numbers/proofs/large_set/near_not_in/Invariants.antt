@@ -7,7 +7,7 @@ use Rattle.shb_numbers.proofs.large_set.near_not_in.Given as goal
 abbrev pub invariant-loop-at : goal.invariant-loop-at
 invariant-loop-at l = record {
   start : l.from ≤ l.at;
-  passed : HasNone (fin.difference l.near (both l.other-inside.near l.other-inside.far.keys)) l.from l.at;
+  passed : HasNone (fin.difference l.near (both l.other-inside.near l.other-inside.far.items)) l.from l.at;
 }
 
 abbrev pub decreases-loop-at : goal.decreases-loop-at

@@ -6,7 +6,7 @@ pub returns-in_err-trace : goal.returns-in_err-trace
 returns-in_err-trace g c =
     let parsed = c.in_ok-parsed.parsed in
     let read = c.in_ok-parsed.ensures in
-    of_refused c.args.task.choice c.args.task.settings.schedules g.S.Source.remaining g.S.Source.given_count g.S.Source.failure_count c.args.source.now c.read_trace.new.source
+    of_refused c.args.choice c.args.plan.now.schedules g.S.Source.remaining g.S.Source.given_count g.S.Source.failure_count c.args.source.now c.read_trace.new.source
     g.K.Sink.taken g.K.Sink.failure_count c.args.sink.now read.taken read.given
     parsed.trace parsed.stop read.reading read.counted
     _ c.from_residual-in_err-trace.result c.from_residual-in_err-trace.ensures.1 c.in_err-trace.ensures.refused
@@ -16,7 +16,7 @@ returns-in-Ok g c =
     let parsed = c.in_ok-parsed.parsed in
     let read = c.in_ok-parsed.ensures in
     let trace = c.in_ok-trace.trace in
-    of_report c.args.task.choice c.args.task.settings.schedules g.S.Source.remaining g.S.Source.given_count g.S.Source.failure_count c.args.source.now c.read_trace.new.source
+    of_report c.args.choice c.args.plan.now.schedules g.S.Source.remaining g.S.Source.given_count g.S.Source.failure_count c.args.source.now c.read_trace.new.source
     g.K.Sink.taken g.K.Sink.failure_count c.args.sink.now read.taken read.given
     parsed.trace parsed.stop read.reading read.counted
     trace.trace.now c.in_ok-trace.ensures.accepted c.report_asked.new.sink
@@ -26,7 +26,7 @@ pub returns-in-Err-Sink : goal.returns-in-Err-Sink
 returns-in-Err-Sink g c =
     let parsed = c.in_ok-parsed.parsed in
     let read = c.in_ok-parsed.ensures in
-    of_failed_sink c.args.task.choice c.args.task.settings.schedules g.S.Source.remaining g.S.Source.given_count g.S.Source.failure_count c.args.source.now c.read_trace.new.source
+    of_failed_sink c.args.choice c.args.plan.now.schedules g.S.Source.remaining g.S.Source.given_count g.S.Source.failure_count c.args.source.now c.read_trace.new.source
     g.K.Sink.taken g.K.Sink.failure_count c.args.sink.now read.taken read.given
     parsed.trace parsed.stop read.reading read.counted
     c.in_ok-trace.trace.trace.now c.in_ok-trace.ensures.accepted c.report_asked.new.sink
@@ -36,7 +36,7 @@ pub returns : goal.returns
 returns g c =
     let parsed = c.in_ok-parsed.parsed in
     let read = c.in_ok-parsed.ensures in
-    of_no_memory c.args.task.choice c.args.task.settings.schedules g.S.Source.remaining g.S.Source.given_count g.S.Source.failure_count c.args.source.now c.read_trace.new.source
+    of_no_memory c.args.choice c.args.plan.now.schedules g.S.Source.remaining g.S.Source.given_count g.S.Source.failure_count c.args.source.now c.read_trace.new.source
     g.K.Sink.taken g.K.Sink.failure_count c.args.sink.now read.taken read.given
     parsed.trace parsed.stop read.reading read.counted
     c.in_ok-trace.trace.trace.now c.in_ok-trace.ensures.accepted c.report_asked.new.sink c.in-Err-Memory.refused

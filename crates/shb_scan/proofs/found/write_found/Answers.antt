@@ -2,7 +2,6 @@
 use Rattle.std.proofs.Common.{◌∙◌, List, ap, map, refl, subst, sym}
 use Rattle.shb_io.specs.Devices.{Writes}
 use Rattle.shb_lines.specs.declared.numbering.Numbering.{Numbering}
-use Rattle.shb_lines.specs.text.OwnedNames.{names_of}
 use Rattle.shb_format.specs.Keyed.{AreKeyed}
 use Rattle.shb_nearest.specs.Found.{ends_of}
 use Rattle.shb_nearest.specs.declared.access.FoundRace.{FoundRace}
@@ -29,4 +28,4 @@ returns-clause-written g c = λ text h.
     (c.write_scan.ensures.written h.trace (c.counts_of-counts.ensures ∙ ap counts_in c.numbering-numbering.ensures ∙ counts_are text found h)
     (made_of text found h _ (c.threads.ensures ∙ ap (λ (n : Numbering). n.threads) c.numbering-numbering.ensures) (c.variables.ensures ∙ ap (λ (n : Numbering). n.variables) c.numbering-numbering.ensures) refl
     c.as_slice.result.now c.as_slice.ensures.value)
-    (subst (λ (items : List FoundRace). AreKeyed (names_of found.locations) found.places (places_in h.trace items)) (sym c.as_slice.ensures.value) h.places))
+    (subst (λ (items : List FoundRace). AreKeyed found.locations found.places (places_in h.trace items)) (sym c.as_slice.ensures.value) h.places))

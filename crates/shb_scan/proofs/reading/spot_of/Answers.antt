@@ -3,7 +3,6 @@ use Rattle.std.proofs.Common.{◌≡◌, ◌∙◌, ℕ, List, [], Option, Some,
 use Rattle.std.specs.Option.{option_copied}
 use Rattle.std.specs.Prelude.{is_some, unwrap_or}
 use Rattle.shb_lines.specs.text.Names.{with_name}
-use Rattle.shb_lines.specs.text.OwnedNames.{names_of}
 use Rattle.shb_lines.specs.text.TraceData.{location_after, location_of}
 use Rattle.shb_lines.proofs.text.NamedLines.{location_from_after}
 use Rattle.shb_scan.proofs.reading.spot_of.Goals as goal
@@ -19,7 +18,7 @@ returns-in_ok-location-in-Some-clause-spot c = λ line is.
 
 pub returns-in_ok-location-in-Some-clause-names : goal.returns-in_ok-location-in-Some-clause-names
 returns-in_ok-location-in-Some-clause-names c = λ line is.
-    c.in_ok-location-in-Some.ensures.names ∙ ap (with_name (names_of c.args.locations.now)) (sym (from_after line _ (sym is ∙ ap option_copied c.in-Some.is)))
+    c.in_ok-location-in-Some.ensures.names ∙ ap (with_name c.args.locations.now) (sym (from_after line _ (sym is ∙ ap option_copied c.in-Some.is)))
 
 pub returns-in_ok-location-in-None-clause-spot : goal.returns-in_ok-location-in-None-clause-spot
 returns-in_ok-location-in-None-clause-spot c = λ line is.
@@ -28,4 +27,4 @@ returns-in_ok-location-in-None-clause-spot c = λ line is.
 
 pub returns-in_ok-location-in-None-clause-names : goal.returns-in_ok-location-in-None-clause-names
 returns-in_ok-location-in-None-clause-names c = λ line is.
-    c.in_ok-location-in-None.ensures.names ∙ ap (with_name (names_of c.args.locations.now)) (sym (from_after line _ (sym is ∙ ap option_copied c.in-None.is)))
+    c.in_ok-location-in-None.ensures.names ∙ ap (with_name c.args.locations.now) (sym (from_after line _ (sym is ∙ ap option_copied c.in-None.is)))

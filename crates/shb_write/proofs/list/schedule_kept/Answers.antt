@@ -3,7 +3,7 @@ use Rattle.shb_lines.specs.declared.event.Event.{Event}
 use Rattle.shb_lines.specs.declared.event.Pair.{Pair}
 use Rattle.shb_lines.specs.events.Race.{Race, ends}
 use Rattle.shb_pairs.specs.Listed.{pair_in}
-use Rattle.shb_write.proofs.Listing.{pairs_race}
+use Rattle.shb_lists.proofs.GivenLemmas.{pairs_race}
 use Rattle.shb_write.proofs.list.schedule_kept.Goals as goal
 
 pub order_of_races-requires : goal.order_of_races-requires
@@ -11,10 +11,10 @@ order_of_races-requires g c =
     let events = c.args.settled.now.disciplined.now.events.now in
     record {
       races = subst (λ (es : List Event). All (λ (p : Pair). Race es p.first p.second) c.deref.result.now) (sym c.new-linked.ensures.events)
-          (pairs_race events c.deref.result.now (map pair_in c.args.races.now) (ap (map ends) c.deref.ensures.value ∙ c.in_ok-pairs.ensures.ends) c.requires.are_races);
+          (pairs_race events c.deref.result.now (map pair_in c.args.races.now) (ap (map ends) c.deref.ensures.value ∙ c.in_ok-pairs.ensures) c.requires.are_races);
     }
 
 pub schedule_races-requires-clause-races : goal.schedule_races-requires-clause-races
 schedule_races-requires-clause-races g c κs within =
     let events = c.args.settled.now.disciplined.now.events.now in
-    rw c.new-ordered.ensures.disciplined (pairs_race events c.deref-2.result.now (map pair_in c.args.races.now) (ap (map ends) c.deref-2.ensures.value ∙ c.in_ok-pairs.ensures.ends) c.requires.are_races)
+    rw c.new-ordered.ensures.disciplined (pairs_race events c.deref-2.result.now (map pair_in c.args.races.now) (ap (map ends) c.deref-2.ensures.value ∙ c.in_ok-pairs.ensures) c.requires.are_races)

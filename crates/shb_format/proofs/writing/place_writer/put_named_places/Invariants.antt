@@ -1,7 +1,6 @@
 use Rattle.std.proofs.Common.{◌≡◌, ◌++◌, List, take}
 use Rattle.shb_io.specs.Devices.{HoldsBack}
 use Rattle.shb_lines.specs.declared.event.Pair.{Pair}
-use Rattle.shb_lines.specs.text.OwnedNames.{names_of}
 use Rattle.shb_lines.specs.text.TraceData.{TraceData}
 use Rattle.shb_format.specs.Keyed.{AreKeyed}
 use Rattle.shb_format.specs.Places.{counts_in, places_bytes, places_of_pairs}
@@ -9,7 +8,7 @@ use Rattle.shb_format.proofs.writing.place_writer.put_named_places.Given as goal
 
 abbrev pub invariant-loop-q : goal.invariant-loop-q
 invariant-loop-q g l = record {
-  held : (trace : TraceData) (pairs : List Pair) → AreKeyed (names_of l.locations) l.places (places_of_pairs trace pairs)
+  held : (trace : TraceData) (pairs : List Pair) → AreKeyed l.locations l.places (places_of_pairs trace pairs)
       → HoldsBack (g.S.Sink.taken l.initial.sink) (g.S.Sink.taken l.sink) l.held (l.initial.held ++ places_bytes trace (take l.q (counts_in (places_of_pairs trace pairs))));
   counted : g.S.Sink.failure_count l.sink ≡ g.S.Sink.failure_count l.initial.sink;
 }

@@ -1,8 +1,8 @@
 -- Lines that give nothing are passed, and what comes next is answered.
-use Rattle.std.proofs.Common.{◌++◌, rules, subst}
+use Rattle.std.proofs.Common.{◌++◌, [], refl, rules, subst}
 use Rattle.shb_lines.specs.text.Taken.{IsTaken}
-use Rattle.shb_lines.proofs.text.LinesRead.{moved_more}
-use Rattle.shb_lines.proofs.text.TakenEvents.{passed_more, taken_after, taken_next}
+use Rattle.shb_lines.proofs.text.LinesRead.{moved_more, moves_none}
+use Rattle.shb_lines.proofs.text.TakenEvents.{passed_more, passed_none, taken_after, taken_next}
 use Rattle.shb_lines.proofs.event_reader.EventReader.next_event.Goals as goal
 
 pub returns-in_default : goal.returns-in_default
@@ -25,6 +25,14 @@ returns-clause-taken g c = λ read lines h.
 
 pub returns-in_err-taken-clause-moved : goal.returns-in_err-taken-clause-moved
 returns-in_err-taken-clause-moved g c = moved_more _ _ _ _ _ _ c.loop-self.invariant.moved c.in_err-taken.ensures.moved
+
+pub loop-self-init : goal.loop-self-init
+loop-self-init g c = record {
+  within = c.requires.within;
+  counted = refl;
+  moved = ([], moves_none (g.S.Source.remaining c.args.source.now) (g.S.Source.given_count c.args.source.now));
+  passed = λ read lines h. passed_none c.args.limits.now read lines (g.S.Source.remaining c.args.source.now) (g.S.Source.given_count c.args.source.now) c.args.self.now h;
+}
 
 pub loop-self-preserved : goal.loop-self-preserved
 loop-self-preserved g c = record {

@@ -1,6 +1,13 @@
-use Rattle.std.proofs.Common.{◌∙◌}
-use Rattle.shb_lines.proofs.text.OwnedLemmas.{any_text}
+-- What is found says whether the name is one of the names.
+use Rattle.std.proofs.Common.{ap, ◌∙◌}
+use Rattle.std.specs.List.{list_any}
+use Rattle.std.specs.Str.{bytes_eq}
+use Rattle.shb_lines.proofs.text.OwnedLemmas.{found_any}
 use Rattle.shb_lines.proofs.owned_names.OwnedNames.contains.Goals as goal
 
 pub returns : goal.returns
-returns c = c.contains.ensures ∙ any_text c.args.name.now c.args.self.now.table.keys
+returns c =
+    let inside = c.self.inside in
+    c.is_some.ensures
+    ∙ found_any inside.keys inside.hashes.keys inside.names c.args.name.now c.self.invariant c.hash_of.result c.hash_of.ensures c.found.result c.found.ensures.some c.found.ensures.none
+    ∙ ap (list_any (bytes_eq c.args.name.now)) c.self.view_is

@@ -8,15 +8,15 @@ use Rattle.shb_nearest.specs.Late.{access_in}
 use Rattle.shb_nearest.proofs.TableLemmas.{classes_put, since_is, since_kept}
 use Rattle.shb_nearest.proofs.groups.Groups.take.Goals as goal
 
-pub returns-then-len-le-FEW-clause-since : goal.returns-then-len-le-FEW-clause-since
-returns-then-len-le-FEW-clause-since c trace spots n groups are =
+pub returns-then-len-le-ACCESSES_IN_TURN-clause-since : goal.returns-then-len-le-ACCESSES_IN_TURN-clause-since
+returns-then-len-le-ACCESSES_IN_TURN-clause-since c trace spots n groups are =
     let found = subst (λ (l : List Group). HasGroupAt c.args.self.now.each.items l c.args.late.thread c.args.late.writes c.in_ok-at.at) (sym c.in_ok-site.ensures.each) c.in_ok-at.ensures.group in
     let mid = c.note.new.self.each.items in
     let at_old = slice_get_read mid (length mid) c.in_ok-at.at c.in-Some.group.now refl (slice_get_within mid c.in_ok-at.at found.group found.there) c.in-Some.ensures.value in
     since_kept trace spots c.args.late.event c.args.variable (access_in c.args.late) c.in_ok-before.before c.args.self.now.each.items mid n c.in_ok-at.at c.in-Some.group.now refl groups found at_old c.in_ok-before.ensures.before
 
-pub returns-then-len-le-FEW-clause-groups : goal.returns-then-len-le-FEW-clause-groups
-returns-then-len-le-FEW-clause-groups c trace spots n are is past =
+pub returns-then-len-le-ACCESSES_IN_TURN-clause-groups : goal.returns-then-len-le-ACCESSES_IN_TURN-clause-groups
+returns-then-len-le-ACCESSES_IN_TURN-clause-groups c trace spots n are is past =
     let found = subst (λ (l : List Group). HasGroupAt c.args.self.now.each.items l c.args.late.thread c.args.late.writes c.in_ok-at.at) (sym c.in_ok-site.ensures.each) c.in_ok-at.ensures.group in
     let mid = c.note.new.self.each.items in
     let at_old = slice_get_read mid (length mid) c.in_ok-at.at c.in-Some.group.now refl (slice_get_within mid c.in_ok-at.at found.group found.there) c.in-Some.ensures.value in
@@ -37,8 +37,8 @@ returns-clause-groups c trace spots n are is past =
     noted trace spots c.args.variable c.args.late.event (access_in c.args.late) refl is.own (record { event = c.args.late.event; time = c.args.late.time; spot = (access_in c.args.late).spot; site = c.in_ok-site.site }) refl refl is.time_is
     n past c.args.self.now.each.items mid c.in_ok-at.at c.in-Some.group.now c.keep.new.self are found at_old c.in_ok-keep.ensures
 
-pub returns-then-len-le-FEW-clause-sites : goal.returns-then-len-le-FEW-clause-sites
-returns-then-len-le-FEW-clause-sites c by_variable entries are =
+pub returns-then-len-le-ACCESSES_IN_TURN-clause-sites : goal.returns-then-len-le-ACCESSES_IN_TURN-clause-sites
+returns-then-len-le-ACCESSES_IN_TURN-clause-sites c by_variable entries are =
     let mid = c.note.new.self.each.items in
     let found = subst (λ (l : List Group). HasGroupAt c.args.self.now.each.items l c.args.late.thread c.args.late.writes c.in_ok-at.at) (sym c.in_ok-site.ensures.each) c.in_ok-at.ensures.group in
     let at_old = slice_get_read mid (length mid) c.in_ok-at.at c.in-Some.group.now refl (slice_get_within mid c.in_ok-at.at found.group found.there) c.in-Some.ensures.value in

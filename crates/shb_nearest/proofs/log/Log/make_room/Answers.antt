@@ -9,10 +9,10 @@ use Rattle.shb_nearest.specs.declared.tables.Variable.{Variable}
 use Rattle.shb_nearest.specs.declared.late.Late.{Late}
 use Rattle.shb_nearest.specs.declared.log.Accesses.TheVariants.{Waiting}
 use Rattle.shb_nearest.specs.Late.{AreLate, AreWaiting, IsChain}
-use Rattle.shb_nearest.specs.Searched.{IsVariable}
+use Rattle.shb_nearest.specs.Searched.{AreVariables, IsVariable}
 use Rattle.shb_nearest.proofs.Chains.{AreMoved, grouped_own, one_moved, waiting_own}
 use Rattle.shb_nearest.proofs.log.Log.make_room.Goals as goal
-use Rattle.shb_nearest.proofs.log.Log.make_room.Goals.{in-Waiting+in_ok-gather+in_ok-place, in_default}
+use Rattle.shb_nearest.proofs.log.Log.make_room.Goals.{else-len, in-Waiting+in_ok-gather+in_ok-place, in_default, then-len}
 
 abbrev no_variable : Variable
 no_variable = record { accesses = Waiting 0; run = record { thread = 0; start = 0 }; latest = record { write = record { time = 0; thread = 0 }; read = record { time = 0; thread = 0 } } }
@@ -53,8 +53,14 @@ loop-known-preserved c = (
     there = subst (λ (k : ℕ). slice_get c.args.variables.now.items k ≡ Some known) (sym c.loop-known.invariant.0)
         (subst (λ (l : List Variable). slice_get l c.loop-known.known-index ≡ Some known) c.as_slice-known-items.ensures.value (slice_get-get_or c.as_slice-known-items.result.now c.loop-known.known-index no_variable c.loop-known-test.true))
 
-pub returns-then-len-clause-variables : goal.returns-then-len-clause-variables
-returns-then-len-clause-variables c trace spots n groups few are = record {
-  each = c.loop-known.invariant.2 trace spots n groups are (let less = c.if-len.true in let new = c.len-5.ensures in let old = c.len-6.ensures in let kept = c.loop-known.invariant.1 in let same = ap (λ (l : List Entry). length l) kept in let a = c.loop-known.entries.ok in let b = c.loop-known.self.entries.ok in omega (arith, less, new, old, same, a, b, few));
-  wide = λ i x lt at. (let low = are.wide i x lt at in let done = c.loop-known-test.false in let all = c.as_slice-known-items.ensures.len in let as_many = c.loop-known.invariant.0 in let items = ap (λ (l : List Variable). length l) c.as_slice-known-items.ensures.value in omega (arith, low, done, as_many, items));
-}
+pub returns-clause-variables : goal.returns-clause-variables
+returns-clause-variables c trace spots n groups few are = elim c.if-len.branch [
+  | then-len w ↦ subst (λ (l : Log). AreVariables trace spots n l.entries.items groups c.if-len.variables.items) (sym w.self-is)
+      (subst (λ (v : Vec Variable Global). AreVariables trace spots n c.loop-known.entries.items groups v.items) (sym w.variables-is) (record {
+        each = c.loop-known.invariant.2 trace spots n groups are (let less = w.if-len.true in let new = c.len-3.ensures in let old = c.len-4.ensures in let same = ap (λ (l : List Entry). length l) c.loop-known.invariant.1 in let a = c.loop-known.entries.ok in let b = c.loop-known.self.entries.ok in omega (arith, less, new, old, same, a, b, few));
+        wide = λ i x lt at. (let low = are.wide i x lt at in let done = c.loop-known-test.false in let all = c.as_slice-known-items.ensures.len in let as_many = c.loop-known.invariant.0 in let items = ap (λ (l : List Variable). length l) c.as_slice-known-items.ensures.value in omega (arith, low, done, as_many, items));
+      }))
+  | else-len w ↦ subst (λ (l : Log). AreVariables trace spots n l.entries.items groups c.if-len.variables.items) (sym w.self-is)
+      (subst (λ (v : Vec Variable Global). AreVariables trace spots n c.loop-known.self.entries.items groups v.items) (sym w.variables-is)
+      (subst (λ (l : List Entry). AreVariables trace spots n l groups c.args.variables.now.items) (sym c.loop-known.invariant.1) are))
+]

@@ -6,11 +6,11 @@ use Rattle.shb_numbers.proofs.large_set.LargeSet.contains.Goals as goal
 
 pub returns-then-contains : goal.returns-then-contains
 returns-then-contains c =
-    sym (ap (λ s. fin.contains s c.args.number) (sym c.self.view_is) ∙ contains_both c.self.inside.near c.self.inside.far.keys c.args.number
-    ∙ ap (λ b. b || has_key c.self.inside.far.keys c.args.number) (sym c.contains.ensures ∙ c.if-contains.true))
+    sym (ap (λ s. fin.contains s c.args.number) (sym c.self.view_is) ∙ contains_both c.self.inside.near c.self.inside.far.items c.args.number
+    ∙ ap (λ b. b || has_key c.self.inside.far.items c.args.number) (sym c.contains.ensures ∙ c.if-contains.true))
 
 pub returns : goal.returns
 returns c =
-    c.contains-2.ensures
-    ∙ sym (ap (λ s. fin.contains s c.args.number) (sym c.self.view_is) ∙ contains_both c.self.inside.near c.self.inside.far.keys c.args.number
-    ∙ ap (λ b. b || has_key c.self.inside.far.keys c.args.number) (sym c.contains.ensures ∙ c.if-contains.false))
+    c.has.ensures ∙ ap (λ l. has_key l c.args.number) c.as_slice.ensures.value
+    ∙ sym (ap (λ s. fin.contains s c.args.number) (sym c.self.view_is) ∙ contains_both c.self.inside.near c.self.inside.far.items c.args.number
+    ∙ ap (λ b. b || has_key c.self.inside.far.items c.args.number) (sym c.contains.ensures ∙ c.if-contains.false))

@@ -1,28 +1,18 @@
-use Rattle.std.proofs.Common.{arith, subst}
+use Rattle.std.proofs.Common.{ℕ, MatchOption, ◌∙◌, ap, subst, sym}
 use Rattle.std.specs.FinSet as fin
+use Rattle.std.specs.Ordering.{nat_cmp}
+use Rattle.std.specs.Prelude.{Option}
+use Rattle.shb_numbers.specs.Far.{both}
 use Rattle.shb_numbers.specs.Numbers.{HasNone, IsLeast, Numbers}
-use Rattle.shb_numbers.proofs.FarLemmas.{far_least, near_least, none_of_both}
+use Rattle.shb_numbers.proofs.FarLemmas.{least_of_both}
 use Rattle.shb_numbers.proofs.large_set.LargeSet.first_of_both.Goals as goal
 
-pub returns-in-Some-far_not_in : goal.returns-in-Some-far_not_in
-returns-in-Some-far_not_in c =
-    subst (λ (s : Numbers). IsLeast (fin.difference s c.args.other.now) c.args.from c.args.end c.in-Some-far_not_in.far) c.self.view_is
-    (far_least c.self.inside.near c.self.inside.far.keys c.args.other.now c.args.from c.args.end c.in-Some.near c.in-Some-far_not_in.far
-    (omega (arith, c.in-Some.ensures.high)) c.in-Some.ensures.least c.in-Some-far_not_in.ensures)
-
-pub returns-in-None-far_not_in : goal.returns-in-None-far_not_in
-returns-in-None-far_not_in c =
-    subst (λ (s : Numbers). IsLeast (fin.difference s c.args.other.now) c.args.from c.args.end c.in-Some.near) c.self.view_is
-    (near_least c.self.inside.near c.self.inside.far.keys c.args.other.now c.args.from c.args.end c.in-Some.near c.in-Some.ensures
-    c.in-None-far_not_in.ensures)
-
-pub returns-in-Some-far_not_in-2 : goal.returns-in-Some-far_not_in-2
-returns-in-Some-far_not_in-2 c =
-    subst (λ (s : Numbers). IsLeast (fin.difference s c.args.other.now) c.args.from c.args.end c.in-Some-far_not_in-2.far) c.self.view_is
-    (far_least c.self.inside.near c.self.inside.far.keys c.args.other.now c.args.from c.args.end c.args.end c.in-Some-far_not_in-2.far
-    (omega arith) c.in-None.ensures c.in-Some-far_not_in-2.ensures)
-
-pub returns-in-None-far_not_in-2 : goal.returns-in-None-far_not_in-2
-returns-in-None-far_not_in-2 c =
-    subst (λ (s : Numbers). HasNone (fin.difference s c.args.other.now) c.args.from c.args.end) c.self.view_is
-    (none_of_both c.self.inside.near c.self.inside.far.keys c.args.other.now c.args.from c.args.end c.in-None.ensures c.in-None-far_not_in-2.ensures)
+pub returns : goal.returns
+returns c =
+    let far = fin.difference (fin.from_list {R = nat_cmp} c.as_slice.result.now) c.args.other.now in
+    subst (λ (s : Numbers). MatchOption c.or.result (HasNone (fin.difference s c.args.other.now) c.args.from c.args.end) (IsLeast (fin.difference s c.args.other.now) c.args.from c.args.end))
+    (ap (both c.self.inside.near) c.as_slice.ensures.value ∙ c.self.view_is)
+    (subst (λ (r : Option ℕ). MatchOption r (HasNone (fin.difference (both c.self.inside.near c.as_slice.result.now) c.args.other.now) c.args.from c.args.end) (IsLeast (fin.difference (both c.self.inside.near c.as_slice.result.now) c.args.other.now) c.args.from c.args.end))
+    (sym c.or.ensures)
+    (least_of_both c.self.inside.near c.as_slice.result.now c.args.other.now c.args.from c.args.end c.near_not_in-near.result c.far_not_in.result c.near_not_in-near.ensures
+    (subst (λ (u : ℕ). MatchOption c.far_not_in.result (HasNone far c.args.from u) (IsLeast far c.args.from u)) c.unwrap_or-until.ensures c.far_not_in.ensures)))

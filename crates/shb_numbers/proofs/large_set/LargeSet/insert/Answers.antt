@@ -7,5 +7,5 @@ use Rattle.shb_numbers.proofs.large_set.LargeSet.insert.Goals as goal
 pub returns-then-number-words_more-clause-inserted : goal.returns-then-number-words_more-clause-inserted
 returns-then-number-words_more-clause-inserted c =
     on_ok_weaker c.insert.result
-    (λ is. near_more c.self.inside.near c.insert.new.self c.self.inside.far.keys c.args.number is ∙ ap (λ s. fin.insert s c.args.number) c.self.view_is)
+    (λ is. near_more c.self.inside.near c.insert.new.self c.self.inside.far.items c.args.number is ∙ ap (λ s. fin.insert s c.args.number) c.self.view_is)
     c.insert.ensures.inserted

@@ -2,7 +2,6 @@
 use Rattle.std.proofs.Common.{◌++◌, ◌∷◌, [], refl, sym, subst, arith}
 use Rattle.std.specs.Str.Lines.{strip_carriage_return}
 use Rattle.shb_lines.specs.text.Numbering.{event_of}
-use Rattle.shb_lines.specs.text.OwnedNames.{names_of}
 use Rattle.shb_discipline.specs.State.{IsStateAfter}
 use Rattle.shb_nearest.specs.Searched.{HasSearched}
 use Rattle.shb_scan.proofs.Noted.{noted_more, on_ok}
@@ -15,7 +14,7 @@ returns-clause-noted c = λ trace spots tables line h may few.
     let state = subst (IsStateAfter (trace.events ++ event ∷ [])) (sym c.in_ok-spot.ensures.state) (c.in_ok-note.ensures trace.events event refl refl (omega (arith, few)) may h.state_is) in
     on_ok c.take.result (λ searched. (
       c.in_ok-spot.spot,
-      noted_more trace tables c.args.step line (strip_carriage_return c.args.self.now.reader.lines.line) spots c.in_ok-spot.spot (names_of c.args.self.now.locations) (names_of c.spot.new.self.locations)
+      noted_more trace tables c.args.step line (strip_carriage_return c.args.self.now.reader.lines.line) spots c.in_ok-spot.spot c.args.self.now.locations c.spot.new.self.locations
           c.args.self.now.locations c.spot.new.self.locations c.args.self.now.state c.spot.new.self.state c.args.self.now.nearest c.take.new.self h may refl refl state searched c.in_ok-spot.ensures.spot,
     ))
     (c.take.ensures.searched trace.events spots event refl refl (omega (arith, few)) (disciplined_push trace.events event h.disciplined may) (subst (HasSearched trace.events spots) (sym c.in_ok-spot.ensures.nearest) h.searched))

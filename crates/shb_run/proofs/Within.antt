@@ -1,0 +1,11 @@
+-- The races of a list are races of the trace.
+use Rattle.std.proofs.Common.{◌≡◌, ℕ, ◌<◌, List, All, length, map, refl}
+use Rattle.shb_lines.specs.declared.event.Event.{Event}
+use Rattle.shb_lines.specs.declared.event.Pair.{Pair}
+use Rattle.shb_lines.specs.events.Race.{Race, ends}
+use Rattle.shb_lines.specs.text.TraceData.{TraceData}
+use Rattle.shb_lists.proofs.GivenLemmas.{pairs_race, race_of_trace}
+
+-- the later event of each is an event
+pub seconds_within : (trace : TraceData) (events : List Event) (pairs : List Pair) → events ≡ trace.events → All (λ race. Race events race.0 race.1) (map ends pairs) → All (λ (pair : Pair). pair.second < length events) pairs
+seconds_within trace events pairs same are k d lt = rw same ((race_of_trace trace events _ _ same (pairs_race events pairs (map ends pairs) refl are k d lt)).1)

@@ -1,0 +1,31 @@
+use Rattle.std.proofs.Common.{◌∙◌, ℕ, List, ap, map, subst, sym}
+use Rattle.std.proofs.lemmas.Result.{IfOk-weaker}
+use Rattle.shb_lines.specs.declared.event.Pair.{Pair}
+use Rattle.shb_lines.specs.events.Race.{ends}
+use Rattle.shb_pairs.specs.Listed.{pair_in}
+use Rattle.shb_lists.specs.declared.list.RaceList.{RaceList}
+use Rattle.shb_scan.specs.Outcomes.{IsScan}
+use Rattle.shb_run.specs.declared.settings.Choice.TheVariants as choices
+use Rattle.shb_run.proofs.Within.{seconds_within}
+use Rattle.shb_run.proofs.Reports.{races_listed}
+use Rattle.shb_run.proofs.lists.nearest_list.Goals as goal
+
+pub listed-requires : goal.listed-requires
+listed-requires g c =
+    let trace = c.args.settled.now.disciplined.now in
+    let lists = subst (λ (l : List Pair). IsScan c.args.by_variable trace.trace.now (map ends l)) (sym c.deref.ensures.value) c.in_ok-nearest.ensures in
+    seconds_within trace.trace.now trace.events.now c.deref.result.now trace.of_trace (races_listed (choices.Nearest c.args.by_variable) trace.trace.now trace.events.now (map ends c.deref.result.now) trace.of_trace lists)
+
+pub kept-requires : goal.kept-requires
+kept-requires g c =
+    let trace = c.args.settled.now.disciplined.now in
+    let are = c.in_ok-races.ensures ∙ ap (map ends) c.deref.ensures.value in
+    let lists = subst (λ (l : List (ℕ × ℕ)). IsScan c.args.by_variable trace.trace.now l) (sym are) c.in_ok-nearest.ensures in
+    races_listed (choices.Nearest c.args.by_variable) trace.trace.now trace.events.now (map pair_in c.in_ok-races.races.items) trace.of_trace lists
+
+pub returns : goal.returns
+returns g c =
+    let trace = c.args.settled.now.disciplined.now in
+    let are = c.in_ok-races.ensures ∙ ap (map ends) c.deref.ensures.value in
+    let lists = subst (λ (l : List (ℕ × ℕ)). IsScan c.args.by_variable trace.trace.now l) (sym are) c.in_ok-nearest.ensures in
+    IfOk-weaker c.kept.result _ _ (λ (list : RaceList) made. (map pair_in c.in_ok-races.races.items, lists, made)) c.kept.ensures

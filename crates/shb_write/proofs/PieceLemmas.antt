@@ -1,0 +1,40 @@
+-- The pairs of all pieces, one piece after the other.
+use Rattle.std.proofs.Common.{◌≡◌, ◌+◌, ◌-◌, ◌<◌, ℕ, List, [], ◌∷◌, ◌++◌, Global, Vec, ap, append-nil, arith, drop, length, map, refl, sym, take, ◌∙◌}
+use Rattle.std.specs.Prelude.{flat_map, slice_index_or, slice_range}
+use Rattle.std.proofs.Math.Seq.{take-add}
+use Rattle.std.proofs.lemmas.List.Concat.{flat_map-append}
+use Rattle.std.proofs.lemmas.List.{map-append}
+use Rattle.shb_fan.specs.Values.{values_of}
+use Rattle.shb_lines.specs.declared.event.Pair.{Pair}
+use Rattle.shb_lines.specs.events.Race.{ends}
+use Rattle.shb_pairs.proofs.Joined.{joined_values}
+use Rattle.shb_pairs.specs.Listed.{pair_in}
+use Rattle.shb_pairs.specs.declared.listed.ListedRace.{ListedRace}
+use Rattle.shb_write.specs.declared.pieces.Piece.{Piece}
+
+pub flat_joined : {X A : Type 0} (f : X → List A) (xs : List X) → flat_map (λ (l : List A). l) (map f xs) ≡ flat_map f xs
+flat_joined f [] = refl
+flat_joined f (x ∷ xs) = ap (λ (rest : List _). f x ++ rest) (flat_joined f xs)
+
+map_flat : {X A B : Type 0} (g : A → B) (f : X → List A) (xs : List X) → flat_map (λ x. map g (f x)) xs ≡ map g (flat_map f xs)
+map_flat g f [] = refl
+map_flat g f (x ∷ xs) = ap (λ (rest : List _). map g (f x) ++ rest) (map_flat g f xs) ∙ sym (map-append g (f x) (flat_map f xs))
+
+pub parts_joined : (pieces : List Piece) (parts : List (Vec Pair Global)) (races : List ListedRace) → map (λ (part : Vec Pair Global). map ends part.items) parts ≡ values_of (λ k. slice_index_or (map (λ (piece : Piece). map pair_in piece.races.now) pieces) k []) (length (map (λ (piece : Piece). map pair_in piece.races.now) pieces))
+    → flat_map (λ (piece : Piece). piece.races.now) pieces ≡ races → flat_map (λ (part : Vec Pair Global). map ends part.items) parts ≡ map pair_in races
+parts_joined pieces parts races are is =
+    sym (flat_joined (λ (part : Vec Pair Global). map ends part.items) parts)
+    ∙ (ap (λ (lists : List (List (ℕ × ℕ))). flat_map (λ (l : List (ℕ × ℕ)). l) lists) are
+    ∙ (joined_values (λ (l : List (ℕ × ℕ)). l) (map (λ (piece : Piece). map pair_in piece.races.now) pieces) []
+    ∙ (flat_joined (λ (piece : Piece). map pair_in piece.races.now) pieces
+    ∙ (map_flat pair_in (λ (piece : Piece). piece.races.now) pieces ∙ ap (map pair_in) is))))
+
+-- one piece more is cut
+pub cut_more : (pieces new : List Piece) (piece : Piece) (races : List ListedRace) (start end : ℕ) → start < end → flat_map (λ (p : Piece). p.races.now) pieces ≡ take start races → piece.races.now ≡ slice_range races start end → new ≡ pieces ++ piece ∷ [] → flat_map (λ (p : Piece). p.races.now) new ≡ take end races
+cut_more pieces new piece races start end lt front is more =
+    let e : start + (end - start) ≡ end = omega (arith, lt) in
+    ap (λ (ps : List Piece). flat_map (λ (p : Piece). p.races.now) ps) more
+    ∙ (flat_map-append (λ (p : Piece). p.races.now) pieces (piece ∷ [])
+    ∙ (ap (λ (l : List ListedRace). flat_map (λ (p : Piece). p.races.now) pieces ++ l) (append-nil piece.races.now ∙ is)
+    ∙ (ap (λ (l : List ListedRace). l ++ take (end - start) (drop start races)) front
+    ∙ (sym (take-add start (end - start) races) ∙ ap (λ (n : ℕ). take n races) e))))

@@ -1,0 +1,118 @@
+"""The words of the command, which the Makefile calls."""
+
+import argparse
+import os
+import pathlib
+import subprocess
+import sys
+import tempfile
+
+from shb_common.faults import Refused
+from shb_common.files import put
+from shb_common.standard import words_of
+from shb_install import machine, package, placing, sources, tree
+
+EPILOG = """\
+Exit status: 0; 1 if it can't be done, with the reason. Then an older installation stays as it was, or is listed so that
+installing again goes on and uninstalling leaves nothing."""
+
+
+def arguments(words):
+    parser = argparse.ArgumentParser(prog="install", description=__doc__, epilog=EPILOG)
+    parser.add_argument("--shb", type=pathlib.Path, default=sources.TOP / "bin" / "shb", help="the built program (%(default)s)")
+    parser.add_argument("--prefix", default="/usr/local", help="where the commands will be used (%(default)s)")
+    parser.add_argument("--destdir", default="", help="a folder to install below, as packagers need it")
+    parser.add_argument("--out", type=pathlib.Path, default=sources.TOP, help="with dist and deb: the folder for the package (%(default)s)")
+    parser.add_argument("what", choices=("install", "uninstall", "dist", "deb"))
+    return parser.parse_args(words)
+
+
+def prefix_of(options):
+    """The absolute path of the prefix. A relative one would depend on the folder that `make` is called in."""
+    prefix = os.path.expanduser(options.prefix)
+    if not prefix:
+        raise Refused("the prefix is empty; PREFIX=/ installs in /bin, /lib and /share")
+    if not os.path.isabs(prefix):
+        raise Refused(f"the prefix {prefix} is relative; PREFIX={os.path.abspath(prefix)} is the one in this folder")
+    return os.path.abspath(prefix)
+
+
+def place_of(options):
+    """The folder that stands for the prefix."""
+    return pathlib.Path(f"{options.destdir}{prefix_of(options)}")
+
+
+def install(options):
+    place, prefix = place_of(options), prefix_of(options)
+    machine.check(options.shb)
+    name, _, seconds = sources.version()
+    with tempfile.TemporaryDirectory() as room:
+        made = pathlib.Path(room)
+        tree.make(made, options.shb, prefix, f"{prefix}/lib/shb/libtsan.so", sources.listed(), name, sources.day(seconds))
+        placing.install(made, place)
+    if not options.destdir:     # else whoever makes a package of it does that
+        placing.compile_modules(place)
+    print(f"installed in {place}")
+
+
+def uninstall(options):
+    place = place_of(options)
+    was_there = placing.uninstall(place)
+    print(f"uninstalled from {place}" if was_there else f"nothing is installed in {place}: there is no {place / placing.LISTED}")
+
+
+def packaged(options, made, prefix, library, strip=lambda made: None):
+    """Makes the tree of a package in an empty folder, of the commit alone, stripped or not. Its version, and the commit's time."""
+    files, changed = sources.listed(), sources.changed()
+    if changed:
+        raise Refused(f"a package is made of a commit, and these files are changed since: {', '.join(changed)}")
+    machine.check(options.shb)
+    name, commit, seconds = sources.version()
+    tree.make(made, options.shb, prefix, library, files, name, sources.day(seconds))
+    strip(made)
+    (made / "share/doc/shb/PROVED.md").write_text(package.proved_text(made, options.shb, name, commit, seconds))
+    return name, seconds
+
+
+def dist(options):
+    with tempfile.TemporaryDirectory() as room:
+        made = pathlib.Path(room)
+        name, seconds = packaged(options, made, "/path/to/shb", "libtsan.so.2")
+        for path in sorted((made / "share/doc/shb").iterdir()):     # the documents' links lead somewhere from the top too
+            (made / path.name).symlink_to(f"share/doc/shb/{path.name}")
+        top = f"shb-{name}-x86_64-linux"
+        write_package(options.out / f"{top}.tar.xz", package.archive(made, top, seconds))
+
+
+def deb(options):
+    package.need_dpkg()
+    with tempfile.TemporaryDirectory() as room:
+        made = pathlib.Path(room, "tree", "usr")
+        made.mkdir(parents=True)
+        name, seconds = packaged(options, made, "/usr", "/usr/lib/shb/libtsan.so", package.strip)
+        version = package.debian_version(name)
+        write_package(options.out / f"shb_{version}_amd64.deb", package.debian(made, version, sources.author(), seconds))
+
+
+def write_package(path, content):
+    """Writes a package, and beside it its checksum, as `sha256sum --check` reads it."""
+    put(path, content)
+    put(path.with_name(f"{path.name}.sha256"), package.checksum_line(content, path.name))
+    print(path)
+
+
+def main(words):
+    """Does what the words ask for; returns the status."""
+    options = arguments(words)
+    os.umask(0o022)
+    try:
+        {"install": install, "uninstall": uninstall, "dist": dist, "deb": deb}[options.what](options)
+        return 0
+    except (Refused, OSError) as fault:
+        said = words_of(fault)
+    except subprocess.CalledProcessError as fault:
+        said = f"{fault.cmd[0]} ended with status {fault.returncode}"
+    except KeyboardInterrupt:
+        said = "stopped"
+    print(f"install: {said}", file=sys.stderr)
+    return 1

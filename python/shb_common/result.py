@@ -1,0 +1,65 @@
+"""What a command found, in the form that programs read. docs/FORMATS.md has it."""
+
+import json
+
+from shb_common import version
+
+FORM, VERSION = "shb-places", 1
+
+
+def text(name):
+    """A name of a trace. Bytes that aren't UTF-8 are written as `\\xff`."""
+    return name.decode("utf-8", "backslashreplace")
+
+
+def access(name, location, in_trace, event=None, read=None):
+    """An access of a place: `name` is what its location is called over all programs, `location` says whose it is, `in_trace` is
+    how the trace has it, and `read` its fields there."""
+    found = {"location": text(name), "in_trace": text(in_trace), "functions": sorted(map(text, location.functions))}
+    if location.path.startswith(b"/"):
+        found["file"] = text(location.path)
+    if event is not None:
+        found["event"] = event
+    if read is not None:
+        found.update(thread=text(read.thread), operation={b"r": "read", b"w": "write"}[read.word])
+    return found
+
+
+def entry(row, found, reads=((), ()), **more):
+    """A row as an entry. `found` is the view's entry of it, nothing where it has none; `reads` are of each access its event and its
+    fields there."""
+    there = {one["in_trace"]: one for one in found.get("accesses", ())}
+    races = {one["name"]: {"races": one["races"]} for one in found.get("variables", ()) if "races" in one}
+    accesses = [{**there.get(text(in_trace), {}), **access(name, location, in_trace, *read)}
+                for name, location, in_trace, read in zip(row.names, row.key, row.texts, reads)]
+    variables = [{"name": text(name), "state": "known" if is_known else "unknown", **races.get(text(name), {})} for name, is_known in row.variables]
+    return {"state": row.state(), "places": row.places, "accesses": accesses, "variables": variables, "has_more_variables": row.has_more,
+            **{name: found[name] for name in ("races", "blamed", "headline", "remedy", "facts") if name in found},
+            **more}
+
+
+def entries_of(trace, places):
+    """Entries of what the view found in a trace, by the trace and the two locations as it has them."""
+    return {(trace, frozenset(one["in_trace"] for one in place["accesses"])): place for place in places}
+
+
+def entry_of(entries, row):
+    """The entry of a row among these; nothing if there is none."""
+    return entries.get((row.example, frozenset(map(text, row.texts))), {})
+
+
+def stale_of(lines):
+    """Lines of known places that matched nothing."""
+    return [{"line": line.number, "text": text(line.text)} for line in lines]
+
+
+def document(command, summary, places, **more):
+    """The whole. `summary` has numbers by their names."""
+    installed = version.installed()
+    head = {"form": FORM, "version": VERSION, "command": command, **({"installed": installed} if installed else {})}
+    return {**head, "summary": summary, **more, "places": places}
+
+
+def in_bytes(found):
+    """A document of this form or another as bytes of ASCII."""
+    return (json.dumps(found) + "\n").encode()

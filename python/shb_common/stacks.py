@@ -1,0 +1,284 @@
+"""Call stacks: the file that `shb-std --stacks` writes beside a trace. The head of recorder/converter/stacks.c has its form."""
+
+import array
+import bisect
+import collections
+import functools
+import itertools
+import os
+import re
+import sys
+
+from shb_common.files import open_regular
+from shb_common.locations import line_of, parts_of
+from shb_common.printable import printable
+
+BEGIN = re.compile(rb"shb-stacks 1 ([0-9]{20})\n")
+BEGIN_BYTES = 34
+NUMBER_BYTES = 4    # of an event's stack
+BLOCK = re.compile(rb".*#([0-9]{1,18})(?:\+[0-9]+)?", re.S)  # a variable in a block, as the recorder names it
+QUALIFIERS = re.compile(rb"(?: const| volatile)+$")
+ORDERS = b"relaxed", b"acquire", b"release", b"both"
+USES = b"load", b"store", b"update", b"fence"
+FRAMES = b"frame", b"system-frame"
+OTHER = "doesn't have the stacks of this trace"
+MOST_DEEP = 200  # calls of a stack that are looked at
+MOST_FRAMES = 2_000  # of these calls, of which inlined code has several each
+MOST_LINE = 1 << 20  # bytes of a line
+NUMBER = re.compile(rb"[0-9]{1,18}")
+SUM = re.compile(rb"[0-9a-f]{16}")  # of a line's text
+
+
+class BadStacks(Exception):
+    """The words say what is wrong with a file of stacks."""
+
+
+class Frame(collections.namedtuple("Frame", "function location in_system")):
+    """A function and the place in it. Where the location is empty, the function called code without hooks, which called on."""
+
+
+class AtomicUse(collections.namedtuple("AtomicUse", "event name thread location kind order is_again")):
+    """A use of an atomic before an event: `kind` is load, store, update or, without a name, fence; `order` relaxed, acquire, release or
+    both; `is_again` says that it stands for omitted ones before it too."""
+
+    def gives(self):
+        """Whether what stands before it is ordered before what takes the value."""
+        return self.order in (b"release", b"both")
+
+    def takes(self):
+        return self.order in (b"acquire", b"both")
+
+    def words(self):
+        """What it does, as parts."""
+        does = {b"load": "reads it", b"store": "writes it", b"update": "updates it"}[self.kind]
+        return [does, {b"relaxed": " relaxed", b"acquire": " with acquire", b"release": " with release", b"both": " with acquire and release"}[self.order]]
+
+    def said(self):
+        """The same for programs."""
+        return {"event": self.event, "thread": printable(self.thread), "location": printable(self.location), "kind": self.kind.decode(),
+                "order": self.order.decode()}
+
+
+class Tables:
+    """What names places in a file of stacks; nothing without a path."""
+
+    def __init__(self, path=None):
+        self.functions = {}  # by location those that it lies in, without parameters and arguments of templates
+        self.files = set()  # those of locations: files of source, and modules with code that has no lines
+        self.sources, self.sums = {}, {}  # by the name in a location: the file's path; by location: a sum of its line's text
+        self.locals = {}  # by variable on a stack: events, each with the name of the local that it is from there on
+        if path:
+            with open_regular(path) as file:
+                self.read(file, events_in(file))
+
+    def read(self, file, count):
+        """Takes the lines of an open file with so many events."""
+        for kind, fields in entries_in(file, count):
+            take = getattr(self, f"take_{kind}", None)
+            if take:
+                take(*fields)
+        for names in self.locals.values():
+            names.sort(key=lambda it: it[0])  # of several at one event the last one holds
+
+    def take_frame(self, function, location):
+        if function and line_of(location):
+            self.functions.setdefault(location, set()).add(bare(function))
+        self.files.add(parts_of(location)[0])
+
+    take_system_frame = take_frame
+
+    def take_source(self, name, path):
+        self.sources[name] = path
+
+    def take_line(self, location, sum):
+        self.sums[location] = sum
+
+    def take_local(self, event, variable, name):
+        self.locals.setdefault(variable, []).append((event, name))
+
+    def local_of(self, variable, event):
+        """The local that a variable on a stack is at an event, or the member that one in a block is; or nothing."""
+        names = self.locals.get(variable, ())
+        number = bisect.bisect(names, (event + 1,))
+        return names[number - 1][1] if number else b""
+
+    def lasting(self, variable, event):
+        """What a variable is at all events, whatever trace of the run they are of: a member that one in a block is; or nothing."""
+        return self.local_of(variable, 0)
+
+
+class Stacks(Tables):
+    """The stacks of a trace with so many events, by their numbers, and what is told beside them. Without a path nothing is known of it."""
+
+    def __init__(self, path=None, events=0):
+        super().__init__()
+        self.numbers = ()
+        self.frames, self.calls, self.threads, self.blocks = [None], {}, {}, {}
+        self.uses = []  # of atomics, as they happened
+        self.free_starts, self.free_ends = array.array("Q"), array.array("Q")
+        if path:
+            with open_regular(path) as file:
+                count = events_in(file)
+                self.numbers = numbers_of(file, events)
+                if count < events or len(self.numbers) != events:
+                    raise BadStacks(OTHER)
+                self.read(file, count)
+
+    def take_frame(self, function, location, in_system=False):
+        self.frames.append(Frame(function, location, in_system))
+        super().take_frame(function, location)
+
+    def take_system_frame(self, function, location):
+        self.take_frame(function, location, True)
+
+    def take_stack(self, number, outer, *frames):
+        self.calls[number] = outer, tuple(self.frames[frame] for frame in frames)
+
+    def take_thread(self, name, number):
+        self.threads[name] = number
+
+    def take_block(self, block, number):
+        self.blocks[block] = number
+
+    def take_free(self, first, last):
+        self.free_starts.append(first)
+        self.free_ends.append(last)
+
+    def take_use(self, event, name, thread, location, how):
+        self.uses.append(AtomicUse(event, name, thread, location, *how))
+
+    def stack(self, number):
+        """The frames of a stack, the innermost first."""
+        found = []
+        for _ in range(MOST_DEEP):
+            if number not in self.calls or len(found) > MOST_FRAMES:
+                break
+            number, frames = self.calls[number]
+            found.extend(frames)
+        return tuple(found[:MOST_FRAMES])
+
+    @functools.cached_property
+    def lasting_locals(self):
+        """By variable, lock or atomic on a stack: the local that it is, where it is the same one all the time."""
+        names = {variable: {name for _, name in found} for variable, found in self.locals.items()}
+        return {variable: found.pop() for variable, found in names.items() if len(found) == 1 and b"" not in found}
+
+    def of_event(self, event):
+        return self.stack(self.numbers[event - 1]) if 0 < event <= len(self.numbers) else ()
+
+    def free_of(self, event):
+        """The number of the free that an event is of, or None."""
+        number = bisect.bisect(self.free_starts, event) - 1
+        return number if number >= 0 and event <= self.free_ends[number] else None
+
+    def of_thread(self, name):
+        """Where a thread was created."""
+        return self.stack(self.threads.get(name, 0))
+
+    def of_variable(self, name):
+        """Where the block of a variable was allocated."""
+        found = BLOCK.fullmatch(name)
+        return self.stack(self.blocks.get(int(found[1]), 0)) if found else ()
+
+
+def events_in(file):
+    """The number of events of an open file of stacks; the next read begins after its first line."""
+    begin = BEGIN.fullmatch(file.read(BEGIN_BYTES))
+    if not begin or BEGIN_BYTES + NUMBER_BYTES * int(begin[1]) > os.fstat(file.fileno()).st_size:
+        raise BadStacks(OTHER)
+    return int(begin[1])
+
+
+def entries_in(file, count):
+    """The lines of an open file of stacks of so many events, each as its kind and its fields. Lines of other kinds are skipped."""
+    file.seek(BEGIN_BYTES + NUMBER_BYTES * count)
+    frames = 0
+    for number, line in enumerate(iter(lambda: file.readline(MOST_LINE), b""), 2):
+        kind, _, rest = line.rstrip(b"\n").partition(b" ")
+        try:
+            if not line.endswith(b"\n"):
+                raise ValueError
+            fields = fields_of(kind, rest)
+            if kind == b"stack" and not all(0 < frame <= frames for frame in fields[2:]):
+                raise ValueError
+        except ValueError:
+            raise BadStacks(f"is damaged in line {number}: `{printable(line[:80].rstrip())}`") from None
+        frames += kind in FRAMES
+        if fields is not None:
+            yield kind.decode().replace("-", "_"), fields
+
+
+def fields_of(kind, rest):
+    """The fields of a line, read; None where its kind isn't known."""
+    if kind not in FORMS:
+        return None
+    between, *forms = FORMS[kind]
+    fields = rest.split(between)
+    if len(fields) != len(forms) and (kind != b"stack" or len(fields) < len(forms)):
+        raise ValueError
+    return [read(field) for read, field in itertools.zip_longest(forms, fields, fillvalue=whole)]
+
+
+def whole(text):
+    """A number of the file."""
+    if not NUMBER.fullmatch(text):
+        raise ValueError
+    return int(text)
+
+
+def sum_of(text):
+    """The sum of a line's text."""
+    if not SUM.fullmatch(text):
+        raise ValueError
+    return text
+
+
+def use_of(text):
+    """How an atomic is used, with which order, and whether it is used again."""
+    use, order, *again = text.split(b" ")
+    if order not in ORDERS or use not in USES or again not in ([], [b"again"]):
+        raise ValueError
+    return use, order, bool(again)
+
+
+# What is between the fields of each kind of line (None: blanks), and what reads each. A stack has further numbers, its frames.
+FORMS = {b"frame": (b"\t", bytes, bytes), b"system-frame": (b"\t", bytes, bytes), b"thread": (b"\t", bytes, whole),
+         b"stack": (None, whole, whole), b"block": (None, whole, whole), b"free": (None, whole, whole), b"use": (b"\t", whole, bytes, bytes, bytes, use_of),
+         b"source": (b"\t", bytes, bytes), b"line": (b"\t", bytes, sum_of), b"local": (b"\t", whole, bytes, bytes)}
+
+
+def numbers_of(file, count):
+    """Numbers of 4 bytes, the least byte first."""
+    found = array.array("I")
+    read = file.read(NUMBER_BYTES * count)
+    found.frombytes(read[:len(read) // NUMBER_BYTES * NUMBER_BYTES])
+    if sys.byteorder == "big":
+        found.byteswap()
+    return found
+
+
+@functools.lru_cache(maxsize=1024)
+def bare(function):
+    """A function's name without its parameters, and without arguments of templates."""
+    name = QUALIFIERS.sub(b"", function)
+    if name.endswith(b")") and not name.endswith(b"operator()"):
+        name = name[:opening(name, b"(", b")")]
+    if b"operator" in name or b"->" in name:
+        return name
+    found, depth = bytearray(), 0
+    for byte in name:
+        depth -= byte == ord(">")
+        if not depth:
+            found.append(byte)
+        depth += byte == ord("<")
+    return bytes(found) if not depth else name
+
+
+def opening(name, opens, closes):
+    """Where the parenthesis opens that the name ends with, or its end."""
+    depth = 0
+    for at in range(len(name) - 1, -1, -1):
+        depth += (name[at:at + 1] == closes) - (name[at:at + 1] == opens)
+        if not depth:
+            return at
+    return len(name)

@@ -1,0 +1,48 @@
+"""The variables of the races at each place."""
+
+import collections
+import re
+
+# A member of a block's type, followed by the block if a trace has several of the type.
+IN_BLOCK = re.compile(rb"(.+?) of .+(?::[0-9]+|\+0x[0-9a-f]+)#[0-9]+", re.S)
+MOST_VARIABLES = 1_000  # of a place, that are kept
+
+
+class Found(collections.namedtuple("Found", "events accesses")):
+    """A race of a place with this variable: its events, and their accesses."""
+
+
+def without_end(line):
+    """A line without the LF or CR LF that ends it."""
+    line = line[:-1] if line.endswith(b"\n") else line
+    return line[:-1] if line.endswith(b"\r") else line
+
+
+def atomic_of(first, second):
+    """The atomic that two racing accesses are of, or None: what a thread T writes atomically to X the recorder names `X!T`."""
+    write = first if first.word == b"w" else second
+    base, _, thread = write.name.rpartition(b"!")
+    return base if base and thread == write.thread else None
+
+
+def variable_of(found):
+    """The variable of a race: an atomic is one, whatever its writers' names."""
+    return atomic_of(*found.accesses) or found.accesses[0].name
+
+
+def without_block(name):
+    """The name of a member of a block's type without the block, which differs from run to run; any other name as it is."""
+    found = IN_BLOCK.fullmatch(name)
+    return found[1] if found else name
+
+
+def local_name(variable, events, local_of):
+    """A variable as the program has it: the local of a function, or the member of a block's type, that it is at all these events, as
+    `local_of` returns it for one."""
+    names = {local_of(variable, event) for event in events}
+    return without_block(names.pop()) or variable if len(names) == 1 else variable
+
+
+def name_of(found, local_of):
+    """The variable of a race as the program has it."""
+    return local_name(variable_of(found), found.events, local_of)

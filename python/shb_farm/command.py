@@ -1,0 +1,239 @@
+"""The words of the command, its passes and its statuses."""
+
+import argparse
+import os
+import pathlib
+import shlex
+import shutil
+import signal
+import sys
+import traceback
+
+from shb_common import known
+from shb_common.commands import Parser, number
+from shb_common.faults import Refused
+from shb_common.standard import open_standard_files, tell, words_of, write_texts
+from shb_common.words import counted
+from shb_farm import engines, limits, merging, outcomes, passes, since, tables, traces
+from shb_farm.calls import Calls
+from shb_farm.sources import Sources
+
+ABOUT = """\
+Analyses all traces in a folder and below, and joins what was found: one row per
+two locations that race, whichever comes first, with their variables and the
+number of traces that have them. A place is such a pair in one order. A trace is
+NAME.std, NAME.std.gz or NAME.std.xz; links within the folder are followed. Each
+trace ends as a file in OUT/outcomes, put in place whole and last. To resume, or
+when traces or the program have changed, run the same command again: it makes
+what isn't there yet."""
+NOTES = """\
+Files in OUT:
+  places.txt      the places as text, which is also printed; then the traces
+                  without a report
+  places.tsv      the places as a table, with an example and its report
+  places.json     the places with all that is known of them, for programs
+  places.sarif    the places for code review tools, in SARIF 2.1.0
+  facts.tsv       what was found, one number per line (see Exit status)
+  unknown.places  the places that aren't known, as a file of known places
+  traces.tsv      how each trace ended: a report, refused, out of memory, time
+                  or size, or missing; with its seconds and MiB
+  reports/        for each unknown place the full report of the smallest trace
+                  that has it; of a trace that is too long for one that of
+                  'shb places --list', which has no schedules
+
+Known places:
+  On a line two locations, or functions as FILE:FUNCTION(), in either order,
+  and the variable, with tabs between; * stands for any text, and \\* for the
+  sign itself. A line with two fields applies to every variable. Empty lines,
+  and lines that begin with #, are skipped; \\# begins a field with this sign.
+  Functions are known if the recorder's NAME.stacks is beside NAME.std. Lines
+  that match nothing are reported, unless a trace has no list of places.
+
+Exit status:
+  The first that applies:
+  3  wrong command line
+  4  no trace, or a folder, a file or an engine failed; the reason is on
+     standard error
+  2  a trace has no outcome: it is missing
+  1  there is a place that isn't known; with --fail-on-stale also: a line of
+     the known places matched nothing
+  5  a trace was refused, or memory, time or size didn't suffice
+  6  a file of call stacks is damaged
+  0  none of these
+
+  Several may be true. A script asks for one by its line in OUT/facts.tsv, a
+  name, a tab and a number: traces, reports, refused, missing, damaged (call
+  stacks), places, unknown, known, stale (lines of known places), unreported
+  (places whose full report is missing), and with --since new, gone, same. For
+  example
+      awk '$1 == "refused" && $2 > 0 { bad = 1 } END { exit bad }' out/facts.tsv
+
+Environment:
+  SHB       the program to run, if not the one that came with this command
+  SHB_VIEW  the same for shb-view, which describes the places
+"""
+
+
+HOME = pathlib.Path(__file__).resolve().parents[1]
+ANALYSERS = "../bin/shb", "../../bin/shb"       # in a checkout, and installed
+
+
+def arguments(words):
+    parser = Parser("shb-farm", ABOUT, NOTES)
+    parser.add_argument("--known", metavar="FILE", help="places to skip")
+    parser.add_argument("--fail-on-stale", action="store_true", help="end with status 1 if a line of --known matched nothing")
+    parser.add_argument("--since", metavar="OLD", help="report which places are new, gone and the same since an earlier result: the folder "
+                        "OUT of a farm, or a places.json")
+    parser.add_argument("--links", action="store_true", help="follow links that lead out of TRACES")
+    parser.add_argument("--source", metavar="DIR", help="the repository: places.sarif names its files if it finds them")
+    parser.add_argument("--engine", choices=sorted(engines.ENGINES), default="xargs",
+                        help="xargs: this machine (the default); slurm: a job array on a cluster whose nodes see the same folders")
+    parser.add_argument("--jobs", metavar="N", type=number(1), default=len(os.sched_getaffinity(0)),
+                        help="with xargs: traces at once (as many as processors)")
+    parser.add_argument("--memory", metavar="MIB,..", type=numbers, help="memory of each pass; a trace that needs more goes on to "
+                        "the next (256,1024,4096, then with xargs what the machine has, with slurm 16384)")
+    parser.add_argument("--seconds", metavar="N", type=number(1), default=3600, help="processor time of a trace (%(default)s)")
+    parser.add_argument("--size", metavar="MIB", type=number(1), default=1024,
+                        help="most of a report, and of the text of a packed trace (%(default)s)")
+    parser.add_argument("--sbatch", metavar="WORDS", type=shell_words, default=[], help="with slurm: further words for sbatch")
+    parser.add_argument("traces", metavar="TRACES", help="the folder of the traces")
+    parser.add_argument("out", metavar="OUT", help="the folder for outcomes and tables")
+    return parser.parsed(joined(words))
+
+
+def joined(words):
+    """The words of the command line, `--sbatch` with its value as one, since this begins with a dash like an option."""
+    at = words.index("--sbatch") if "--sbatch" in words[:-1] else len(words)
+    return [*words[:at], *("=".join(words[at:at + 2]) for _ in words[at:at + 1]), *words[at + 2:]]
+
+
+def shell_words(text):
+    """Words as a shell parts them."""
+    try:
+        return shlex.split(text)
+    except ValueError as fault:
+        raise argparse.ArgumentTypeError(f"{fault} in {text}") from None
+
+
+def numbers(text):
+    return sorted(map(number(1), text.split(",")))
+
+
+def memory_of(engine):
+    """The MiB of each pass, where none were asked for."""
+    if engine == "slurm":
+        return [256, 1024, 4096, 16384]
+    most = limits.memory_of_this_machine()
+    return [mib for mib in (256, 1024, 4096) if mib < most] + [most]
+
+
+def command_of(variable, *places):
+    """A command by the variable that names it, else the first that is there of these paths beside this package; or None."""
+    if os.environ.get(variable):
+        found = shutil.which(os.environ[variable])
+        if not found:
+            raise Refused(f"{os.environ[variable]}: no such program")
+        return os.path.realpath(found)
+    found = [HOME / place for place in places if (HOME / place).is_file()]
+    return os.path.realpath(found[0]) if found else None
+
+
+def pass_of(options, room):
+    """What all passes of this farm share."""
+    shb = command_of("SHB", *ANALYSERS)
+    if not shb:
+        there = os.path.normpath(HOME / ANALYSERS[0])
+        raise Refused(f"there is no analyser at {there}; in a checkout `make build` makes it, and SHB=PROGRAM names another")
+    with open(shb, "rb") as program:
+        checksum = outcomes.checksum_of_file(program)
+    traces, out = os.path.realpath(options.traces), os.path.realpath(options.out)
+    view = command_of("SHB_VIEW", "shb-view")
+    return passes.Pass(shb, checksum, traces, out, str(room), view or "", options.links, seconds=options.seconds, size=options.size)
+
+
+def run_passes(options, work, names, outside=()):
+    """Runs the traces of these names, and returns how each ended. A trace begins with the first pass that has room for its size,
+    and goes on to the next where it ran out of memory or got no outcome. `outside` are links that aren't followed."""
+    last = work._replace(memory=options.memory[-1])
+    endings = {name: merging.ending_of(last, name, outside) for name in names}
+    for memory in options.memory:
+        now = work._replace(memory=memory, last=memory == last.memory)
+        waiting = waiting_for(now, endings, memory == last.memory)
+        if waiting:
+            engines.run_pass(now._replace(names=waiting), options)
+            endings.update((name, merging.ending_of(last, name)) for name in waiting)
+    return endings
+
+
+def waiting_for(work, endings, is_last):
+    """The traces that this pass has to run, the longest first."""
+    found = [name for name, ending in endings.items() if ending.kind == "missing" and ending.size is not None
+             and (is_last or limits.memory_for(ending.size) <= work.memory)]
+    found = [name for name in found if merging.ending_of(work, name).kind == "missing"]     # not those that it didn't suffice for
+    return sorted(found, key=lambda name: -endings[name].size)
+
+
+def with_reports(options, work, rows):
+    """The rows of places, those that aren't known with the full report of their example."""
+    examples = sorted({row.example for row in rows if not row.is_known})
+    full = work._replace(form=passes.FULL)
+    endings = run_passes(options, full, examples)
+    return [row if row.is_known else row._replace(report=report_of(full, row.example, endings[row.example])) for row in rows]
+
+
+def report_of(work, name, ending):
+    """Where the full report of a trace is, below the folder of the outcomes, or why there is none."""
+    if ending.kind != "report":
+        return "missing" if ending.kind == "missing" else tables.why(ending)
+    return os.path.relpath(passes.kept_path(work.out, name), work.out)
+
+
+def run(options):
+    """Runs the farm, writes its tables, and returns the status."""
+    if traces.is_below(os.path.realpath(options.traces), os.path.realpath(options.out)):
+        raise Refused(f"{options.out}: TRACES is this folder or below it; name another OUT, which may be below TRACES")
+    if options.source and not os.path.isdir(options.source):
+        raise Refused(f"{options.source}: no such folder of sources")
+    known_places, earlier = known.given(options.known, engines.say), since.read(options.since) if options.since else None
+    options.memory = options.memory or memory_of(options.engine)
+    with passes.room_in(os.path.realpath(options.out)) as room:
+        work = pass_of(options, room)
+        names, outside = traces.names_in(work.traces, work.out, work.links)
+        if not names:
+            raise Refused(f"{options.traces}: there is no trace in this folder and below (NAME.std, NAME.std.gz or NAME.std.xz)")
+        endings, calls = run_passes(options, work, names, outside), Calls(work.traces, work.links)
+        rows, files = merging.rows_of(endings, known_places, calls)
+        rows = with_reports(options, work, rows)
+        found = found_of(options, rows, endings, known_places, len(calls.damaged), earlier)
+        for words in known.words_of_stale(found.stale, files):
+            engines.say(f"{options.known}, {words}")
+        unseen = merging.unseen(endings)
+        if options.known and unseen:
+            engines.say(f"{options.known}: which lines are stale isn't known: {counted(unseen, 'trace')} without a list of places")
+        write_texts([tables.write(pathlib.Path(work.out), room, found, Sources(options.source), calls)], sys.stdout)
+        return found.status
+
+
+def found_of(options, rows, endings, known_places, damaged, earlier):
+    """All that was found. If the places of a trace aren't known, it isn't known either which lines of the known places are stale."""
+    compared = None if earlier is None else since.compared(options.since, earlier, rows)
+    stale = [] if merging.unseen(endings) else known_places.stale()
+    facts = merging.facts_of(rows, endings, len(stale), damaged, compared)
+    return tables.Found(rows, endings, facts, stale, compared, merging.status_of(facts, options.fail_on_stale))
+
+
+def main(words):
+    open_standard_files()
+    sys.stderr.reconfigure(errors="backslashreplace")
+    for name in (signal.SIGTERM, signal.SIGHUP):
+        signal.signal(name, lambda number, frame: sys.exit(128 + number))
+    try:
+        return run(arguments(words))
+    except (Refused, OSError) as fault:
+        said = words_of(fault)
+    except KeyboardInterrupt:
+        return 130
+    except Exception:
+        said = traceback.format_exc().rstrip()      # 1, with which Python would end, says that there is an unknown place
+    tell(f"shb-farm: {said}")
+    return 4

@@ -1,0 +1,116 @@
+"""A pass: some traces to be run within the same limits. Its file is all that a job is told."""
+
+import collections
+import contextlib
+import fcntl
+import hashlib
+import json
+import os
+import pathlib
+import re
+import shutil
+import tempfile
+import time
+
+LIST, FULL = "list", "full"     # the places of a trace; its report with schedules
+FOLDER_OF = {LIST: "outcomes", FULL: "reports"}
+LOCK, DONE = "lock", "done"
+TEMPORARY_SECONDS = 86_400      # a day: what no lock tells about is deleted then
+MOST_OF_NAME = 60               # characters of a trace's name that are in the name of its outcome
+OTHER = re.compile(r"[^A-Za-z0-9._-]+")
+
+
+class Pass(collections.namedtuple("Pass", "shb program traces out room view links form memory seconds size last names",
+                                  defaults=("", False, LIST, 0, 0, 0, True, []))):
+    """What a pass needs: the program and its checksum; the folders of the traces, of the outcomes, and for files of this run that aren't whole
+    yet (`room`); the command that says what is known of places, or nothing (`view`); whether links may lead out of the folder of the traces;
+    the MiB of address space (`memory`), the seconds of processor time, and the MiB of a report and of the text of a packed trace (`size`);
+    whether no pass with more memory comes after it (`last`); and the traces to run, below their folder (`names`)."""
+
+
+def write(work):
+    """Writes the file of a pass, and returns its path."""
+    number, path = tempfile.mkstemp(prefix="pass-", dir=work.room)
+    with open(number, "w", encoding="ascii") as file:
+        json.dump(work._asdict(), file)
+    return path
+
+
+def read(path):
+    with open(path, encoding="ascii") as file:
+        return Pass(**json.load(file))
+
+
+@contextlib.contextmanager
+def room_in(out):
+    """A folder for files that aren't whole yet. It is locked as long as the run lasts, and goes with it; what a killed run left goes
+    first."""
+    tmp = pathlib.Path(out) / "tmp"
+    tmp.mkdir(parents=True, exist_ok=True)
+    clean(tmp)
+    room = pathlib.Path(tempfile.mkdtemp(prefix="run-", dir=tmp))
+    with open(room / LOCK, "wb") as lock:
+        fcntl.flock(lock, fcntl.LOCK_EX)
+        try:
+            yield room
+        finally:
+            shutil.rmtree(room, ignore_errors=True)
+
+
+def clean(tmp):
+    """Deletes what killed runs have left. Other farms may work in the same folder: what is locked stays, and what they delete
+    meanwhile is passed over."""
+    for path in tmp.iterdir():
+        with contextlib.suppress(OSError):
+            if is_left(path):
+                shutil.rmtree(path) if path.is_dir() else path.unlink()
+
+
+def is_left(path):
+    """Whether a file or folder is of no run that still works."""
+    try:
+        with open(path / LOCK, "rb") as lock:
+            fcntl.flock(lock, fcntl.LOCK_EX | fcntl.LOCK_NB)
+            return True
+    except BlockingIOError:
+        return False
+    except OSError:
+        return path.lstat().st_mtime < time.time() - TEMPORARY_SECONDS
+
+
+def key_of(name):
+    """What the files of a trace are named by: the end of its name as far as it is plain, and a sum of the whole."""
+    plain = OTHER.sub("_", name.rpartition("/")[2])[:MOST_OF_NAME]
+    return f"{plain}-{hashlib.blake2b(os.fsencode(name), digest_size=10).hexdigest()}"
+
+
+def outcome_path(out, form, name):
+    return pathlib.Path(out) / FOLDER_OF[form] / f"{key_of(name)}.outcome"
+
+
+def found_path(out, name):
+    """What the view says of the places of a trace."""
+    return pathlib.Path(out) / FOLDER_OF[FULL] / f"{key_of(name)}.json"
+
+
+def kept_path(out, name):
+    """The report that was kept of a trace in a pass for full ones; of a trace that is too long for one it has no schedules."""
+    return pathlib.Path(out) / FOLDER_OF[FULL] / f"{key_of(name)}.report"
+
+
+def stands(outcome, work, name, stamp):
+    """Whether an outcome holds for a trace with this stamp under the limits of this pass."""
+    return outcome is not None and outcome.stamp == stamp and is_final(outcome, work, name)
+
+
+def is_final(outcome, work, name):
+    """The same, where the trace is known to be the one that the outcome is of."""
+    if outcome.program != work.program or outcome.kind == "failed":
+        return False
+    if outcome.kind in ("memory", "time", "size"):
+        limit = {"memory": work.memory, "time": work.seconds, "size": work.size}[outcome.kind]
+        return int(outcome.words) >= limit
+    if work.form == LIST or outcome.kind != "report":
+        return True
+    path = kept_path(work.out, name)
+    return path.exists() and os.stat(path).st_size == int(outcome.words)

@@ -1,0 +1,136 @@
+"""The tables of a farm: as tab-separated values, as text, for programs and for code review tools."""
+
+import collections
+import os
+
+from shb_common import known, result, sarif
+from shb_common.files import put
+from shb_common.places import unknown_places
+from shb_common.printable import printable
+from shb_farm import calls
+
+WIDEST = 60         # columns of the text's tables; a longer field moves what stands after it
+MOST_NAMED = 3      # variables in a table
+
+
+class Found(collections.namedtuple("Found", "rows endings facts stale since status")):
+    """What a farm has found: a row for each two locations, how each trace ended, the facts as numbers, the lines of the known places
+    that matched nothing, what is new since an earlier farm or None, and the status."""
+
+
+def field(text):
+    """A text as bytes that are one field of a table."""
+    return known.written(os.fsencode(text))
+
+
+def variables_of(row):
+    """The variables of a row as one field: the unknown ones first."""
+    names = [name for name, _ in sorted(row.variables, key=lambda one: one[1])]
+    more = [b"%d more" % (len(names) - MOST_NAMED)] if len(names) > MOST_NAMED else []
+    return b", ".join([*map(known.written, names[:MOST_NAMED]), *more, *[b".."] * row.has_more])
+
+
+def places_table(found):
+    """A line for each two locations: how many traces have them, whether they are known, one of the traces, its report, in how many
+    orders they race, their variables, and whether that is new."""
+    lines = [b"traces\tstate\tfirst\tsecond\texample\treport\tplaces\tvariables\tsince\n"]
+    for row in found.rows:
+        fields = [b"%d" % row.traces, field(row.state()), *row.names, field(row.example), field(row.report), b"%d" % row.places,
+                  variables_of(row), field(found.since.state_of(row) if found.since else "")]
+        lines.append(b"\t".join(fields) + b"\n")
+    return b"".join(lines)
+
+
+def traces_table(endings):
+    """A line for each trace: how it ended, how many places it has, the words of its outcome, and what it cost."""
+    lines = [b"trace\toutcome\tplaces\twords\tseconds\tMiB\n"]
+    for name, ending in endings.items():
+        places = b"%d" % len(ending.places) if ending.kind == "report" else b""
+        cost = [b"%.2f" % ending.cost.seconds, b"%d" % (ending.cost.kib // 1024)] if ending.cost else [b"", b""]
+        lines.append(b"\t".join([field(name), field(ending.kind), places, field(ending.words), *cost]) + b"\n")
+    return b"".join(lines)
+
+
+def why(ending):
+    """Why a trace has no report, for a reader."""
+    return {"memory": f"out of memory in {ending.words} MiB", "time": f"not done in {ending.words} s of processor time",
+            "size": f"its report, or the text of a packed trace, is longer than {ending.words} MiB"}.get(ending.kind, ending.words)
+
+
+def note_of(ending):
+    """What a reader must know of a trace that has a report; nothing mostly."""
+    if ending.kind != "report":
+        return ""
+    return "it has no events" if ending.words.startswith("events 0 ") else ending.words.partition("; ")[2]
+
+
+def aligned(lines):
+    """Lines of fields, each column as wide as its longest field up to WIDEST; the last one is left as it is."""
+    lines = [[printable(part) for part in line] for line in lines]
+    widths = [min(max(map(len, column)), WIDEST) for column in zip(*lines)]
+    return ["  ".join(part.ljust(width) for part, width in zip(line, widths)).rstrip() for line in lines]
+
+
+def text(found):
+    """What the farm prints: how much there is, the places, the traces without a report, and those of which something is to know."""
+    rows, endings, facts = found.rows, found.endings, found.facts
+    lines = [f"traces {facts['traces']} reports {facts['reports']} refused {facts['refused']} missing {facts['missing']}",
+             f"places {facts['places']} unknown {facts['unknown']} known {facts['known']}"]
+    lines += [f"since {found.since.name}: new {facts['new']} gone {facts['gone']} same {facts['same']}"] if found.since else []
+    if rows:
+        head = [b"traces", b"state", b"first", b"second", b"variables", b"example", *([b"since"] if found.since else [])]
+        table = [[b"%d" % row.traces, field(row.state()), *row.names, variables_of(row), field(row.example),
+                  *([field(found.since.state_of(row))] if found.since else [])] for row in rows]
+        lines += ["", *aligned([head, *table])]
+    if found.since and found.since.gone:
+        lines += ["", *aligned([[b"gone", *map(os.fsencode, gone)] for gone in found.since.gone])]
+    lost = [[b"missing" if ending.kind == "missing" else b"refused", field(name), field(why(ending))]
+            for name, ending in endings.items() if ending.kind != "report"]
+    if lost:
+        lines += ["", *aligned(lost)]
+    noted = [[b"report", field(name), field(note_of(ending))] for name, ending in endings.items() if note_of(ending)]
+    if noted:
+        lines += ["", *aligned(noted)]
+    return "".join(line + "\n" for line in lines)
+
+
+def document(found, entries):
+    """What programs read."""
+    traces = [{"trace": result.text(os.fsencode(name)), "outcome": ending.kind, "words": ending.words,
+               **({"seconds": ending.cost.seconds, "MiB": ending.cost.kib // 1024} if ending.cost else {})}
+              for name, ending in found.endings.items()]
+    places = [result.entry(row, result.entry_of(entries, row), traces=row.traces, example=result.text(os.fsencode(row.example)),
+                           **({"since": found.since.state_of(row)} if found.since else {})) for row in found.rows]
+    return result.document("shb-farm", {**found.facts, "status": found.status}, places, stale=result.stale_of(found.stale), traces=traces)
+
+
+def log(found, sources, entries, accesses):
+    """The log for code review tools. `accesses` has those of a race at each place, where their stacks are known."""
+    endings, alerts = found.endings, []
+    for row in found.rows:
+        facts = " ".join(result.entry_of(entries, row).get("facts", ()))
+        have = "1 of {} traces has it" if row.traces == 1 else f"{row.traces} of {{}} traces have it"
+        seen = f"{have.format(len(endings))}, for example {printable(field(row.example))}"
+        alerts.append(sarif.Alert(row, facts, seen, os.fsencode(row.example), accesses.get(row.key, ()), {"traces": row.traces}))
+    return sarif.log(alerts, sources, [notification_of(name, ending) for name, ending in endings.items() if ending.kind != "report" or note_of(ending)],
+                     found.status != 2, found.status)
+
+
+LEVELS = {"missing": "error", "report": "note"}
+
+
+def notification_of(name, ending):
+    """What is said of a trace that has no report, or of whose report something is to know."""
+    return LEVELS.get(ending.kind, "warning"), f"{printable(field(name))}: {printable(field(note_of(ending) or why(ending)))}"
+
+
+def write(out, room, found, sources, stacks):
+    """Writes all tables, each whole, and returns the text. `sources` has the files that locations name, `stacks` the call stacks."""
+    said, entries = text(found), calls.entries_of(found.rows, out)
+    facts = "".join(f"{name}\t{count}\n" for name, count in found.facts.items()).encode()
+    for name, content in (("places.tsv", places_table(found)), ("traces.tsv", traces_table(found.endings)), ("facts.tsv", facts),
+                          ("unknown.places", unknown_places(found.rows)), ("places.txt", said.encode("utf-8", "surrogateescape")),
+                          ("places.json", result.in_bytes(document(found, entries))),
+                          ("places.sarif", log(found, sources, entries, stacks.accesses_of(found.rows, out)))):
+        put(out / name, content, room)
+    return said

@@ -1,0 +1,156 @@
+"""Locks: volatile accesses, reader locks, waits, and locks whose acquire or release wasn't logged."""
+
+import collections
+
+from shb_fix.events import Event, OWN
+
+VOLATILE, READER = OWN.encode() + b"volatile.", OWN.encode() + b"reader."
+
+# Forms that are translated, of one event and of several.
+ACCESS, READ_LOCK, WRITE_LOCK, WAIT, NOTIFY = (("volatile access", "volatile accesses"), ("reader lock",), ("writer lock",), ("wait",), ("notification",))
+
+
+class Uses:
+    """What has to be known of a whole trace: for each volatile write the threads that read the variable before its thread writes it again,
+    since what a thread wrote earlier comes with its newest write; and for each reader-writer lock its readers, in the order in which
+    they come."""
+
+    def __init__(self):
+        self.takers, self.readers = collections.defaultdict(list), collections.defaultdict(dict)
+        self.newest, self.last_reads = collections.defaultdict(dict), {}    # by variable: the line of each thread's newest write, the oldest first
+
+    def note(self, event):
+        if event.word == b"vw":
+            self.newest[event.name].pop(event.thread, None)
+            self.newest[event.name][event.thread] = event.line
+        elif event.word == b"vr":
+            self.note_read(event)
+        elif event.word == b"rdlock":
+            self.readers[event.name][event.thread] = None
+
+    def note_read(self, event):
+        """A read takes each other thread's newest write that its own thread hasn't taken before."""
+        before = self.last_reads.get((event.name, event.thread), 0)
+        self.last_reads[event.name, event.thread] = event.line
+        for writer, line in reversed(self.newest[event.name].items()):
+            if line < before:
+                break
+            if writer != event.thread:
+                self.takers[line].append(event.thread)
+
+
+def with_volatiles(events, uses, repairs):
+    """What a thread did before a volatile write comes before what another one does after a later read of the variable, and nothing
+    else is ordered: a write takes and releases a lock of its own for each thread that takes it, which does so at its next read."""
+    given, writes = collections.defaultdict(list), 0
+    for event in events:
+        if event.word == b"vr":
+            locks = given.pop((event.name, event.thread), [])
+        elif event.word == b"vw":
+            readers = sorted(uses.takers.get(event.line, ()))
+            locks = [b"%s%s%d.%s" % (event.name, VOLATILE, writes, reader) for reader in readers]
+            writes += 1
+            for reader, lock in zip(readers, locks):
+                given[event.name, reader].append(lock)
+        else:
+            yield event
+            continue
+        repairs.translate(ACCESS)
+        for lock in locks:
+            yield event.like(b"acq", lock)
+            yield event.like(b"rel", lock)
+
+
+def with_waits(events, repairs):
+    """A wait releases its lock, and has it again before the next event of its thread. A notification orders nothing by
+    itself."""
+    waiting = {}
+    for event in events:
+        if event.thread in waiting:
+            yield waiting.pop(event.thread)
+        if event.word == b"wait":
+            repairs.translate(WAIT)
+            waiting[event.thread] = event.like(b"acq", event.name)
+            yield event.like(b"rel", event.name)
+        elif event.word in (b"notify", b"notifyall"):
+            repairs.translate(NOTIFY)
+        else:
+            yield event
+
+
+def with_reader_locks(events, uses, repairs):
+    """Each reader of a reader-writer lock has a lock of its own, and a writer takes the locks of all readers too."""
+    reading = collections.Counter()
+    for event in events:
+        held = (event.thread, event.name)
+        if event.word == b"rdlock":
+            repairs.translate(READ_LOCK)
+            reading[held] += 1
+            yield event.like(b"acq", event.name + READER + event.thread)
+        elif event.word == b"rdunlock" or event.word == b"rel" and reading[held]:
+            reading[held] -= 1
+            yield event.like(b"rel", event.name + READER + event.thread)
+        elif event.word in (b"wrlock", b"acq", b"wrunlock", b"rel"):
+            takes = event.word in (b"wrlock", b"acq")
+            if event.word == b"wrlock":
+                repairs.translate(WRITE_LOCK)
+            each = [event.name] + [event.name + READER + reader for reader in uses.readers.get(event.name, ())]
+            yield from (event.like(b"acq" if takes else b"rel", name) for name in (each if takes else each[::-1]))
+        else:
+            yield event
+
+
+class Sections:
+    """Which locks are held. `begun` has the acquires that have to come before the first line."""
+
+    def __init__(self, forked, repairs):
+        self.forked, self.repairs = forked, repairs
+        self.holder, self.depth, self.known = {}, {}, set()
+        self.begun = []
+
+    def released(self, lock, location):
+        """The releases that weren't logged."""
+        thread, count = self.holder.pop(lock), self.depth.pop(lock)
+        return [Event(0, thread, b"rel", lock, location)] * count
+
+    def allows_release(self, event):
+        """Whether a release by a thread that doesn't hold the lock stays: the log may have begun after its acquire."""
+        if event.name in self.known or event.thread in self.forked:
+            self.repairs.note(event.line, "releases a lock that it doesn't hold", "the thread doesn't hold this lock: dropped")
+            return False
+        self.repairs.note(event.line, "releases a lock that was held when the log began", "the lock was held when the log began: its holder takes it before the first line", True)
+        self.begun.append(Event(0, event.thread, b"acq", event.name, event.location))
+        self.holder[event.name], self.depth[event.name] = event.thread, 1
+        return True
+
+    def missing(self, event):
+        """The releases that have to come before an event, since they weren't logged."""
+        if event.word == b"join":
+            held = [lock for lock, holder in self.holder.items() if holder == event.name]
+            for _ in held:
+                self.repairs.note(event.line, "joins a thread that holds a lock", "the thread holds a lock, and its release wasn't logged: it is released right before", True)
+            return [it for lock in held for it in self.released(lock, event.location)]
+        if event.word == b"acq" and self.holder.get(event.name) not in (None, event.thread):
+            self.repairs.note(event.line, "acquires a lock that another thread holds", "another thread holds this lock, and its release wasn't logged: it is released right before", True)
+            return self.released(event.name, event.location)
+        return []
+
+    def note(self, event):
+        """Notes an acquire or a release."""
+        lock = event.name
+        self.known.add(lock)
+        self.holder[lock] = event.thread
+        self.depth[lock] = self.depth.get(lock, 0) + (1 if event.word == b"acq" else -1)
+        if not self.depth[lock]:
+            del self.holder[lock], self.depth[lock]
+
+    def whole(self, events):
+        """A lock that is given up before anybody took it was held when the log began: its holder takes it first. One that is taken
+        while another thread has it, or whose holder is joined, was given up before; one that is given up by who hasn't it isn't."""
+        for event in events:
+            yield from self.missing(event)
+            if event.word == b"rel" and self.holder.get(event.name) != event.thread and not self.allows_release(event):
+                continue
+            if event.word in (b"acq", b"rel"):
+                self.note(event)
+            yield event

@@ -1,0 +1,122 @@
+"""Runs of the program at once, each by a process of its own, which has no other child."""
+
+import collections
+import contextlib
+import io
+import itertools
+import os
+import pickle
+import select
+import shutil
+import signal
+import stat
+import tempfile
+import time
+
+from shb_common.faults import Refused
+from shb_common.standard import tell
+from shb_common.stops import STOPS
+from shb_record.running import WATCHED, Run, adopt_orphans, children
+
+
+def jobs_of(options):
+    """How many runs are made at once."""
+    most = options.jobs or (1 if is_input_given() else len(os.sched_getaffinity(0)))
+    return 1 if options.live or options.replay else min(most, options.runs)
+
+
+def is_input_given():
+    """Does standard input have something, or may it get that? A terminal counts as none."""
+    waiting = select.poll()
+    waiting.register(0, select.POLLIN)
+    return not stat.S_ISCHR(os.fstat(0).st_mode) and waiting.poll(0) != [(0, select.POLLHUP)]
+
+
+class Worker:
+    """The process that makes a run. What it and the program write is in files until it is this run's turn."""
+
+    def __init__(self, options, number, folder):
+        self.number, self.answer, out = number, tempfile.TemporaryFile(dir=folder), tempfile.TemporaryFile(dir=folder)
+        self.written = {1: out, 2: out if os.path.sameopenfile(1, 2) else tempfile.TemporaryFile(dir=folder)}
+        before = signal.pthread_sigmask(signal.SIG_BLOCK, WATCHED)
+        self.process = os.fork()
+        if not self.process:
+            self.work(options, folder, before)
+        signal.pthread_sigmask(signal.SIG_SETMASK, before)
+
+    def work(self, options, folder, blocked):
+        """Makes the run, writes what became of it and what is to be said, and ends the process."""
+        try:
+            for descriptor, file in self.written.items():
+                os.dup2(file.fileno(), descriptor)
+            adopt_orphans()
+            with contextlib.redirect_stderr(io.StringIO()) as said:
+                try:
+                    answer = Run(options, self.number, folder, blocked=blocked).outcome()
+                except (Refused, OSError) as fault:
+                    answer = fault
+            pickle.dump((answer, said.getvalue()), self.answer)
+            self.answer.flush()
+        finally:
+            os._exit(0)
+
+    def outcome(self):
+        """What became of the run, which has ended. What was written is passed on."""
+        for file in (self.answer, *self.written.values()):
+            file.seek(0)
+        for descriptor, file in self.written.items():
+            with contextlib.suppress(OSError), open(descriptor, "wb", closefd=False) as to:
+                shutil.copyfileobj(file, to)
+        try:
+            answer, said = pickle.load(self.answer)
+        except EOFError:
+            raise Refused(f"run {self.number}: the process that recorded it was killed") from None
+        for line in said.splitlines():
+            tell(line)
+        if isinstance(answer, Exception):
+            raise answer
+        return answer
+
+
+def outcomes(options, folder, look=None):
+    """What became of each run, in their order. Those that are not asked for are ended, and leave nothing."""
+    workers, numbers = collections.deque(), iter(range(1, options.runs + 1))
+    try:
+        for number in numbers if options.jobs == 1 else ():
+            yield Run(options, number, folder, look).outcome()
+        while True:
+            for number in itertools.islice(numbers, options.jobs - len(workers)):
+                workers.append(Worker(options, number, folder))
+            if not workers:
+                return
+            stop, stopped = wait_for_first(workers)
+            outcome = workers.popleft().outcome()
+            yield outcome if outcome.stop else outcome._replace(stop=stop, stopped=stopped)
+    finally:
+        end(workers)
+        for path in (path for worker in workers for path in folder.glob(f"run{worker.number}.*")):
+            path.unlink()
+
+
+def wait_for_first(workers):
+    """Waits until the first of them has ended, and passes signals on to all: a terminal has told all by itself. Returns the last signal
+    and when the first one came, or None twice."""
+    before, stop, stopped = signal.pthread_sigmask(signal.SIG_BLOCK, WATCHED), None, None
+    try:
+        while os.waitpid(workers[0].process, os.WNOHANG) == (0, 0):
+            took = signal.sigwaitinfo(WATCHED)
+            if took.si_signo in STOPS:
+                stop, stopped = took.si_signo, stopped or time.monotonic()
+                for worker in workers if took.si_code <= 0 else ():
+                    os.kill(worker.process, stop)
+    finally:
+        signal.pthread_sigmask(signal.SIG_SETMASK, before)
+    return stop, stopped
+
+
+def end(workers):
+    """Ends them with all that they started: as soon as a process has ended its children are ours."""
+    others = set(children()) - {worker.process for worker in workers}
+    for child in iter(lambda: next(iter(set(children()) - others), None), None):
+        os.kill(child, signal.SIGKILL)
+        os.waitpid(child, 0)

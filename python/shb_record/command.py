@@ -1,0 +1,293 @@
+"""The words of the command, its runs and its statuses."""
+
+import argparse
+import contextlib
+import errno
+import itertools
+import os
+import pathlib
+import shlex
+import shutil
+import signal
+
+from shb_common import known
+from shb_common.commands import Parser, number
+from shb_common.faults import Refused
+from shb_common.limits import MOST_EVENTS
+from shb_common.printable import printable
+from shb_common.standard import open_standard_files, words_of
+from shb_common.stops import Stops
+from shb_common.words import counted
+from shb_record.at_once import jobs_of, outcomes
+from shb_record.looking import Look
+from shb_record.parts import LIBRARY, check_parts, say
+from shb_record.places import count
+from shb_record.results import Results
+from shb_record.running import REPLAYED, CannotRun, adopt_orphans
+from shb_record.tables import tables_of
+
+MOST_PASSED, WAIT = 8, 10  # known races that are named; seconds
+RACES, STALE, CUT, FAILED, CANNOT_RUN, NOT_THERE = 66, 67, 124, 125, 126, 127
+# Numbers of the environment that the recorder reads, each with the least.
+SETTINGS = {"SHB_SEED": 0, "SHB_SLICE": 1, "SHB_CELLS": 0, "SHB_RECORDS": 1, "SHB_STALL": 1, "SHB_SEGMENT": 1}
+USAGE = "shb-record [OPTION].. [--] PROGRAM [ARGUMENT].."
+ABOUT = f"""\
+Runs and records a program, and explains its data races.
+
+The program has to be compiled with `-fsanitize=thread -g`. Every process that it starts is
+recorded too, and the races of the run are explained on standard error. Programs built by
+gcc need nothing else. clang links a library of its own: link with
+-fno-sanitize-link-runtime -L{LIBRARY} -ltsan.
+
+A place is a pair of locations that race, that of the first access and that of the second,
+each of its own program's source file."""
+NOTES = """\
+The environment's SHB names another analyser. SHB_SEED, SHB_SLICE, SHB_CELLS, SHB_RECORDS and SHB_STALL are the
+recorder's (docs/RECORDER.md).
+
+The first SIGINT or SIGTERM stops the program, which it is passed on to unless the terminal did so, and shows
+what was recorded. A second one ends shb-record at once, and keeps the records that weren't shown.
+
+Exit status: 125 if a check failed, whatever else was found; 66 if there is a race of a variable that isn't known at
+its place, whatever the program's own status was; 67 with --fail-on-stale if there is none, and a line of known places
+matched nothing; 125 if nothing was recorded or something failed, with the reason; 124 if the recording is incomplete and
+there is no such race (if a signal killed the program, its own status, 128 + N, is returned instead); 126 or 127 if
+the program can't be run or isn't there; else the program's own. The last lines print the program's own
+status and the path of the page."""
+
+
+def parser_of_words():
+    """The words that the command takes. What stands after the program's name belongs to it."""
+    parser = Parser("shb-record", ABOUT, NOTES, FAILED, usage=USAGE)
+    parser.add_argument("-o", metavar="DIR", dest="folder",
+                        help="the folder of the results (PROGRAM.shb in this folder): for each process with "
+                        "a place its page's trace, the list of its places and a page with its races; "
+                        "places.tsv, places.json, places.sarif and unknown.places; and a list of what was "
+                        "made there. What the list of an earlier call names is replaced, and nothing else. "
+                        "While another call uses DIR, the results go to DIR-2, DIR-3 and so on. The places "
+                        "are those of the whole run, however long it is (shb help places). A page has a "
+                        "trace of its own, which is cut around its races")
+    how_often = parser.add_mutually_exclusive_group()
+    how_often.add_argument("--runs", metavar="N", type=number(1), help="run it N times, each with another interleaving (1); each place is shown once")
+    how_often.add_argument("--until-found", metavar="N", type=number(1),
+                           help="run it at most N times, and end after the first run with a race that isn't known")
+    parser.add_argument("--jobs", metavar="N", type=number(1), help="record N runs at once (as many as there are processors; 1 with --replay, and if "
+                        "standard input is a file or pipe that isn't at its end). What they write is in files first, and printed run by run")
+    how_often.add_argument("--live", action="store_true", help="for a program that runs on: each place is shown while it runs, once. "
+                           "The run is recorded in segments. If they come faster than they can be analysed, the oldest are dropped, so "
+                           "memory and disk are bounded. A race between two segments is missed (SHB_SEGMENT=N: N records in one)")
+    parser.add_argument("--replay", metavar="RUN.turns",
+                        help="run it with the order of turns of an earlier run, as long as that fits. A run with a place that isn't known leaves the "
+                        "list in the folder of its results. If the list is left, it prints after how many turns; from there on the run is like any other")
+    parser.add_argument("--known", metavar="FILE", dest="known_path",
+                        help="places to skip, as unknown.places has them: on a line two locations, FILE:LINE, or functions, "
+                        "FILE:FUNCTION(), in either order, and the variable, with tabs between; * stands for any text; a line that begins with "
+                        "# is a comment. A line with two fields applies to every variable. Lines that match nothing are reported")
+    parser.add_argument("--fail-on-stale", action="store_true", help="if no race is unknown, such lines end with status 67. A race that is in few runs "
+                        "needs --runs")
+    parser.add_argument("--source", metavar="DIR", action="append", default=[],
+                        help="look for source files below this folder too; may be given again. Those of the debug information are found without it")
+    parser.add_argument("--strip", metavar="DIR", help="name files below this folder by their paths from it (shb-std --help)")
+    parser.add_argument("--window", metavar="N", type=number(1), default=MOST_EVENTS,
+                        help="the most events of a page's trace (%(default)s)")
+    parser.add_argument("--wait", metavar="N", type=number(0),
+                        help=f"wait up to N seconds for processes that outlive the program ({WAIT}), and for those that SIGINT or SIGTERM "
+                        "is passed on to, before they are killed. If it is given, what is shown after such a signal has N seconds too")
+    parser.add_argument("--log", metavar="FILE", help="write to this file what otherwise goes to standard error, which then is the program's alone")
+    parser.add_argument("--keep", action="store_true", help="keep the records (16 bytes per access)")
+    parser.add_argument("words", metavar="PROGRAM", nargs=argparse.REMAINDER, help="the program, and the words that it is given")
+    return parser
+
+
+def arguments(words):
+    """The options of these words."""
+    parser = parser_of_words()
+    found = parser.parsed(words)
+    if found.words[:1] == ["--"]:
+        del found.words[0]
+    if not found.words:
+        parser.error("no program is named")
+    found.program, *found.arguments = found.words
+    found.folder = pathlib.Path(found.folder or os.path.basename(found.program) + ".shb").absolute()
+    if "%p" in str(found.folder) or "%s" in str(found.folder):
+        parser.error("the folder of the results can't have %p or %s in its name")
+    if found.live and (found.replay or found.keep):
+        parser.error("--live keeps no records and no order of turns: it isn't for --keep or --replay")
+    return found
+
+
+def completed(options):
+    """The options with what is read of the environment and of files."""
+    check_settings()
+    check_folders(options)
+    options.seed = int(os.environ.get("SHB_SEED", "1"))
+    options.show, options.wait = options.wait, WAIT if options.wait is None else options.wait
+    options.runs, options.until_found = options.runs or options.until_found or 1, bool(options.until_found)
+    options.jobs = jobs_of(options)
+    if options.replay:
+        from shb_record import turns  # as `live`, takes its time, and most calls do without
+        options.turns = turns.read(options.replay)
+    options.known = known.given(options.known_path, say)
+    return options
+
+
+def check_settings():
+    """Refuses a setting that the recorder would read as another one."""
+    for name, least in SETTINGS.items():
+        try:
+            number(least)(os.environ.get(name, "1"))
+        except argparse.ArgumentTypeError as fault:
+            raise Refused(f"{name}: {fault}, not `{os.environ[name]}`") from None
+    if os.environ.get("SHB_STACKS", "1") not in ("0", "1"):
+        raise Refused(f"SHB_STACKS: it takes 0 or 1, not `{os.environ['SHB_STACKS']}`")
+
+
+def check_folders(options):
+    """Refuses folders that aren't there, but the path of one on the machine that compiled the program."""
+    for name, folder in [("--source", folder) for folder in options.source] + [("--strip", options.strip or "/")]:
+        if not os.path.isdir(folder) and not (name == "--strip" and os.path.isabs(folder)):
+            raise Refused(f"{name}: {folder} isn't a folder")
+
+
+def check_program(name):
+    """Returns the status if the program can't be run, and says why."""
+    if shutil.which(name):
+        return None
+    if not os.path.exists(name):
+        say(f"{name}: not found")
+        return NOT_THERE
+    if "/" not in name and shutil.which(f"./{name}"):
+        say(f"{name}: not on the PATH; ./{name} names the one in this folder")
+        return NOT_THERE
+    say(f"{name}: can't be run: {os.strerror(errno.EISDIR if os.path.isdir(name) else errno.EACCES)}")
+    return CANNOT_RUN
+
+
+def record(options):
+    """Runs the program, looks at its runs, and says what was found. Returns the status."""
+    results = Results(options.folder, shlex.join([options.program, *options.arguments]).replace("\n", "\\n"), options.replay)
+    if options.replay:
+        (results.work / REPLAYED).write_bytes(options.turns.content)
+    stops = Stops("shb-record: {}: what was recorded is still shown; another one ends at once, and keeps the record\n".format, options.show)
+    adopt_orphans()
+    look = look_of(options)(options, results, stops)
+    try:
+        run_all(look)
+    except CannotRun:
+        raise
+    except (Refused, OSError) as fault:
+        look.fail(fault)
+    except KeyboardInterrupt:
+        look.fail(Refused(f"stopped {counted(options.show, 'second')} after the signal (--wait)" if stops.is_late else "stopped at once"))
+        results.keep_records()
+    finally:
+        stops.close()
+        rows = look.places.rows()
+        status = status_of(look, rows)
+        is_recorded = bool(look.runs) or results.has_more()
+        if is_recorded:
+            for name, text in tables_of(look, rows, status).items():
+                results.tables[name].write_bytes(text)
+        results.close(is_recorded)
+    if is_recorded:
+        conclude(look, rows, status)
+    else:
+        say(f"nothing was recorded; the program's own status: {look.own}")
+    return status
+
+
+def run_all(look):
+    """Runs the program as often as it is to be run, and looks at each run."""
+    options = look.options
+    with contextlib.closing(outcomes(options, look.results.work, look.next_one if options.live else None)) as ended:
+        for number, run in enumerate(ended, 1):
+            look.own = look.own or run.own
+            look.stops.note(run.stop, run.stopped)
+            look.run(number)
+            if look.stops.first:
+                say(f"stopped by {signal.Signals(look.stops.first).name}")
+                break
+            if options.until_found and look.places.unknown():
+                say(f"run {number:,} of at most {options.runs:,} is the first with {'an unknown place' if options.known_path else 'a place'} with races; "
+                    f"its seed is {options.seed + number - 1}")
+                break
+    if options.replay and not look.has_replayed:
+        raise Refused(f"{options.replay} belongs to `{options.turns.command}`, and no recorded process was that: nothing was replayed")
+
+
+def look_of(options):
+    if options.live:
+        from shb_record.live import Live
+        return Live
+    return Look
+
+
+def status_of(look, rows):
+    if look.is_contradicted:
+        return FAILED
+    if any(not row.is_known for row in rows):
+        return RACES
+    if look.options.fail_on_stale and look.stale():
+        return STALE
+    if look.has_failed:
+        return FAILED
+    return CUT if look.is_cut or look.is_killed and not look.own else look.own
+
+
+def conclude(look, rows, status):
+    """Says what was found, and what that means."""
+    unknown = count(row for row in rows if not row.is_known)
+    passed_over, behind = count(rows) - unknown, count(row for row in rows if row.state() == "behind")
+    for words in known.words_of_stale(look.stale(), look.places.names):
+        say(f"{look.options.known_path}, {words}")
+    for first, second in itertools.islice(look.passed_over, MOST_PASSED):
+        say(f"{printable(second)} read what {printable(first)} wrote, in a known race: a second look skipped both")
+    shown = (counted(unknown, "unknown place" if look.options.known_path else "place") + " with races"
+             + (f" ({'' if behind == unknown else f'{behind:,} of them '}behind known races: real if these are harmless)" if behind else "")
+             + (f", {counted(passed_over, 'known one')} skipped" if passed_over else ""))
+    unshown = f"{counted(look.unshown, 'place')} with races that can't be shown"
+    say("; ".join([shown] * bool(rows or not look.unshown) + [unshown] * bool(look.unshown))
+        + ("; not the whole of the run was seen" if look.is_cut or look.is_killed else "")
+        + ("; not all could be looked at" if look.has_failed else "")
+        + f"; the program's own status: {look.own}; files in {look.results.folder}")
+    for line in dict.fromkeys([*look.counts(), *look.notes, *look.meaning()]):
+        say(line)
+    if len(look.runs) > 1:
+        say(f"{counted(len(look.runs), 'run')} gave {counted(look.interleavings(), 'different interleaving')}")
+    if look.again and look.options.runs > 1 and not look.options.replay:
+        words = ["shb-record", "--replay", str(look.again), look.options.program, *look.options.arguments]
+        say(f"the first run with such a place again: {shlex.join(words)}")
+    if look.pages:
+        more = f" and {len(look.pages) - 1:,} more" if len(look.pages) > 1 else ""
+        say(f"{'pages' if more else 'page'}: {look.pages[0]}{more}")
+    if status == STALE:
+        say(f"status {STALE}: {counted(len(look.stale()), 'line')} of {look.options.known_path} matched no race of "
+            f"{'this run' if len(look.runs) == 1 else 'these runs'}; --runs N with a greater N may find one")
+
+
+def logged(path):
+    """What redirects what this command says to a file, if one is named."""
+    found = contextlib.ExitStack()
+    if path:
+        found.enter_context(contextlib.redirect_stderr(found.enter_context(open(path, "w", encoding="utf-8", errors="backslashreplace"))))
+    return found
+
+
+def main(words):
+    open_standard_files()
+    try:
+        options = completed(arguments(words))
+        status = check_program(options.program)
+        if status:
+            return status
+        check_parts()
+        with logged(options.log):
+            return record(options)
+    except CannotRun as fault:
+        say(fault)
+        return CANNOT_RUN
+    except (Refused, OSError) as fault:
+        say(words_of(fault))
+    except KeyboardInterrupt:
+        say("stopped")
+    return FAILED

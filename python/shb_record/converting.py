@@ -1,0 +1,182 @@
+"""From a record to traces."""
+
+import collections
+import contextlib
+import itertools
+import re
+import shutil
+import signal
+import subprocess
+import tempfile
+
+from shb_common.children import apart
+from shb_common.faults import Refused
+from shb_common.uses import BadUses, Uses
+from shb_common.words import counted
+from shb_record.parts import CONVERTER
+from shb_record.listing import Contradiction
+
+CUTS = "the recording is not the whole run: ", "the trace is cut "
+KILLED = CUTS[0] + "the program was killed"
+CRASHED = "the program crashed: "
+NOT_WHOLE = 1  # shb-std's status where the trace is a part of the run
+HEADER_BYTES, ENTRY_BYTES = 65536, 16  # record.h says where an entry has its thread and operation
+MODULE = re.compile(rb"^[0-9a-f]+ [0-9a-f]+ [0-9a-f]+ (.+)$", re.M)
+LINE_BYTES = 64  # about those of an event in a trace
+
+
+class Process(collections.namedtuple("Process", "name base command record modules replay blocks", defaults=(None, None))):
+    """A recorded process of a run. `base` is what the names of its results begin with; `modules` are the paths of its code, that of
+    the program first; `replay` says how far it followed the list of turns that was to be replayed. Of a segment of a record `blocks` is the
+    file of the blocks that are there when it begins."""
+
+    @property
+    def program(self):
+        return self.modules[0] if self.modules else b""
+
+
+def processes(folder, number):
+    """What was recorded in this run, in the order of the processes' numbers."""
+    def numbers(path):
+        return [int(text) for text in re.findall(r"\d+", path.name)]
+
+    for record in sorted(folder.glob(f"run{number}.*.rec"), key=numbers):
+        yield process_of(record, f"run {number}, process {record.name.split('.')[1]}", record.stem)
+
+
+def process_of(record, name, base):
+    """The process that a record is of, or a segment of one."""
+    with open(record, "rb") as file:
+        header = file.read(HEADER_BYTES)
+    command = re.search(rb"^command (.*)$", header, re.M)
+    words = command[1].decode(errors="backslashreplace").strip() if command else "?"
+    modules = [path.replace(b"\1", b"\n") for path in MODULE.findall(header)]
+    return Process(name, base, words, record, modules, replay_in(header))
+
+
+def replay_in(header):
+    """How far a process followed a list of turns, by its record; None where it had none."""
+    there, done = (re.search(rb"^%s (\d+)$" % word, header, re.M) for word in (b"replays", b"replayed"))
+    if not there:
+        return None
+    if not done:
+        return f"a list of {int(there[1]):,} turns was followed, until the program was killed or became another one"
+    if done[1] == there[1]:
+        return f"all {int(there[1]):,} turns of the list were followed"
+    return f"the replay was left after {int(done[1]):,} of {int(there[1]):,} turns; from there on slices were drawn"
+
+
+def check_room(process, most_events):
+    """A page's trace has so many events at most. In measured programs at most a tenth of the record's entries have a line."""
+    needed, free = min(process.record.stat().st_size // 2, most_events * LINE_BYTES), shutil.disk_usage(process.record.parent).free
+    if needed > free:
+        raise Refused(f"{process.name}: its page may take about {needed:,} bytes of the disk, and {free:,} are free; "
+                      "--window makes a smaller one")
+
+
+class Conversion:
+    """Turns a record into the run's trace, for `shb places --list`, and where that finds races into the trace
+    of their page. `trace`, `uses` and `stacks` are of that trace, `scan` is the list of places; `numbers` has
+    for the events of a race those of that trace, if it has both in one part."""
+
+    def __init__(self, process, options):
+        self.process = process
+        self.trace, self.scan, self.uses, self.stacks = (process.record.with_suffix(suffix) for suffix in (".std", ".scan", ".uses", ".stacks"))
+        strip = ["--strip", options.strip] if options.strip else []
+        self.left = process.record.with_suffix(".left")  # a segment's blocks at its end
+        blocks = ["--blocks", process.blocks] if process.blocks else []
+        self.window = options.window
+        self.list_words = [CONVERTER, "--scan", *strip, *blocks, process.record]
+        self.page_words = [*strip, *blocks, "-n", str(options.window), process.record]
+        self.words = [CONVERTER, "--scan", "--only", "/dev/stdin", "--page", self.trace, "--uses", self.uses, "--stacks", self.stacks,
+                      *(["--left", self.left] if options.live else []), *self.page_words]
+        self.size, self.notes, self.cuts = "", [], []  # known at the end: how much there is, what is said of it, what makes it a part
+        self.numbers, self.used = {}, None  # `used`: what the file of uses has, once there is a page's trace
+        self.found = []  # the places of the run, once they are listed
+
+    def places(self, listed, choose):
+        """Finds the places of the run. The page's trace then has those that `choose` returns of them."""
+        pipes = {"stdin": subprocess.PIPE, "stdout": listed.descriptor, **apart()}
+        with tempfile.TemporaryFile() as said, subprocess.Popen(self.words, stderr=said, **pipes) as ran:
+            listed.begun()
+            try:
+                chosen, fault = [], None
+                try:
+                    self.found = listed.places()
+                    chosen = choose(self.process, self.found)
+                except Refused as its:
+                    fault = its
+                if self.found:
+                    listed.copy(self.scan)
+                with contextlib.suppress(BrokenPipeError):  # its status says how it ended
+                    ran.stdin.write(b"".join(lines_of(chosen)))
+                    ran.stdin.close()
+                status = ran.wait()
+                if fault and status in (0, NOT_WHOLE, -signal.SIGPIPE):
+                    raise type(fault)(f"{self.process.name}: {fault}")
+                self.end(status, said)
+            finally:
+                ran.kill()
+        if chosen:
+            self.note_page(chosen)
+
+    def note_page(self, places):
+        """The page's trace is there: its events that are those of races of the run have the same lines."""
+        try:
+            uses = Uses(self.uses)
+        except BadUses as fault:
+            raise Contradiction(f"{self.process.name}: the file of uses {fault}") from None
+        races = [race for place in places for race in place.variables.values()]
+        asked = {event for race in races for event in race.events}
+        has_all = uses.count < self.window and max(asked) - min(asked) <= self.window  # else some may have given way
+        lost = len(asked - uses.events.keys()) if has_all else 0
+        wanted = {uses.events[event]: access for race in races for event, access in zip(race.events, race.accesses) if event in uses.events}
+        at, of_list = 0, "of `shb places --list`"
+        with open(self.trace, "rb") as trace:
+            for number in sorted(wanted):
+                line, at = next(itertools.islice(trace, number - at - 1, None), None), number
+                lost += line is None
+                if line and line != b"%b|%b(%b)|%b\n" % wanted[number]:
+                    fault = f"event {number:,} of the page's trace isn't that {of_list}"
+                    raise Contradiction(f"{self.process.name}: {fault}")
+        if lost:
+            fault = f"the page's trace lacks {counted(lost, 'event')} {of_list}"
+            raise Contradiction(f"{self.process.name}: {fault}")
+        self.numbers = {race.events: pair for race in races for pair in [uses.pair(*race.events)] if pair}
+        self.used = uses
+
+    def write_page(self, places):
+        """Writes the trace of a page anew, around the races of these places."""
+        with tempfile.TemporaryFile() as said, open(self.trace, "wb") as out:
+            words = [CONVERTER, "--only", "/dev/stdin", "--uses", self.uses, "--stacks", self.stacks, *self.page_words]
+            self.end(subprocess.run(words, input=b"".join(lines_of(places)), stdout=out, stderr=said, **apart()).returncode, said)
+        self.note_page(places)
+
+    def end(self, status, file):
+        file.seek(0)
+        said = file.read().decode(errors="backslashreplace").replace("shb-std: ", "").splitlines()
+        if status not in (0, NOT_WHOLE):
+            how = f"status {status}" if status > 0 else f"signal {-status}"
+            raise Refused(f"{self.process.name}: {'; '.join(said) or f'shb-std ended with {how}'}")
+        is_size = re.compile(r"\d+ records, ").match
+        self.size = ", ".join(re.sub(r"\d+", lambda number: f"{int(number[0]):,}", line) for line in said if is_size(line))
+        self.notes = [line for line in said if not is_size(line)]
+        self.cuts = [note for note in self.notes if note.startswith(CUTS)] if status == NOT_WHOLE else []
+
+
+def lines_of(places):
+    """What `shb-std --only` is given."""
+    for place in places:
+        for name, race in place.variables.items():
+            yield b"%d %d %b\n" % (*race.events, name)
+
+
+def order_of(record):
+    """A sum of the threads and operations of a record, in their order: of two runs that do the same in other orders they differ."""
+    import hashlib  # takes its time, and most calls are of one run
+    found = hashlib.sha256()
+    with open(record, "rb") as file:
+        file.seek(HEADER_BYTES)
+        for part in iter(lambda: file.read(1 << 20), b""):
+            found.update(part[6::ENTRY_BYTES] + part[7::ENTRY_BYTES] + part[14::ENTRY_BYTES])
+    return found.digest()

@@ -1,0 +1,273 @@
+"""Converts, analyses and shows the processes of all runs."""
+
+import shlex
+import sys
+
+from shb_common.faults import Refused
+from shb_common.printable import printable
+from shb_common.programs import Origin
+from shb_common.stacks import BadStacks, Tables
+from shb_common.standard import words_of
+from shb_common.words import counted
+from shb_record.converting import CRASHED, KILLED, Conversion, check_room, order_of, processes
+from shb_record.modules import Modules
+from shb_record.parts import ANALYSER, now, say
+from shb_record.places import Places
+from shb_record.running import PRELOADED, cause
+from shb_record.listing import Contradiction, listing
+
+
+KINDS = {b"r": "read", b"w": "written"}
+LATE = "the C library comes before the recorder's"     # the end of such a record
+
+
+class Looked:
+    """What was found in a process: its places, and those that no process before it had."""
+
+    def __init__(self, process, options):
+        self.process, self.conversion = process, Conversion(process, options)
+        self.places, self.new, self.named, self.events = [], [], [], 0
+        self.behind = []  # what a second look found behind known races
+        self.sources, self.has_files = None, False  # the paths of its source files; are those of its page among the results?
+
+
+class Look:
+    def __init__(self, options, results, stops):
+        self.options, self.results, self.stops, self.started = options, results, stops, now()[:-3]
+        self.places, self.pages, self.found = Places(options.known), [], {}
+        self.own = 0  # the program's own status, of the first run where it isn't 0
+        self.unshown = 0  # places of processes that can't be shown
+        self.runs = []  # of each run: the order of each process
+        self.has_replayed, self.again = False, None  # did a process follow the list? the list of the first with an unknown place
+        self.sources, self.notes = {}, {}  # by process and trace: the paths of source files; what is to know of pages
+        self.modules, self.passed_over = Modules(), {}  # known races whose second access reads what the first wrote
+        self.is_cut = self.is_killed = self.has_failed = self.is_contradicted = self.has_threads = False
+
+    def run(self, number):
+        """Looks at the processes of a run; one that can't be looked at doesn't keep others from being shown."""
+        found = list(processes(self.results.work, number))
+        if not found:
+            raise Refused(f"{self.options.program} left no record. {cause(self.options.program)}")
+        self.runs.append([])
+        looked = self.look_at(found)
+        for process in found:
+            if process.record.exists():
+                process.record.unlink()
+        if not any(one is None or one.events for one in looked):
+            if self.is_cut:
+                words = shlex.join(["shb-record", "env", f"LD_PRELOAD={PRELOADED}", self.options.program, *self.options.arguments])
+                late = any(one and LATE in cut for one in looked for cut in one.conversion.cuts)
+                raise Refused("nothing of the run was recorded" + f"; for a module with hooks that the program loads later run `{words}`" * late)
+            say(f"run {number}: {counted(len(found), 'recorded process', 'recorded processes')}, none with a second thread")
+
+    def look_at(self, found):
+        """Analyses processes and shows them: only when the source files of all programs are known it is known which names they share.
+        Returns for each what was found in it, None if something failed."""
+        looked = [self.tried(self.analyse, Looked(process, self.options)) for process in found]
+        if self.options.known_path:
+            looked = [one and self.tried(self.look_again, one) for one in looked]
+        return [one and self.tried(self.show, one) for one in looked]
+
+    def tried(self, do, looked):
+        """Does something for a process. If it fails the record is kept, and None is returned."""
+        process = looked.process
+        try:
+            do(looked)
+        except (Refused, OSError) as fault:
+            self.fail(fault)
+            self.say_unshown(looked)
+            if process.record.exists():
+                self.keep_failed(process)
+            return None
+        if self.options.keep and do == self.show:
+            self.results.keep(process.record, f"{process.base}.rec")
+        return looked
+
+    def say_unshown(self, looked):
+        """Says which places are listed of a process that can't be shown."""
+        if looked.named:
+            found = [(new.place, new.variables) for new in self.places.unknown_of(looked.new)]
+        else:
+            found = [(place, place.variables) for place in looked.conversion.found]
+            self.unshown += len(found)
+        if found and not self.stops.first:  # else they were said before
+            say(f"{looked.process.name}: {counted(len(found), 'place')} with races that can't be shown:")
+            say_places(found)
+
+    def keep_failed(self, process):
+        say(f"the record is kept: {self.results.keep(process.record, process.base + '.rec')}")
+
+    def interleavings(self):
+        """How many different ones were seen."""
+        return len({tuple(sorted(orders)) for orders in self.runs})
+
+    def stale(self):
+        """The lines of the known places that matched nothing, which is asked when all places were."""
+        return self.places.given.stale() if self.runs and not self.has_failed else []
+
+    def meaning(self):
+        """A line each on what a run says nothing about."""
+        yield from self.modules.lines()
+        if self.options.runs == 1 and (self.has_threads or self.places.seen):
+            yield "One interleaving of many was seen; --runs N tries others, --until-found N stops at the first with a race."
+
+    def counts(self):
+        """How much was looked at, where it isn't said of each process."""
+        return ()
+
+    def fail(self, fault):
+        say(words_of(fault))
+        self.has_failed = True
+        self.is_contradicted = self.is_contradicted or isinstance(fault, Contradiction)
+
+    def analyse(self, looked):
+        """Converts and analyses a process."""
+        check_room(looked.process, self.options.window)
+        with listing(self.results.work) as listed:
+            looked.conversion.places(listed, self.choose)
+            looked.places, looked.events = looked.conversion.found, listed.events
+        if looked.events:
+            self.modules.add(looked.process.modules)
+        looked.new, looked.named = self.add_new(looked, looked.places)
+        self.keep_files(looked)
+
+    def add_new(self, looked, places, is_behind=False):
+        """Takes some of the places of a process, as `Places.add_new` does."""
+        process = looked.process
+        origin = Origin(None, process.program)
+        if places:
+            tables = tables_in(looked.conversion.stacks)
+            self.modules.callers |= tables.files
+            looked.sources = tables.sources
+            origin = Origin(tables, process.program)
+            origin.add_modules(process.modules)
+        return self.places.add_new(process, self.results.folder / f"{process.base}.std", origin, places, looked.conversion.numbers, is_behind)
+
+    def keep_files(self, looked):
+        """Moves the files of a page out of the folder of work."""
+        if not looked.places or looked.has_files:
+            return
+        looked.has_files, conversion = True, looked.conversion
+        conversion.trace, conversion.scan, conversion.uses, conversion.stacks = (
+            self.results.keep(path, f"{looked.process.base}{path.suffix}") for path in (conversion.trace, conversion.scan, conversion.uses, conversion.stacks))
+
+    def choose(self, process, places):
+        """The places that are to be on a page. Where the command was told to end they are said: what comes then takes its time."""
+        if self.stops.first and places:
+            say(f"{process.name}: {counted(len(places), 'place')} with races:")
+            say_places((place, place.variables) for place in places)
+        return places
+
+    def look_again(self, looked):
+        """Takes a second look, without the known races of a process."""
+        accesses, races = self.places.known_in(looked.named)
+        if not accesses:
+            return
+        from shb_record.second import Second, add_races, besides  # takes its time, and most calls do without
+        second = Second(accesses, races)
+        looked.behind = besides(looked.places, second.places(looked.conversion, self.results.work))
+        self.passed_over.update(dict.fromkeys((one.location, other.location) for one, other in second.seen))
+        if looked.behind:
+            looked.places = [*looked.places, *looked.behind]
+            looked.conversion.write_page(looked.places)
+            add_races(looked.conversion.scan, looked.behind)
+            new, _ = self.add_new(looked, looked.behind, True)
+            looked.new = [*looked.new, *new]
+            self.keep_files(looked)
+
+    def show(self, looked):
+        """Shows a process, and says how much it has."""
+        process, conversion, unknown = looked.process, looked.conversion, self.places.unknown_of(looked.new)
+        if unknown:
+            self.show_places(looked, unknown)
+        self.note_cuts(looked)
+        self.keep_turns(process, bool(unknown))
+        if looked.events and self.options.runs > 1:
+            self.runs[-1].append(order_of(process.record))
+        if looked.events:
+            say(f"{process.name} ({process.command}): {conversion.size}; {counted(len(looked.places), 'place')} with races")
+        for note in conversion.notes:
+            if looked.events or note != KILLED:
+                more = "; SHB_RECORDS=NUMBER allows more records, of 16 bytes each" * ("SHB_RECORDS is reached" in note)
+                say(f"{process.name} ({process.command}): {note}{more}")
+
+    def note_cuts(self, looked):
+        """Takes what makes a record a part of its run. Without a second thread nothing is lost where the program was killed."""
+        cuts = looked.conversion.cuts if looked.events else [cut for cut in looked.conversion.cuts if cut != KILLED]
+        self.is_cut = self.is_cut or bool(cuts) and cuts != [KILLED]
+        self.is_killed = self.is_killed or cuts == [KILLED]
+        self.has_threads = self.has_threads or bool(looked.events)
+
+    def keep_turns(self, process, has_unknown):
+        """Keeps the list of turns of a process with something to run again, and says how far it followed one."""
+        turns = process.record.with_suffix(".turns")
+        if turns.exists() and (has_unknown or self.options.keep):
+            kept = self.results.keep(turns, f"{process.base}.turns")
+            if has_unknown:
+                self.again = self.again or kept
+        if process.replay:
+            self.has_replayed = True
+            say(f"{process.name} ({process.command}): {process.replay}")
+
+    def show_places(self, looked, unknown):
+        """The view's page and text of new places that aren't known, and what it found; where it fails, the new places alone."""
+        process, conversion, numbers = looked.process, looked.conversion, looked.conversion.numbers
+        is_on_page = [any(one.place.variables[name].events in numbers for name in one.variables & one.place.variables.keys()) for one in unknown]
+        show_apart([one for one, is_there in zip(unknown, is_on_page) if not is_there])
+        if not any(is_on_page):
+            return
+        first = [note for note in conversion.notes if note.startswith(CRASHED)] + conversion.cuts
+        notes = [f"{note[0].upper()}{note[1:]}." for note in [*first, *[process.replay] * bool(process.replay)]]
+        turns = self.results.folder / f"{process.base}.turns" if process.record.with_suffix(".turns").exists() else None
+        page = self.results.path(f"{process.base}.html")
+        from shb_view.command import asked, explain  # takes its time, and a run without a place does without
+        from shb_view.result import document
+        from shb_view.words import bad_words
+        _, view = explain(asked(
+            conversion.trace, title=f"{process.command} ({process.name}, {self.started})", note=notes,
+            about=list(self.meaning()), has_notes=False, recorded_source=True, source=self.options.source,
+            stacks=conversion.stacks, listed=conversion.scan, uses=conversion.used, text=True, html=page,
+            only=variables_at(unknown),
+            behind=variables_at(one for one in unknown if one.place in looked.behind),
+            unseen=self.modules.calls(process.modules), turns=turns, shb=ANALYSER,
+            command=shlex.join([self.options.program, *self.options.arguments])), sys.stderr)
+        if not view:
+            say_places((one.place, one.variables) for one in unknown)
+            return
+        if view.verdict.is_good is False:
+            self.fail(Contradiction(f"{process.name}: {bad_words(view)}"))
+        self.pages.append(page)
+        self.found[process.name, conversion.trace] = found = document(view)
+        self.sources[process.name, conversion.trace] = looked.sources
+        self.notes.update(dict.fromkeys(note for note in found["notes"] if note not in notes))
+
+
+def show_apart(unknown):
+    """Says which places of the run no page shows."""
+    if unknown:
+        say(f"{counted(len(unknown), 'place')} of the run without a page, since their accesses are too far apart:")
+    say_places((new.place, new.variables) for new in unknown)
+
+
+def say_places(found):
+    """Says of places and some of their variables a race each."""
+    for place, names in found:
+        for name in sorted(place.variables.keys() & names):
+            first, second = (f"{printable(access.location)} {KINDS[access.word]} by {printable(access.thread)}" for access in place.variables[name].accesses)
+            say(f"  {printable(name)}: {first}, and {second}")
+
+
+def variables_at(new):
+    """The variables of new places by their two locations, the lesser first."""
+    found = {}
+    for one in new:
+        found.setdefault(tuple(sorted((one.place.first, one.place.second))), set()).update(one.variables)
+    return found
+
+
+def tables_in(stacks):
+    try:
+        return Tables(stacks)
+    except BadStacks as fault:
+        raise Refused(f"{stacks} {fault}") from None
+

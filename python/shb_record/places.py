@@ -1,0 +1,95 @@
+"""The places of all runs, and which of them are known."""
+
+import collections
+import os
+
+from shb_common import known, places
+from shb_common.variables import name_of
+
+
+class New(collections.namedtuple("New", "key place variables")):
+    """What of a place of a process nothing before had: the key of its two locations, the place, and of its new variables the names in
+    the trace and on the page."""
+
+
+class Places(places.Places):
+    """The places of all runs. Of each variable a race is kept, with its events in the whole run; a trace is the name of its process
+    and the path of its page's."""
+
+    def __init__(self, given):
+        super().__init__(given)
+        self.known_before = set()
+
+    def add_new(self, process, trace, origin, found, numbers, is_behind=False):
+        """Takes the places of a process, and returns those that are new, or have a new variable; and all, each with its key and the names
+        of its variables in the trace and on the page. `numbers` has the races that the page's trace has, whose locals are known;
+        `is_behind` says that they were found behind known races."""
+        in_run = [named(place, origin.tables, numbers) for place in found]
+        before = {key: set(seen.variables) - seen.behind for key, seen in self.seen.items()}
+        keys = self.add((process.name, trace), origin, [place for place, _ in in_run])
+        for key, (place, _) in zip(keys, in_run):
+            behind = self.seen[key].behind
+            behind.update(place.variables.keys() - before.get(key, set())) if is_behind else behind.difference_update(place.variables)
+        new = [New(key, place, self.new_variables(key, names)) for key, place, (_, names) in zip(keys, found, in_run)]
+        return [one for one in new if one.variables], [(key, place, names) for key, place, (_, names) in zip(keys, found, in_run)]
+
+    def known_in(self, named):
+        """Of places as `add_new` returns them all: the accesses at known places, each a location and a variable of the trace; and the known
+        races."""
+        accesses, races = set(), []
+        for key, place, names in named:
+            sides = tuple(map(self.names.side, key))
+            for raw in [raw for raw, name in names.items() if self.given.has(sides, name)]:
+                accesses |= {(place.first, raw), (place.second, raw)}
+                races.append((place.variables[raw].events, place.variables[raw].accesses))
+        return accesses, races
+
+    def new_variables(self, key, names):
+        """Of names in a trace and on the page those that are new on the page, and both of them."""
+        new = set()
+        for raw, name in names.items():
+            if self.is_new(key, name):
+                self.known_before.add((key, known.lasting(name)))
+                new |= {raw, name}
+        return new
+
+    def is_new(self, key, name):
+        return (key, known.lasting(name)) not in self.known_before
+
+    def unknown_of(self, new):
+        """Of new places those with a variable that isn't known."""
+        return [one for one in new if not self.is_known(one.key)]
+
+    def rows(self):
+        """A row for each two locations, with the trace where they were first seen, by their names."""
+        return places.in_order(self.row(key, next(iter(seen.traces))) for key, seen in self.seen.items())
+
+    def unknown(self):
+        return [row for row in self.rows() if not row.is_known]
+
+
+def named(place, tables, numbers):
+    """A place with its races by the names of their variables on the page; and these by those in the trace."""
+    names, variables = {}, {}
+    for raw, race in place.variables.items():
+        on_page = numbers.get(race.events)
+        local_of, events = (tables.local_of, on_page) if on_page else (tables.lasting, race.events)
+        names[raw] = name_of(race._replace(events=events), local_of)
+        variables.setdefault(names[raw], race)
+    return place._replace(variables=variables), names
+
+
+def count(rows):
+    """How many places these are: two where both orders raced."""
+    return sum(row.places for row in rows)
+
+
+def table(rows):
+    """A line for each two locations: in how many orders they race, their variables, the numbers of the first race's events in the
+    whole run, and where that was."""
+    yield b"first\tsecond\tplaces\tvariables\tstate\tevent\tand event\tprocess\ttrace\n"
+    for row in rows:
+        process, trace = row.example
+        names = b", ".join(known.written(name) for name, _ in row.variables) + b", .." * row.has_more
+        words = row.state(), *map(str, row.race.events), process, trace.name
+        yield b"\t".join([*row.names, b"%d" % row.places, names, *map(os.fsencode, words)]) + b"\n"

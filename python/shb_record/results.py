@@ -1,0 +1,134 @@
+"""The folder of the results."""
+
+import contextlib
+import fcntl
+import itertools
+import os
+import pathlib
+import re
+import shutil
+import tempfile
+
+from shb_common.faults import Refused
+from shb_record.parts import now, say
+
+LIST = "made-by-shb-record.txt"
+LIST_BEGIN = "# What shb-record made in this folder"
+TABLES = "unknown.places", "places.tsv", "places.json", "places.sarif", "index.html"
+OURS = r"run\d+\.\d[\d-]*(\.\d+)?\.(rec|turns|std|scan|uses|stacks|html)|work-\w+|places\.(tsv|json|sarif)|unknown\.places|index\.html"
+
+
+class Results:
+    """The folder of the results. What is made there is named in a list first, which is locked as long as the call lasts: so no call
+    takes another's files, and none deletes what it didn't make."""
+
+    def __init__(self, folder, command, spared=None):
+        try:
+            self.folder, self.list = unused_folder(folder)
+        except OSError as fault:
+            why = "it is a file" if folder.is_file() else fault.strerror
+            raise Refused(f"the results can't be put into {folder}: {why}; name another folder with -o") from None
+        self.names = []     # of what is made
+        spared = self.remove_earlier(spared)
+        self.list.truncate(0)
+        self.list.write(f"{LIST_BEGIN} on {now()}, for: {command}\n")
+        for name in spared:
+            self.path(name, is_there=True)
+        self.tables = {name: self.path(name) for name in TABLES}
+        self.work = pathlib.Path(tempfile.mkdtemp(prefix="work-", dir=self.folder))  # records before they are looked at
+        self.path(self.work.name, is_there=True)
+        (self.work / LIST).touch()      # shows a later call that it is one of ours
+        self.first = [] if spared else list(self.names)     # which say nothing if they are all
+
+    def remove_earlier(self, spared):
+        """Deletes what the list of an earlier call names but a file that is still needed, and says so. Returns the name of that."""
+        self.list.seek(0)
+        first, *names = self.list.read().splitlines() or [LIST_BEGIN]
+        if not first.startswith(LIST_BEGIN):
+            raise Refused(f"{self.folder / LIST} is there, and shb-record didn't make it")
+        kept = [name for name in names if spared and re.fullmatch(OURS, name) and is_same(self.folder / name, spared)]
+        removed = [name for name in reversed(names) if re.fullmatch(OURS, name) and name not in kept and remove(self.folder / name)]
+        if removed:
+            say(f"replacing the results in {self.folder}, made{first[len(LIST_BEGIN):]}")
+        return kept
+
+    def path(self, name, is_there=False):
+        """The path of a file or folder that is to be made. What is there already isn't ours, and stays."""
+        path = self.folder / name
+        if os.path.lexists(path) and not is_there:
+            raise Refused(f"{path} is there, and shb-record didn't make it; name another folder with -o")
+        self.list.write(f"{name}\n")
+        self.list.flush()
+        self.names.append(name)
+        return path
+
+    def keep(self, path, name):
+        """Moves a finished file out of the folder of work. Returns its new path."""
+        kept = self.path(name)
+        path.rename(kept)
+        return kept
+
+    def keep_records(self):
+        """Keeps the records that are still there."""
+        for record in sorted(self.work.glob("*.rec")):
+            say(f"the record is kept: {self.keep(record, record.name)}")
+
+    def has_more(self):
+        """Whether something was made besides the tables and the folder of work."""
+        return self.names != self.first
+
+    def close(self, is_recorded):
+        """Deletes the folder of work, and all of the results if nothing was recorded, and lets other calls use the folder."""
+        shutil.rmtree(self.work, ignore_errors=True)
+        if not is_recorded:
+            (self.folder / LIST).unlink()
+            with contextlib.suppress(OSError):
+                self.folder.rmdir()     # which may have others' files
+        self.list.close()
+
+
+def unused_folder(folder):
+    """The folder, or one with a number after its name, that no other call uses, and its locked list."""
+    for number in itertools.count(1):
+        path = folder if number == 1 else folder.with_name(f"{folder.name}-{number}")
+        path.mkdir(parents=True, exist_ok=True)
+        look_at_owner(path)
+        file = open(path / LIST, "a+", encoding="utf-8", errors="surrogateescape", opener=opened_here)
+        try:
+            fcntl.flock(file, fcntl.LOCK_EX | fcntl.LOCK_NB)
+        except BlockingIOError:
+            file.close()
+            continue
+        if number > 1:
+            say(f"another call uses {folder}; the results go to {path}")
+        return path, file
+
+
+def opened_here(path, flags):
+    """Not through a link, which may lead anywhere: the folder may be one that somebody else has prepared."""
+    return os.open(path, flags | os.O_NOFOLLOW, 0o666)
+
+
+def look_at_owner(folder):
+    """Refuses for root a folder that isn't root's, and tells others of one that isn't theirs."""
+    if {folder.lstat().st_uid, folder.stat().st_uid} == {os.geteuid()}:
+        return
+    if os.geteuid() == 0:
+        raise Refused(f"{folder} belongs to another user, who can change what is in it: -o names another folder")
+    say(f"{folder} belongs to another user, who can change the results")
+
+
+def is_same(path, other):
+    return path.exists() and os.path.samefile(path, other)
+
+
+def remove(path):
+    """Deletes a file or folder of ours. A folder of work that isn't marked as ours stays, since anybody could have listed it. Returns whether
+    a file was there."""
+    if path.is_symlink() or path.is_file():
+        path.unlink()
+        return True
+    if path.name.startswith("work-") and (path / LIST).is_file():
+        shutil.rmtree(path, ignore_errors=True)
+    return False
+

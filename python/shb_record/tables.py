@@ -1,0 +1,93 @@
+"""The tables of the results: places as tab-separated values, for programs, for code review, and as a file of known places."""
+
+import html
+import os
+import pathlib
+import re
+import shlex
+import urllib.parse
+
+import shb_view
+from shb_common import result, sarif
+from shb_common.places import unknown_places
+from shb_common.programs import pair_of
+from shb_common.stacks import Frame
+from shb_common.words import counted
+from shb_record.places import count, table
+
+
+def tables_of(look, rows, status):
+    """The tables of all that was looked at, by their names. `rows` are those of its places."""
+    entries, groups = {}, []
+    for (process, trace), found in look.found.items():
+        places = [{**place, "group": len(groups) + place["group"]} for place in found["places"]]
+        entries.update(result.entries_of((process, trace), places))
+        groups += [{**group, "process": process, "trace": trace.name} for group in found["groups"]]
+    return {"unknown.places": unknown_places(rows), "places.tsv": b"".join(table(rows)),
+            "places.json": result.in_bytes(document(look, rows, entries, groups, status)), "places.sarif": log(look, rows, entries, status),
+            "index.html": index(look, rows)}
+
+
+def document(look, rows, entries, groups, status):
+    """All places with what is known of them, as `result.document` has them."""
+    stale, unknown = look.stale(), count(row for row in rows if not row.is_known)
+    summary = {"places": count(rows), "unknown": unknown, "behind": count(row for row in rows if row.state() == "behind"),
+               "known": count(rows) - unknown, "stale": len(stale),
+               "status": status, "runs": len(look.runs)}
+    return result.document("shb-record", summary, [entry(look, row, entries) for row in rows], stale=result.stale_of(stale),
+                           notes=[*look.meaning(), *look.counts()], groups=groups)
+
+
+def entry(look, row, entries):
+    """A row with the two accesses of its first race, and the processes that have it."""
+    process, trace = row.example
+    reads = list(zip(row.race.events, row.race.accesses))
+    if row.race.accesses[0].location != row.texts[0]:
+        reads.reverse()
+    found = result.entry_of(entries, row)
+    return result.entry(row, found, reads, process=process, trace=trace.name, **({"group": found["group"]} if found else {}),
+                        processes=[name for name, _ in look.places.seen[pair_of(row.key)].traces])
+
+
+def log(look, rows, entries, status):
+    """The same for code review tools."""
+    alerts = []
+    for row in rows:
+        process, trace = row.example
+        found = result.entry_of(entries, row)
+        sides, blamed = entry(look, row, entries)["accesses"], found.get("blamed")
+        names = dict(zip(map(result.text, row.texts), row.names))
+        with_stacks = [one for one in sides if found and one.get("stacks")]
+        accesses = tuple(access_of(one, look.sources[row.example]) for one in with_stacks)
+        if blamed:
+            blamed = names.get(blamed["in_trace"], blamed["in_trace"].encode()), blamed.get("file", "").encode()
+        example, more = os.fsencode(trace.relative_to(look.results.folder)), {"process": process}
+        alerts.append(sarif.Alert(row, without_numbers(found), "", example, accesses, more, blamed))
+    notes = [("note", line) for line in look.meaning()]
+    return sarif.log(alerts, sarif.Here(pathlib.Path.cwd()), notes, not look.has_failed and not look.is_cut, status)
+
+
+def without_numbers(found):
+    """What is said of a place in each run alike: its headline and its remedy, without the numbers of blocks."""
+    return re.sub(r"#\d+", "", ". ".join(part for part in (found.get("headline", ""), f"Remedy: {found['remedy']}" if found.get("remedy") else "") if part))
+
+
+def access_of(one, sources):
+    """An access of an entry, with one of its stacks."""
+    frames = [Frame(*(frame[name].encode() for name in ("function", "location")), frame.get("in_system", False)) for frame in one["stacks"][0]["frames"]]
+    return sarif.Access(one["thread"].encode(), one["operation"].encode(), frames, sources)
+
+
+def index(look, rows):
+    """A page with a name that stays: each process with its page and its groups."""
+    style = pathlib.Path(shb_view.__file__).with_name("page.css").read_text(encoding="utf-8")
+    text = ["<!doctype html>", '<html lang="en"><meta charset="utf-8">',
+            '<meta name="viewport" content="width=device-width, initial-scale=1">',
+            f"<title>Data races</title><style>{style}</style>",
+            f"<h1>{html.escape(shlex.join([look.options.program, *look.options.arguments]))}</h1>",
+            f"<p>{counted(count(row for row in rows if not row.is_known), 'unknown place')} with races</p>"]
+    for (process, trace), found in look.found.items():
+        text.append(f'<h2><a href="{urllib.parse.quote(trace.with_suffix(".html").name)}">{html.escape(process)}</a></h2><ul>')
+        heads = dict.fromkeys(f"{place['variables'][0]['name']}: {place['headline']}" for place in found["places"] if place["variables"])
+        text += [f"<li>{html.escape(head)}</li>" for head in heads] + ["</ul>"]
+    return "\n".join([*text, "</html>", ""]).encode(errors="backslashreplace")

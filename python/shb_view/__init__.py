@@ -1,0 +1,4 @@
+"""Races of a report explained, as text and as a page. `python/shb-view` is the command.
+
+Outside the proved claims: it shows what a report says, and `shb check` judges a report.
+"""

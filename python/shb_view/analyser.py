@@ -1,0 +1,93 @@
+"""Asks `shb` for what is shown."""
+
+import collections
+import os
+import subprocess
+import tempfile
+
+from shb_common.analyser import HEAD, REFUSED, LIST_VARIABLES, Run, rewound
+from shb_common.faults import Refused
+from shb_common.refused import line_and_hint, without_note
+from shb_common.report import BadReport, Report
+from shb_view.names import short
+
+MOST_BYTES = 4_096  # of a verdict that are looked at
+MOST_SAID, MOST_SHOWN = 200, 100  # columns of the program's words and of a refused line that are shown
+MOST_LISTED = 100_000  # races of a list that is read to its end
+BAD = 5  # the status of `shb check` for a bad report
+
+
+class Verdict(collections.namedtuple("Verdict", "is_good words")):
+    """What is known of a report. `is_good` is None where it wasn't judged."""
+
+
+class Analyser:
+    def __init__(self, program, trace):
+        """`trace` is an open file."""
+        self.program, self.trace = program, trace
+
+    def started(self, words, given, out, **how):
+        """A run of the program on an open file, from its beginning."""
+        try:
+            return Run([self.program, *words], rewound(given), out, **how)
+        except OSError as fault:
+            name = short(os.fsencode(self.program), MOST_SAID)
+            raise Refused(f"`{name}` can't be run ({fault.strerror}); SHB=PROGRAM names another `shb`") from None
+
+    def ended(self, words, run, good=(0,)):
+        """Waits for the end of a run, and returns its status. Refused if that isn't one of the good ones."""
+        answer = run.answer()
+        if answer.status in good:
+            return answer.status
+        said = short(without_note(answer.said).rstrip(b"\n"), MOST_SAID)
+        if answer.status == REFUSED and said:
+            raise Refused(f"`shb` refuses the trace: {said}{self.refused_line(said)}")
+        how = f"was ended by signal {-answer.status}" if answer.status < 0 else f"ended with status {answer.status}"
+        raise Refused(f"`shb {' '.join(words)}` {how}{': ' if said else ''}{said}")
+
+    def refused_line(self, said):
+        """The line that the program's words name, below them, with a hint where one is known; nothing where they name none."""
+        found = line_and_hint(said, self.trace)
+        if not found:
+            return ""
+        line, hint = found
+        return f"\n  {short(line, MOST_SHOWN)}" + (f"\n  hint: {hint}" if hint else "")
+
+    def head(self, take=None):
+        """The report of `races --list` of the trace. The accesses of its races are given to `take`, if there is one and the races are
+        few; else the rest isn't read."""
+        with self.started(HEAD, self.trace, subprocess.PIPE) as run:
+            try:
+                report = Report(run.out)
+                if take and report.count <= MOST_LISTED:
+                    for race, accesses in report.races():
+                        take(race, *accesses)
+                return report
+            except BadReport as fault:
+                self.ended(HEAD, run)
+                raise Refused(f"`shb races --list` wrote no report: {fault}") from None
+
+    def share_variables(self, take):
+        """Gives one race of each variable at each place to `take`, whatever the number of races."""
+        with tempfile.TemporaryFile() as listed:
+            self.write(LIST_VARIABLES, listed)
+            for race, accesses in Report(listed).races():
+                take(race, *accesses)
+
+    def write(self, words, file):
+        """Writes the report of a command to an open file."""
+        with self.started(words, self.trace, file) as run:
+            self.ended(words, run)
+        file.seek(0)
+
+    def check(self, report):
+        """The verdict of `shb check` on an open report."""
+        trace = f"/dev/fd/{self.trace.fileno()}"
+        with tempfile.TemporaryFile() as out:
+            with self.started(["check", trace], report, out, pass_fds=[self.trace.fileno()]) as run:
+                status = self.ended(["check"], run, (0, BAD))
+            out.seek(0)
+            verdict = out.read(MOST_BYTES)
+        report.seek(0)
+        said = short(verdict.rstrip(b"\n"), MOST_SAID) or f"it ended with status {status} and no word"
+        return Verdict(status == 0, said)

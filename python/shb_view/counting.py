@@ -1,0 +1,229 @@
+"""The first pass over a trace: how often each line accesses the racing variables, in which threads and under which locks; and for
+the accesses that may be shown, the events right before them."""
+
+import collections
+
+from shb_common.faults import Refused
+from shb_common.report import BadReport
+from shb_common.variables import without_end
+from shb_view.facts import Sites, sites_in
+from shb_view.groups import name_parts
+from shb_view.held import MOST_COUNTED, Held, Operations, called
+from shb_view.trace import CHANGED, OPENS
+
+BEFORE = 6  # events of a thread right before its access
+MOST_KINDS = 200_000  # accesses that are told apart: by group, line, thread, word and locks held
+
+
+class Noted(collections.namedtuple("Noted", "before locks")):
+    """What is known of an access: the events of its thread right before it, and the newest locks held, each with its acquire."""
+
+
+class Access(collections.namedtuple("Access", "number variable kind free")):
+    """An event that was counted. `free` is the number of the free that it is of, or None."""
+
+
+class Step(collections.namedtuple("Step", "thread event line")):
+    """The event of a thread in which it creates or joins another one."""
+
+
+class Repeated(collections.namedtuple("Repeated", "thread word since event")):
+    """An event that stands for repeats between the last one alike (`since`, or 0) and itself."""
+
+
+class Kinds:
+    """What an access is, where the trace has it as reads and writes."""
+
+    def __init__(self, gathered, stacks):
+        """`gathered` has the atomic of a variable that stands for what a thread wrote to it, and names of locals."""
+        self.gathered, self.stacks, self.locks = gathered, stacks, stacks.lasting_locals
+        self.atomics, self.locals = gathered.atomics, gathered.locals
+        self.racing = set(map(self.in_trace, gathered.races))
+
+    def of(self, number, word, variable):
+        """The word of `words.KINDS` for an event."""
+        if word != b"w":
+            return word
+        return b"a" if variable in self.atomics else b"f" if self.stacks.free_of(number) is not None else word
+
+    def in_trace(self, variable):
+        """The variable as the trace has it; of an atomic that name which its threads have in common."""
+        return self.atomics.get(variable, variable)
+
+    def is_in_life(self, number, variable):
+        """Whether an event is an access of what the variable is named by: where a local lies other functions may have theirs, before and
+        after its own lives."""
+        variable = self.in_trace(variable)
+        return variable not in self.locals or self.stacks.local_of(variable, number) == self.locals[variable]
+
+    def name(self, variable):
+        """The variable as the program has it."""
+        variable = self.in_trace(variable)
+        return self.locals.get(variable, variable)
+
+    def named(self, number, event):
+        """An event with its variable or its lock as the program has it: a variable that races has one name at all events."""
+        if event.word in (b"acq", b"rel"):
+            return event._replace(name=called(event.name, self.locks))
+        if event.word not in (b"r", b"w"):
+            return event
+        variable, sign, thread = event.name.partition(b"!")
+        name = self.locals.get(variable) if variable in self.racing else self.stacks.local_of(variable, number)
+        return event._replace(name=(name or variable) + sign + thread)
+
+
+class Counting:
+    def __init__(self, groups, wanted, kinds, uses=None, repeated=frozenset()):
+        """`groups` has a number for each racing variable; `wanted` are the accesses to be noted, `kinds` says what an access is; `uses`
+        are those of the whole run where the trace is a part of it; `repeated` events stand for omitted ones."""
+        self.uses = uses
+        self.groups, self.wanted, self.access_kinds = groups, wanted, kinds
+        self.lines = kinds.gathered.lines
+        self.reads, self.racing_reads = racing_reads(kinds.gathered.races)
+        self.racing = kinds.gathered.events_of(groups)
+        # By group, how many accesses there are of each kind: its location (None where lines aren't told apart any more),
+        # thread, word of `words.KINDS`, the names of the locks held (None where they aren't counted), and the variable (not of a free).
+        self.counts = collections.defaultdict(dict)
+        self.used = collections.defaultdict(Sites)  # the same by group, of the uses of a run
+        self.kinds = self.found = 0
+        self.noted = {}  # by event
+        self.held, self.operations = collections.defaultdict(Held), Operations(kinds.locks)  # by thread
+        self.recent = collections.defaultdict(lambda: collections.deque(maxlen=BEFORE))  # by thread: its last events
+        self.before = {}  # by group and thread: its last access
+        self.writes = {}  # by variable: its last write, and the thread and location of that
+        # By variable and location: the stacks of the racing accesses, or of a run of all accesses, each with whether no lock is held.
+        self.callers = collections.defaultdict(collections.Counter)
+        self.seen = set()  # the locations of races where the second access reads what the first wrote
+        self.joined = {}  # by a join its thread's last event
+        self.lockers = collections.defaultdict(set)  # by lock: the threads that use it
+        self.begins, self.ends = {}, {}  # by thread: where it is created and joined, as `Step`
+        self.repeated, self.alike = repeated, {}  # `alike`: by kind of access its last event
+        self.again = collections.defaultdict(list)  # by variable: its events that stand for repeats
+
+    def read(self, trace, events):
+        """Takes all events of the trace; there have to be so many."""
+        self.take_all(trace)
+        if self.uses is not None:
+            self.take_uses()
+        if trace.count() != events:
+            raise Refused(CHANGED)
+        if self.found != len(self.lines):
+            raise BadReport("the report belongs to another trace: it names events that aren't accesses to its variables")
+
+    def take_all(self, trace):
+        groups = {word + name + b")": group for name, group in self.groups.items() for word in (b"r(", b"w(")}
+        held, recent, operations, parts = self.held, self.recent, self.operations, trace.parts
+        for number, thread, operation, line in trace.events("counting accesses"):
+            if number in parts:
+                self.begin_part()
+            if operation[1] != OPENS:
+                if operations[operation]:
+                    held[thread].take(*operations[operation], number)
+                    self.lockers[operations[operation][1]].add(thread)
+                elif operation.startswith(b"fork("):
+                    self.begins[operation[5:-1]] = Step(thread, number, line)
+                elif operation.startswith(b"join(") and recent.get(operation[5:-1]):
+                    self.joined[number] = recent[operation[5:-1]][-1]
+                    self.ends[operation[5:-1]] = Step(thread, number, line)
+            elif operation in groups:
+                self.access(number, thread, operation, without_end(line), groups[operation])
+            recent[thread].append(number)
+
+    def begin_part(self):
+        """What came right before isn't known."""
+        for of_part in (self.recent, self.before, self.writes):
+            of_part.clear()
+
+    def access(self, number, thread, operation, line, group):
+        """Takes an access to a variable of the group."""
+        word, variable, location = operation[:1], operation[2:-1], line[len(thread) + len(operation) + 2:]
+        if number in self.lines:
+            self.found += 1
+            if self.lines[number] != line:
+                raise BadReport(f"the report belongs to another trace: it has another line for event {number}")
+        if word == b"w":
+            self.writes[variable] = number, thread, location
+        elif variable in self.writes:
+            self.see(number, variable, thread, location)
+        if number in self.repeated:
+            since = self.alike.get((thread, operation, location), 0)
+            self.again[variable].append(Repeated(thread, word, since, number))
+        self.alike[thread, operation, location] = number
+        if self.uses is not None and number not in self.wanted:
+            return
+        if not self.access_kinds.is_in_life(number, variable):
+            return
+        held, stacks = self.held[thread], self.access_kinds.stacks
+        if number in self.wanted:
+            self.noted[number] = Noted(tuple(self.recent[thread]), held.newest()[0])
+        if self.uses is None:
+            word, of = self.access_kinds.of(number, word, variable), self.access_kinds.in_trace(variable)
+            if number in self.racing and stacks.numbers:
+                self.callers[of, location][stacks.numbers[number - 1], not held.locks] += 1
+            self.count(group, Access(number, variable, (location, thread, word, held.names(), b"" if word == b"f" else of),
+                                     stacks.free_of(number) if word == b"f" else None))
+
+    def count(self, group, access):
+        """Counts an access, but for what is of the same one as the event before it: a free writes each variable of the block, and a plain
+        read of an atomic reads what each thread wrote. An atomic write reads what plain accesses write."""
+        counts, kind = self.counts[group], access.kind
+        _, thread, word, *_ = kind
+        last, self.before[group, thread] = self.before.get((group, thread)), access
+        is_next = last is not None and self.recent[thread][-1] == last.number
+        if word == b"f" and last and access.free == last.free:
+            return
+        if is_next and word == b"r" and kind == last.kind and access.variable in self.access_kinds.atomics and access.variable != last.variable:
+            return
+        if is_next and word == b"a" and last.kind == (*kind[:2], b"r", *kind[3:]):
+            counts[last.kind] -= 1
+        if kind not in counts and self.kinds == MOST_KINDS:
+            kind = (None, b"", word, None, b"")
+        elif kind not in counts:
+            self.kinds += 1
+        counts[kind] = counts.get(kind, 0) + 1
+
+    def see(self, number, variable, thread, location):
+        """Takes a read of what a racing write wrote. Of a run one race of a variable at a place is known, and
+        stands for others there."""
+        write, writer, written = self.writes[variable]
+        stands = self.uses is not None and writer != thread and (variable, written, location) in self.racing_reads
+        if stands or (write, number) in self.reads:
+            self.seen.add((written, location))
+
+    def take_uses(self):
+        """Takes the uses of the whole run. A free is one of all variables of its block."""
+        kinds, frees, locks_of = self.access_kinds, {}, {}
+        groups = {kinds.in_trace(variable): group for variable, group in self.groups.items()}
+        for count, word, variable, local, thread, location, stack, locks in self.uses:
+            group = groups.get(variable)
+            if group is None or kinds.locals.get(variable, local) != local and variable.startswith(b"stack."):
+                continue
+            self.callers[variable, location][stack, not locks] += count
+            if locks not in locks_of:
+                named = tuple(called(lock, kinds.locks) for lock in locks)
+                locks_of[locks] = named if len(locks) <= MOST_COUNTED else None
+            kind = location, thread, word, locks_of[locks], b"" if word == b"f" else variable
+            if word == b"f":
+                block = name_parts(variable)["block"]
+                before = frees.get((group, kind, block), 0)
+                frees[group, kind, block] = max(before, count)
+                count -= before
+            if count > 0:
+                self.used[group].add(kind, count)
+
+    def private_locks(self):
+        """The locks on stacks that one thread alone uses."""
+        return {lock for lock, threads in self.lockers.items()
+                if lock.startswith(b"stack.") and len(threads) == 1}
+
+    def uses_of(self, group):
+        """How the variables of a group are used, by its number."""
+        return sites_in(self.counts[group]) if self.uses is None else self.used[group]
+
+
+def racing_reads(races):
+    """Of races by variable and place: the pairs of events whose second one reads; and the locations of each variable's writes and reads,
+    whichever comes first."""
+    found = [(variable, place, race) for variable, its in races.items() for place, races in its.items() for race in races]
+    return ({race[:2] for _, _, race in found if race.words[1] == b"r"},
+            {(variable, *(place if race.words[0] == b"w" else place[::-1])) for variable, place, race in found if b"r" in race.words})

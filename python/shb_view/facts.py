@@ -1,0 +1,536 @@
+"""What a trace says of a group. A fact is one of the forms below, whose definitions docs/FORMATS.md has; it holds for the trace and for
+each variable of the listed races, and names no fault. The first that holds is the group's."""
+
+import collections
+import functools
+import re
+
+from shb_common.result import text
+from shb_common.words import counted
+from shb_view.groups import name_parts
+from shb_view.held import read_lock
+from shb_view.names import by_numbers
+from shb_view.words import Code, Own, listed, lock_name, place
+
+MOST_NAMED = 3  # lines in a sentence
+FLAG = "make it atomic if it is a flag or a counter; else "
+DIGITS = re.compile(rb"[0-9]+")
+NUMBERS = re.compile(rb"(?<=#)[0-9]+|(?<=\[)[0-9]+(?=\])")  # of a block, and of an element
+
+
+@functools.lru_cache(maxsize=65_536)
+def alike(lock):
+    """A lock with stars for its numbers of blocks and elements."""
+    return NUMBERS.sub(b"*", lock)
+
+
+# The forms, in the order in which they are tried, each with a number: the least is shown first and in the first colour.
+RANKS = {"published": 0, "freed": 0, "plain": 1, "uncounted": 3, "read-lock": 1, "without": 1, "sometimes": 2, "apart": 2, "no-lock": 3, "mixed": 3, "ordered": 5}
+
+
+class Counts(dict):
+    """Numbers by what they are of; 0 of what isn't there. `collections.Counter` takes ten times as long to be
+    made, and there are many."""
+
+    def __missing__(self, key):
+        return 0
+
+
+class Site:
+    """A line that uses the variables, with what is counted there."""
+
+    def __init__(self, location):
+        self.location = location
+        self.accesses = Counts()  # by word
+        self.threads = Counts()
+        self.writers = set()  # threads
+        self.locks = Counts()  # how many accesses hold each lock, for writing if it is a reader-writer lock
+        self.reading = Counts()  # how many hold it for reading
+        self.wrong = Counts()  # how many of these write
+        self.bare = 0  # accesses that hold no lock
+        self.unknown = 0  # accesses whose locks aren't counted
+        self.variables = set()
+        self.partners = {}  # the lines that it races with, with how many races
+        self.later = set()  # those of these whose access came later in a race that was read
+
+    def total(self):
+        return sum(self.accesses.values())
+
+    def reads(self):
+        return self.accesses[b"r"] > 0
+
+    def writes(self):
+        return self.total() > self.accesses[b"r"]
+
+    def guarded(self, lock):
+        """How many accesses hold the lock as they have to: a read under a read lock does."""
+        return self.locks[lock] + self.reading[lock] - self.wrong[lock]
+
+    def lacks(self, lock):
+        """Whether some access doesn't hold the lock as it has to."""
+        return self.guarded(lock) < self.total()
+
+    def held(self):
+        """The locks that each access holds."""
+        total = self.total()
+        return sorted(lock for lock in {*self.locks, *self.reading} if self.guarded(lock) == total)
+
+    def add(self, variable, thread, word, locks, count):
+        """Takes accesses of a kind; `locks` is None where they aren't counted."""
+        self.variables.add(variable)
+        self.accesses[word] += count
+        self.threads[thread] += count
+        if word != b"r":
+            self.writers.add(thread)
+        if locks is None:
+            self.unknown += count
+        elif not locks:
+            self.bare += count
+        for lock in locks or ():
+            if b"@" in lock and read_lock(lock):
+                self.reading[read_lock(lock)] += count
+                self.wrong[read_lock(lock)] += count if word != b"r" else 0
+            else:
+                self.locks[lock] += count
+
+    def take(self, other, name):
+        """Takes what another one has; `name` gives its locks their names here."""
+        self.variables |= other.variables
+        self.writers |= other.writers
+        self.bare += other.bare
+        self.unknown += other.unknown
+        for what in ("accesses", "threads"):
+            mine = getattr(self, what)
+            for key, count in getattr(other, what).items():
+                mine[key] += count
+        for what in ("locks", "reading", "wrong"):
+            mine = getattr(self, what)
+            for lock, count in getattr(other, what).items():
+                mine[name(lock)] += count
+
+
+class Fact(collections.namedtuple("Fact", "form said tag sentences remedy lock handed",
+                                  defaults=([], None, ()))):
+    """`form` is one of the definitions, and `said` has what it is said of, by names that programs read. `tag` is a short form of the
+    sentences, and `remedy` what would order the accesses, or nothing. `lock` is the one that it is about, or
+    None. `handed` has variables, by their names in the trace, each with its pairs of a store and a load."""
+
+    def pairs(self):
+        return [pair for _, pairs in self.handed for pair in pairs]
+
+    def of_gone(self, owner, lines):
+        """The fact of lines that use a stack where its thread has a local of a system's function by then."""
+        lines = sorted(lines, key=by_numbers)
+        verb = " uses" if len(lines) == 1 else " use"
+        tag = [*listed([[place(line)] for line in lines], MOST_NAMED), verb, " a local of ", Code(owner), " that is gone"]
+        said = ["In a race ", Code(owner), " is in a function of the system, whose local lies there."]
+        return self._replace(said={**self.said, "gone": list(map(text, lines))}, tag=tag, remedy=[],
+                             sentences=[*self.sentences, said])
+
+    def refuting(self, pair):
+        """The fact of variables that race with an order of a store and a load too, without general advice."""
+        said = ["A release at ", place(pair.store.location), " and an acquire at ", place(pair.load.location),
+                " may leave a race."]
+        return self._replace(said={**self.said, "is_refuted": True}, sentences=[*self.sentences, said],
+                             remedy=[] if self.form in ("no-lock", "apart") else self.remedy)
+
+
+def blamed_of(fact, locations):
+    """The line that the headline names first, of racing ones and those of atomics; else one that it is about."""
+    known = {*locations, *(use.location for pair in fact.pairs() for use in (pair.store, pair.load))}
+    about = {line for name in ("lines", "plain", "frees") for line in fact.said.get(name, ())}
+    more = [it for it in (*locations, *fact.tag) if isinstance(it, bytes) and text(it) in about]
+    return next(map(bytes, (*filter(known.__contains__, fact.tag), *more)), None)
+
+
+class Sites:
+    """How a group's variables are used: of each variable its sites by their locations, and how often which
+    frees are of all of them."""
+
+    def __init__(self, variables=(), frees=()):
+        self.variables, self.frees = dict(variables), dict(frees)
+
+    def add(self, kind, count):
+        """Takes accesses of a kind, as `Counting.counts` has them."""
+        location, thread, word, locks, variable = kind
+        if not variable:
+            self.frees[kind] = self.frees.get(kind, 0) + count
+            return
+        sites = self.variables.get(variable)
+        if sites is None:
+            sites = self.variables[variable] = {}
+        site = sites.get(location)
+        if site is None:
+            site = sites[location] = Site(location)
+        site.add(variable, thread, word, locks, count)
+
+    def of(self, variable):
+        """Those of one of the variables alone. A free is one of all."""
+        return Sites({variable: self.variables.get(variable, {})}, self.frees)
+
+    def total(self):
+        sites = [site for its in self.variables.values() for site in its.values()]
+        return sum(self.frees.values()) + sum(map(Site.total, sites))
+
+
+def sites_in(counts):
+    """The sites of a group's counted accesses."""
+    found = Sites()
+    for kind, count in counts.items():
+        if count:
+            found.add(kind, count)
+    return found
+
+
+def joined(uses):
+    """The uses of several groups of one object as those of one group. A free is a free of all its
+    variables."""
+    found = Sites()
+    for one in uses:
+        found.variables.update(one.variables)
+        for kind, count in one.frees.items():
+            found.frees[kind] = max(found.frees.get(kind, 0), count)
+    return found
+
+
+class Locks:
+    """The locks of a group's variables. Of those that differ by numbers of blocks and elements alone, as `a[3].door`, a variable's own
+    one is that which most of its accesses hold; it has one name for all variables."""
+
+    def __init__(self, uses, private):
+        """`private` are locks on stacks that one thread alone uses: none of these is told."""
+        held, self.own, self.private = collections.Counter(), {}, private
+        for variable, sites in uses.variables.items():
+            for site in sites.values():
+                for locks in (site.locks, site.reading):
+                    for lock, count in locks.items():
+                        held[variable, lock] += count
+        self.held = list(held)
+        for variable, lock in sorted(held, key=lambda it: (-held[it], it)):
+            self.own.setdefault(alike(lock), {}).setdefault(variable, lock)
+        self.several = {name for name, own in self.own.items() if len(set(own.values())) > 1}
+
+    def name(self, variable, lock):
+        """The lock as it is named of the variable."""
+        name = alike(lock)
+        return Own(name) if name in self.several and self.own[name].get(variable) == lock else lock
+
+    def of(self, name):
+        """By variable: the lock of this name."""
+        if isinstance(name, Own):
+            return self.own[name]
+        return {variable: lock for variable, lock in self.held if lock == name}
+
+
+def sites_of(group, uses, private):
+    """The lines that use a group's variables: racing ones first, then those that write, then by how often; and their locks."""
+    sites, racing, locks = {}, group.locations(), Locks(uses, private)
+    for variable, its in uses.variables.items():
+        name = functools.partial(locks.name, variable)
+        for location, site in its.items():
+            if location not in sites:
+                sites[location] = Site(location)
+            sites[location].take(site, name)
+    for (location, thread, word, held, variable), count in uses.frees.items():
+        sites.setdefault(location, Site(location)).add(variable, thread, word, held, count)
+    for pair in group.pairs:
+        one, other = pair.locations
+        for location, partner in {(one, other), (other, one)}:
+            if location in sites:
+                sites[location].partners[partner] = pair.races
+        for first, second in pair.orders:
+            if first in sites:
+                sites[first].later.add(second)
+    order = sorted(sites.values(), key=lambda site: (site.location is None, by_numbers(site.location or b"")))
+    return sorted(order, key=lambda site: (site.location not in racing, not site.writes(), -site.total())), locks
+
+
+def fact_of(sites, locks, whole, published=()):
+    """The first fact that holds. `whole` is what the sites are counted in, a trace or a run; `published` is what
+    `handed.published` returns of the group."""
+    racing = [site for site in sites if site.partners]
+    used = [site for site in sites if site.accesses[b"f"] < site.total()]  # a line that frees alone says nothing of locks
+    of_locks = uncounted(used, whole) if any(site.unknown for site in used) else lock_fact(used, racing, locks, whole)
+    if of_locks and of_locks.form == "without" and any(pair.store.kind == b"update" for pair, _ in published):
+        published = ()  # beside a lock what is updated is a counter
+    found = (publication(published) or freed_under_lock(sites, racing, locks, whole) or freed(racing, whole)
+             or not_atomic(racing, whole) or of_locks or no_lock(sites, racing, whole))
+    if found.form != "published" or not of_locks or of_locks.form != "without":
+        return found
+    also = {"form": of_locks.form, **of_locks.said}  # either of the two would fix it
+    return found._replace(said={**found.said, "also": also}, sentences=[*found.sentences, *of_locks.sentences])
+
+
+def publication(published):
+    """Between the two accesses of each race an atomic was stored by the first's thread and loaded by the second's."""
+    if not published:
+        return None
+    store, load, *_ = published[0][0]
+    wrong, order = (load, "acquire") if store.gives() else (store, "release")
+    both = "" if store.gives() or load.takes() else [", and ", place(load.location), " reads it without acquire"]
+    tag = [place(wrong.location), " reads " if wrong is load else " writes ", Code(published[0][0].name), f" without {order}", *both]
+    said = [{"atomic": text(pair.store.name), "store": pair.store.said(), "load": pair.load.said(), "missing": pair.lacking(), "races": races}
+            for pair, races in published]
+    fixes = list(dict.fromkeys(fix for pair, _ in published for fix in fixes_of(pair)))
+    return Fact("published", {"by": said}, tag, [handed_words(pair) for pair, _ in published],
+                [*listed(fixes, len(fixes)), "."])
+
+
+def fixes_of(pair):
+    """What would make a store and a load an order, each as parts."""
+    if not pair.store.gives():
+        yield "write ", Code(pair.name), " with release at ", place(pair.store.location)
+    if not pair.load.takes():
+        yield "read ", Code(pair.name), " with acquire at ", place(pair.load.location)
+
+
+def handed_words(pair):
+    """What is said of an atomic that was handed on, as parts."""
+    store, load = pair.store, pair.load
+    return [Code(store.thread), " and ", Code(load.thread), " hand this on by the atomic ", Code(pair.name), ": ", place(store.location), " ",
+            *store.words(), " after the first access, and ", place(load.location), " ", *load.words(),
+            f" before the second. Without {' and '.join(pair.lacking())} that orders nothing."]
+
+
+def freed_under_lock(sites, racing, locks, whole):
+    """Racing lines without a lock that all other lines hold, those that free too."""
+    frees = [site for site in racing if site.accesses[b"f"]]
+    if not frees or any(site.unknown for site in sites):
+        return None
+    kept = [lock for lock in by_weight(sites, locks)[0] if not any(site.lacks(lock) for site in frees)]
+    found = next(filter(None, (without(sites, racing, lock, locks, whole) for lock in kept)), None)
+    if not found:
+        return None
+    lines = [site for site in racing if site.lacks(found.lock)]
+    warning = [*lines_of(frees), " frees" if len(frees) == 1 else " free",
+               " the block under it: use what was found there in the same section."]
+    name, said = lock_name(found.lock), {**found.said, "frees": names_of(frees)}
+    remedy = ["hold ", *name, " at ", *lines_of(lines), ", and as long as the block is used."]
+    return found._replace(said=said, sentences=[*found.sentences, warning], remedy=remedy)
+
+
+def freed(racing, whole):
+    """Racing lines that free the block which the others use."""
+    frees = [site for site in racing if site.accesses[b"f"]]
+    if not frees:
+        return None
+    used = dict.fromkeys(partner for site in frees for partner in sorted(site.partners) if partner != site.location)
+    threads = listed([[Code(thread)] for thread in sorted(set().union(*(site.writers for site in frees)))], MOST_NAMED)
+    uses = ["the use at ", *listed([[place(location)] for location in used], MOST_NAMED)] if used else ["another free of it"]
+    sentence = [f"In this {whole} ", *threads, " frees the block at " if len(threads) == 1 else " free the block at ", *lines_of(frees),
+                ", and nothing orders the free and ", *uses, "."]
+    found = set().union(*(site.later for site in frees if site.accesses[b"f"] == site.total()))
+    after = [site for site in racing if site.location in found and not site.accesses[b"f"]]
+    said = {"frees": names_of(frees), "uses": list(map(text, used)), "after": names_of(after)}
+    at = listed([[place(location)] for location in used], MOST_NAMED)
+    late = ["don't use it at ", *at, " once it may be freed at ", *lines_of(frees),
+            ", or free it after that use."]
+    remedy = late if used else ["free it once."]
+    if not after:
+        return Fact("freed", said, ["freed at " if used else "freed twice at ", *lines_of(frees), " while in use" if used else ""], [sentence], remedy)
+    sentence += [" The use at ", *lines_of(after), " came after it here: a use after free."]
+    return Fact("freed", said, ["used at ", *lines_of(after), " after it was freed at ", *lines_of(frees)], [sentence], remedy)
+
+
+def not_atomic(racing, whole):
+    """Racing lines that aren't atomic, where others are."""
+    atomic, plain = [site for site in racing if site.accesses[b"a"]], [site for site in racing if not site.accesses[b"a"]]
+    if not atomic or not plain:
+        return None
+    verb, write = "is" if len(plain) == 1 else "are", "writes" if len(atomic) == 1 else "write"
+    sentence = [f"In this {whole} ", *lines_of(atomic), f" {write} atomically, and ", *lines_of(plain), f" {verb} not atomic."]
+    return Fact("plain", {"atomic": names_of(atomic), "plain": names_of(plain)}, [*lines_of(plain), f" {verb} not atomic"], [sentence],
+                ["make the accesses at ", *lines_of(plain), " atomic too."])
+
+
+def uncounted(sites, whole):
+    count = counted(sum(site.unknown for site in sites), "access", "accesses")
+    return Fact("uncounted", {}, ["locks not counted"], [[f"In this {whole} the locks held at {count} aren't counted."]])
+
+
+def by_weight(sites, locks):
+    """The locks that are held at some lines and may be told, those that more lines hold at each access first,
+    then those that more accesses hold; and of those that lines hold at each access how many do."""
+    holding, guarded = Counts(), Counts()
+    for site in sites:
+        total = site.total()
+        for lock in {*site.locks, *site.reading} - locks.private:
+            its = site.guarded(lock)
+            guarded[lock] += its
+            if its == total:
+                holding[lock] += 1
+    def weight(lock):
+        return -holding[lock], -guarded[lock], not isinstance(lock, Own), lock
+    return sorted(guarded, key=weight), holding
+
+
+def lock_fact(sites, racing, locks, whole):
+    """What is held at the lines, by the first rule that a lock fits: of each rule those alone are tried that
+    it can be about."""
+    names, holding = by_weight(sites, locks)
+    wrong = {lock for site in racing for lock, count in site.wrong.items() if count}
+    for rule, its in ((under_read_lock, wrong), (without, holding), (sometimes, set(names))):
+        for lock in filter(its.__contains__, names):
+            found = rule(sites, racing, lock, locks, whole)
+            if found:
+                return found
+    return apart(racing, locks, whole) if any(site.bare < site.total() for site in sites) else None
+
+
+def under_read_lock(sites, racing, lock, locks, whole):
+    """Racing lines whose writes hold a lock for reading, which keeps out writers alone."""
+    wrong = [site for site in racing if site.wrong[lock]]
+    if not wrong:
+        return None
+    verb, name = "writes" if len(wrong) == 1 else "write", lock_name(lock)
+    sentence = [f"In this {whole} ", *lines_of(wrong), f" {verb} while holding ", *name, " for reading, as other threads can at the same time."]
+    said = {"lines": names_of(wrong), "name": text(lock), "locks": by_variable(locks, lock)}
+    return Fact("read-lock", said, [*lines_of(wrong), f" {verb} under the read lock of ", *name], [sentence],
+                ["hold ", *name, " for writing at ", *lines_of(wrong), "."], lock)
+
+
+def without(sites, racing, lock, locks, whole):
+    """Racing lines that don't hold a lock which all others, or all others that race, hold at each access. Where they hold other locks,
+    that more lines have this one says that it is theirs too."""
+    lacking, holding = [site for site in racing if site.lacks(lock)], [site for site in sites if not site.lacks(lock)]
+    variables = set().union(*(site.variables for site in racing)) - {b""}
+    if not is_rule(lacking, holding, variables, lock, is_beside(locks.of(lock), variables)):
+        return None
+    scope = scope_of([site for site in sites if site.lacks(lock) and not site.partners], lacking, holding)
+    who = {"writes": ["every write"], "reads": ["every read"], "all": ["every other access"],
+           "lines": ["every access at ", *lines_of(holding)]}[scope]
+    some, name, lines = [site for site in lacking if site.guarded(lock)], lock_name(lock), lines_of(lacking)
+    verb = verb_of(lacking)
+    at = f" at {sum(site.total() - site.guarded(lock) for site in lacking):,} of {sum(site.total() for site in lacking):,} accesses" if some else ""
+    sentence = [f"In this {whole} ", *who, " holds ", *name, ", and ", *lines, f" {verb} without it{at}."]
+    instead = [[place(site.location), " holds ", *listed([lock_name(other) for other in site.held()], MOST_NAMED)] for site in lacking if site.held()]
+    if instead:
+        sentence += [" ", *listed(instead, MOST_NAMED), "."]
+    said = {"lines": names_of(lacking), "sometimes": names_of(some), "scope": scope, "holding": names_of(holding), "name": text(lock),
+            "locks": by_variable(locks, lock), "instead": held_of(lacking, locks)}
+    tag = [*lines, f" {verb} without ", *name] if not some else [*lines, " doesn't always hold " if len(lacking) == 1 else " don't always hold ", *name]
+    return Fact("without", said, tag, [sentence], ["hold ", *name, " at ", *lines, "."], lock)
+
+
+def is_beside(locks, variables):
+    """Whether each variable's lock is a member of the object that the variable is a member of."""
+    pairs = [(object_in(variable), object_in(locks.get(variable, b""))) for variable in variables]
+    return all(of_variable and of_variable == of_lock for of_variable, of_lock in pairs)
+
+
+def object_in(name):
+    """The named object or the block that a name is inside of; None of one that is no part, or on a stack."""
+    parts = name_parts(name)
+    is_part = parts["inside"] and not name.startswith(b"stack.")
+    return (parts["base"], parts["block"], parts["of"]) if is_part else None
+
+
+def is_rule(lacking, holding, variables, lock, is_member):
+    """Whether lines that hold a lock say of those that lack it that they should: each variable is used with
+    it, what some readers alone hold is a rule if it is a member of the variable's object (`is_member`), and
+    the others hold no lock, or hold this one at times, or are fewer."""
+    holders = set().union(*(site.variables for site in holding))
+    if not lacking or not holding or not variables <= holders:
+        return False
+    if not is_member and not any(site.writes() for site in holding) and any(site.reads() for site in lacking):
+        return False
+    is_bare = all(site.bare == site.total() for site in lacking)
+    return is_bare or any(site.guarded(lock) for site in lacking) or len(holding) > len(lacking)
+
+
+def scope_of(others, lacking, holding):
+    """What holds the lock: every write, every read, all accesses at other lines, or those at the lines that hold it. `others` lack it
+    too, and don't race."""
+    for scope, does in (("writes", Site.writes), ("reads", Site.reads)):
+        if not any(map(does, [*others, *lacking])) and any(map(does, holding)):
+            return scope
+    return "lines" if others else "all"
+
+
+def verb_of(sites):
+    """What these lines do with the variable."""
+    does = "read" if not any(site.writes() for site in sites) else "write" if not any(site.reads() for site in sites) else "use"
+    return does + "s" * (len(sites) == 1) + " it" * (does == "use")
+
+
+def sometimes(sites, racing, lock, locks, whole):
+    """A lock that racing lines hold at some accesses, and no line at each."""
+    some = [site for site in racing if site.lacks(lock) and site.guarded(lock) and site.writes()
+            and not holds_another(site, lock)]
+    if not some:
+        return None
+    counts = [[f"{site.guarded(lock):,} of {counted(site.total(), 'access', 'accesses')} at ", place(site.location)] for site in some]
+    said = {"lines": {text(site.location or b""): [site.guarded(lock), site.total()] for site in some}, "name": text(lock),
+            "locks": by_variable(locks, lock)}
+    tag = [*lines_of(some), " doesn't always hold " if len(some) == 1 else " don't always hold ", *lock_name(lock)]
+    return Fact("sometimes", said, tag, [[f"In this {whole} ", *lock_name(lock), " is held at ", *listed(counts, MOST_NAMED), "."]],
+                ["hold ", *lock_name(lock), " at each access."], lock)
+
+
+def holds_another(site, lock):
+    """Whether the accesses of a line that don't hold a lock hold others whose names differ from it by numbers
+    alone, as each object's or each call's own."""
+    kind = DIGITS.sub(b"", lock)
+    alike = [one for one in {*site.locks, *site.reading} if DIGITS.sub(b"", one) == kind]
+    return len(alike) > 1 and sum(map(site.guarded, alike)) >= site.total()
+
+
+def unlike_words(site):
+    """What a line holds at whose accesses no lock is common."""
+    if site.bare == site.total():
+        return "no lock"
+    return "no lock at some accesses" if site.bare else "a lock, but not the same each time"
+
+
+def apart(racing, locks, whole):
+    """No lock is held at every access of all racing lines."""
+    common = set.intersection(*(set(site.held()) for site in racing))
+    if common:
+        name = lock_name(min(common))
+        return Fact("ordered", {}, ["every access holds ", *name], [[f"In this {whole} every access holds ", *name, ": these are no races."]])
+    held = [listed(map(lock_name, site.held()), MOST_NAMED) or [unlike_words(site)] for site in racing]
+    holds = [[place(site.location), " holds ", *its] for site, its in zip(racing, held)]
+    all_hold = all(site.held() for site in racing)
+    is_bare = racing[0].bare == racing[0].total()
+    alone = f" {verb_of(racing)} without a lock" if is_bare else f" holds {unlike_words(racing[0])}"
+    several = " hold different locks" if all_hold else " have no lock in common"
+    tag = [*lines_of(racing), alone if len(racing) == 1 else several]
+    private = sorted(locks.private & {lock for site in racing for lock in (*site.locks, *site.reading)})
+    sentence = [f"In this {whole} ", *listed(holds, MOST_NAMED), ", and no lock is common to them."]
+    only = [["One thread alone uses ", Code(lock), "."] for lock in private[:MOST_NAMED]]
+    return Fact("apart", {"lines": names_of(racing), "all_hold": all_hold, "held": held_of(racing, locks)}, tag,
+                [sentence, *only],
+                [] if private else ["hold one lock at ", *lines_of(racing), "."])
+
+
+def no_lock(sites, racing, whole):
+    """No lock is held at any access."""
+    writing, writers = [site for site in racing if site.writes()], set().union(*(site.writers for site in racing))
+    verb, count = "writes" if len(writing) == 1 else "write", f"{len(writers):,} threads" if len(writers) > 1 else "one thread"
+    readers = [site for site in racing if not site.writes()]
+    also = [", ", *lines_of(readers), " reads" if len(readers) == 1 else " read"] if readers else []
+    sentence = [f"In this {whole} no lock is held at any access; {count} ", "writes, at " if len(writers) == 1 else "write, at ", *lines_of(writing), "."]
+    said = {"writes": names_of(writing), "writers": sorted(map(text, writers))}
+    is_one = len(set().union(*(site.variables for site in racing))) == 1
+    remedy = [FLAG * is_one + "hold one lock at ", *lines_of(racing), "."]
+    if is_one and any(site.accesses[b"a"] for site in sites):
+        remedy = ["make each access at ", *lines_of(racing), " atomic; initialize it before creating threads."]
+    tag = [*lines_of(writing), f" {verb}", *also, " without a lock"]
+    return Fact("no-lock", said, tag, [sentence], remedy)
+
+
+def by_variable(locks, lock):
+    return {text(variable): text(found) for variable, found in sorted(locks.of(lock).items())}
+
+
+def held_of(sites, locks):
+    """By line: each lock that is held there at each access, by variable."""
+    return {text(site.location or b""): [by_variable(locks, lock) for lock in site.held()] for site in sites if site.held()}
+
+
+def names_of(sites):
+    return [text(site.location or b"") for site in sites]
+
+
+def lines_of(sites):
+    return listed([[place(site.location)] for site in sites], MOST_NAMED)

@@ -1,0 +1,159 @@
+"""The facts of groups. One whose variables differ has a part for those that are alike."""
+
+import collections
+
+from shb_common.result import text
+from shb_common.stacks import bare
+from shb_view.facts import RANKS, fact_of, joined, sites_of
+from shb_view.groups import ON_STACK, Group, Pair, object_of
+from shb_view.handed import MOST_RACES, handed, published, stores_of
+from shb_view.trace import event_of
+from shb_view.words import Code, listed
+
+MOST_NAMED = 3  # variables in a sentence
+
+
+class Section(collections.namedtuple("Section", "group uses sites fact window callers seen unseen is_behind "
+                                     "is_asked_for", defaults=(None, {}, (), (), False, True))):
+    """A group with its uses, its lines and its fact, and what else is shown of it: a race with what comes
+    before it (`window`); by racing line the stacks of its racing accesses, as `callers_of` returns them, each
+    with how many have it; the pairs of lines of races where the second reads what the first wrote (`seen`);
+    the modules without hooks that may order its accesses (`unseen`). `is_behind` says that it was found
+    behind known races; groups that aren't asked for are in the page alone."""
+
+
+class Facts:
+    """Makes facts of groups. `whole` is what they are of: a trace or a run."""
+
+    def __init__(self, counting, whole):
+        self.kinds, self.whole = counting.access_kinds, whole
+        self.known = {}  # by variable what holds of it alone
+        self.again, self.private = counting.again, counting.private_locks()
+        self.refuted = set()  # variables that race whatever hands them on
+        stacks = self.kinds.stacks
+        self.pairs = handed(stacks.uses, len(stacks.free_starts) > 0, stacks.lasting_locals)
+        self.stores = stores_of(stacks.uses if self.again else ())
+
+    def of(self, group, uses):
+        """What holds of a group: of each of its variables in the same form, or of its parts."""
+        found = self.of_all(group, uses)
+        parts = self.parts(found) if len(group.variables) > 1 else ()
+        return found._replace(fact=self.mixed(parts)) if len(parts) > 1 else found
+
+    def of_all(self, group, uses):
+        """What holds of a group's uses, whichever variable they are of."""
+        sites, locks = sites_of(group, uses, self.private)
+        races = self.kinds.gathered.races_of(group.names) if self.pairs else {}
+        by = published(races, self.pairs, lambda event: self.kinds.stacks.free_of(event) is not None) if self.pairs else ()
+        fact, pairs = fact_of(sites, locks, self.whole, by), [pair for pair, _ in by]
+        if fact.form == "published":
+            fact = fact._replace(handed=((group.names, pairs),))
+            if not self.refuted.isdisjoint(group.names) or self.come_again(group.names, races, pairs):
+                fact = fact_of(sites, locks, self.whole).refuting(pairs[0])
+        return Section(group, uses, sites, self.with_gone(group, fact))
+
+    def with_gone(self, group, fact):
+        """A fact, with the lines that use a local of another thread when that has the system's ones there."""
+        owners = {found["base"][len(b"stack."):] for found in map(ON_STACK.fullmatch, group.names) if found}
+        if len(owners) != 1 or fact.form not in ("no-lock", "apart"):
+            return fact
+        [owner], lines = owners, set()
+        for race in {race for its in self.kinds.gathered.races_of(group.names).values() for race in its}:
+            event, other = race[:2] if race.giver == owner else race[1::-1]
+            local = self.kinds.stacks.local_of(race.variable, event).rpartition(b" of ")[2]
+            is_of_system = local and last_name(local) in self.system_at(event)
+            if owner in race[2:4] and is_of_system and not self.system_at(other):
+                lines.add(event_of(self.kinds.gathered.lines[other]).location)
+        return fact.of_gone(owner, lines) if lines else fact
+
+    def system_at(self, event):
+        """The system's function that an event is in, in a list, or none."""
+        return [last_name(frame.function) for frame in self.kinds.stacks.of_event(event)[:1] if frame.in_system]
+
+    def refute(self, names):
+        """Takes variables of which a trial says that they race whatever hands them on."""
+        self.refuted = names
+        self.known.clear()
+
+    def come_again(self, names, races, pairs):
+        """Whether an access of a race is repeated after a store that the other thread may have read by then."""
+        does = {(race.giver, race.words[0]) for its in races.values() for race in its}
+        again = [one for name in names for one in self.again.get(name, ()) if (one.thread, one.word) in does]
+        stores = [store for pair in pairs for store in self.stores.get(pair.key()[:2], ())]
+        return any(one.thread == thread and max(one.since, after) < min(one.event, until)
+                   for one in again for thread, after, until in stores)
+
+    def parts(self, found):
+        """The variables of a group, those of which the same is said together; none where all have the group's form."""
+        names, alike = {}, {}
+        for name in found.group.names:
+            names.setdefault(self.kinds.in_trace(name), []).append(name)
+        alone = {variable: self.alone(found, variable, its) for variable, its in names.items()}
+        if {one.fact.form for one in alone.values()} == {found.fact.form}:
+            return ()
+        for variable, one in alone.items():
+            alike.setdefault((one.fact.form, str(one.fact.tag)), []).append(variable)
+        together = []
+        for its in alike.values():
+            part = part_of(found.group, sum((names[one] for one in its), []), self.kinds)
+            together.append(self.of_all(part, joined(map(found.uses.of, its))))
+        are_alike = all(one.fact.form == form for one, (form, _) in zip(together, alike))
+        return sorted(together if are_alike else alone.values(), key=lambda one: RANKS[one.fact.form])
+
+    def alone(self, found, variable, names):
+        """What holds of one of a group's variables, in this group and in one that it becomes a part of: only
+        frees are of all variables."""
+        if found.uses.frees or variable not in self.known:
+            part = part_of(found.group, names, self.kinds)
+            self.known[variable] = self.of_all(part, found.uses.of(variable))
+        return self.known[variable]
+
+    def mixed(self, parts):
+        """What is said of a group whose variables differ: of each part its fact."""
+        names = [listed([[Code(name)] for name in one.group.variables], MOST_NAMED) for one in parts]
+        said = [{"form": one.fact.form, "group": list(map(text, one.group.names)), **one.fact.said, "all_races": races_looked_at(one.group, self.kinds),
+                 "pairs": [list(map(text, pair)) for pair in sorted(one.group.places())]} for one in parts]
+        sentences = [[*its, ": ", *sentence] for its, one in zip(names, parts) for sentence in one.fact.sentences]
+        remedy = [part for its, one in zip(names, parts) if one.fact.remedy for part in ("Of ", *its, ": ", *one.fact.remedy, " ")][:-1]
+        first = parts[0].fact
+        return first._replace(form="mixed", said={"parts": said}, tag=[*first.tag, " (", *names[0], "; others differ)"], sentences=sentences, remedy=remedy,
+                              handed=sum((one.fact.handed for one in parts), ()))
+
+
+def last_name(function):
+    """A function's name without what it is a member of."""
+    return bare(function).rpartition(b"::")[2]
+
+
+def races_looked_at(group, kinds):
+    """The races that a fact is of, as pairs of events."""
+    return sorted(race[:2] for its in kinds.gathered.races_of(group.names).values() for race in its[:MOST_RACES])
+
+
+def part_of(group, names, kinds):
+    """A group's races of some of its variables, by their names in the trace."""
+    pairs, gathered = [], kinds.gathered
+    for pair in group.pairs:
+        races = {place: [gathered.variables[place][name] for name in names if name in gathered.variables.get(place, ())] for place in pair.orders}
+        orders = {place: sum(its) for place, its in races.items() if its}
+        if orders:
+            pairs.append(Pair(pair.locations, pair.closest, orders))
+    return Group(tuple(pairs), tuple(dict.fromkeys(map(kinds.name, names))), tuple(names))
+
+
+def merged_groups(groups, uses_of, facts):
+    """The groups, those of one object as one where the same threads race in it and the same is missing."""
+    found = {}
+    for number, group in enumerate(groups):
+        one, thing = facts.of(group, uses_of(number)), object_of(group)
+        racing = frozenset((thread, thread in site.writers) for site in one.sites if site.partners for thread in site.threads)
+        uses = tuple(pair.key()[:3] for pair in one.fact.pairs())
+        key = (thing, one.fact.form, one.fact.lock, uses, racing) if thing and one.fact.form != "mixed" else number
+        found.setdefault(key, []).append(one)
+    return [parts[0] if len(parts) == 1 else facts.of(*as_one(parts)) for parts in found.values()]
+
+
+def as_one(parts):
+    """Several groups as one, and how its variables are used."""
+    fields = zip(*(part.group for part in parts))
+    return Group(*(sum(its, ()) for its in fields)), joined(part.uses for part in parts)

@@ -1,0 +1,183 @@
+"""The page: one file that asks for nothing else. It has a row for each group, which opens, and in it the group's text for an issue. What
+page.js draws a group from stands in one element, as JSON: names in there never become markup."""
+
+import base64
+import hashlib
+import json
+import pathlib
+import shlex
+
+from shb_common.locations import line_of
+from shb_common.stacks import bare
+from shb_common.words import counted
+from shb_view.facts import RANKS, blamed_of
+from shb_view.groups import common_name
+from shb_view.issue import issue_lines, order_text
+from shb_view.markup import Markup, element, joined, marked, with_commands
+from shb_view.names import code_line, readable, short
+from shb_view.picture import picture
+from shb_view.source import excerpt
+from shb_view.stacks import frame_parts, origins
+from shb_view.words import (VERBS, MOST_SITES, NO_LOCK, Code, about, accesses_text, bad_words, listed,
+                            lock_parts, lock_words, notes_of, partner_parts, place, share, summary,
+                            thread_parts)
+
+HERE = pathlib.Path(__file__).resolve().parent
+NAME, LINE = 80, 240  # columns
+MOST_STACKS, MOST_FRAMES, MOST_ORIGINS = 8, 40, 8  # of a racing line; of each; threads, blocks and locks of a group
+MOST_BYTES = 2_000_000  # of what groups are drawn from; the last of them may go beyond
+KNOWN = "known, or on an earlier page"
+
+
+def page_parts(view):
+    """The page, part by part."""
+    style, script = ((HERE / name).read_text(encoding="utf-8") for name in ("page.css", "page.js"))
+    head = [element("meta", charset="utf-8"), policy(style, script),
+            element("meta", name="viewport", content="width=device-width, initial-scale=1"),
+            element("title", f"{view.title}: {summary(view)[0]}"), element("style", Markup(style))]
+    yield "<!doctype html>\n<html lang=\"en\">\n"
+    yield element("head", joined(head, "\n")) + "\n<body>\n" + header(view) + "\n<main id=\"groups\">\n"
+    tags = {} if all(section.is_asked_for for section in view.sections) else {True: "new", False: "known"}
+    rows = {True: [], False: []}
+    for number, section in enumerate(view.sections, 1):
+        rows[section.is_asked_for].append(group_row(view, number, section, tags.get(section.is_asked_for)))
+    yield joined(rows[True], "\n")
+    if rows[False]:
+        yield element("details", element("summary", counted(len(rows[False]), "group"), f" {KNOWN}"), *rows[False], id="known")
+    yield "\n</main>\n"
+    if view.groups > len(view.sections):
+        yield element("p", f"and {counted(view.groups - len(view.sections), 'more group')}")
+    yield island(data(view)) + "\n" + element("script", Markup(script)) + "\n</body>\n</html>\n"
+
+
+def policy(style, script):
+    """What the browser may run and load: this style and this script, whatever a name says."""
+    style, script = (base64.b64encode(hashlib.sha256(text.encode()).digest()).decode() for text in (style, script))
+    allowed = f"default-src 'none'; base-uri 'none'; form-action 'none'; style-src 'sha256-{style}'; script-src 'sha256-{script}'"
+    return element("meta", http_equiv="Content-Security-Policy", content=allowed)
+
+
+def island(found):
+    """JSON in an element that no name can end."""
+    text = json.dumps(found, ensure_ascii=False, separators=(",", ":")).replace("<", "\\u003c")
+    return element("script", Markup(text), type="application/json", id="data")
+
+
+def header(view):
+    bad = [bad_words(view)] * (view.verdict.is_good is False)
+    verdict = [element("p", with_commands(words), class_="verdict bad") for words in bad]
+    races, size = summary(view)
+    notes = [element("p", with_commands(note), class_="verdict good" if view.verdict.is_good and not number else "faint")
+             for number, note in enumerate(notes_of(view))]
+    return element("header", *verdict, element("h1", view.title), *(element("p", note, class_="verdict bad") for note in view.notes),
+                   element("p", races, class_="sum"), element("p", size, class_="faint size"), *notes,
+                   *(element("p", line, class_="faint") for line in view.about))
+
+
+def group_row(view, number, section, tag):
+    """A group's row, and its text."""
+    tags = [element("span", word, class_=f"tag {word.split()[0]}") for word in [*[tag] * bool(tag), *["perhaps ordered"] * bool(section.unseen)]]
+    cells = {"no": number, "var": marked(common_name(section.group.variables), NAME), "fact": joined([marked(section.fact.tag, NAME), *tags]),
+             "at": marked([place(blamed(section))], NAME), "races": counted(section.group.races() or section.group.count(), "race" if section.group.races() else "place")}
+    cells = [element("span", cell, class_=name) for name, cell in cells.items()]
+    return element("details", element("summary", joined(cells, " ")), element("pre", "\n".join(issue_lines(view, section))),
+                   class_=f"group rank{RANKS[section.fact.form]}", id=f"group-{number}")
+
+
+def blamed(section):
+    """The racing line that the headline names first, or the first one that there is."""
+    return blamed_of(section.fact, section.group.locations()) or section.sites[0].location or b""
+
+
+class Tables:
+    """The frames and the stacks of the page, each once."""
+
+    def __init__(self):
+        self.frames, self.stacks = {}, {}
+
+    def add(self, frames):
+        """The number of a stack; -1 where none is known."""
+        rows = tuple(self.frames.setdefault(frame, len(self.frames)) for frame in frames[:MOST_FRAMES])
+        return self.stacks.setdefault(rows, len(self.stacks)) if rows else -1
+
+
+def data(view):
+    """What the script draws from. Parts are lists in which names stand in lists of their own."""
+    tables, size, groups = Tables(), 0, []
+    for section in view.sections:
+        is_drawn = section.window and size < MOST_BYTES
+        groups.append(group_data(view, section, tables) if is_drawn else None)
+        size += len(json.dumps(groups[-1]))
+    frames = [[told(frame_parts(frame), LINE), frame.in_system] for frame in tables.frames]
+    return {"groups": groups, "frames": frames, "stacks": list(tables.stacks)}
+
+
+def told(parts, most=NAME):
+    return [[short(part, most)] if isinstance(part, Code) else part for part in parts]
+
+
+def group_data(view, section, tables):
+    sites = [[told([place(site.location)] if site.location is not None else ["further lines"]),
+              code_line(view.source.code(site.location) or b"", LINE), accesses_text(site, not view.of_run),
+              told(thread_parts(site) if site.location is not None else []),
+              [[kind, told(parts)] for kind, parts in lock_words(site)], told(partner_parts(site)), bool(site.partners)]
+             for site in section.sites[:MOST_SITES]]
+    sides = [side_data(view, section, access, tables) for access in section.window.accesses]
+    return {"about": list(map(told, about(section))), "sides": sides, "note": order_text(view, section.window),
+            "picture": picture(section.window, view.kinds), "again": again(view, section), "sites": sites,
+            "more": max(0, len(section.sites) - MOST_SITES),
+            "stacks": other_stacks(section, {side["stack"] for side in sides}, tables),
+            "origins": [[told(parts), tables.add(frames)] for parts, frames in origins(view, section)[:MOST_ORIGINS]]}
+
+
+def side_data(view, section, access, tables):
+    """An access, and the lines of code around it from the acquire of its newest lock on."""
+    window, row = section.window, section.window.events[access]
+    found, frames = view.source.place(row.event.location), view.stacks.of_event(access)
+    locks = listed([lock_parts(lock) for lock, _ in row.locks], len(row.locks))
+    side = {"at": told([place(row.event.location)]), "verb": VERBS[view.kinds.of(access, row.event.word, row.event.name)],
+            "thread": short(row.event.thread, NAME), "locks": told(["holding ", *locks] if locks else [NO_LOCK]), "bare": not locks,
+            "stack": tables.add(frames), "fault": found.fault if found else ""}
+    if found and found.line() is not None:
+        acquire = view.source.place(window.events[row.locks[-1][1]].event.location) if row.locks else None
+        lines = excerpt(found, acquire)
+        uses = [view.source.place(use.location) for pair in section.fact.pairs() for use in (pair.store, pair.load)]
+        atomics = {use.number for use in uses if use and use.path == found.path}
+        side.update(first=lines.numbers[0], lines=[code_line(found.lines[number - 1].rstrip(), LINE) for number in lines.numbers],
+                    hit=found.number, held=list(lines.held), atomics=sorted(atomics & set(lines.numbers)),
+                    head=code_line(function_words(lines.head, frames, row.event.location), LINE) if lines.head else "")
+    return side
+
+
+def function_words(head, frames, location):
+    """The function of a location: the line that it begins with, where this has its name, as not in a class; else its name in the stack."""
+    function = next((bare(frame.function) for frame in frames if frame.location == location), b"")
+    name = function.split(b"::")[-1].split(b"<")[0]
+    return head.rstrip(b" {") if name in head else function
+
+
+def again(view, section):
+    """Commands that run the interleaving again, alone and in a debugger that stops at the accesses; and the
+    one that makes its schedule again and judges it. Each with what it is."""
+    has_schedule = bool(view.judge and section.window.schedule)
+    judged = [["its schedule, made again and judged", view.judge]] * has_schedule
+    if not view.turns:
+        return judged
+    first = f"shb-record --replay {shlex.quote(view.turns)}"
+    lines = dict.fromkeys(section.window.events[access].event.location for access in section.window.accesses)
+    stops = [f"-ex {shlex.quote('break ' + readable(line))}" for line in lines if line_of(line)]
+    in_debugger = " ".join([first, "gdb", *stops, "-ex run --args", view.command])
+    return [["with the same turns of the threads", f"{first} {view.command}"],
+            ["in a debugger that stops at the two lines", in_debugger], *judged]
+
+
+def other_stacks(section, shown, tables):
+    """Further stacks of the racing lines, with how many of a line's racing accesses have each."""
+    found = []
+    for site in section.sites[:MOST_SITES]:
+        callers = section.callers.get(site.location, [])
+        total = sum(count for _, count in callers)
+        rows = [[share(count, total, is_bare), tables.add(frames)] for (frames, is_bare), count in callers[:MOST_STACKS]]
+        if {stack for _, stack in rows} - shown - {-1}:
+            found.append([told([place(site.location)]), rows, max(0, len(callers) - MOST_STACKS)])
+    return found

@@ -1,0 +1,181 @@
+"""What page.js draws a picture of a race from: a lane for each thread, a row for each event, and both accesses last. Where lines and texts
+stand is decided here; the script writes them, and cuts texts in a narrow window. All lines are left of the column of texts, so none crosses
+a text."""
+
+import collections
+
+from shb_view.names import short
+from shb_view.words import NO_LOCK, VERBS, flat_in, lock_parts
+
+TEXT, TIP = 36, 240  # columns
+MOST_BARS = 4
+STUB = 0.4  # rows that a bar goes on where its lock's acquire or release isn't shown
+WORDS = {**VERBS, b"acq": "acquires", b"rel": "releases", b"fork": "starts", b"join": "joins", b"begin": "begins", b"end": "ends"}
+# Pixels: of a row; of a thread's name; between a lane and what is right of it; between neighbours; of a bar and of a letter along it; the
+# bends of arrows; the circle of an access.
+ROW, HEAD, GAP, STEP, BAR, LETTER, ROUND, ACCESS = 38, 19, 16, 7, 16, 6.7, 5, 8
+BAND, LINE = 22 + ROW, 14  # from the band's top to the accesses; between lines of text
+
+
+def picture(window, kinds):
+    """`x` has the place of each lane and `texts` that of all texts, `band` is the top of the band with both accesses."""
+    events = [*window.before, *window.accesses]
+    names = dict.fromkeys(window.events[event].event.thread for event in [*window.accesses, *window.before])
+    lanes = {thread: lane for lane, thread in enumerate(names)}
+    edges = [Edge(events.index(source), events.index(event), is_seen(window, source, event)) for source, event in needed(window, events)]
+    drawn = Layout(len(lanes), [lanes[window.events[event].event.thread] for event in events], edges, bars_of(window, events, lanes))
+    return {"lanes": [short(thread, TEXT) for thread in lanes], "x": drawn.x, "texts": drawn.texts, "band": drawn.band, "height": drawn.band + 26 + 3 * ROW,
+            "events": [event_data(window, kinds, event, drawn, at) for at, event in enumerate(events)],
+            "gaps": gaps(window, events), "edges": [[drawn.path(it), *drawn.head(it), int(edge.is_seen)] for it, edge in enumerate(edges)],
+            "bars": [[*drawn.rectangle(it), bar.name, drawn.name(it)] for it, bar in enumerate(drawn.bars)]}
+
+
+class Edge(collections.namedtuple("Edge", "first second is_seen")):
+    """An arrow from an event to another one, by their places in the list of events. `is_seen`: the one reads what the other wrote."""
+
+
+class Bar(collections.namedtuple("Bar", "lane name top bottom")):
+    """A lock that a lane's thread holds, from a row to a row."""
+
+
+class Layout:
+    """Where all stands. `events` are their lanes, in the order of their rows; the last two stand in one row."""
+
+    def __init__(self, lanes, events, edges, bars):
+        self.events, self.edges, self.bars, self.last = events, edges, bars, len(events) - 2
+        self.top = HEAD * lanes + 4
+        self.band = self.top + ROW * self.last + 6
+        self.y = [self.height(min(at, self.last)) for at in range(len(events))]
+        self.spans = [(bar.lane, self.height(bar.top), self.height(bar.bottom) if bar.bottom <= self.last else self.band + BAND + GAP) for bar in bars]
+        self.bar_slots = slots(self.spans)
+        self.edge_slots = slots([(self.gap(edge), self.y[edge.first], self.y[edge.second]) for edge in edges])
+        self.x, right = [], 6
+        for lane in range(lanes):
+            self.x.append(right + BAR * most_slots(self.bar_slots, [bar.lane for bar in bars], lane) + 8)
+            right = self.x[lane] + GAP + STEP * most_slots(self.edge_slots, list(map(self.gap, edges)), lane)
+        self.texts = right + 4
+
+    def height(self, row):
+        return self.band + BAND if row == self.last else self.top + ROW * row + ROW // 2
+
+    def gap(self, edge):
+        """The lane right of which an arrow goes down: left of the lane where it ends, or right of it if it comes from there."""
+        first, second = self.events[edge.first], self.events[edge.second]
+        return second - 1 if first < second else second
+
+    def text(self, at):
+        """The height of an event's first line of text."""
+        return self.y[at] - 2 if at < self.last else self.band + 38 + (ROW + LINE) * (at - self.last)
+
+    def rectangle(self, it):
+        """Left, top and height of a bar."""
+        lane, top, bottom = self.spans[it]
+        return self.x[lane] - 8 - BAR * (self.bar_slots[it] + 1) + 2, round(top, 1), round(bottom - top, 1)
+
+    def name(self, it):
+        """As much of a bar's name as there is room for along it."""
+        _, top, bottom = self.spans[it]
+        most = int((bottom - top - 6) / LETTER)
+        name = self.bars[it].name
+        return name if len(name) <= most else f"{name[:most - 1]}…" if most > 7 else ""
+
+    def unnamed(self, at):
+        """The locks that begin to be held at an event, or are held there first, whose bars have no room for their names."""
+        return [bar.name for it, bar in enumerate(self.bars) if self.name(it) != bar.name and at == next(
+            event for event, lane in enumerate(self.events) if lane == bar.lane and min(event, self.last) >= bar.top)]
+
+    def down(self, it):
+        """Where an arrow goes down."""
+        return self.x[self.gap(self.edges[it])] + GAP + STEP * self.edge_slots[it] - 6
+
+    def ends(self, it):
+        """Left and right, where an arrow begins and where its head is."""
+        edge = self.edges[it]
+        reach = ACCESS + 1 if edge.second >= self.last else ROUND
+        end = self.x[self.events[edge.second]]
+        return self.x[self.events[edge.first]], end - reach if self.down(it) < end else end + reach
+
+    def path(self, it):
+        edge, down, (begin, end) = self.edges[it], self.down(it), self.ends(it)
+        first, second = self.y[edge.first], self.y[edge.second]
+        turn, back = ROUND if begin < down else -ROUND, ROUND if down < end else -ROUND
+        return (f"M{begin} {first}H{down - turn}Q{down} {first} {down} {first + ROUND}V{second - ROUND}"
+                f"Q{down} {second} {down + back} {second}H{end}")
+
+    def head(self, it):
+        """The tip of an arrow, and how far its back is from there."""
+        _, end = self.ends(it)
+        return end, self.y[self.edges[it].second], -7 if self.down(it) < end else 7
+
+
+def slots(spans):
+    """For each span, a group with a top and a bottom, the first place in its group where it overlaps no other."""
+    taken, found = {}, []
+    for group, top, bottom in spans:
+        slot = 0
+        while any(top < end + STEP and start < bottom + STEP for start, end in taken.get((group, slot), ())):
+            slot += 1
+        taken.setdefault((group, slot), []).append((top, bottom))
+        found.append(slot)
+    return found
+
+
+def most_slots(found, groups, group):
+    return max((slot + 1 for slot, its in zip(found, groups) if its == group), default=0)
+
+
+def event_data(window, kinds, event, drawn, at):
+    """An event with its lane, its height and that of its texts, what these are, and its tip."""
+    shown = window.events[event]
+    word = kinds.of(event, shown.event.word, shown.event.name)
+    location = short(shown.event.location, TEXT) if shown.event.location else "(no location)"
+    name = short(shown.named.name, TEXT - 9) if shown.named.name else ""
+    others = [lock for lock in drawn.unnamed(at) if lock != name] if at < drawn.last else []
+    number = f"{at - drawn.last + 1}  " if at >= drawn.last else ""
+    return [event, drawn.events[at], drawn.y[at], drawn.text(at), f"{number}{WORDS[word]} {name}".rstrip(),
+            f"{location} · {event}" + (f" · holds {', '.join(others)}" if others else ""), tip(shown)]
+
+
+def gaps(window, events):
+    """For each event whether events of its thread before it are left out."""
+    last, found = {}, []
+    for event in events:
+        shown = window.events[event]
+        found.append(int(shown.previous != last.get(shown.event.thread, 0)))
+        last[shown.event.thread] = event
+    return found
+
+
+def bars_of(window, events, lanes):
+    rows = {event: min(row, len(window.before)) for row, event in enumerate(events)}
+    bars = {}
+    for event in events:
+        shown = window.events[event]
+        for lock, acquire in shown.locks[-MOST_BARS:]:
+            top = bars[acquire].top if acquire in bars else rows.get(acquire, rows[event] - STUB)
+            bars[acquire] = Bar(lanes[shown.event.thread], short(lock, TEXT), top, rows[event] + (0 if shown.freed == lock else STUB))
+    return list(bars.values())
+
+
+def needed(window, events):
+    """The edges but for those that an earlier one from the same thread to the same thread makes needless."""
+    latest, found = {}, []
+    for source, event in sorted(window.edges, key=lambda edge: (events.index(edge[1]), -events.index(edge[0]))):
+        threads = window.events[source].event.thread, window.events[event].event.thread
+        if events.index(source) > latest.get(threads, -1):
+            latest[threads] = events.index(source)
+            found.append((source, event))
+    return found
+
+
+def is_seen(window, source, event):
+    """Whether the later event reads what the earlier one wrote."""
+    later = window.events[event]
+    return later.event.word == b"r" and later.source == source
+
+
+def tip(shown):
+    """The line of an event and its number in the file, and the locks that its thread holds."""
+    names = [flat_in(TEXT)(lock_parts(lock)) for lock, _ in shown.locks]
+    more = [f"{shown.held - len(names):,} more"] if shown.held > len(names) else []
+    return f"line {shown.row}: {short(shown.line, TIP)}\n" + (f"holds {', '.join(names + more)}" if names or more else NO_LOCK)

@@ -1,0 +1,127 @@
+"""Tries remedies on the trace: with what they change there must be no race of their variables any more. One
+`shb places` tries all: its trace has a copy for each change, with names of its own."""
+
+import bisect
+import collections
+import tempfile
+
+from shb_common.analyser import LIST_VARIABLES
+from shb_common.faults import Refused
+from shb_common.report import Report
+from shb_common.variables import without_end
+from shb_view.analyser import Analyser
+from shb_view.moves import Change, move_of
+from shb_view.trace import OPENS, event_of
+
+MOST_LINES = 400_000  # of all copies
+TRIED = {"run": " Tried on this run: no race of it is left in the page's trace.",
+         "trace": " Tried on this trace: no race of it is left."}
+TOO_LONG = ["The remedy isn't told, since the trace is too long to try it."]
+
+
+def trials_of(found, facts, counting):
+    """The changes that are to be tried of some groups, by the keys of what hands on, or by variables."""
+    named, trials = {}, {}
+    for names, pairs in [handed for one in found for handed in one.fact.handed]:
+        named.setdefault(keys_of(pairs), set()).update(names)
+    for keys, names in named.items():
+        pairs = [pair for its in facts.pairs.values() for pair in its if pair.key()[:3] in keys]
+        trials[keys] = Change(names, ordered(facts.kinds.stacks.uses, pairs))
+    moves = {one.group.names: move_of(one, counting) for one in found
+             if one.fact.form == "no-lock" and one.fact.remedy}
+    return {**trials, **{names: move for names, move in moves.items() if move}}
+
+
+def keys_of(pairs):
+    return frozenset(pair.key()[:3] for pair in pairs)
+
+
+def ordered(uses, pairs):
+    """A release and an acquire at each pair of a store and a load: in a trace, a lock of its own."""
+    before, numbers = collections.defaultdict(list), {id(use): number for number, use in enumerate(uses)}
+    for lock, pair in enumerate(pairs):
+        for use in (pair.store, pair.load):
+            before[use.event].append((numbers[id(use)], use.thread, lock))
+    return {event: [b"%b|%b(!%d)|" % (thread, word, lock) for _, thread, lock in sorted(its)
+                    for word in (b"acq", b"rel")] for event, its in before.items()}
+
+
+def still_racing(program, trace, changes):
+    """Of each change the variables that still race: of the first ones, if all are too much to try."""
+    changes = changes[:MOST_LINES // trace.count()]
+    with tempfile.TemporaryFile() as file, tempfile.TemporaryFile() as listed:
+        bounds = write_copies(file, trace, changes)
+        file.flush()
+        try:
+            Analyser(program, file).write(LIST_VARIABLES, listed)
+        except Refused:  # as for too many threads
+            return []
+        racing = [set() for _ in changes]
+        for race, accesses in Report(listed).races():
+            if bisect.bisect(bounds, race.first) == bisect.bisect(bounds, race.second):
+                number, _, name = accesses[0].name.partition(b"~")
+                racing[int(number)].add(name)
+    return racing
+
+
+def write_copies(file, trace, changes):
+    """Writes the copies, and returns their events with which a part of the trace begins."""
+    bounds, count = [], 0
+    for number, change in enumerate(changes):
+        mark = b"%d~" % number
+        for event, lines in copy(trace, change):
+            if event in trace.parts:
+                bounds.append(count + 1)
+            file.writelines(marked(mark, line) for line in lines)
+            count += len(lines)
+    return bounds
+
+
+def copy(trace, change):
+    """Each event of the trace with the lines that there are at it after the change, without accesses of other
+    variables."""
+    number = 0
+    for number, _, operation, line in trace.events("trying remedies"):
+        is_there = number not in change.moved and (operation[1] != OPENS or operation[2:-1] in change.names)
+        yield number, [*change.before.get(number, ()), *[line] * is_there]
+    yield number + 1, change.before.get(number + 1, ())
+
+
+def marked(mark, line):
+    """A line with names of a copy's own."""
+    event = event_of(without_end(line))
+    operand = b"(%b%b)" % (mark, event.name) if event.name else b""
+    return b"%b%b|%b%b|%b\n" % (mark, event.thread, event.word, operand, event.location)
+
+
+def after_trials(found, facts, trials, left, again):
+    """The groups with what trials say of remedies; `again` makes them anew, without what was refuted."""
+    good, refuted = {}, set()
+    for (key, change), its in zip(trials.items(), left):
+        good[key] = change.names - its
+        refuted |= its if isinstance(key, frozenset) else set()
+    if refuted:
+        facts.refute(refuted)
+        found = again()
+    return [tried(one, facts.whole, trials, good, len(left) < len(trials)) for one in found]
+
+
+def tried(found, whole, trials, good, is_too_long):
+    """A group with the remedy that was tried, or without one."""
+    fact, names = found.fact, set(found.group.names)
+    move = trials.get(found.group.names)
+    if move and names <= good.get(found.group.names, set()):
+        said = {"moved": sorted(move.moved), "before": min(move.before)}
+        fact = fact._replace(said={**fact.said, **said}, remedy=[*move.remedy, TRIED[whole]])
+    elif not all(good.get(keys_of(pairs), set()).issuperset(its) for its, pairs in fact.handed):
+        fact = fact._replace(remedy=[], sentences=[*fact.sentences, *[TOO_LONG] * is_too_long])
+    elif fact.handed:
+        fact = fact._replace(said=said_tried(fact.form, fact.said), remedy=[*fact.remedy, TRIED[whole]])
+    return found._replace(fact=fact)
+
+
+def said_tried(form, said):
+    """What a fact says, with the word that its remedy was tried."""
+    if form == "mixed":
+        return {**said, "parts": [said_tried(part["form"], part) for part in said["parts"]]}
+    return {**said, "is_tried": True} if form == "published" else said

@@ -1,0 +1,120 @@
+"""The second pass over a trace: what is shown before two racing accesses, and what orders it."""
+
+import collections
+
+from shb_view.held import Held, Operations
+from shb_view.trace import OPENS, event_of, line_of
+
+SOURCES = {b"acq": b"rel", b"r": b"w"}  # what an operation waits for or sees
+
+
+class Shown(collections.namedtuple("Shown", "number row line event named previous source locks held freed")):
+    """An event that is shown. `named` is the event with the program's name for its variable or lock, and `line` its line with that.
+    `previous` is the event before it in its thread, or 0. `source` is the event of another thread that
+    it waits for or sees: for an acquire the last release of the lock, for a read the last write, for a join the thread's last
+    event; or 0. `locks` and `held` are as `Held.newest` has them; `freed` is the lock that it makes free, or None."""
+
+
+class Moment(collections.namedtuple("Moment", "previous locks held freed")):
+    """What the pass notes at an event."""
+
+
+class Window(collections.namedtuple("Window", "race accesses before edges forks events schedule")):
+    """A race with what comes before it. `before` are the events before the accesses in the order of its schedule or of the trace;
+    `edges` are pairs of events of different threads, the earlier first; `forks` has the fork of each access's thread, or 0;
+    `schedule` is a `report.Schedule`, or None."""
+
+
+class Moments:
+    """Notes the wanted events, and of some operations the last one before each wanted event."""
+
+    def __init__(self, wanted, sources, locals):
+        """`sources` has for an event the operation that it waits for or sees, `w(X)` or `rel(L)`; `locals` the names of locks on
+        stacks."""
+        self.wanted, self.sources = wanted, sources
+        self.tracked = set(sources.values())
+        self.latest = {}  # of a tracked operation: its last event, its thread and its moment
+        self.moments = {}
+        self.found = {}  # by event: its source, where that is an event of another thread
+        self.held, self.operations = collections.defaultdict(Held), Operations(locals)  # by thread
+        self.last = {}  # by thread
+
+    def read(self, trace):
+        wanted, tracked, last, operations = self.wanted, self.tracked, self.last, self.operations
+        end = max(wanted, default=0)
+        for number, thread, operation, _ in trace.events("reading what comes before"):
+            if number in trace.parts:
+                self.latest.clear()
+            if number in wanted or operation in tracked:
+                self.note(number, thread, operation)
+            if operation[1] != OPENS and operations[operation]:
+                self.held[thread].take(*operations[operation], number)
+            last[thread] = number
+            if number >= end:
+                break
+
+    def note(self, number, thread, operation):
+        held = self.held[thread]
+        is_acquire, lock = operation[1] != OPENS and self.operations[operation] or (True, None)
+        freed = lock if not is_acquire and held.is_last_release(lock) else None
+        moment = Moment(self.last.get(thread, 0), *held.newest(), freed)
+        if number in self.wanted:
+            self.moments[number] = moment
+            source, by, its_moment = self.latest.get(self.sources.get(number), (0, thread, None))
+            if by != thread:
+                self.found[number] = source
+                self.moments[source] = its_moment
+        if operation in self.tracked:
+            self.latest[operation] = number, thread, moment
+
+
+def make_windows(trace, races, counting, order):
+    """A window for each race. `order` returns some events in the order of a race's schedule, and
+    that schedule."""
+    accesses = {access: event_of(line).thread for race in races
+                for access, line in ((race.first, race.first_line), (race.second, race.second_line))}
+    before = {event for access in accesses for event in counting.noted[access].before}
+    forks = {access: counting.begins[thread].event if thread in counting.begins else 0
+             for access, thread in accesses.items()}
+    acquires = {acquire for access in accesses for _, acquire in counting.noted[access].locks}
+    events = {number: event_of(found.line) for number, found in trace.find(before).items()}
+    joined = {number: counting.joined[number] for number in events if number in counting.joined}
+    wanted = {*accesses, *before, *filter(None, forks.values()), *acquires, *joined.values()}
+    sources = {number: b"%b(%b)" % (SOURCES[event.word], event.name) for number, event in events.items() if event.word in SOURCES}
+    moments = Moments(wanted, sources, counting.access_kinds.locks)
+    moments.read(trace)
+    moments.found.update(joined)
+    found = trace.find(moments.moments)
+    shown = {number: shown_event(number, found[number], counting.access_kinds, moment, moments.found.get(number, 0))
+             for number, moment in moments.moments.items()}
+    return [window(race, counting, forks, shown, order) for race in races]
+
+
+def shown_event(number, found, kinds, moment, source):
+    event = event_of(found.line)
+    named = kinds.named(number, event)
+    line = line_of(named) if named != event else found.line
+    return Shown(number, found.row, line, event, named, moment.previous, source, *moment[1:])
+
+
+def window(race, counting, forks, shown, order):
+    """What is shown of a race. The last write of an access isn't, since a schedule needn't have it."""
+    accesses = race.first, race.second
+    before, starts = set(), {}
+    for access in accesses:
+        noted = counting.noted[access]
+        before.update(noted.before, (acquire for _, acquire in noted.locks))
+        for event in (*noted.before, access):
+            if not shown[event].previous and forks[access]:
+                starts[event] = forks[access]
+        before.update(starts.values(), filter(None, (shown[event].source for event in noted.before)))
+    before = {event for event in before if stands_before(shown, event, accesses)}
+    ordered, schedule = order(race, sorted(before))
+    sources = {event: (starts.get(event, 0), 0 if event in accesses else shown[event].source) for event in (*ordered, *accesses)}
+    edges = [(source, event) for event, found in sources.items() for source in found if source in before]
+    return Window(race, accesses, ordered, edges, forks, shown, schedule)
+
+
+def stands_before(shown, event, accesses):
+    """Whether neither access, nor an event after one in its thread, is this event."""
+    return all(event < access or shown[event].event.thread != shown[access].event.thread for access in accesses)

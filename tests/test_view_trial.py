@@ -1,0 +1,133 @@
+"""Remedies that the view tries on the trace of a recorded run's page."""
+
+import array
+import collections
+import json
+import re
+import unittest.mock
+
+import facts_reader
+import program
+import viewing  # puts the view's packages on the path
+
+from shb_common.uses import Uses
+from shb_view import trial
+from shb_view.command import asked, explain
+
+HANDED = ["main|fork(A)|f.c:1", "main|fork(B)|f.c:1", "A|w(x)|f.c:2", "B|r(x)|f.c:6"]
+FLAG = ["use 4\tflag\tA\tf.c:3\tstore relaxed", "use 4\tflag\tB\tf.c:5\tload relaxed"]
+# B reads x once more, without a load of the flag before. The lock orders its first read and A's second write.
+AGAIN = [*HANDED, "B|acq(m)|f.c:7", "B|rel(m)|f.c:7", "A|acq(m)|f.c:4", "A|rel(m)|f.c:4", "A|w(x)|f.c:2",
+         "A|w(y)|f.c:8", "B|r(x)|f.c:6"]
+TRIED = ". Tried on this run: no race of it is left in the page's trace."
+REMEDY = f"write flag with release at f.c:3 and read flag with acquire at f.c:5{TRIED}"
+LATE = ["main|fork(A)|f.c:1", "main|w(x)|f.c:2", "A|r(x)|f.c:6"]
+EARLY = ["main|fork(A)|f.c:1", "A|w(x)|f.c:6", "A|w(x)|f.c:6", "main|r(x)|f.c:2", "main|join(A)|f.c:3"]
+
+
+class Trials(program.Case):
+    def group(self, lines, beside=(), more=(), stacks=(), held=()):
+        """The only group of a run with these lines, which are the page's trace too; and its remedy. Pairs in
+        `held` are locations with the lock that is held there."""
+        paths = {name: self.folder / f"page.{name}" for name in ("std", "scan", "stacks", "uses", "json")}
+        trace = "".join(f"{line}\n" for line in lines).encode()
+        paths["std"].write_bytes(trace)
+        paths["scan"].write_bytes(program.run(["places", "--list", "--variables"], trace).out)
+        numbers = array.array("I", stacks or [0] * len(lines))
+        stacks = b"shb-stacks 1 %020d\n" % len(lines) + numbers.tobytes()
+        stacks += "".join(f"{line}\n" for line in beside).encode()
+        paths["stacks"].write_bytes(stacks)
+        counts = collections.Counter(tuple(re.split(r"[|()]+", line)) for line in lines)
+        locks = {at: f"\t{lock}" for at, lock in held}
+        kinds = [f"use\t{count}\t{word}\t{name}\t\t{thread}\t{at}\t0{locks.get(at, '')}"
+                 for (thread, word, name, at), count in counts.items() if word in "rw"]
+        events = [f"event\t{number}\t{number}" for number in range(1, len(lines) + 1)]
+        whole = [*kinds, *events, *more, f"events\t{len(lines)}"]
+        paths["uses"].write_text("".join(f"{line}\n" for line in whole))
+        options = asked(str(paths["std"]), listed=str(paths["scan"]), uses=Uses(paths["uses"]),
+                        stacks=str(paths["stacks"]), json=str(paths["json"]), shb=str(program.PATH))
+        status, _ = explain(options, None)
+        document = json.loads(paths["json"].read_text())
+        [group], [remedy] = document["groups"], {place["remedy"] for place in document["places"]}
+        self.reader = facts_reader.Reader(trace, stacks, paths["uses"].read_bytes())
+        self.assertEqual((status, self.faults(group)), (0, []))
+        return group, remedy
+
+    def faults(self, group, **more):
+        return list(self.reader.faults([({**group, **more}, group["pairs"])]))
+
+    def test_an_order_that_is_enough(self):
+        group, remedy = self.group(HANDED, FLAG)
+        self.assertEqual((group["form"], group["is_tried"], remedy), ("published", True, REMEDY))
+        self.assertEqual(self.faults(group, form="no-lock", is_refuted=True, writes=["f.c:2"], writers=["A"]),
+                         ["no-lock of ['x']: no remedy is refuted"])
+
+    def test_a_race_that_it_leaves(self):
+        """Without a remedy, and the facts of the accesses alone."""
+        group, remedy = self.group(AGAIN, FLAG)
+        self.assertEqual((group["form"], group["is_refuted"], remedy), ("no-lock", True, ""))
+        use = {"location": "f.c:3", "thread": "A", "event": 4, "kind": "store", "order": "relaxed"}
+        load = {**use, "location": "f.c:5", "thread": "B", "kind": "load"}
+        by = {"atomic": "flag", "store": use, "load": load, "missing": ["release", "acquire"]}
+        self.assertIn("published of ['x']: the remedy leaves a race",
+                      self.faults(group, form="published", by=[{**by, "races": [[3, 4]]}], is_tried=True))
+
+    def test_a_race_across_parts_is_none(self):
+        group, remedy = self.group(AGAIN, FLAG, ["part\t11"])
+        self.assertEqual((group["form"], remedy), ("published", REMEDY))
+        group, remedy = self.group(AGAIN, FLAG, ["part\t9"])
+        self.assertEqual((group["form"], remedy), ("no-lock", ""))
+
+    def test_a_write_that_is_repeated_after_a_store(self):
+        beat = ["use 3\tflag\tA\tf.c:3\tstore relaxed", *FLAG]
+        self.assertEqual(self.group(HANDED, beat, ["repeated\t3"])[0]["form"], "no-lock")
+        self.assertEqual(self.group(HANDED, beat)[1], REMEDY)
+        beat = [f"{FLAG[0]} again", FLAG[1]]  # it stands for stores before the repeated write too
+        self.assertEqual(self.group(HANDED, beat, ["repeated\t3"])[0]["form"], "no-lock")
+        self.assertEqual(self.group(HANDED, beat)[1], REMEDY)
+        self.assertEqual(self.group(HANDED, FLAG, ["repeated\t3"])[1], REMEDY)
+        self.assertEqual(self.group(HANDED, beat, ["repeated\t4"])[1], REMEDY)
+
+    def test_a_trace_that_is_too_long(self):
+        with unittest.mock.patch.object(trial, "MOST_LINES", len(HANDED) - 1):
+            group, remedy = self.group(HANDED, FLAG)
+        self.assertEqual((group["form"], "is_tried" in group, remedy), ("published", False, ""))
+
+    def test_a_write_that_comes_after_its_readers_creation(self):
+        group, remedy = self.group(LATE)
+        self.assertEqual((group["moved"], group["before"]), ([2], 1))
+        self.assertEqual(remedy, f"move f.c:2 before the thread's creation at f.c:1{TRIED}")
+        self.assertEqual(self.faults(group, before=3), ["no-lock of ['x']: the move leaves a race"])
+
+    def test_a_read_that_comes_before_a_join(self):
+        group, remedy = self.group(EARLY)
+        self.assertEqual((group["moved"], group["before"]), ([4], 6))
+        self.assertEqual(remedy, f"move f.c:2 after the join at f.c:3{TRIED}")
+        self.assertEqual(self.faults(group, before=5), ["no-lock of ['x']: the move leaves a race"])
+
+    def test_a_lock_that_one_thread_alone_uses(self):
+        lock = "stack.A-0x10"
+        lines = ["main|fork(A)|f.c:1", f"A|acq({lock})|f.c:2", "A|w(x)|f.c:3", f"A|rel({lock})|f.c:4", "main|r(x)|f.c:6"]
+        group, remedy = self.group(lines, held=[("f.c:3", lock)])
+        self.assertEqual((group["form"], remedy), ("apart", ""))
+        said = {"form": "without", "lines": ["f.c:6"], "sometimes": [], "holding": ["f.c:3"], "scope": "writes"}
+        self.assertEqual(self.faults(group, **said, locks={"x": lock}, name=lock, instead={}),
+                         ["without of ['x']: one thread alone uses the lock"])
+
+    def test_a_local_that_is_gone(self):
+        lines = ["main|fork(A)|f.c:1", "main|w(stack.main-0x10)|f.c:4", "A|r(stack.main-0x10)|f.c:2"]
+        beside = ["system-frame a::sleep<b>(int)\tf.c:4", "frame handle\tf.c:2", "stack 1 0 1", "stack 2 0 2",
+                  "local 2\tstack.main-0x10\tts of sleep<b>"]
+        group, remedy = self.group(lines, beside, stacks=[0, 1, 2])
+        self.assertEqual((group["form"], group["gone"], remedy), ("no-lock", ["f.c:2"], ""))
+        self.assertEqual(self.faults(group, gone=[]), ["no-lock of ['stack.main-0x10']: other lines use what is gone"])
+        self.assertNotIn("gone", self.group(lines, beside, stacks=[0, 2, 2])[0])
+        self.assertNotIn("gone", self.group(lines, beside, stacks=[0, 1, 1])[0])
+        buffer = [*beside[:-1], "local 2\tstack.main-0x10\tbuffer of main"]  # which a system's function fills
+        self.assertNotIn("gone", self.group(lines, buffer, stacks=[0, 1, 2])[0])
+
+    def test_what_is_not_moved(self):
+        """A flag that is read again, or set again; a result that is waited for, or has no join."""
+        for lines, more in (([*LATE, LATE[2]], []), ([*LATE, LATE[1]], []), (LATE, ["repeated\t3"]),
+                            (LATE, ["repeated\t2"]), (EARLY, ["repeated\t4"]), (EARLY[:-1], [])):
+            self.assertNotIn("moved", self.group(lines, (), more)[0])
