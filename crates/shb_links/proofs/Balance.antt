@@ -1,16 +1,8 @@
 -- A lock after disciplined events has at most one holder, and what follows from that between two positions.
-use Rattle.std.proofs.lemmas.Grind.{common_steps}
+use Rattle.shb_links.proofs.Words.{Acquire, Decided, Event, IsDisciplined, MayCome, MayDo, Op, Release, acquires, cases_Bool, cases_eq, cases_lt, common_steps, count_gap, count_mono, count_more_no, eqb-true, is_acquire, is_release, ne_eqb, only, op_is_acquire, op_is_release, other_than, releases, slice_get_cases, some_below, take_more_past}
 use Rattle.std.proofs.Common.{◌≡◌, ◌≢◌, ℕ, zero, suc, ◌+◌, ◌-◌, ◌<◌, ◌≤◌, ◌⊎◌, inl, inr, Bool, true, false, List, [], ◌∷◌, ◌++◌, Some, take, refl, sym, ◌∙◌, ap, arith, subst, add-one}
 use Rattle.std.specs.Prelude.{slice_get, count_by, cond, ◌==◌}
 use Rattle.std.proofs.Math.Bool.{and-false, and-true}
-use Rattle.std.proofs.lemmas.Bool.{cases_Bool, cases_eq, cases_lt, eqb-true, ne_eqb}
-use Rattle.std.proofs.lemmas.Option.{slice_get_cases}
-use Rattle.shb_lines.specs.declared.event.Event.{Event}
-use Rattle.shb_lines.specs.declared.event.Op.{Op}
-use Rattle.shb_lines.specs.declared.event.Op.TheVariants.{Acquire, Release}
-use Rattle.shb_lines.specs.events.Discipline.{IsDisciplined, MayCome, MayDo, acquires, releases, other_than, only, is_acquire, is_release, op_is_acquire, op_is_release}
-use Rattle.shb_lines.proofs.events.Counts.{count_more_no, count_mono, count_gap, take_more_past}
-use Rattle.shb_lines.proofs.events.Listed.{Decided, some_below}
 use Rattle.shb_lines.proofs.events.Locks.{DisciplinedBelow}
 use Rattle.shb_discipline.proofs.Steps.{acquire_test, acquired_lock, count_more, front_more, other_lock, release_test, released_lock}
 use Rattle.shb_discipline.specs.State.{IsLockAfter}

@@ -1,18 +1,7 @@
 -- The local time of an event, as a number of events.
 use Rattle.std.proofs.Common.{◌≡◌, ℕ, zero, suc, ◌+◌, ◌<◌, ◌≤◌, ◌⊎◌, inl, inr, true, false, List, Some, length, take, arith, sym, ◌∙◌, ap, add-one}
 use Rattle.std.specs.Prelude.{count_by, slice_get}
-use Rattle.std.proofs.lemmas.Bool.{cases_Bool}
-use Rattle.std.proofs.lemmas.Option.{slice_get_cases}
-use Rattle.shb_lines.specs.declared.event.Event.{Event}
-use Rattle.shb_lines.specs.events.Events.{thread_at}
-use Rattle.shb_lines.specs.events.Discipline.{is_of, local_time}
-use Rattle.shb_lines.specs.events.Order.{IsNumberOf}
-use Rattle.shb_lines.proofs.events.Counts.{count_more_yes, count_more_no}
-use Rattle.shb_lines.proofs.events.Events.{thread_is, is_of_true}
-use Rattle.shb_lines.proofs.events.Listed.{number_none, number_more_yes, number_more_no, number_same}
-use Rattle.shb_lines.proofs.events.Prefix.{is_of_thread}
-use Rattle.shb_links.specs.Latest.{OfThread}
-use Rattle.shb_links.specs.Links.{IsLocal}
+use Rattle.shb_links.proofs.Words.{Event, IsLocal, IsNumberOf, OfThread, cases_Bool, count_more_no, count_more_yes, is_of, is_of_thread, is_of_true, local_time, number_more_no, number_more_yes, number_none, number_same, slice_get_cases, thread_at, thread_is}
 
 -- one more event, of the thread or of another
 number_more : (trace : List Event) (t n : ℕ) (d : Event) → slice_get trace n ≡ Some d → (is_of t d ≡ true) ⊎ (is_of t d ≡ false) → IsNumberOf (λ k. (k < n) × OfThread trace t k) (count_by (is_of t) (take n trace)) → IsNumberOf (λ k. (k < n + 1) × OfThread trace t k) (count_by (is_of t) (take (n + 1) trace))

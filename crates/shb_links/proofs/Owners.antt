@@ -1,21 +1,9 @@
 -- Accesses of a variable, and who makes them, an event at a time.
-use Rattle.std.proofs.lemmas.Grind.{common_steps}
+use Rattle.shb_links.proofs.Words.{AreOwners, Event, HasShared, IsOpWithin, IsOwner, IsShared, IsSole, IsWithin, Op, Owner, Sizes, cases_eq, cases_lt, common_steps, get_or-map, get_or_past, is_several, length-map, length-set, op_at, op_is, set, slice_get_within, thread_at, variable_of}
 use Rattle.std.proofs.Common.{◌≡◌, ◌≢◌, ℕ, ◌+◌, ◌<◌, ◌≤◌, ◌⊎◌, inl, inr, Bool, true, false, List, Option, Some, None, length, get_or, refl, arith, subst, ap, sym, ◌∙◌, get_or-set_same, get_or-set_other}
 use Rattle.std.specs.Prelude.{◌↔◌, IsTrue, map, option_and_then}
-use Rattle.std.proofs.Math.ListN.{set, length-set}
-use Rattle.std.proofs.lemmas.Bool.{cases_lt, cases_eq}
-use Rattle.std.proofs.lemmas.List.{get_or-map, get_or_past, length-map}
-use Rattle.std.proofs.lemmas.Option.{slice_get_within}
-use Rattle.shb_lines.specs.declared.event.Event.{Event}
-use Rattle.shb_lines.specs.declared.event.Op.{Op}
-use Rattle.shb_lines.specs.declared.event.Sizes.{Sizes}
-use Rattle.shb_lines.specs.events.Events.{op_at, thread_at, variable_of}
 use Rattle.shb_lines.specs.events.Race.{variable_at}
-use Rattle.shb_lines.specs.events.Sizes.{IsOpWithin, IsWithin}
-use Rattle.shb_lines.proofs.events.Events.{op_is}
 use Rattle.shb_lines.proofs.events.Reach.{event_at_access}
-use Rattle.shb_links.specs.Sharing.{AreOwners, HasShared, IsOwner, IsShared, IsSole, is_several}
-use Rattle.shb_links.specs.declared.sharing.Owner.{Owner}
 use Rattle.shb_links.specs.declared.sharing.Owner.TheVariants.{Nobody, One, Several}
 
 -- the variable of an event whose operation is known

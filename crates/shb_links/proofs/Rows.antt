@@ -1,14 +1,7 @@
 -- The table of local times, an event at a time, and what its getter answers.
-use Rattle.std.proofs.lemmas.Grind.{common_steps}
+use Rattle.shb_links.proofs.Words.{Event, HasLocals, IsLocal, Read, common_steps, get_or_read, local_time, thread_at, thread_item}
 use Rattle.std.proofs.Common.{◌≡◌, ℕ, ◌<◌, List, Some, length, get_or, arith, subst, sym}
-use Rattle.std.proofs.lemmas.List.{get_or_read}
-use Rattle.shb_lines.specs.declared.event.Event.{Event}
-use Rattle.shb_lines.specs.declared.event.Op.TheVariants.{Read}
-use Rattle.shb_lines.specs.events.Events.{thread_at}
-use Rattle.shb_lines.specs.events.Discipline.{local_time}
-use Rattle.shb_lines.proofs.events.Items.{thread_item}
 use Rattle.shb_links.proofs.LocalTimes.{time_is_number}
-use Rattle.shb_links.specs.Links.{IsLocal, HasLocals}
 
 -- what a getter answers, where the links are seen as the trace
 pub local_answer : (trace seen : List Event) (locals : List ℕ) (x e t : ℕ) → trace ≡ seen → HasLocals trace (length trace) locals → e < length seen → x ≡ get_or locals e x → thread_at seen e ≡ Some t → x ≡ local_time seen t e

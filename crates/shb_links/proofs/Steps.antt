@@ -1,25 +1,10 @@
 -- What the pass finds of one event.
-use Rattle.std.proofs.lemmas.Grind.{common_steps}
+use Rattle.shb_links.proofs.Words.{Event, Exactly, ForksThread, HasLocals, IsDisciplined, IsLatestBefore, IsLatestTable, IsPred, IsWithin, LastWrite, Latest, OfThread, Read, Sizes, WritesVariable, by_fork, cases_Bool, common_steps, count_gap, count_more_yes, counted_before, event_of_thread, in_thread, is_of, is_of_thread, is_of_true, length-take, local_time, op_at, thread_at, thread_is, thread_within}
 use Rattle.std.proofs.Common.{◌≡◌, ◌≢◌, ℕ, ◌+◌, ◌<◌, ◌≤◌, List, Option, Some, None, length, get_or, take, arith, subst, ap, sym, ◌∙◌}
 use Rattle.std.specs.Prelude.{count_by}
 use Rattle.std.specs.Option.{option_or}
-use Rattle.std.proofs.lemmas.Bool.{cases_Bool}
-use Rattle.std.proofs.lemmas.List.{length-take}
 use Rattle.std.proofs.lemmas.List.Sums.{count_by-le-length}
-use Rattle.shb_lines.specs.declared.event.Event.{Event}
-use Rattle.shb_lines.specs.declared.event.Op.TheVariants.{Read}
-use Rattle.shb_lines.specs.events.Events.{thread_at, op_at}
-use Rattle.shb_lines.specs.events.Discipline.{IsDisciplined, is_of, local_time}
-use Rattle.shb_lines.specs.events.Order.{IsPred, in_thread, by_fork, LastWrite}
-use Rattle.shb_lines.proofs.events.Counts.{count_more_yes, count_gap, counted_before}
-use Rattle.shb_lines.proofs.events.Events.{thread_is, event_of_thread, is_of_true}
-use Rattle.shb_lines.proofs.events.Prefix.{is_of_thread}
-use Rattle.shb_lines.proofs.events.Items.{thread_within}
 use Rattle.shb_links.proofs.Tables.{thread_alone}
-use Rattle.shb_links.specs.Latest.{IsLatestBefore, Latest, IsLatestTable, OfThread, WritesVariable, ForksThread}
-use Rattle.shb_links.specs.Links.{Exactly, HasLocals}
-use Rattle.shb_lines.specs.events.Sizes.{IsWithin}
-use Rattle.shb_lines.specs.declared.event.Sizes.{Sizes}
 
 pub time_bound : (trace : List Event) (t e : ℕ) → local_time trace t e ≤ e + 1
 time_bound trace t e = grind (arith, common_steps, count_by-le-length, length-take)

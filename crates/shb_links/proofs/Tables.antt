@@ -1,22 +1,8 @@
 -- Tables of latest positions, an event at a time.
-use Rattle.std.proofs.lemmas.Grind.{common_steps}
+use Rattle.shb_links.proofs.Words.{Event, Exactly, Fork, ForksThread, IsLatestTable, IsOpWithin, IsWithin, Latest, OfThread, Sizes, cases_eq, cases_lt, common_steps, event_of_op, event_of_thread, get_or_past, length-set, set, slice_get_within}
 use Rattle.std.proofs.Common.{◌≡◌, ℕ, ◌+◌, ◌<◌, ◌≤◌, ◌⊎◌, inl, inr, List, Option, Some, None, length, get_or, arith, subst, sym, ◌∙◌, get_or-set_same, get_or-set_other}
-use Rattle.std.proofs.Math.ListN.{set, length-set}
-use Rattle.std.proofs.lemmas.Bool.{cases_lt, cases_eq}
-use Rattle.std.proofs.lemmas.List.{get_or_past}
-use Rattle.std.proofs.lemmas.Option.{slice_get_within}
-use Rattle.shb_lines.specs.declared.event.Event.{Event}
-use Rattle.shb_lines.specs.declared.event.Op.TheVariants.{Fork}
-use Rattle.shb_lines.proofs.events.Events.{event_of_op, event_of_thread}
-use Rattle.shb_links.specs.Latest.{Latest, IsLatestTable, OfThread, ForksThread}
-use Rattle.shb_links.specs.Links.{Exactly}
-use Rattle.shb_lines.specs.events.Sizes.{IsOpWithin, IsWithin}
-use Rattle.shb_lines.specs.declared.event.Sizes.{Sizes}
 
--- one more position that has the property, and one that has it not
-pub latest_here : (P : ℕ → Type 0) (n : ℕ) → P n → Latest P (n + 1) (Some n)
-latest_here P n holds = record { earlier = omega arith; holds = holds; last = λ m low high. absurd (omega arith) }
-
+-- one more position that has the property not
 pub latest_skip : (P : ℕ → Type 0) (n : ℕ) (o : Option ℕ) → (P n → ⊥) → Latest P n o → Latest P (n + 1) o
 latest_skip P n None fails none = λ k lt h. elim (cases_lt k n) [ inl low ↦ none k low h | inr le ↦ fails (subst P (let g : k ≡ n = omega arith in g) h) ]
 latest_skip P n (Some p) fails latest = record {
@@ -24,13 +10,6 @@ latest_skip P n (Some p) fails latest = record {
   holds = latest.holds;
   last = λ m low high h. elim (cases_lt m n) [ inl lt ↦ latest.last m low lt h | inr le ↦ fails (subst P (let g : m ≡ n = omega arith in g) h) ];
 }
-
--- the position n is the latest of t, and of no other number
-pub table_mark : (P : ℕ → ℕ → Type 0) (n size t : ℕ) (table : List (Option ℕ)) → t < size → P t n → ((u : ℕ) → P u n → u ≡ t) → IsLatestTable P n size table → IsLatestTable P (n + 1) size (set table t (Some n))
-table_mark P n size t table lt holds alone old = grind (arith, common_steps, length-set, cases_eq, set, get_or-set_same, latest_here, get_or-set_other, latest_skip)
-
-pub table_skip : (P : ℕ → ℕ → Type 0) (n size : ℕ) (table : List (Option ℕ)) → ((u : ℕ) → P u n → ⊥) → IsLatestTable P n size table → IsLatestTable P (n + 1) size table
-table_skip P n size table none old = grind (arith, common_steps, latest_skip)
 
 -- the thread and the operation of one event
 pub thread_alone : (trace : List Event) (e t u : ℕ) → OfThread trace t e → OfThread trace u e → u ≡ t

@@ -1,5 +1,5 @@
 use Rattle.std.proofs.Common.{arith}
-use Rattle.shb_lines.proofs.events.Items.{thread_within}
+use Rattle.shb_links.proofs.Words.{thread_within}
 use Rattle.shb_links.proofs.latest.note_thread.Goals as goal
 
 pub index_mut-requires : goal.index_mut-requires

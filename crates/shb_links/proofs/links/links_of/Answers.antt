@@ -1,7 +1,6 @@
 -- The local times and the tables of threads are those of all events.
 use Rattle.std.proofs.Common.{◌≡◌, ℕ, length, subst, arith}
-use Rattle.shb_links.specs.Latest.{IsLatestTable, ForksThread, OfThread}
-use Rattle.shb_links.specs.Links.{HasLocals}
+use Rattle.shb_links.proofs.Words.{ForksThread, HasLocals, IsLatestTable, OfThread}
 use Rattle.shb_links.proofs.Tables.{forks_whole, last_whole}
 use Rattle.shb_links.proofs.links.links_of.Goals as goal
 

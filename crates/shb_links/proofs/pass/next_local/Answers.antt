@@ -1,4 +1,4 @@
-use Rattle.shb_lines.proofs.events.Items.{thread_within}
+use Rattle.shb_links.proofs.Words.{thread_within}
 use Rattle.std.proofs.Common.{arith}
 use Rattle.shb_links.proofs.Steps.{time_next, time_start, time_small}
 use Rattle.shb_links.proofs.pass.next_local.Goals as goal

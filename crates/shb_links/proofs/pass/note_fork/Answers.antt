@@ -1,6 +1,5 @@
-use Rattle.shb_lines.specs.declared.event.Op.TheVariants.{Fork}
+use Rattle.shb_links.proofs.Words.{Fork, op_known, op_within_at}
 use Rattle.std.proofs.Common.{◌<◌, arith}
-use Rattle.shb_lines.proofs.events.Items.{op_known, op_within_at}
 use Rattle.shb_links.proofs.pass.note_fork.Goals as goal
 
 pub index_mut-requires : goal.index_mut-requires

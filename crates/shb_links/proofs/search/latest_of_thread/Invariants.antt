@@ -1,6 +1,6 @@
 -- No event from e on and before the end is of the thread.
 use Rattle.std.proofs.Common.{◌≤◌, ◌<◌, ℕ}
-use Rattle.shb_links.specs.Latest.{OfThread}
+use Rattle.shb_links.proofs.Words.{OfThread}
 use Rattle.shb_links.proofs.search.latest_of_thread.Given as goal
 
 abbrev pub invariant-loop-e : goal.invariant-loop-e

@@ -1,6 +1,6 @@
 -- No event from e on and before the end writes the variable.
 use Rattle.std.proofs.Common.{◌≤◌, ◌<◌, ℕ}
-use Rattle.shb_links.specs.Latest.{WritesVariable}
+use Rattle.shb_links.proofs.Words.{WritesVariable}
 use Rattle.shb_links.proofs.search.latest_write.Given as goal
 
 abbrev pub invariant-loop-e : goal.invariant-loop-e

@@ -1,5 +1,5 @@
 use Rattle.std.proofs.Common.{arith, subst, sym, ◌∙◌}
-use Rattle.shb_links.specs.Sharing.{IsOwner}
+use Rattle.shb_links.proofs.Words.{IsOwner}
 use Rattle.shb_links.proofs.Owners.{owners_access, variable_known, variable_sized}
 use Rattle.shb_links.proofs.sharing.note_access.Goals as goal
 

@@ -1,7 +1,6 @@
 use Rattle.std.proofs.Common.{◌≡◌, ℕ, List, length, map, arith, subst, ap, ◌∙◌}
 use Rattle.std.proofs.lemmas.Result.{IfOk-weaker}
-use Rattle.shb_links.specs.declared.sharing.Owner.{Owner}
-use Rattle.shb_links.specs.Sharing.{AreOwners, is_several}
+use Rattle.shb_links.proofs.Words.{AreOwners, Owner, is_several}
 use Rattle.shb_links.proofs.Owners.{shared_flags}
 use Rattle.shb_links.proofs.sharing.shared_variables.Goals as goal
 

@@ -1,4 +1,4 @@
-use Rattle.shb_links.specs.Sharing.{AreOwners}
+use Rattle.shb_links.proofs.Words.{AreOwners}
 use Rattle.shb_links.proofs.sharing.shared_variables.Given as goal
 
 abbrev pub invariant-loop-e : goal.invariant-loop-e
