@@ -1,18 +1,7 @@
 -- What is left of what stands, while its indices are forgotten one by one.
 use Rattle.std.proofs.Common.{◌≡◌, ◌≢◌, ℕ, ◌+◌, ◌<◌, ◌≤◌, ◌⊎◌, inl, inr, Bool, true, false, List, Option, Some, None, length, get_or, refl, sym, ◌∙◌, ap, arith, subst, get_or-set_same, get_or-set_other}
 use Rattle.std.specs.Prelude.{slice_get}
-use Rattle.std.specs.Vec.{with_item}
-use Rattle.std.proofs.Math.ListN.{set, length-set}
-use Rattle.std.proofs.lemmas.Bool.{cases_eq, cases_lt}
-use Rattle.shb_lines.specs.declared.event.Event.{Event}
-use Rattle.shb_lines.specs.declared.event.Sizes.{Sizes}
-use Rattle.shb_lines.specs.declared.event.Op.TheVariants.{Write, Join}
-use Rattle.shb_lines.specs.events.Events.{op_at}
-use Rattle.shb_discipline.proofs.Steps.{set_cases}
-use Rattle.shb_links.specs.Links.{Exactly}
-use Rattle.shb_replay.specs.declared.walked.Walked.{Walked}
-use Rattle.shb_replay.specs.Reasons.{StandsEarlier, IsLatestWrite}
-use Rattle.shb_replay.specs.Walks.{AreFlags, AreFlagsOnly, AreWritesOnly, IsBetween, IsLeft, IsWalked, JoinStands}
+use Rattle.shb_replay.proofs.Words.{AreFlags, AreFlagsOnly, AreWritesOnly, Event, Exactly, IsBetween, IsLatestWrite, IsLeft, IsWalked, Join, JoinStands, Sizes, StandsEarlier, Walked, Write, cases_eq, cases_lt, length-set, op_at, set, set_cases, with_item}
 use Rattle.shb_replay.proofs.Standing.{one_value}
 
 -- the flags, at first

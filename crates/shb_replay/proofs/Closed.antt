@@ -1,15 +1,8 @@
 -- Where no index up to n has a reason: what must stand before an event does.
 use Rattle.std.proofs.Common.{◌≡◌, ℕ, zero, suc, ◌<◌, ◌≤◌, ◌⊎◌, inl, inr, false, List, Some, length, refl, sym, arith, subst}
 use Rattle.std.specs.Prelude.{slice_get}
-use Rattle.std.proofs.lemmas.Bool.{cases_lt, cases_order}
-use Rattle.shb_lines.specs.declared.event.Event.{Event}
-use Rattle.shb_lines.specs.declared.event.Op.TheVariants.{Acquire, Release, Fork, Join}
-use Rattle.shb_lines.specs.events.Events.{thread_at, op_at}
-use Rattle.shb_lines.specs.events.Order.{HbEdge, HbRule, same_thread, lock_passed, forked, joined, here, step, HbBelow}
-use Rattle.shb_lines.specs.events.Reach.{of_thread}
-use Rattle.shb_lines.proofs.events.Search.{IsLatest, latest_below, of_thread_true, of_thread_at, of_thread_false}
+use Rattle.shb_replay.proofs.Words.{Acquire, Event, Fork, HbBelow, HbEdge, HbRule, IsBeforeInThread, IsForkOfFirst, IsLatest, IsUnbroken, Join, Release, StandsEarlier, cases_lt, cases_order, forked, here, joined, latest_below, lock_passed, of_thread, of_thread_at, of_thread_false, of_thread_true, op_at, same_thread, step, thread_at}
 use Rattle.shb_replay.specs.declared.broken.Why.TheVariants as whys
-use Rattle.shb_replay.specs.Reasons.{StandsEarlier, IsBeforeInThread, IsForkOfFirst, IsUnbroken}
 use Rattle.shb_replay.proofs.Standing.{widen, decide_stands}
 
 -- the latest event of the thread before b is the one before it in the thread

@@ -1,15 +1,7 @@
 -- The events of a thread that stand before an index of an unbroken list are those before a position of the trace.
 use Rattle.std.proofs.Common.{◌≡◌, ℕ, zero, suc, ◌+◌, ◌<◌, ◌≤◌, ◌⊎◌, inl, inr, Bool, true, false, List, Some, length, take, get_or, refl, sym, ◌∙◌, ap, arith, subst, add-one}
 use Rattle.std.specs.Prelude.{slice_get, count_by, Contains}
-use Rattle.std.proofs.lemmas.Bool.{cases_Bool, cases_eq, cases_lt, cases_order}
-use Rattle.std.proofs.lemmas.Option.{slice_get_cases, slice_get_within, slice_get-get_or}
-use Rattle.shb_lines.specs.declared.event.Event.{Event}
-use Rattle.shb_lines.specs.events.Events.{thread_at, events_at}
-use Rattle.shb_lines.proofs.events.Counts.{count_more_yes, count_more_no, count_gap}
-use Rattle.shb_lines.proofs.events.Events.{thread_is}
-use Rattle.shb_lines.proofs.events.Indices.{index_of}
-use Rattle.shb_lines.proofs.events.Reordered.{event_at_index, length_events}
-use Rattle.shb_replay.specs.Reasons.{StandsEarlier, IsUnbroken}
+use Rattle.shb_replay.proofs.Words.{Event, IsUnbroken, StandsEarlier, cases_Bool, cases_eq, cases_lt, cases_order, count_gap, count_more_no, count_more_yes, event_at_index, events_at, index_of, length_events, slice_get-get_or, slice_get_cases, slice_get_within, thread_at, thread_is}
 use Rattle.shb_replay.proofs.Standing.{widen, stands_next, stands_here}
 use Rattle.shb_replay.proofs.Closed.{in_trace, once, thread_stands}
 

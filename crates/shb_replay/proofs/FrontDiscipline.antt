@@ -1,24 +1,13 @@
 -- The events of an unbroken list are disciplined.
-use Rattle.std.proofs.lemmas.Grind.{common_steps}
+use Rattle.shb_replay.proofs.Words.{Acquire, Event, Fork, HasHolder, IsDisciplined, IsPassing, IsUnbroken, Join, MayCome, MayDo, MayFork, Op, Release, StandsEarlier, acquires, acquires_yes, cases_Bool, cases_lt, cases_order, common_steps, count_mono, disciplined_below, eq-eqb, eqb-true, events_at, fork_op, fork_unique, holder_after, is_acquire, is_acquire_parts, is_of, is_release, is_release_parts, join_op, only, op_at, op_is, op_is_acquire, op_is_release, other_than, others_balanced, releases, releases_no, slice_get_within, some_counted, thread_at, thread_is}
+use Rattle.shb_lines.specs.events.Discipline.{is_fork, is_join}
 use Rattle.std.proofs.Common.{◌≡◌, ◌≢◌, ℕ, zero, suc, ◌+◌, ◌<◌, ◌≤◌, ◌⊎◌, inl, inr, Bool, true, false, List, Some, length, take, refl, sym, ◌∙◌, ap, arith, subst}
 use Rattle.std.specs.Prelude.{count_by, cond, ◌==◌}
-use Rattle.std.proofs.lemmas.Bool.{cases_Bool, cases_lt, cases_order, eqb-true, eq-eqb}
-use Rattle.std.proofs.lemmas.Option.{slice_get_within}
-use Rattle.shb_lines.specs.declared.event.Event.{Event}
-use Rattle.shb_lines.specs.declared.event.Op.{Op}
-use Rattle.shb_lines.specs.declared.event.Op.TheVariants.{Acquire, Release, Fork, Join}
-use Rattle.shb_lines.specs.events.Events.{thread_at, op_at, events_at}
-use Rattle.shb_lines.specs.events.Discipline.{IsDisciplined, MayCome, MayDo, MayFork, acquires, releases, other_than, only, is_acquire, is_release, is_of, is_fork, is_join, op_is_acquire, op_is_release}
-use Rattle.shb_lines.proofs.events.Counts.{count_mono}
-use Rattle.shb_lines.proofs.events.Decide.{fork_unique}
-use Rattle.shb_lines.proofs.events.Events.{thread_is, op_is, fork_op, is_acquire_parts, is_release_parts, join_op}
 use Rattle.shb_lines.proofs.events.Locks.{DisciplinedBelow, releases_le}
 use Rattle.shb_lines.proofs.events.Prefix.{is_of_thread}
 use Rattle.shb_replay.specs.declared.broken.Why.TheVariants as whys
-use Rattle.shb_replay.specs.Reasons.{StandsEarlier, IsUnbroken}
 use Rattle.shb_replay.proofs.Standing.{widen}
 use Rattle.shb_replay.proofs.Closed.{once, thread_stands, fork_stands, joined_stands, release_stands}
-use Rattle.shb_links.proofs.Balance.{HasHolder, IsPassing, acquires_yes, releases_no, holder_after, disciplined_below, some_counted, others_balanced}
 use Rattle.shb_replay.proofs.Cuts.{IsCut, IsEventAt, index_of_event, own_count, cut_of}
 
 is_fork_op : (u : ℕ) (e : Event) → is_fork u e ≡ true → e.op ≡ Fork u

@@ -1,19 +1,7 @@
 -- The latest write before an index of a list, against the last write in the trace.
-use Rattle.std.proofs.lemmas.Grind.{common_steps}
+use Rattle.shb_replay.proofs.Words.{Decided, Event, Exactly, IsLatest, IsLatestWrite, LastWrite, LastWriteIn, Read, StandsBefore, Write, cases_eq, cases_order, common_steps, find_last_write, last_write_unique, latest_below, op_at, writes_at, writes_at_is, writes_at_true}
 use Rattle.std.proofs.Common.{◌≡◌, ◌≢◌, ℕ, ◌<◌, ◌⊎◌, inl, inr, Bool, true, false, List, Option, Some, None, refl, sym, ◌∙◌, ap, arith, subst}
 use Rattle.std.specs.Prelude.{slice_get, ◌↔◌}
-use Rattle.std.proofs.lemmas.Bool.{cases_eq, cases_order}
-use Rattle.shb_lines.specs.declared.event.Event.{Event}
-use Rattle.shb_lines.specs.declared.event.Op.TheVariants.{Read, Write}
-use Rattle.shb_lines.specs.events.Events.{op_at}
-use Rattle.shb_lines.specs.events.Order.{LastWrite}
-use Rattle.shb_lines.specs.events.Reach.{writes_at}
-use Rattle.shb_lines.specs.events.Schedule.{StandsBefore, LastWriteIn}
-use Rattle.shb_lines.proofs.events.Decide.{find_last_write, last_write_unique}
-use Rattle.shb_lines.proofs.events.Listed.{Decided}
-use Rattle.shb_lines.proofs.events.Search.{IsLatest, latest_below, writes_at_true, writes_at_is}
-use Rattle.shb_links.specs.Links.{Exactly}
-use Rattle.shb_replay.specs.Reasons.{IsLatestWrite}
 use Rattle.shb_replay.proofs.Standing.{one_value, same_index}
 
 -- a list has at most one latest write before an index

@@ -1,19 +1,8 @@
 -- No index of a list has a reason exactly where the list is a correct reordering that keeps happens-before.
 use Rattle.std.proofs.Common.{◌≡◌, ℕ, ◌<◌, ◌⊎◌, inl, inr, List, Some, length, take, refl, sym, ◌∙◌, arith}
 use Rattle.std.specs.Prelude.{slice_get, Contains, ◌↔◌}
-use Rattle.std.proofs.lemmas.Option.{slice_get_within}
-use Rattle.shb_lines.specs.declared.event.Event.{Event}
-use Rattle.shb_lines.specs.declared.event.Op.TheVariants.{Read, Fork, Join}
-use Rattle.shb_lines.specs.events.Events.{op_at, events_at}
-use Rattle.shb_lines.specs.events.Discipline.{IsDisciplined, is_join}
-use Rattle.shb_lines.specs.events.Order.{LastWrite, lock_passed, here, step}
-use Rattle.shb_lines.specs.events.Schedule.{StandsBefore, LastWriteIn, IsCorrectReordering, KeepsHb, IsNext, IsSchedule}
-use Rattle.shb_lines.proofs.events.Counts.{counted_before}
-use Rattle.shb_lines.proofs.events.Events.{op_is, fork_allowed, is_join_true}
-use Rattle.shb_lines.proofs.events.Indices.{index_of, contains_at}
-use Rattle.shb_lines.proofs.events.Reordered.{event_at_index}
+use Rattle.shb_replay.proofs.Words.{Event, Fork, ForksAfterJoin, IsCorrectReordering, IsDisciplined, IsLatestWrite, IsNext, IsSchedule, IsUnbroken, Join, KeepsHb, LastWrite, LastWriteIn, Read, StandsBefore, StandsEarlier, contains_at, counted_before, event_at_index, events_at, fork_allowed, here, index_of, is_join, is_join_true, lock_passed, op_at, op_is, slice_get_within, step}
 use Rattle.shb_replay.specs.declared.broken.Why.TheVariants as whys
-use Rattle.shb_replay.specs.Reasons.{StandsEarlier, ForksAfterJoin, IsLatestWrite, IsUnbroken}
 use Rattle.shb_replay.proofs.Standing.{stands_before, before_stands_earlier}
 use Rattle.shb_replay.proofs.Closed.{once, thread_stands, fork_stands, joined_stands, path_stands}
 use Rattle.shb_replay.proofs.Cuts.{members_in_trace}

@@ -11,3 +11,4 @@ pub mod OrderReasons
 pub mod OperationReasons
 pub mod WalkSteps
 pub mod Clearing
+mod Words

@@ -1,18 +1,10 @@
 -- The lowest reason of an event, and the first index with a reason.
 use Rattle.std.proofs.Common.{◌≡◌, ℕ, zero, suc, ◌+◌, ◌<◌, ◌≤◌, ◌⊎◌, inl, inr, List, Option, Some, None, length, refl, sym, ◌∙◌, ap, arith, subst}
 use Rattle.std.specs.Prelude.{slice_get, ◌↔◌}
-use Rattle.std.proofs.lemmas.Bool.{cases_eq, cases_lt}
-use Rattle.std.proofs.lemmas.Option.{slice_get_within}
-use Rattle.shb_lines.specs.declared.event.Event.{Event}
-use Rattle.shb_lines.specs.events.Discipline.{IsDisciplined}
-use Rattle.shb_lines.specs.events.Schedule.{IsNext, IsSchedule}
+use Rattle.shb_replay.proofs.Words.{Event, HasReason, IsAnswer, IsBroken, IsDisciplined, IsFirstReason, IsLowest, IsLowestIn, IsNext, IsNotNext, IsSchedule, IsUnbroken, Why, cases_eq, cases_lt, number_of, slice_get_within}
 use Rattle.shb_replay.specs.declared.broken.Broken.{Broken}
-use Rattle.shb_replay.specs.declared.broken.Why.{Why}
 use Rattle.shb_replay.specs.declared.broken.Why.TheVariants as whys
-use Rattle.shb_replay.specs.Reasons.{number_of, HasReason, IsBroken, IsFirstReason, IsNotNext, IsUnbroken}
-use Rattle.shb_replay.specs.Walks.{IsAnswer, IsLowestIn}
 use Rattle.shb_replay.proofs.Law.{of_schedule, schedule_of}
-use Rattle.shb_lines.specs.Lowest.{IsLowest}
 
 -- a reason is known by its number
 abbrev why_of : ℕ → Why

@@ -1,14 +1,9 @@
 -- A list has at most one index and reason at which it is no schedule.
 use Rattle.std.proofs.Common.{◌≡◌, ℕ, ◌<◌, ◌⊎◌, inl, inr, List, Some, sym, ◌∙◌, arith, subst}
-use Rattle.std.proofs.lemmas.Bool.{cases_order}
-use Rattle.std.proofs.lemmas.Option.{slice_get_within}
-use Rattle.shb_lines.specs.declared.event.Event.{Event}
-use Rattle.shb_replay.specs.declared.broken.Why.{Why}
+use Rattle.shb_replay.proofs.Words.{Event, HasReason, IsBroken, IsFirstReason, IsLowest, IsNotNext, Why, cases_order, number_of, slice_get_within}
 use Rattle.shb_replay.specs.declared.broken.Why.TheVariants as whys
-use Rattle.shb_replay.specs.Reasons.{number_of, HasReason, IsBroken, IsFirstReason, IsNotNext}
 use Rattle.shb_replay.proofs.Lowest.{not_before, same_why, two_ways}
 use Rattle.shb_replay.proofs.Standing.{one_value}
-use Rattle.shb_lines.specs.Lowest.{IsLowest}
 
 module _ (trace : List Event) (s : List ℕ) (i j : ℕ) where
   at_end : (p q : ℕ) (why : Why) → IsFirstReason trace s p why → IsNotNext trace s i j q → ⊥

@@ -1,29 +1,12 @@
 -- The reasons of an event by its operation, where no index before it has a reason.
 use Rattle.std.proofs.Common.{◌≡◌, ℕ, ◌<◌, ◌≤◌, ◌⊎◌, inl, inr, Bool, true, false, List, Option, Some, None, length, take, get_or, refl, sym, ◌∙◌, ap, arith, subst}
 use Rattle.std.specs.Prelude.{slice_get, ◌==◌, ◌↔◌, IfSome}
-use Rattle.std.specs.Bool.{then_some}
+use Rattle.shb_replay.proofs.Words.{Acquire, AreLatestWrites, Event, Exactly, Fork, HasHolder, HasReason, IsDisciplined, IsLatestWrite, IsLowestIn, IsPassing, IsUnbroken, Join, JoinStands, LastWrite, Latest, MayDo, OfThread, Op, Read, Release, ReleasesLock, StandsEarlier, Tells, TellsLack, Why, acquires, balanced, cases_Bool, cases_eq, cases_lt, cases_order, count_mono, disciplined_below, eq-eqb, eqb-true, event_of_op, event_of_thread, get_or_read, holder_after, is_acquire, is_acquire_parts, is_release, ne_eqb, number_of, only, op_at, op_is, releases, slice_get_within, some_counted, then_some, thread_at, thread_is}
 use Rattle.std.specs.Option.{option_eq}
 use Rattle.std.proofs.Math.Dec.{eqb}
-use Rattle.std.proofs.lemmas.List.{get_or_read}
-use Rattle.std.proofs.lemmas.Bool.{cases_Bool, cases_eq, cases_lt, cases_order, eqb-true, eq-eqb, ne_eqb}
-use Rattle.std.proofs.lemmas.Option.{slice_get_within}
-use Rattle.shb_lines.specs.declared.event.Event.{Event}
-use Rattle.shb_lines.specs.declared.event.Op.{Op}
-use Rattle.shb_lines.specs.declared.event.Op.TheVariants.{Read, Acquire, Release, Fork, Join}
-use Rattle.shb_lines.specs.events.Events.{thread_at, op_at}
-use Rattle.shb_lines.specs.events.Discipline.{IsDisciplined, MayDo, acquires, releases, only, is_acquire, is_release}
-use Rattle.shb_lines.specs.events.Order.{LastWrite}
-use Rattle.shb_lines.proofs.events.Counts.{count_mono}
-use Rattle.shb_lines.proofs.events.Events.{thread_is, op_is, event_of_thread, event_of_op, is_acquire_parts}
-use Rattle.shb_links.specs.Latest.{Latest, OfThread, ReleasesLock}
-use Rattle.shb_links.specs.Links.{Exactly}
-use Rattle.shb_replay.specs.declared.broken.Why.{Why}
 use Rattle.shb_replay.specs.declared.broken.Why.TheVariants as whys
-use Rattle.shb_replay.specs.Reasons.{number_of, StandsEarlier, IsLatestWrite, HasReason, IsUnbroken}
-use Rattle.shb_replay.specs.Walks.{AreLatestWrites, IsLowestIn, JoinStands, Tells, TellsLack}
 use Rattle.shb_replay.proofs.Standing.{widen}
 use Rattle.shb_replay.proofs.Closed.{thread_stands, release_stands}
-use Rattle.shb_links.proofs.Balance.{HasHolder, IsPassing, balanced, disciplined_below, holder_after, some_counted}
 use Rattle.shb_replay.proofs.Lowest.{same_why}
 use Rattle.shb_replay.proofs.LastWrites.{writes_agree, writes_differ}
 

@@ -1,22 +1,9 @@
 -- The reasons of an event by its predecessor, and whether an event is next.
-use Rattle.std.proofs.lemmas.Grind.{common_steps}
+use Rattle.shb_replay.proofs.Words.{AreFlags, BelowPred, Event, Exactly, Fork, HasReason, IsDisciplined, IsLowestIn, IsNext, IsPred, IsUnbroken, StandsEarlier, Tells, TellsLack, by_fork, cases_order, common_steps, event_of_op, fork_allowed, get_or_from_slice_get, here, in_thread, op_at, pred_unique, thread_at, thread_is}
 use Rattle.std.proofs.Common.{◌≡◌, ◌≢◌, ℕ, ◌<◌, ◌⊎◌, inl, inr, Bool, true, false, List, Option, Some, None, length, get_or, refl, sym, ◌∙◌, ap, arith, subst}
 use Rattle.std.specs.Prelude.{slice_get, not, IfSome}
-use Rattle.std.proofs.lemmas.Bool.{cases_order}
-use Rattle.std.proofs.lemmas.Option.{get_or_from_slice_get}
-use Rattle.shb_lines.specs.declared.event.Event.{Event}
-use Rattle.shb_lines.specs.declared.event.Op.TheVariants.{Fork}
-use Rattle.shb_lines.specs.events.Events.{thread_at, op_at}
-use Rattle.shb_lines.specs.events.Discipline.{IsDisciplined}
-use Rattle.shb_lines.specs.events.Order.{IsPred, in_thread, by_fork, BelowPred, here}
-use Rattle.shb_lines.specs.events.Schedule.{IsNext}
-use Rattle.shb_lines.proofs.events.Decide.{pred_unique}
-use Rattle.shb_lines.proofs.events.Events.{thread_is, event_of_op, fork_allowed}
 use Rattle.shb_lines.proofs.events.Schedulable.{below_pred_in_range, thread_below_pred, fork_below_pred}
-use Rattle.shb_links.specs.Links.{Exactly}
 use Rattle.shb_replay.specs.declared.broken.Why.TheVariants as whys
-use Rattle.shb_replay.specs.Reasons.{StandsEarlier, HasReason, IsUnbroken}
-use Rattle.shb_replay.specs.Walks.{AreFlags, IsLowestIn, Tells, TellsLack}
 use Rattle.shb_replay.proofs.Standing.{member_stands, stands_member}
 use Rattle.shb_replay.proofs.Closed.{thread_stands, fork_stands}
 use Rattle.shb_replay.proofs.FrontDiscipline.{one_fork}

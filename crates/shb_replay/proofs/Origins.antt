@@ -1,20 +1,7 @@
 -- What must stand before each event: its predecessor, the latest release of its lock, the latest write of its variable.
-use Rattle.std.proofs.lemmas.Grind.{common_steps}
+use Rattle.shb_replay.proofs.Words.{Acquire, Event, Exactly, HasPreds, IsLatestTable, IsOrigin, IsPred, Latest, Op, Read, ReleasesLock, Sizes, WritesVariable, cases_lt, common_steps, get_or-append, get_or_push, get_or_read, length_push, op_at, op_other_at, op_within_at}
 use Rattle.std.proofs.Common.{◌≡◌, ℕ, ◌+◌, ◌<◌, ◌≤◌, ◌⊎◌, inl, inr, List, [], ◌∷◌, ◌++◌, Option, Some, None, length, get_or, arith, subst, sym, ◌∙◌}
-use Rattle.std.proofs.Math.ListN.{get_or-append}
-use Rattle.std.proofs.lemmas.Bool.{cases_lt}
-use Rattle.std.proofs.lemmas.List.{get_or_push, get_or_read, length_push}
-use Rattle.shb_lines.specs.declared.event.Event.{Event}
-use Rattle.shb_lines.specs.declared.event.Sizes.{Sizes}
-use Rattle.shb_lines.specs.declared.event.Op.{Op}
-use Rattle.shb_lines.specs.declared.event.Op.TheVariants.{Acquire, Read}
-use Rattle.shb_lines.specs.events.Events.{op_at}
-use Rattle.shb_lines.specs.events.Order.{IsPred}
 use Rattle.shb_lines.specs.events.Sizes.{IsWithin}
-use Rattle.shb_lines.proofs.events.Items.{op_other_at, op_within_at}
-use Rattle.shb_links.specs.Latest.{Latest, IsLatestTable, ReleasesLock, WritesVariable}
-use Rattle.shb_links.specs.Links.{Exactly}
-use Rattle.shb_replay.specs.Walks.{HasPreds, IsOrigin}
 
 module _ (trace : List Event) (sizes : Sizes) (e : ℕ) (within : IsWithin trace sizes) where
   -- the origin of an event, from the tables of what stands before it

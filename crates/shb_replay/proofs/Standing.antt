@@ -1,13 +1,7 @@
 -- What stands at indices before an index of a list.
-use Rattle.std.proofs.lemmas.Grind.{common_steps}
+use Rattle.shb_replay.proofs.Words.{Decided, StandsBefore, StandsEarlier, cases_eq, cases_order, common_steps, contains_at, index_of, slice_get_cases, slice_get_within, some_below}
 use Rattle.std.proofs.Common.{◌≡◌, ℕ, ◌+◌, ◌<◌, ◌≤◌, ◌⊎◌, inl, inr, List, Some, length, sym, ◌∙◌, arith}
 use Rattle.std.specs.Prelude.{slice_get, Contains}
-use Rattle.std.proofs.lemmas.Bool.{cases_eq, cases_order}
-use Rattle.std.proofs.lemmas.Option.{slice_get_within, slice_get_cases}
-use Rattle.shb_lines.specs.events.Schedule.{StandsBefore}
-use Rattle.shb_lines.proofs.events.Listed.{Decided, some_below}
-use Rattle.shb_lines.proofs.events.Indices.{index_of, contains_at}
-use Rattle.shb_replay.specs.Reasons.{StandsEarlier}
 
 -- two values at one index are one
 pub one_value : (s : List ℕ) (p a b : ℕ) → slice_get s p ≡ Some a → slice_get s p ≡ Some b → a ≡ b

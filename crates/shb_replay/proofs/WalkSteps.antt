@@ -1,18 +1,7 @@
 -- What stands, one index further.
 use Rattle.std.proofs.Common.{◌≡◌, ◌≢◌, ℕ, ◌+◌, ◌<◌, ◌⊎◌, inl, inr, Bool, true, false, List, Option, Some, None, length, get_or, sym, ◌∙◌, arith, subst, get_or-set_same, get_or-set_other}
 use Rattle.std.specs.Prelude.{slice_get}
-use Rattle.std.specs.Vec.{with_item}
-use Rattle.std.proofs.Math.ListN.{set, length-set}
-use Rattle.std.proofs.lemmas.Bool.{cases_eq, cases_order}
-use Rattle.shb_lines.specs.declared.event.Event.{Event}
-use Rattle.shb_lines.specs.declared.event.Sizes.{Sizes}
-use Rattle.shb_lines.specs.declared.event.Op.TheVariants.{Write, Join}
-use Rattle.shb_lines.specs.events.Events.{op_at}
-use Rattle.shb_discipline.proofs.Steps.{set_cases}
-use Rattle.shb_links.specs.Links.{Exactly}
-use Rattle.shb_replay.specs.declared.walked.Walked.{Walked}
-use Rattle.shb_replay.specs.Reasons.{StandsEarlier, IsLatestWrite}
-use Rattle.shb_replay.specs.Walks.{AreFlags, AreLatestWrites, IsWalked, JoinStands, Tells}
+use Rattle.shb_replay.proofs.Words.{AreFlags, AreLatestWrites, Event, Exactly, IsLatestWrite, IsWalked, Join, JoinStands, Sizes, StandsEarlier, Tells, Walked, Write, cases_eq, cases_order, length-set, op_at, set, set_cases, with_item}
 use Rattle.shb_replay.proofs.Standing.{widen, one_value, stands_next, stands_here}
 
 -- flags of facts that stay, but for one that now holds

@@ -1,12 +1,8 @@
 use Rattle.std.proofs.Common.{inl, inr, Option, length, slice_index_or, subst}
-use Rattle.std.proofs.lemmas.Bool.{cases_lt}
-use Rattle.std.proofs.lemmas.Option.{slice_get-get_or}
-use Rattle.shb_replay.specs.Reasons.{HasReason, number_of}
-use Rattle.shb_replay.specs.declared.broken.Why.{Why}
+use Rattle.shb_replay.proofs.Words.{HasReason, IsLowest, Why, cases_lt, number_of, slice_get-get_or}
 use Rattle.shb_replay.specs.declared.broken.Why.TheVariants as whys
 use Rattle.shb_replay.proofs.Lowest.{broken_here, unbroken_more, unbroken_start}
 use Rattle.shb_replay.proofs.judging.walk.Goals as goal
-use Rattle.shb_lines.specs.Lowest.{IsLowest}
 
 pub returns-in-Some-clause-answer : goal.returns-in-Some-clause-answer
 returns-in-Some-clause-answer c =

@@ -1,5 +1,4 @@
-use Rattle.shb_replay.specs.Reasons.{IsUnbroken}
-use Rattle.shb_replay.specs.Walks.{IsWalked}
+use Rattle.shb_replay.proofs.Words.{IsUnbroken, IsWalked}
 use Rattle.shb_replay.proofs.judging.walk.Given as goal
 
 abbrev pub invariant-loop-at : goal.invariant-loop-at

@@ -1,6 +1,5 @@
-use Rattle.shb_lines.specs.declared.event.Op.TheVariants.{Release}
+use Rattle.shb_replay.proofs.Words.{Release, op_known, op_within_at}
 use Rattle.std.proofs.Common.{◌<◌, arith}
-use Rattle.shb_lines.proofs.events.Items.{op_known, op_within_at}
 use Rattle.shb_replay.proofs.rules.note_release.Goals as goal
 
 pub index_mut-requires : goal.index_mut-requires

@@ -1,6 +1,5 @@
 use Rattle.std.proofs.Common.{◌<◌, arith}
-use Rattle.shb_lines.specs.declared.event.Op.TheVariants.{Acquire, Read}
-use Rattle.shb_lines.proofs.events.Items.{op_known, op_within_at}
+use Rattle.shb_replay.proofs.Words.{Acquire, Read, op_known, op_within_at}
 use Rattle.shb_replay.proofs.Origins.{release_found, write_found}
 use Rattle.shb_replay.proofs.rules.origin_of.Goals as goal
 

@@ -1,5 +1,4 @@
-use Rattle.shb_links.specs.Latest.{IsLatestTable, ReleasesLock, WritesVariable}
-use Rattle.shb_replay.specs.Walks.{HasOrigins}
+use Rattle.shb_replay.proofs.Words.{HasOrigins, IsLatestTable, ReleasesLock, WritesVariable}
 use Rattle.shb_replay.proofs.rules.origins_of.Given as goal
 
 abbrev pub invariant-loop-e : goal.invariant-loop-e

@@ -1,9 +1,5 @@
 use Rattle.std.proofs.Common.{List, arith, subst}
-use Rattle.shb_lines.specs.declared.event.Event.{Event}
-use Rattle.shb_lines.proofs.events.Items.{thread_within}
-use Rattle.shb_links.specs.Latest.{ForksThread, OfThread}
-use Rattle.shb_links.specs.Links.{Exactly}
-use Rattle.shb_links.proofs.Steps.{pred_by_fork, thread_entry}
+use Rattle.shb_replay.proofs.Words.{Event, Exactly, ForksThread, OfThread, pred_by_fork, thread_entry, thread_within}
 use Rattle.shb_replay.proofs.rules.pred_of.Goals as goal
 
 pub bounds-last-thread : goal.bounds-last-thread

@@ -1,5 +1,4 @@
-use Rattle.shb_links.specs.Latest.{IsLatestTable, OfThread}
-use Rattle.shb_replay.specs.Walks.{HasPreds}
+use Rattle.shb_replay.proofs.Words.{HasPreds, IsLatestTable, OfThread}
 use Rattle.shb_replay.proofs.rules.preds_of.Given as goal
 
 abbrev pub invariant-loop-e : goal.invariant-loop-e

@@ -1,4 +1,4 @@
-use Rattle.std.proofs.lemmas.Grind.{common_steps}
+use Rattle.shb_replay.proofs.Words.{common_steps}
 use Rattle.std.proofs.Common.{arith}
 use Rattle.shb_replay.proofs.Lowest.{answer_none}
 use Rattle.shb_replay.proofs.judging.Judge.replay.Goals as goal

@@ -1,4 +1,4 @@
-use Rattle.shb_replay.specs.Walks.{IsLeft}
+use Rattle.shb_replay.proofs.Words.{IsLeft}
 use Rattle.shb_replay.proofs.walked.Walked.clear.Given as goal
 
 abbrev pub invariant-loop-at : goal.invariant-loop-at

@@ -1,6 +1,5 @@
 use Rattle.std.proofs.Common.{length, arith}
-use Rattle.std.proofs.lemmas.Option.{slice_get_read}
-use Rattle.shb_replay.specs.Reasons.{StandsEarlier}
+use Rattle.shb_replay.proofs.Words.{StandsEarlier, slice_get_read}
 use Rattle.shb_replay.proofs.OrderReasons.{flag_false, flag_true, next_tells, preds_in_trace, standing_not_next}
 use Rattle.shb_replay.proofs.walked.Walked.is_next.Goals as goal
 

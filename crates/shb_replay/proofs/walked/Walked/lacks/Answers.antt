@@ -1,7 +1,6 @@
 use Rattle.std.proofs.Common.{◌<◌, subst, sym}
 use Rattle.std.specs.Prelude.{IfSome, not}
-use Rattle.std.proofs.lemmas.Option.{slice_get_read}
-use Rattle.shb_replay.specs.Walks.{TellsLack}
+use Rattle.shb_replay.proofs.Words.{TellsLack, slice_get_read}
 use Rattle.shb_replay.proofs.OrderReasons.{lacks_true}
 use Rattle.shb_replay.proofs.walked.Walked.lacks.Goals as goal
 

@@ -1,7 +1,5 @@
 use Rattle.std.proofs.Common.{Some, ap, arith, ◌<◌, ◌∙◌}
-use Rattle.std.proofs.lemmas.Option.{slice_get-get_or}
-use Rattle.shb_lines.specs.declared.event.Op.TheVariants.{Write, Join}
-use Rattle.shb_lines.proofs.events.Items.{op_other_at, op_within_at}
+use Rattle.shb_replay.proofs.Words.{Join, Write, op_other_at, op_within_at, slice_get-get_or}
 use Rattle.shb_replay.proofs.WalkSteps.{walked_join, walked_write, walked_other}
 use Rattle.shb_replay.proofs.walked.Walked.note.Goals as goal
 

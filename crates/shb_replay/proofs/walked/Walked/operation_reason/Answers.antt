@@ -1,14 +1,5 @@
-use Rattle.std.proofs.lemmas.Grind.{common_steps}
+use Rattle.shb_replay.proofs.Words.{Event, Fork, HasReason, IsLowestIn, Latest, OfThread, Read, common_steps, op_within_at, slice_get-get_or, slice_get_read, then_some, write_link}
 use Rattle.std.proofs.Common.{◌<◌, List, Some, None, length, arith, slice_index_or, ap, subst, ◌∙◌}
-use Rattle.std.specs.Bool.{then_some}
-use Rattle.std.proofs.lemmas.Option.{slice_get-get_or, slice_get_read}
-use Rattle.shb_lines.specs.declared.event.Event.{Event}
-use Rattle.shb_lines.specs.declared.event.Op.TheVariants.{Read, Fork}
-use Rattle.shb_lines.proofs.events.Items.{op_within_at}
-use Rattle.shb_links.specs.Latest.{Latest, OfThread}
-use Rattle.shb_links.proofs.Steps.{write_link}
-use Rattle.shb_replay.specs.Reasons.{HasReason}
-use Rattle.shb_replay.specs.Walks.{IsLowestIn}
 use Rattle.shb_replay.specs.declared.broken.Why.TheVariants as whys
 use Rattle.shb_replay.proofs.OrderReasons.{at_index}
 use Rattle.shb_replay.proofs.OperationReasons.{fork_told, handover_in_trace, join_told, lock_told, options_differ, options_same, other_operation, read_no_reason, read_reason, write_is}

@@ -1,8 +1,5 @@
 use Rattle.std.proofs.Common.{Some, None, length, arith, slice_index_or}
-use Rattle.std.proofs.lemmas.Option.{slice_get-get_or, slice_get_read}
-use Rattle.shb_lines.specs.events.Order.{IsPred}
-use Rattle.shb_replay.specs.Reasons.{HasReason, StandsEarlier}
-use Rattle.shb_replay.specs.Walks.{IsLowestIn}
+use Rattle.shb_replay.proofs.Words.{HasReason, IsLowestIn, IsPred, StandsEarlier, slice_get-get_or, slice_get_read}
 use Rattle.shb_replay.specs.declared.broken.Why.TheVariants as whys
 use Rattle.shb_replay.proofs.OrderReasons.{at_index, flag_false, flag_true, link_is, link_none, order_fork, order_none, order_standing, order_thread, pred_in_trace, threads_differ, threads_same}
 use Rattle.shb_replay.proofs.walked.Walked.order_reason.Goals as goal

@@ -1,13 +1,9 @@
 use Rattle.std.proofs.Common.{◌≡◌, ◌<◌, ℕ, Option, Some, length, arith, slice_get, slice_index_or, subst}
-use Rattle.std.proofs.lemmas.Option.{get_or_from_slice_get, slice_get_read}
-use Rattle.shb_replay.specs.Reasons.{HasReason, StandsEarlier, number_of}
-use Rattle.shb_replay.specs.Walks.{IsLowestIn}
-use Rattle.shb_replay.specs.declared.broken.Why.{Why}
+use Rattle.shb_replay.proofs.Words.{HasReason, IsLowest, IsLowestIn, StandsEarlier, Why, get_or_from_slice_get, number_of, slice_get_read}
 use Rattle.shb_replay.specs.declared.broken.Why.TheVariants as whys
 use Rattle.shb_replay.proofs.Lowest.{lowest_five, lowest_three, lowest_two}
 use Rattle.shb_replay.proofs.OrderReasons.{at_index, flag_false, flag_true}
 use Rattle.shb_replay.proofs.walked.Walked.reason.Goals as goal
-use Rattle.shb_lines.specs.Lowest.{IsLowest}
 
 pub returns-then-index : goal.returns-then-index
 returns-then-index c =
