@@ -1,15 +1,6 @@
 -- The clock before an event, one thread more.
-use Rattle.std.proofs.lemmas.Grind.{common_steps}
+use Rattle.shb_orders.proofs.Words.{AreEach, Event, IsBelowPredCount, IsClockBefore, IsWithin, Sizes, cases_lt, common_steps, get_or-append, get_or_default, get_or_past, get_or_push, length_push, thread_within}
 use Rattle.std.proofs.Common.{◌≡◌, ℕ, ◌+◌, ◌<◌, ◌≤◌, inl, inr, List, [], ◌∷◌, ◌++◌, length, get_or, ap, arith, subst, sym, refl, ◌∙◌}
-use Rattle.std.proofs.Math.ListN.{get_or-append}
-use Rattle.std.proofs.lemmas.List.{get_or_default, get_or_past, get_or_push, length_push}
-use Rattle.std.proofs.lemmas.Bool.{cases_lt}
-use Rattle.shb_lines.specs.declared.event.Event.{Event}
-use Rattle.shb_lines.specs.declared.event.Sizes.{Sizes}
-use Rattle.shb_lines.specs.events.Order.{IsBelowPredCount}
-use Rattle.shb_lines.specs.events.Sizes.{IsWithin}
-use Rattle.shb_lines.proofs.events.Items.{thread_within}
-use Rattle.shb_orders.specs.Rows.{AreEach, IsClockBefore}
 
 -- the entries of the first threads
 pub record HasEntries (trace : List Event) (e threads : ℕ) (clock : List ℕ) : Type 0 where

@@ -1,22 +1,8 @@
 -- The local times at which a thread may learn, event by event.
 use Rattle.std.proofs.Common.{◌≡◌, ◌≢◌, ℕ, ◌+◌, ◌<◌, ◌≤◌, inl, inr, List, [], ◌∷◌, ◌++◌, Some, length, take, get_or, arith, subst, ap, sym, ◌∙◌}
 use Rattle.std.specs.Prelude.{count_by}
-use Rattle.std.proofs.lemmas.Bool.{cases_eq, cases_lt, cases_Bool}
-use Rattle.std.proofs.lemmas.List.{get_or_past, take_all}
-use Rattle.shb_lines.specs.declared.event.Event.{Event}
-use Rattle.shb_lines.specs.declared.event.Sizes.{Sizes}
-use Rattle.shb_lines.specs.events.Events.{thread_at}
-use Rattle.shb_lines.specs.events.Discipline.{is_of, local_time}
-use Rattle.shb_lines.specs.events.Sizes.{IsWithin}
-use Rattle.shb_lines.proofs.events.Counts.{count_more_no}
-use Rattle.shb_lines.proofs.events.Events.{event_of_thread}
-use Rattle.shb_lines.proofs.events.Items.{thread_within}
-use Rattle.shb_lines.proofs.events.Listed.{IsListed, listed_more_yes, listed_more_no, listed_none}
-use Rattle.shb_lines.proofs.events.Prefix.{is_of_thread}
+use Rattle.shb_orders.proofs.Words.{AreEach, AreLearnedTimes, Event, IsLearning, IsListed, IsWithin, LearnsAt, Sizes, cases_Bool, cases_eq, cases_lt, count_more_no, event_of_thread, get_or_past, is_of, is_of_thread, listed_more_no, listed_more_yes, listed_none, local_time, take_all, thread_at, thread_within, time_at, time_order, time_within}
 use Rattle.shb_stamps.proofs.Fronts.{thread_in_range}
-use Rattle.shb_stamps.proofs.Locals.{time_at, time_order, time_within}
-use Rattle.shb_orders.specs.Learned.{IsLearning, LearnsAt, AreLearnedTimes}
-use Rattle.shb_orders.specs.Rows.{AreEach}
 
 -- how many of the first n events are of thread t
 abbrev pub number_before : List Event → ℕ → ℕ → ℕ

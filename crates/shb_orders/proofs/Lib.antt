@@ -4,3 +4,4 @@ pub mod MarksLemmas
 pub mod MayLearn
 pub mod RowLemmas
 pub mod Times
+mod Words

@@ -1,22 +1,10 @@
 -- The sweep that marks what is SHB-below an event.
-use Rattle.std.proofs.lemmas.Grind.{common_steps}
+use Rattle.shb_orders.proofs.Words.{AreEach, Event, IsBelowPredCount, IsDisciplined, IsNumberOf, IsPred, IsRowOf, MarksFrom, ShbBelow, ShbEdge, cases_eq, cases_lt, common_steps, edge_earlier, event_of_thread, get_or-replicate, get_or_default, get_or_past, here, length-replicate, length-set, number_same, path_forward, set, thread_at}
 use Rattle.std.proofs.Common.{◌≡◌, ◌≢◌, ℕ, ◌+◌, ◌<◌, ◌≤◌, ◌⊎◌, inl, inr, Bool, true, false, List, [], Some, length, get_or, sym, ◌∙◌, ap, arith, subst, get_or-set_same, get_or-set_other}
 use Rattle.std.specs.Prelude.{◌↔◌, replicate, slice_get}
-use Rattle.std.proofs.Math.ListN.{set, length-set, length-replicate, get_or-replicate}
-use Rattle.std.proofs.lemmas.List.{get_or_past, get_or_default}
-use Rattle.std.proofs.lemmas.Bool.{cases_lt, cases_eq}
 use Rattle.std.proofs.lemmas.Option.{slice_get_within, get_or_from_slice_get}
-use Rattle.shb_lines.specs.declared.event.Event.{Event}
-use Rattle.shb_lines.specs.events.Events.{thread_at}
-use Rattle.shb_lines.specs.events.Discipline.{IsDisciplined}
 use Rattle.shb_lines.specs.events.Tests.{is_hb_rule}
-use Rattle.shb_lines.specs.events.Order.{ShbEdge, here, ShbBelow, IsPred, IsNumberOf, IsBelowPredCount}
 use Rattle.shb_lines.proofs.events.Decide.{path_cases, pred_unique}
-use Rattle.shb_lines.proofs.events.Events.{event_of_thread}
-use Rattle.shb_lines.proofs.events.Listed.{number_same}
-use Rattle.shb_lines.proofs.events.Schedulable.{path_forward, edge_earlier}
-use Rattle.shb_orders.specs.Marks.{MarksFrom, IsRowOf}
-use Rattle.shb_orders.specs.Rows.{AreEach}
 
 -- the test of an edge, of the events as the code reads them
 pub rule_read : (trace : List Event) (a b : ℕ) (d x y : Event) (test : Bool) → slice_get trace a ≡ Some x → slice_get trace b ≡ Some y → test ≡ is_hb_rule x y → is_hb_rule (get_or trace a d) (get_or trace b d) ≡ test

@@ -2,15 +2,9 @@
 use Rattle.std.proofs.Common.{◌≡◌, ◌≢◌, ℕ, ◌<◌, Bool, List, Option, Some, None, arith, subst, sym, ◌∙◌}
 use Rattle.std.specs.Prelude.{◌↔◌, IsTrue}
 use Rattle.std.specs.Option.{is_some}
-use Rattle.shb_lines.specs.declared.event.Event.{Event}
+use Rattle.shb_orders.proofs.Words.{Acquire, Event, IsLearning, Join, LastWrite, Read, acquires, first, joins, local_time, op_at, reads, thread_at, time_at, time_rises}
 use Rattle.shb_lines.specs.declared.event.Op.{Op}
-use Rattle.shb_lines.specs.declared.event.Op.TheVariants.{Read, Acquire, Join}
-use Rattle.shb_lines.specs.events.Events.{thread_at, op_at}
-use Rattle.shb_lines.specs.events.Discipline.{local_time}
-use Rattle.shb_lines.specs.events.Order.{LastWrite}
 use Rattle.shb_links.specs.Links.{Exactly}
-use Rattle.shb_orders.specs.Learned.{IsLearning, first, acquires, joins, reads}
-use Rattle.shb_stamps.proofs.Locals.{time_at, time_rises}
 use Rattle.shb_orders.proofs.Times.{time_first}
 
 module _ (trace : List Event) (e u : ℕ) (of_e : thread_at trace e ≡ Some u) where

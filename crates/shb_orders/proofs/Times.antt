@@ -1,14 +1,7 @@
 -- The local time of a first event.
 use Rattle.std.proofs.Common.{◌≡◌, ◌≢◌, ℕ, ◌<◌, ◌≤◌, ◌⊎◌, inl, inr, true, false, List, Some, take, arith, ap, ◌∙◌}
 use Rattle.std.specs.Prelude.{count_by, slice_get}
-use Rattle.std.proofs.lemmas.Bool.{cases_Bool}
-use Rattle.shb_lines.specs.declared.event.Event.{Event}
-use Rattle.shb_lines.specs.events.Events.{thread_at}
-use Rattle.shb_lines.specs.events.Discipline.{is_of, local_time}
-use Rattle.shb_lines.proofs.events.Counts.{count_gap}
-use Rattle.shb_lines.proofs.events.Events.{thread_is}
-use Rattle.shb_lines.proofs.events.Prefix.{is_of_thread}
-use Rattle.shb_stamps.proofs.Locals.{time_at}
+use Rattle.shb_orders.proofs.Words.{Event, cases_Bool, count_gap, is_of, is_of_thread, local_time, thread_at, thread_is, time_at}
 
 module _ (trace : List Event) (t : ℕ) where
   -- no event of the thread stands between

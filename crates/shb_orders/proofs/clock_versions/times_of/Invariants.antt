@@ -1,5 +1,4 @@
-use Rattle.shb_orders.specs.Learned.{AreLearnedTimes}
-use Rattle.shb_orders.specs.Rows.{AreEach}
+use Rattle.shb_orders.proofs.Words.{AreEach, AreLearnedTimes}
 use Rattle.shb_orders.proofs.clock_versions.times_of.Given as goal
 
 abbrev pub invariant-loop-t : goal.invariant-loop-t

@@ -1,8 +1,7 @@
 use Rattle.std.proofs.Common.{List, [], length, ap, arith, subst, sym}
 use Rattle.std.specs.Prelude.{slice_index_or}
-use Rattle.shb_lines.specs.declared.event.Event.{Event}
+use Rattle.shb_orders.proofs.Words.{AreLearnedTimes, Event}
 use Rattle.shb_stamps.proofs.ListedLemmas.{contains_listed}
-use Rattle.shb_orders.specs.Learned.{AreLearnedTimes}
 use Rattle.shb_orders.proofs.clock_versions.versions.Goals as goal
 
 pub invariant_of-result : goal.invariant_of-result

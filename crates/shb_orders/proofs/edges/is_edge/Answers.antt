@@ -1,9 +1,5 @@
 use Rattle.std.proofs.Common.{List, refl, sym, ◌∙◌, subst}
-use Rattle.std.proofs.lemmas.Bool.{eqb-true, eq-eqb}
-use Rattle.shb_lines.specs.declared.event.Event.{Event}
-use Rattle.shb_lines.specs.declared.event.Op.TheVariants.{Read}
-use Rattle.shb_lines.specs.events.Order.{LastWrite, ShbEdge, read_from}
-use Rattle.shb_lines.proofs.events.Items.{edge_by_rule, edge_by_write, no_edge}
+use Rattle.shb_orders.proofs.Words.{Event, LastWrite, Read, ShbEdge, edge_by_rule, edge_by_write, eq-eqb, eqb-true, no_edge, read_from}
 use Rattle.shb_orders.proofs.MarksLemmas.{rule_read}
 use Rattle.shb_orders.proofs.edges.is_edge.Goals as goal
 

@@ -1,5 +1,5 @@
 use Rattle.std.proofs.Common.{arith, subst, sym}
-use Rattle.shb_orders.specs.Rows.{IsClockBefore}
+use Rattle.shb_orders.proofs.Words.{IsClockBefore}
 use Rattle.shb_orders.proofs.ClockLemmas.{clock_whole}
 use Rattle.shb_orders.proofs.full_clocks.clock_before.Goals as goal
 

@@ -1,5 +1,5 @@
 use Rattle.std.proofs.Common.{◌≡◌}
-use Rattle.shb_orders.specs.Rows.{AreEach, IsClockBefore}
+use Rattle.shb_orders.proofs.Words.{AreEach, IsClockBefore}
 use Rattle.shb_orders.proofs.full_clocks.full.Given as goal
 
 abbrev pub invariant-loop-e : goal.invariant-loop-e

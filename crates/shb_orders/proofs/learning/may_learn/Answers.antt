@@ -1,9 +1,5 @@
 use Rattle.std.proofs.Common.{Some, refl, ◌∙◌, ap, sym}
-use Rattle.shb_lines.specs.declared.event.Event.{Event}
-use Rattle.shb_lines.specs.declared.event.Op.TheVariants.{Read}
-use Rattle.shb_lines.proofs.events.Items.{thread_item}
-use Rattle.shb_orders.specs.Learned.{acquires, joins}
-use Rattle.shb_stamps.proofs.Locals.{local_is}
+use Rattle.shb_orders.proofs.Words.{Event, Read, acquires, joins, local_is, thread_item}
 use Rattle.shb_orders.proofs.MayLearn.{first_from_time, read_test, learning_other}
 use Rattle.shb_orders.proofs.learning.may_learn.Goals as goal
 

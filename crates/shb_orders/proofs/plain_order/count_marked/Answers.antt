@@ -1,8 +1,7 @@
 use Rattle.std.proofs.Common.{◌≡◌, Some, get_or, true, false, ap, sym, ◌∙◌, arith}
-use Rattle.shb_lines.specs.events.Events.{thread_at}
+use Rattle.shb_orders.proofs.Words.{number_more_no, number_more_yes, thread_at}
 use Rattle.shb_orders.proofs.plain_order.count_marked.Goals as goal
 use Rattle.shb_orders.proofs.plain_order.count_marked.Goals.{then-thread-t+then-row-k, else-thread-t, else-thread-t-via-then-thread-t+else-row-k, else-thread-t-via-else-thread-t}
-use Rattle.shb_lines.proofs.events.Listed.{number_more_yes, number_more_no}
 
 pub loop-k-preserved : goal.loop-k-preserved
 loop-k-preserved c =

@@ -1,6 +1,5 @@
 use Rattle.std.proofs.Common.{◌≡◌, ◌<◌, ◌≤◌, true, false, get_or, Some}
-use Rattle.shb_lines.specs.events.Events.{thread_at}
-use Rattle.shb_lines.specs.events.Order.{IsNumberOf}
+use Rattle.shb_orders.proofs.Words.{IsNumberOf, thread_at}
 use Rattle.shb_orders.proofs.plain_order.count_marked.Given as goal
 
 abbrev pub invariant-loop-k : goal.invariant-loop-k

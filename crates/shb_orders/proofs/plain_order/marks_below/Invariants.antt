@@ -1,4 +1,4 @@
-use Rattle.shb_orders.specs.Marks.{MarksFrom}
+use Rattle.shb_orders.proofs.Words.{MarksFrom}
 use Rattle.shb_orders.proofs.plain_order.marks_below.Given as goal
 
 abbrev pub invariant-loop-a : goal.invariant-loop-a

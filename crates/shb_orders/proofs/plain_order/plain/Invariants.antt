@@ -1,5 +1,4 @@
-use Rattle.shb_orders.specs.Marks.{IsRowOf}
-use Rattle.shb_orders.specs.Rows.{AreEach}
+use Rattle.shb_orders.proofs.Words.{AreEach, IsRowOf}
 use Rattle.shb_orders.proofs.plain_order.plain.Given as goal
 
 abbrev pub invariant-loop-e : goal.invariant-loop-e

@@ -1,5 +1,5 @@
 use Rattle.std.proofs.Common.{◌≡◌, ◌<◌, get_or, true, false, refl, arith, below_more}
-use Rattle.shb_lines.specs.events.Order.{ShbEdge, step}
+use Rattle.shb_orders.proofs.Words.{ShbEdge, step}
 use Rattle.shb_orders.proofs.MarksLemmas.{no_reach}
 use Rattle.shb_orders.proofs.plain_order.reaches.Goals as goal
 use Rattle.shb_orders.proofs.plain_order.reaches.Goals.{else-marks-b-via-then-marks-b+else-is_edge, else-marks-b-via-else-marks-b}

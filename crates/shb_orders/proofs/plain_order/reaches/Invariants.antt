@@ -1,5 +1,5 @@
 use Rattle.std.proofs.Common.{◌≡◌, ℕ, ◌<◌, true, false, get_or}
-use Rattle.shb_lines.specs.events.Order.{ShbEdge}
+use Rattle.shb_orders.proofs.Words.{ShbEdge}
 use Rattle.shb_orders.proofs.plain_order.reaches.Given as goal
 
 abbrev pub invariant-loop-b : goal.invariant-loop-b

@@ -1,8 +1,6 @@
 use Rattle.std.proofs.Common.{List, false, ap, sym, ◌∙◌, subst, arith}
 use Rattle.std.specs.Prelude.{replicate}
-use Rattle.shb_lines.specs.declared.event.Event.{Event}
-use Rattle.shb_lines.specs.events.Order.{IsPred}
-use Rattle.shb_lines.proofs.events.Schedulable.{pred_earlier}
+use Rattle.shb_orders.proofs.Words.{Event, IsPred, pred_earlier}
 use Rattle.shb_orders.proofs.MarksLemmas.{row_from_marks, row_without_pred}
 use Rattle.shb_orders.proofs.plain_order.row_of.Goals as goal
 

@@ -1,7 +1,5 @@
 use Rattle.std.proofs.Common.{ℕ, List, [], length, get_or, ap, sym, subst, ◌∙◌, arith}
-use Rattle.std.proofs.lemmas.List.{get_or_past, get_or_read}
-use Rattle.shb_lines.specs.declared.event.Event.{Event}
-use Rattle.shb_orders.specs.Learned.{AreLearnedTimes}
+use Rattle.shb_orders.proofs.Words.{AreLearnedTimes, Event, get_or_past, get_or_read}
 use Rattle.shb_orders.proofs.clock_versions.ClockVersions.learned.Goals as goal
 
 pub returns-in-Some : goal.returns-in-Some
