@@ -31,7 +31,7 @@ class Calls(unittest.TestCase):
         with tempfile.TemporaryDirectory() as room:
             folder = calls.make_copy(pathlib.Path(room))
             crates = {it.name for it in folder.parent.iterdir() if it.is_dir()}
-            lines = {it.split(":")[0].split()[0] for it in (folder.parent.parent / "crates.txt").read_text().splitlines() if it}
+            lines = {it.split(":")[0].split()[0] for it in (folder.parent.parent / "crates.txt").read_text().splitlines() if ":" in it}
             self.assertEqual(crates, lines)
             self.assertIn("shb_calls", crates)
             self.assertFalse([*folder.parent.glob("*/out")])

@@ -5,10 +5,11 @@
 //! ("settled"): before each access the last write is SHB-below its predecessor and, before a write,
 //! so is the newest read since, and before that the read before it. The others are open.
 //!
-//! [`accesses_of`] collects the accesses of each variable in one pass; [`pieces`] cuts each list into pieces
-//! of at most 64; [`PairJob`] is the job over them, whose piece has the races with the later access among
-//! its accesses. It compares each access with all accesses of its variable before it, by [`is_race`]. A run of the
-//! program searches in other ways (`shb_search`, `shb_lists`), if [`any_open`], and names a race by a [`ListedRace`].
+//! A run takes that pass and [`any_open`] of this crate, and names a race by a [`ListedRace`]; `shb_lists` and `shb_scan`
+//! search for races. The rest is for users of the library alone: [`accesses_of`] collects the accesses of each variable in
+//! one pass; [`pieces`] cuts each list into pieces of at most 64; [`PairJob`] is the job over them, whose piece has the races
+//! with the later access among its accesses. It compares each access with all accesses of its variable before it, by
+//! [`is_race`].
 #![tactic(auto)]
 
 mod accesses;
