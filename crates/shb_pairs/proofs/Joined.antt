@@ -1,24 +1,12 @@
 -- The values of all pieces, joined, are the races of all variables.
 use Rattle.std.proofs.Common.{◌≡◌, ℕ, zero, suc, ◌+◌, ◌-◌, ◌*◌, ◌≤◌, inl, inr, List, [], ◌∷◌, ◌++◌, length, get_or, take, drop, refl, arith, subst, ap, sym, ◌∙◌, add-one}
 use Rattle.std.specs.Prelude.{Contains, flat_map, map, min}
-use Rattle.std.specs.Int.{div_ceil}
-use Rattle.std.proofs.Math.Nat.{min_comm}
-use Rattle.std.proofs.Math.Seq.{take-add}
-use Rattle.std.proofs.lemmas.Bool.{cases_Bool}
-use Rattle.std.proofs.lemmas.Grind.{flat_map-append}
-use Rattle.std.proofs.lemmas.List.{append-nil, length-drop, take_all, take_min, map_more}
-use Rattle.shb_fan.specs.Values.{values_of}
-use Rattle.shb_lines.specs.declared.event.Event.{Event}
-use Rattle.shb_lines.specs.events.Race.{IsRaceList}
+use Rattle.shb_pairs.proofs.Words.{AreOpen, Event, IsNumberedByAccess, IsRaceList, OpenTrace, Piece, accesses_in, append-nil, cases_Bool, contains_head, div_ceil, flat_map-append, is_open, joined, length-drop, listed_accesses, map_more, min_comm, numbered_piece, pieces_in, races_with, take_all, take_min, variables_in}
 use Rattle.shb_lines.specs.events.Reach.{numbers_where}
-use Rattle.shb_lines.specs.events.Sizes.{IsNumberedByAccess}
-use Rattle.shb_pairs.specs.declared.piece.Piece.{Piece}
-use Rattle.shb_pairs.specs.Accesses.{accesses_in, listed_accesses, variables_in}
-use Rattle.shb_stamps.specs.Open.{OpenTrace, is_open}
-use Rattle.shb_pairs.specs.Open.{AreOpen}
-use Rattle.shb_pairs.specs.Races.{first_pieces, joined, numbered_piece, pieces_below, pieces_in, races_at, races_of, races_with}
+use Rattle.shb_pairs.specs.Races.{first_pieces, pieces_below, races_at, races_of}
+use Rattle.std.proofs.Math.Seq.{take-add}
+use Rattle.shb_fan.specs.Values.{values_of}
 use Rattle.shb_pairs.proofs.Listing.{numbers_below, races_on, races_on_parts, all_races, all_is_race_list}
-use Rattle.shb_lines.proofs.events.Increasing.{contains_head}
 use Rattle.shb_pairs.proofs.PieceRaces.{no_pieces, pieces_on, listed_closed, listed_open}
 
 joined-map : {X A : Type 0} (f : X → List A) (xs : List X) → joined (map f xs) ≡ flat_map f xs

@@ -1,20 +1,9 @@
 -- Runs of accesses, and the races of a run one access at a time.
-use Rattle.std.proofs.lemmas.Grind.{common_steps, flat_map-append}
+use Rattle.shb_pairs.proofs.Words.{All-append, All-nil, All-push, AsksOpen, Contains-get_or, Event, OpenTrace, Piece, accesses_at, accesses_in, append-nil, append_assoc, cases_Bool, cases_lt, common_steps, div_ceil, flat_map-append, get_or-drop, get_or_append_left, get_or_push, is_open, is_race, length-drop, length_push, listed_accesses, numbered_piece, numbers_listed, piece_at, pieces_in, races_with, reflect_race, take-append-le, take_at, take_more, variable_at, variables_in}
+use Rattle.shb_lines.specs.events.Reach.{numbers_where}
+use Rattle.shb_pairs.specs.Races.{first_pieces, pieces_below, races_at, races_of}
 use Rattle.std.proofs.Common.{◌≡◌, ℕ, zero, suc, ◌+◌, ◌-◌, ◌*◌, ◌<◌, ◌≤◌, ◌⊎◌, inl, inr, Bool, true, false, List, [], ◌∷◌, ◌++◌, Some, length, get_or, take, drop, refl, arith, subst, ap, sym, ◌∙◌, add-one}
 use Rattle.std.specs.Prelude.{All, flat_map, min, cond, slice_range}
-use Rattle.std.specs.Int.{div_ceil}
-use Rattle.std.proofs.lemmas.Bool.{cases_Bool, cases_lt}
-use Rattle.std.proofs.lemmas.List.{append-nil, append_assoc, length_push, get_or_append_left, get_or_push, take_at, take-append-le, take_more, length-drop, get_or-drop}
-use Rattle.std.proofs.lemmas.List.Elements.{All-append, All-push, All-nil, Contains-get_or}
-use Rattle.shb_lines.specs.declared.event.Event.{Event}
-use Rattle.shb_lines.specs.events.Race.{variable_at}
-use Rattle.shb_lines.specs.events.Reach.{numbers_where, is_race}
-use Rattle.shb_lines.proofs.events.Reach.{numbers_listed, reflect_race}
-use Rattle.shb_pairs.specs.declared.piece.Piece.{Piece}
-use Rattle.shb_pairs.specs.Accesses.{accesses_at, accesses_in, listed_accesses, variables_in}
-use Rattle.shb_stamps.specs.Open.{OpenTrace, is_open}
-use Rattle.shb_pairs.specs.Open.{AsksOpen}
-use Rattle.shb_pairs.specs.Races.{first_pieces, numbered_piece, piece_at, pieces_below, pieces_in, races_at, races_of, races_with}
 use Rattle.shb_pairs.proofs.Counting.{access_from_test, test_from_access}
 
 -- the listed accesses of a variable

@@ -1,11 +1,6 @@
 -- A conflicting pair that is no race is ordered.
 use Rattle.std.proofs.Common.{ℕ, ◌<◌, inl, inr, List}
-use Rattle.std.proofs.lemmas.Bool.{cases_Bool}
-use Rattle.shb_lines.specs.declared.event.Event.{Event}
-use Rattle.shb_lines.specs.events.Order.{BelowPred}
-use Rattle.shb_lines.specs.events.Race.{Conflict, Race}
-use Rattle.shb_lines.specs.events.Reach.{is_below_pred}
-use Rattle.shb_lines.proofs.events.Reach.{reflect_below_pred}
+use Rattle.shb_pairs.proofs.Words.{BelowPred, Conflict, Event, Race, cases_Bool, is_below_pred, reflect_below_pred}
 
 pub below_without_race : (trace : List Event) (i j : ℕ) → Conflict trace i j → i < j → ¬ Race trace i j → BelowPred trace i j
 below_without_race trace i j conflict earlier no_race = elim (cases_Bool (is_below_pred trace i j)) [

@@ -1,15 +1,8 @@
 -- The value of a piece is its own races.
 use Rattle.std.proofs.Common.{◌≡◌, ℕ, ◌+◌, ◌-◌, ◌<◌, ◌≤◌, List, length, get_or, drop, arith, subst, ap, sym, ◌∙◌}
 use Rattle.std.specs.Prelude.{Contains, AllPairs, flat_map, slice_range}
-use Rattle.std.proofs.lemmas.List.{get_or-drop, get_or-take, length-drop, length-take-le}
-use Rattle.std.proofs.lemmas.List.Kept.{AllPairs-from_increasing}
-use Rattle.shb_lines.specs.declared.event.Event.{Event}
-use Rattle.shb_lines.specs.events.Race.{Race}
-use Rattle.shb_lines.proofs.events.Reach.{numbers_listed}
-use Rattle.shb_pairs.specs.declared.piece.Piece.{Piece}
-use Rattle.shb_pairs.specs.Accesses.{accesses_at, accesses_in, listed_accesses}
-use Rattle.shb_stamps.specs.Open.{OpenTrace}
-use Rattle.shb_pairs.specs.Races.{AreRacesOfPiece, piece_at, pieces_in, races_at, races_of, races_with}
+use Rattle.shb_pairs.proofs.Words.{AllPairs-from_increasing, AreRacesOfPiece, Event, OpenTrace, Piece, Race, accesses_at, accesses_in, get_or-drop, get_or-take, length-drop, length-take-le, listed_accesses, numbers_listed, piece_at, pieces_in, races_with}
+use Rattle.shb_pairs.specs.Races.{races_at, races_of}
 use Rattle.shb_pairs.proofs.Listing.{piece_rises, race_contained, race_parts}
 use Rattle.shb_pairs.proofs.FlatMaps.{flat_map_contains, flat_map_parts}
 use Rattle.shb_pairs.proofs.PieceRaces.{IsPieceOf, piece_within, listed_open}

@@ -1,6 +1,6 @@
 use Rattle.std.proofs.Common.{◌≡◌, ◌++◌}
 use Rattle.std.specs.Prelude.{map, take}
-use Rattle.shb_lines.specs.events.Race.{ends}
+use Rattle.shb_pairs.proofs.Words.{ends}
 use Rattle.shb_pairs.proofs.Comparing.{pairs_with, racing}
 use Rattle.shb_pairs.proofs.job.add_races.Given as goal
 

@@ -1,4 +1,4 @@
-use Rattle.shb_lines.proofs.events.Increasing.{increasing_equal}
+use Rattle.shb_pairs.proofs.Words.{increasing_equal}
 use Rattle.shb_pairs.proofs.laws.printed_schedule_is_unique.Goals as goal
 
 pub returns : goal.returns

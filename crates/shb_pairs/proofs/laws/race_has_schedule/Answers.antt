@@ -1,4 +1,4 @@
-use Rattle.shb_lines.proofs.events.Decide.{schedule_of_race}
+use Rattle.shb_pairs.proofs.Words.{schedule_of_race}
 use Rattle.shb_pairs.proofs.laws.race_has_schedule.Goals as goal
 
 pub returns : goal.returns

@@ -1,6 +1,5 @@
 use Rattle.std.proofs.Common.{◌≡◌, map, take}
-use Rattle.shb_lines.specs.events.Race.{ends}
-use Rattle.shb_pairs.specs.Listed.{pair_in, race_in}
+use Rattle.shb_pairs.proofs.Words.{ends, pair_in, race_in}
 use Rattle.shb_pairs.proofs.listed.pairs_of.Given as goal
 
 abbrev pub invariant-loop-race : goal.invariant-loop-race

@@ -1,11 +1,7 @@
 -- An edit that makes these false is refused at once.
-use Rattle.std.proofs.lemmas.Grind.{common_steps}
+use Rattle.shb_pairs.proofs.Words.{BelowPred, Conflict, Event, Race, common_steps, race_iff_schedulable}
 use Rattle.std.proofs.Common.{ℕ, ◌<◌, Bool, List, arith}
 use Rattle.std.specs.Prelude.{◌↔◌, IsTrue, not}
-use Rattle.shb_lines.specs.declared.event.Event.{Event}
-use Rattle.shb_lines.specs.events.Order.{BelowPred}
-use Rattle.shb_lines.specs.events.Race.{Conflict, Race}
-use Rattle.shb_lines.proofs.events.Decide.{race_iff_schedulable}
 use Rattle.shb_pairs.proofs.race.is_race.Goals as goal
 
 unordered_is_race : (trace : List Event) (i j : ℕ) (below : Bool) → i < j → Conflict trace i j → IsTrue below ↔ BelowPred trace i j → IsTrue (not below) ↔ Race trace i j

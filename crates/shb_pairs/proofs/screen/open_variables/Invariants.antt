@@ -1,5 +1,5 @@
 use Rattle.std.proofs.Common.{◌≡◌}
-use Rattle.shb_pairs.specs.Screen.{AreScreened}
+use Rattle.shb_pairs.proofs.Words.{AreScreened}
 use Rattle.shb_pairs.proofs.screen.open_variables.Given as goal
 
 abbrev pub invariant-loop-e : goal.invariant-loop-e

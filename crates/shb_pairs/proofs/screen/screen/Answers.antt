@@ -1,7 +1,5 @@
 use Rattle.std.proofs.Common.{◌≡◌, ◌+◌, ℕ, true, false, Some, arith, subst, sym, ◌∙◌}
-use Rattle.shb_links.proofs.Owners.{apart, shared_same, variable_known, variable_sized}
-use Rattle.shb_lines.specs.events.Race.{variable_at}
-use Rattle.shb_stamps.specs.Screen.{IsScreened}
+use Rattle.shb_pairs.proofs.Words.{IsScreened, apart, shared_same, variable_at, variable_known, variable_sized}
 use Rattle.shb_stamps.specs.SweepData.{SweepData}
 use Rattle.shb_pairs.proofs.Screening.{table_access, table_other}
 use Rattle.shb_pairs.proofs.screen.screen.Goals as goal

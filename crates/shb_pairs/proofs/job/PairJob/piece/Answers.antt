@@ -1,7 +1,5 @@
 use Rattle.std.proofs.Common.{◌∙◌, List, ap}
-use Rattle.shb_stamps.specs.Open.{OpenTrace}
-use Rattle.shb_pairs.specs.declared.piece.Piece.{Piece}
-use Rattle.shb_pairs.specs.Races.{piece_at, pieces_in}
+use Rattle.shb_pairs.proofs.Words.{OpenTrace, Piece, piece_at, pieces_in}
 use Rattle.shb_pairs.proofs.PieceRaces.{piece_known, piece_races}
 use Rattle.shb_pairs.proofs.job.PairJob.piece.Goals as goal
 

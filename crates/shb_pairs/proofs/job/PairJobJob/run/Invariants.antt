@@ -1,7 +1,6 @@
 use Rattle.std.proofs.Common.{◌≡◌, ◌-◌, ◌≤◌, map}
 use Rattle.std.specs.Prelude.{flat_map, take, drop}
-use Rattle.shb_lines.specs.events.Race.{ends}
-use Rattle.shb_pairs.specs.Races.{races_with}
+use Rattle.shb_pairs.proofs.Words.{ends, races_with}
 use Rattle.shb_pairs.proofs.job.PairJobJob.run.Given as goal
 
 abbrev pub invariant-loop-index : goal.invariant-loop-index
