@@ -1,25 +1,11 @@
 -- When a block is good, and that a good block has no fault.
 use Rattle.std.proofs.Common.{◌≡◌, ℕ, zero, suc, ◌+◌, ◌-◌, ◌<◌, ◌≤◌, inl, inr, List, [], ◌∷◌, ◌++◌, length, map, take, Option, None, Some, refl, sym, ap, subst, ◌∙◌, arith, min}
 use Rattle.std.specs.Prelude.{slice_get, Contains}
-use Rattle.std.specs.List.{AllByRecursion}
-use Rattle.std.proofs.lemmas.List.{take-map, take_all, take_min, take_more}
-use Rattle.std.proofs.lemmas.Option.{get_or_from_slice_get, slice_get_within}
+use Rattle.shb_judging.proofs.Words.{Absent, AllByRecursion, Block, Event, FirstLine, HasGoodPair, HasRaceFault, IsBroken, IsDisciplined, IsGoodBlock, IsLowestFault, IsNoEvent, IsSchedule, NoConflict, Pair, RaceFault, Schedule, SecondLine, TraceData, each_of, fault_number, first_positions, get_or_from_slice_get, pair_in, position_of, positions_of, slice_get_within, take-map, take_all, take_min, take_more}
 use Rattle.std.proofs.Math.Nat.{min-eq_left}
-use Rattle.shb_lines.specs.declared.event.Event.{Event}
-use Rattle.shb_lines.specs.declared.event.Pair.{Pair}
-use Rattle.shb_lines.specs.events.Discipline.{IsDisciplined}
-use Rattle.shb_lines.specs.events.Schedule.{IsSchedule}
-use Rattle.shb_lines.specs.text.TraceData.{TraceData}
 use Rattle.shb_lines.proofs.events.Indices.{contains_at}
 use Rattle.shb_replay.proofs.Lowest.{answer_none}
 use Rattle.shb_replay.specs.declared.broken.Broken.{Broken}
-use Rattle.shb_replay.specs.Reasons.{IsBroken}
-use Rattle.shb_judging.specs.declared.verdict.RaceFault.{RaceFault}
-use Rattle.shb_judging.specs.declared.verdict.RaceFault.TheVariants.{Absent, NoConflict, FirstLine, SecondLine, Schedule}
-use Rattle.shb_judging.specs.Judging.{first_positions}
-use Rattle.shb_format.specs.Value.{Block}
-use Rattle.shb_judging.specs.Verdicts.{HasGoodPair, HasRaceFault, IsGoodBlock, IsLowestFault, IsNoEvent, fault_number, pair_in, position_of, positions_of}
-use Rattle.shb_format.proofs.EachLemmas.{each_of}
 use Rattle.shb_judging.proofs.LongSchedules.{broken_by_front, schedule_by_front}
 
 -- lists

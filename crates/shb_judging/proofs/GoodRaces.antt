@@ -1,11 +1,7 @@
 -- Each listed pair of a good report is a race.
 use Rattle.std.proofs.Common.{◌-◌, List, [], ◌∷◌, arith}
-use Rattle.std.specs.List.{AllByRecursion}
-use Rattle.shb_lines.specs.events.Race.{Race}
-use Rattle.shb_lines.specs.text.TraceData.{TraceData}
+use Rattle.shb_judging.proofs.Words.{AllByRecursion, Block, IsGoodBlock, IsGoodReport, Race, ReportValue, TraceData}
 use Rattle.shb_lines.proofs.events.Unschedulable.{race_of_schedule}
-use Rattle.shb_format.specs.Value.{Block, ReportValue}
-use Rattle.shb_judging.specs.Verdicts.{IsGoodBlock, IsGoodReport}
 
 -- the block has a schedule of its pair, and a conflicting pair with a schedule is a race
 race_in : (trace : TraceData) (block : Block) → IsGoodBlock trace block → Race trace.events (block.first - 1) (block.second - 1)

@@ -1,18 +1,8 @@
 -- One block more was judged.
 use Rattle.std.proofs.Common.{◌≡◌, ℕ, zero, suc, ◌+◌, List, [], ◌∷◌, ◌++◌, length, take, Option, None, Some, false, true, refl, sym, ap, subst, ◌∙◌, arith}
 use Rattle.std.specs.Prelude.{All, slice_get}
-use Rattle.std.specs.List.{AllByRecursion}
+use Rattle.shb_judging.proofs.Words.{AllByRecursion, AreFound, AreJudged, Block, IsFirstBadBlock, IsGoodBlock, IsLowestFault, IsPairOf, JudgedBlocks, Pair, RaceFault, TraceData, length-map, pair_in, slice_get_within, take-append-le, take_all}
 use Rattle.std.specs.Option.{is_some}
-use Rattle.std.proofs.lemmas.List.{length-map, take_all, take-append-le}
-use Rattle.std.proofs.lemmas.Option.{slice_get_within}
-use Rattle.shb_lines.specs.declared.event.Pair.{Pair}
-use Rattle.shb_lines.specs.text.TraceData.{TraceData}
-use Rattle.shb_judging.specs.declared.judged.JudgedBlocks.{JudgedBlocks}
-use Rattle.shb_judging.specs.declared.verdict.RaceFault.{RaceFault}
-use Rattle.shb_judging.specs.Judging.{AreFound, AreJudged}
-use Rattle.shb_format.specs.Places.{IsPairOf}
-use Rattle.shb_format.specs.Value.{Block}
-use Rattle.shb_judging.specs.Verdicts.{IsFirstBadBlock, IsGoodBlock, IsLowestFault, pair_in}
 
 -- a list of one element more
 at_front : {A : Type 0} (xs ys : List A) (k : ℕ) (x : A) → slice_get xs k ≡ Some x → slice_get (xs ++ ys) k ≡ Some x

@@ -7,3 +7,4 @@ mod MorePlaces
 mod TextVerdicts
 pub mod WrittenGood
 pub mod VerdictLaws
+mod Words

@@ -1,20 +1,13 @@
 -- The first positions of a list, one more than the trace has events, tell whether and where it is broken.
 use Rattle.std.proofs.Common.{◌≡◌, ℕ, zero, suc, ◌+◌, ◌<◌, ◌≤◌, inl, inr, ◌==◌, false, List, [], ◌∷◌, Some, length, take, refl, sym, ap, subst, ◌∙◌, arith}
 use Rattle.std.specs.Prelude.{slice_get, Contains}
+use Rattle.shb_judging.proofs.Words.{Event, HasReason, IsBroken, IsFirstReason, IsLatestWrite, IsSchedule, IsUnbroken, StandsEarlier, Why, cases_lt, each_of, eqb-true, length-take-le, ne_eqb, slice_get_within, take_all}
 use Rattle.std.specs.List.{IsDistinct}
-use Rattle.std.proofs.lemmas.Bool.{cases_lt, eqb-true, ne_eqb}
-use Rattle.std.proofs.lemmas.List.{length-take-le, take_all}
 use Rattle.std.proofs.lemmas.Map.Steps.{length-le_from_distinct_below}
 use Rattle.std.proofs.lemmas.Map.Views.{Contains-from_any}
-use Rattle.std.proofs.lemmas.Option.{slice_get_within}
-use Rattle.shb_lines.specs.declared.event.Event.{Event}
-use Rattle.shb_lines.specs.events.Schedule.{IsSchedule}
-use Rattle.shb_replay.specs.declared.broken.Why.{Why}
 use Rattle.shb_replay.specs.declared.broken.Why.TheVariants as whys
-use Rattle.shb_replay.specs.Reasons.{HasReason, IsBroken, IsFirstReason, IsLatestWrite, IsUnbroken, StandsEarlier}
 use Rattle.shb_replay.proofs.Closed.{once}
 use Rattle.shb_replay.proofs.Cuts.{members_in_trace}
-use Rattle.shb_format.proofs.EachLemmas.{each_of}
 
 -- the lists have the same at each index before n
 AgreeBelow : List ℕ → List ℕ → ℕ → Type 0

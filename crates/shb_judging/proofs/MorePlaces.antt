@@ -1,15 +1,7 @@
 -- The first places of a report, one more than it has races, tell whether its places are those of the races.
 use Rattle.std.proofs.Common.{◌≡◌, ℕ, ◌<◌, ◌≤◌, Bool, true, false, List, Option, None, Some, option_map, length, map, take, refl, sym, ap, ◌∙◌, arith}
 use Rattle.std.specs.Prelude.{IfSome}
-use Rattle.std.proofs.lemmas.List.{length-map, length-take, take-map, take_all}
-use Rattle.shb_lines.specs.text.TraceData.{TraceData}
-use Rattle.shb_judging.specs.declared.verdict.Verdict.{Verdict}
-use Rattle.shb_judging.specs.declared.verdict.Verdict.TheVariants.{Good, BadLine, BadCounts, BadRace, BadPlaces}
-use Rattle.shb_reading.specs.declared.parts.PlaceEntry.{PlaceEntry}
-use Rattle.shb_reading.specs.Parts.{place_in_text, section_at}
-use Rattle.shb_format.specs.Places.{counts_in, places_of_pairs, shown_places}
-use Rattle.shb_format.specs.Value.{Block, ReportValue}
-use Rattle.shb_judging.specs.Verdicts.{HasPlacesOf, IsVerdict, pair_in}
+use Rattle.shb_judging.proofs.Words.{BadCounts, BadLine, BadPlaces, BadRace, Block, Good, HasPlacesOf, IsVerdict, PlaceEntry, ReportValue, TraceData, Verdict, counts_in, length-map, length-take, pair_in, place_in_text, places_of_pairs, section_at, shown_places, take-map, take_all}
 use Rattle.shb_judging.proofs.WrittenGood.{length-shown, places_few}
 
 module _ {A : Type 0} (most : ℕ) (wanted : List A) (short : length wanted < most) where

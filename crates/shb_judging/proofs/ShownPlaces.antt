@@ -1,14 +1,7 @@
 -- One place more is as the report shows it; the pair of a good block.
 use Rattle.std.proofs.Common.{◌≡◌, ℕ, ◌+◌, ◌<◌, List, [], ◌∷◌, ◌++◌, length, map, take, get_or, Some, option_map, sym, ap, ◌∙◌}
 use Rattle.std.specs.Prelude.{slice_get}
-use Rattle.std.proofs.lemmas.List.{map_push, take_more, take-map}
-use Rattle.std.proofs.lemmas.Option.{slice_get-get_or, slice_get-map}
-use Rattle.shb_lines.specs.text.TraceData.{TraceData}
-use Rattle.shb_reading.specs.declared.parts.PlaceEntry.{PlaceEntry}
-use Rattle.shb_format.specs.declared.places.PlaceCount.{PlaceCount}
-use Rattle.shb_reading.specs.Parts.{place_in_text, places_at}
-use Rattle.shb_format.specs.Places.{shown_place, shown_places}
-use Rattle.shb_format.specs.Value.{Place}
+use Rattle.shb_judging.proofs.Words.{Place, PlaceCount, PlaceEntry, TraceData, map_push, place_in_text, places_at, shown_place, shown_places, slice_get-get_or, slice_get-map, take-map, take_more}
 
 -- a list of values of a list
 module _ {A B : Type 0} (f : A → B) (xs : List A) (q : ℕ) (d : A) (within : q < length xs) where

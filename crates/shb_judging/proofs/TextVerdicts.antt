@@ -1,13 +1,6 @@
 -- The verdict on a text, and on all that a source told.
 use Rattle.std.proofs.Common.{ℕ, ◌≤◌, List, ◌++◌, length, Option, None, Some, IfSome, sym, ap, subst, ◌∙◌, append-nil}
-use Rattle.std.specs.Io.KnownBytes.{Consumes, IsAtEnd}
-use Rattle.shb_lines.specs.text.Limits.{most_bytes}
-use Rattle.shb_lines.specs.text.TraceData.{TraceData}
-use Rattle.shb_judging.specs.declared.verdict.Verdict.{Verdict}
-use Rattle.shb_judging.specs.declared.verdict.Verdict.TheVariants.{Good, BadLine, BadCounts, BadRace, BadPlaces}
-use Rattle.shb_judging.specs.Verdicts.{IsJudged, IsVerdictFor}
-use Rattle.shb_judging.specs.Judging.{IsJudgedText}
-use Rattle.shb_reading.proofs.Bad.{bad_of_source}
+use Rattle.shb_judging.proofs.Words.{BadCounts, BadLine, BadPlaces, BadRace, Consumes, Good, IsAtEnd, IsJudged, IsJudgedText, IsVerdictFor, TraceData, Verdict, bad_of_source, most_bytes}
 
 judged_of : (trace : TraceData) (text : List ℕ) (lines : ℕ) (verdict : Verdict) → length text ≤ most_bytes → IsJudgedText trace text lines verdict → IsJudged trace text verdict
 judged_of trace text lines verdict short h = record {

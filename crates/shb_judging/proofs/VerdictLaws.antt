@@ -1,19 +1,8 @@
 -- The verdict is Good exactly for good reports.
 use Rattle.std.proofs.Common.{◌≡◌, ℕ, zero, suc, ◌-◌, ◌<◌, ◌≤◌, inl, inr, List, [], ◌∷◌, length, take, Some, refl, sym, ap, subst, ◌∙◌, arith}
 use Rattle.std.specs.Prelude.{slice_get, ◌↔◌}
-use Rattle.std.proofs.lemmas.Bool.{cases_lt}
-use Rattle.shb_lines.specs.declared.event.Event.{Event}
-use Rattle.shb_lines.specs.events.Discipline.{IsDisciplined}
-use Rattle.shb_lines.specs.text.TraceData.{TraceData}
+use Rattle.shb_judging.proofs.Words.{Absent, BadCounts, BadLine, BadPlaces, BadRace, Block, Event, FirstLine, Good, HasRaceFault, IsDisciplined, IsFirstBadBlock, IsGoodReport, IsLowestFault, IsVerdict, NoConflict, RaceFault, ReportValue, Schedule, SecondLine, TraceData, Verdict, Why, cases_lt, each_at, fault_number, positions_of}
 use Rattle.shb_replay.proofs.OneAnswer.{one_answer}
-use Rattle.shb_replay.specs.declared.broken.Why.{Why}
-use Rattle.shb_judging.specs.declared.verdict.RaceFault.{RaceFault}
-use Rattle.shb_judging.specs.declared.verdict.RaceFault.TheVariants.{Absent, NoConflict, FirstLine, SecondLine, Schedule}
-use Rattle.shb_judging.specs.declared.verdict.Verdict.{Verdict}
-use Rattle.shb_judging.specs.declared.verdict.Verdict.TheVariants.{Good, BadLine, BadCounts, BadRace, BadPlaces}
-use Rattle.shb_format.specs.Value.{Block, ReportValue}
-use Rattle.shb_judging.specs.Verdicts.{HasRaceFault, IsFirstBadBlock, IsGoodReport, IsLowestFault, IsVerdict, fault_number, positions_of}
-use Rattle.shb_format.proofs.EachLemmas.{each_at}
 use Rattle.shb_judging.proofs.GoodBlocks.{good_has_none}
 
 module _ (trace : TraceData) (disciplined : IsDisciplined trace.events) (report : ReportValue) where

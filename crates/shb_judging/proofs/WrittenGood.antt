@@ -1,27 +1,14 @@
 -- The report that is written is in the grammar, and good for its trace.
 use Rattle.std.proofs.Common.{◌≡◌, ℕ, zero, suc, ◌+◌, ◌-◌, ◌<◌, ◌≤◌, ◌&&◌, Bool, true, false, cond, List, [], ◌∷◌, length, map, get_or, fold, Option, None, Some, unwrap_or, refl, sym, ap, subst, ◌∙◌, arith}
 use Rattle.std.specs.Prelude.{slice_get, All, Contains, IsSomeAnd}
-use Rattle.std.specs.List.{AllByRecursion}
+use Rattle.shb_judging.proofs.Words.{AllByRecursion, AllRaces, Conflict, Good, HasSchedule, IsBlock, IsDisciplined, IsGoodBlock, IsGoodReport, IsPlace, IsPrintedSchedule, IsReportOn, IsReportValue, IsRest, IsSchedule, IsShown, IsVerdict, Pair, PlaceOf, Race, ReportValue, ShownRace, TraceData, counts_in, each_at, length-map, line_of_event, location_at, location_of, pair_in, pair_of, places_of_pairs, report_text, shown_place, shown_places, slice_get-get_or, slice_get_within, with_one_more, with_pair}
 use Rattle.std.specs.Str.{bytes_eq}
-use Rattle.std.proofs.lemmas.List.{length-map}
 use Rattle.std.proofs.lemmas.List.Elements.{All-head, All-tail}
-use Rattle.std.proofs.lemmas.Option.{slice_get-get_or, slice_get_within}
-use Rattle.shb_lines.specs.declared.event.Pair.{Pair}
-use Rattle.shb_lines.specs.events.Discipline.{IsDisciplined}
-use Rattle.shb_lines.specs.events.Race.{Conflict, Race}
-use Rattle.shb_lines.specs.events.Schedule.{IsPrintedSchedule, IsSchedule}
 use Rattle.shb_lines.specs.text.Text.{IsLineText}
-use Rattle.shb_lines.specs.text.TraceData.{TraceData, location_of}
 use Rattle.shb_lines.proofs.events.Reach.{event_at_access}
 use Rattle.shb_lines.proofs.events.Schedulable.{printed_is_schedule}
 use Rattle.shb_lines.proofs.text.LineTexts.{location_short}
-use Rattle.shb_judging.specs.declared.verdict.Verdict.TheVariants.{Good}
-use Rattle.shb_format.specs.Places.{PlaceOf, counts_in, location_at, places_of_pairs, shown_place, shown_places, with_one_more, with_pair}
-use Rattle.shb_format.specs.Report.{AllRaces, HasSchedule, IsReportOn, ShownRace, line_of_event, pair_of}
-use Rattle.shb_format.specs.Value.{IsBlock, IsPlace, IsReportValue, IsRest, IsShown, ReportValue, report_text}
-use Rattle.shb_judging.specs.Verdicts.{IsGoodBlock, IsGoodReport, IsVerdict, pair_in}
 use Rattle.shb_format.specs.Writing.{IsShowable, block_of, written_report}
-use Rattle.shb_format.proofs.EachLemmas.{each_at}
 use Rattle.shb_judging.proofs.GoodBlocks.{in_range}
 use Rattle.shb_judging.proofs.LongSchedules.{few_different}
 use Rattle.shb_format.proofs.PlaceLemmas.{with_pair_few}

@@ -1,8 +1,5 @@
 use Rattle.std.proofs.Common.{◌≡◌, ℕ, ◌+◌, List, ap, map, take, subst, sym, ◌∙◌}
-use Rattle.shb_judging.specs.Judging.{AreJudged, first_positions}
-use Rattle.shb_reading.specs.Parts.{block_in}
-use Rattle.shb_format.specs.Value.{Block}
-use Rattle.shb_judging.specs.Verdicts.{position_of}
+use Rattle.shb_judging.proofs.Words.{AreJudged, Block, block_in, first_positions, position_of}
 use Rattle.shb_judging.proofs.GoodBlocks.{take_push}
 use Rattle.shb_judging.proofs.checking.judge_listed.Goals as goal
 

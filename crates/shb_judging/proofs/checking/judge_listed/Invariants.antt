@@ -1,5 +1,5 @@
 use Rattle.std.proofs.Common.{◌≡◌, take}
-use Rattle.shb_judging.specs.Judging.{AreJudged}
+use Rattle.shb_judging.proofs.Words.{AreJudged}
 use Rattle.shb_judging.proofs.checking.judge_listed.Given as goal
 
 abbrev pub invariant-loop-k : goal.invariant-loop-k

@@ -1,7 +1,6 @@
 -- The places, one after another.
 use Rattle.std.proofs.Common.{List, arith, sym}
-use Rattle.shb_reading.specs.declared.parts.PlaceEntry.{PlaceEntry}
-use Rattle.shb_format.specs.declared.places.PlaceCount.{PlaceCount}
+use Rattle.shb_judging.proofs.Words.{PlaceCount, PlaceEntry}
 use Rattle.shb_judging.proofs.ShownPlaces.{each_place, place_more}
 use Rattle.shb_judging.proofs.checking.shows_places.Goals as goal
 

@@ -1,5 +1,5 @@
 use Rattle.std.proofs.Common.{◌≡◌, take}
-use Rattle.shb_format.specs.Places.{shown_places}
+use Rattle.shb_judging.proofs.Words.{shown_places}
 use Rattle.shb_judging.proofs.checking.shows_places.Given as goal
 
 abbrev pub invariant-loop-q : goal.invariant-loop-q

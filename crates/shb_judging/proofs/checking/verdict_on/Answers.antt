@@ -1,15 +1,7 @@
 -- The verdict where nothing was found wrong.
 use Rattle.std.proofs.Common.{◌≡◌, ℕ, List, length, Option, None, rules, arith, ap, sym, subst, ◌∙◌}
-use Rattle.std.proofs.lemmas.List.{length-map}
-use Rattle.shb_lines.specs.declared.event.Pair.{Pair}
-use Rattle.shb_lines.specs.text.TraceData.{TraceData}
-use Rattle.shb_judging.specs.declared.judged.JudgedBlocks.{JudgedBlocks}
-use Rattle.shb_judging.specs.declared.verdict.Verdict.TheVariants.{Good}
+use Rattle.shb_judging.proofs.Words.{AreFound, Good, HasPlacesOf, IsVerdictOnJudged, JudgedBlocks, Pair, Place, TraceData, counts_of, length-map, pair_in}
 use Rattle.shb_format.specs.declared.counts.Counts.{Counts}
-use Rattle.shb_judging.specs.Judging.{AreFound, IsVerdictOnJudged}
-use Rattle.shb_format.specs.Report.{counts_of}
-use Rattle.shb_format.specs.Value.{Place}
-use Rattle.shb_judging.specs.Verdicts.{HasPlacesOf, pair_in}
 use Rattle.shb_judging.proofs.checking.verdict_on.Goals as goal
 
 good_as_judged : (trace : TraceData) (counts : Counts) (places : Option (List Place)) (judged : JudgedBlocks) (races : ℕ) → counts ≡ counts_of trace → judged.bad ≡ None

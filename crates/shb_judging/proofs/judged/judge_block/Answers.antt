@@ -1,6 +1,6 @@
 -- One block more was judged.
 use Rattle.std.proofs.Common.{sym, ◌∙◌, refl}
-use Rattle.shb_reading.specs.Parts.{block_with}
+use Rattle.shb_judging.proofs.Words.{block_with}
 use Rattle.shb_judging.proofs.JudgedBlocks.{bad_before, first_bad, none_bad}
 use Rattle.shb_judging.proofs.judged.judge_block.Goals as goal
 

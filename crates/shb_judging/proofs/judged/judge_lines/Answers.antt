@@ -1,6 +1,6 @@
 -- The pair of a block is good, or this is its lowest fault.
 use Rattle.std.proofs.Common.{◌≡◌, Result, Ok, Err, IfErr, IsErrAnd, [], refl, subst, sym}
-use Rattle.shb_reading.specs.Parts.{block_with}
+use Rattle.shb_judging.proofs.Words.{block_with}
 use Rattle.shb_judging.proofs.GoodBlocks.{broken_lowest, good_by, pair_within}
 use Rattle.shb_judging.proofs.judged.judge_lines.Goals as goal
 

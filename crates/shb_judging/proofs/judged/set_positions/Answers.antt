@@ -1,6 +1,6 @@
 -- An edit that makes one of these false is refused at once.
 use Rattle.std.proofs.Common.{◌+◌, arith, rules}
-use Rattle.shb_judging.specs.Verdicts.{position_of}
+use Rattle.shb_judging.proofs.Words.{position_of}
 use Rattle.shb_judging.proofs.GoodBlocks.{take_mapped}
 use Rattle.shb_judging.proofs.judged.set_positions.Goals as goal
 

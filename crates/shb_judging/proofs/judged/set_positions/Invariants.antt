@@ -1,5 +1,5 @@
 use Rattle.std.proofs.Common.{◌≡◌, map, take}
-use Rattle.shb_judging.specs.Verdicts.{position_of}
+use Rattle.shb_judging.proofs.Words.{position_of}
 use Rattle.shb_judging.proofs.judged.set_positions.Given as goal
 
 abbrev pub invariant-loop-number : goal.invariant-loop-number

@@ -1,5 +1,5 @@
 use Rattle.shb_judging.proofs.WrittenGood.{all_are_races, written_good}
-use Rattle.shb_format.specs.Report.{AllRaces}
+use Rattle.shb_judging.proofs.Words.{AllRaces}
 use Rattle.shb_judging.proofs.laws.written_report_is_good.Goals as goal
 
 pub returns : goal.returns

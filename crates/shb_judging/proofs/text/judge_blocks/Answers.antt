@@ -1,12 +1,6 @@
 -- Each block is the next one, and is judged.
 use Rattle.std.proofs.Common.{◌≡◌, ℕ, List, [], ◌∷◌, ◌+◌, ◌-◌, ◌++◌, ap, arith, map, take, sym, subst, ◌∙◌}
-use Rattle.shb_reading.specs.Forms.{Form, IsBadFrom, block_forms}
-use Rattle.shb_judging.specs.Judging.{AreJudged, first_positions}
-use Rattle.shb_reading.specs.Parts.{block_with}
-use Rattle.shb_reading.specs.Lines.{bytes_from}
-use Rattle.shb_format.specs.Value.{Block}
-use Rattle.shb_judging.specs.Verdicts.{position_of}
-use Rattle.shb_reading.proofs.EntryLemmas.{blocks_left, bad_weaker, taken_more}
+use Rattle.shb_judging.proofs.Words.{AreJudged, Block, Form, IsBadFrom, bad_weaker, block_forms, block_with, blocks_left, bytes_from, first_positions, position_of, taken_more}
 use Rattle.shb_judging.proofs.text.judge_blocks.Goals as goal
 
 pub returns-in_err-entry-clause-bad : goal.returns-in_err-entry-clause-bad

@@ -1,7 +1,5 @@
 use Rattle.std.proofs.Common.{◌≡◌, ◌≤◌, ◌+◌, ◌-◌, ◌++◌, List}
-use Rattle.shb_reading.specs.Forms.{Form, block_forms}
-use Rattle.shb_judging.specs.Judging.{JudgesBlocks}
-use Rattle.shb_reading.specs.Lines.{IsAt, Passes}
+use Rattle.shb_judging.proofs.Words.{Form, IsAt, JudgesBlocks, Passes, block_forms}
 use Rattle.shb_judging.proofs.text.judge_blocks.Given as goal
 
 abbrev pub invariant-loop-number : goal.invariant-loop-number

@@ -1,10 +1,8 @@
 -- What was taken of the source has the verdict of all that it tells.
 use Rattle.std.proofs.Common.{List, ℕ, arith, subst}
 use Rattle.shb_lines.proofs.text.TakingLemmas.{reads_text}
-use Rattle.shb_lines.specs.text.Limits.{most_bytes}
+use Rattle.shb_judging.proofs.Words.{BadLine, IsVerdictFor, most_bytes}
 use Rattle.shb_lines.specs.text.Taking.{HasGiven}
-use Rattle.shb_judging.specs.Verdicts.{IsVerdictFor}
-use Rattle.shb_judging.specs.declared.verdict.Verdict.TheVariants.{BadLine}
 use Rattle.shb_reading.specs.Reading.{IsBadLine}
 use Rattle.shb_judging.proofs.TextVerdicts.{verdict_told}
 use Rattle.shb_judging.proofs.text.judge_report.Goals as goal

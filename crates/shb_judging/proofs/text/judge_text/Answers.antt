@@ -1,9 +1,6 @@
 -- The parts, one after another, are the whole text, its blocks were judged, and its first places tell of all.
 use Rattle.std.proofs.Common.{ℕ, ◌<◌, List, ap, arith, length, refl, subst, sym, ◌∙◌}
-use Rattle.std.specs.List.{AllByRecursion}
-use Rattle.shb_reading.specs.declared.parts.PlaceEntry.{PlaceEntry}
-use Rattle.shb_reading.specs.Parts.{IsPlaceIn, section_at}
-use Rattle.shb_format.specs.Value.{ReportValue}
+use Rattle.shb_judging.proofs.Words.{AllByRecursion, IsPlaceIn, PlaceEntry, ReportValue, section_at}
 use Rattle.shb_judging.proofs.MorePlaces.{section_front, verdict_by_front, with_first_places}
 use Rattle.shb_reading.proofs.ScanLemmas.{kept_in, whole_text}
 use Rattle.shb_judging.proofs.text.judge_text.Goals as goal

@@ -1,7 +1,5 @@
 -- The line after the limit is bad, or one before it.
-use Rattle.shb_lines.specs.text.Limits.{most_bytes}
-use Rattle.shb_reading.proofs.Bad.{bad_end, bad_long}
-use Rattle.shb_reading.proofs.EntryLemmas.{stop_weaker}
+use Rattle.shb_judging.proofs.Words.{bad_end, bad_long, most_bytes, stop_weaker}
 use Rattle.shb_judging.proofs.text.stop_of_long.Goals as goal
 
 pub returns-in-Ok : goal.returns-in-Ok

@@ -1,8 +1,6 @@
 -- The verdict on a text within the limit, and its bad line.
 use Rattle.std.proofs.Common.{◌≤◌, length, arith}
-use Rattle.shb_lines.specs.text.Limits.{most_bytes}
-use Rattle.shb_reading.proofs.Bad.{bad_short}
-use Rattle.shb_reading.proofs.EntryLemmas.{bad_weaker}
+use Rattle.shb_judging.proofs.Words.{bad_short, bad_weaker, most_bytes}
 use Rattle.shb_judging.proofs.TextVerdicts.{verdict_for}
 use Rattle.shb_judging.proofs.text.verdict_of.Goals as goal
 

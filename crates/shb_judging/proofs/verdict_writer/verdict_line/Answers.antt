@@ -1,11 +1,8 @@
 -- A line that is written as it stands.
 use Rattle.std.proofs.Common.{ℕ, List, Option, Result, Ok, Err, subst, sym}
 use Rattle.std.specs.Prelude.{OnOk, OnErr}
-use Rattle.std.specs.Io.KnownBytes.{Appends}
+use Rattle.shb_judging.proofs.Words.{Appends, BadCounts, BadPlaces, Verdict, verdict_bytes}
 use Rattle.shb_io.specs.Devices.{AppendsPrefix, Writes}
-use Rattle.shb_judging.specs.declared.verdict.Verdict.{Verdict}
-use Rattle.shb_judging.specs.declared.verdict.Verdict.TheVariants.{BadCounts, BadPlaces}
-use Rattle.shb_judging.specs.Verdicts.{verdict_bytes}
 use Rattle.shb_judging.proofs.verdict_writer.verdict_line.Goals as goal
 
 writes_by : {T E : Type 0} (old new : Option (List ℕ)) (r : Result T E) (bytes : List ℕ) → OnOk r (Appends old new bytes) → OnErr r (AppendsPrefix old new bytes) → Writes old new r bytes
