@@ -1,28 +1,10 @@
 -- The greater of two answers of an order is a cut, and nothing after a predecessor is below it.
 use Rattle.std.proofs.Common.{◌≡◌, ℕ, zero, suc, ◌+◌, ◌-◌, ◌<◌, ◌≤◌, ◌⊎◌, inl, inr, List, [], ◌∷◌, ◌++◌, Err, Global, Ok, Result, Some, Vec, length, get_or, refl, subst, sym, ap, arith, ◌∙◌}
 use Rattle.std.specs.Prelude.{Contains, IfOk, max, ◌↔◌}
-use Rattle.std.specs.List.{range_with_len}
-use Rattle.std.specs.List.Sorted.{IsStrictlyIncreasing}
-use Rattle.std.proofs.lemmas.Bool.{cases_lt}
-use Rattle.std.proofs.lemmas.List.{get_or-append_right, get_or_push, length-append, length_push}
-use Rattle.std.proofs.lemmas.List.Elements.{Contains-append_cases, Contains-append_left, Contains-append_right, Contains-get_or}
-use Rattle.std.proofs.Math.ListN.{get_or-append}
-use Rattle.shb_io.specs.declared.no_memory.NoMemory.{NoMemory}
-use Rattle.shb_lines.specs.declared.event.Event.{Event}
+use Rattle.shb_witness.proofs.Words.{AreOfThreads, AreWithinCuts, BelowEither, Contains-append_cases, Contains-append_left, Contains-append_right, Contains-get_or, EndsBefore, Event, HasCuts, IsCut, IsListed, IsPrintedSchedule, IsRest, IsStrictlyIncreasing, IsWithin, IsWithinCut, IsWithinCuts, NoMemory, Reach, Sizes, below_from_local, below_pred_in_range, cases_lt, get_or-append, get_or-append_right, get_or_push, length-append, length_push, listed_more_yes, listed_none, local_from_below, local_time, range_with_len, thread_at, thread_item, thread_within}
 use Rattle.shb_lines.specs.declared.event.Op.TheVariants.{Read}
-use Rattle.shb_lines.specs.events.Events.{thread_at}
-use Rattle.shb_lines.specs.events.Discipline.{local_time}
 use Rattle.shb_lines.specs.events.Order.{IsBelowPredCount}
-use Rattle.shb_lines.specs.events.Schedule.{IsPrintedSchedule}
-use Rattle.shb_lines.specs.declared.event.Sizes.{Sizes}
-use Rattle.shb_lines.specs.events.Sizes.{IsWithin}
-use Rattle.shb_lines.proofs.events.Items.{thread_item, thread_within}
-use Rattle.shb_lines.proofs.events.Listed.{IsListed, listed_more_yes, listed_none}
-use Rattle.shb_lines.proofs.events.Prefix.{local_from_below, below_from_local}
-use Rattle.shb_lines.proofs.events.Schedulable.{below_pred_in_range}
 use Rattle.shb_positions.proofs.RunLemmas.{range_more}
-use Rattle.shb_witness.specs.Cuts.{AreOfThreads, AreWithinCuts, BelowEither, EndsBefore, HasCuts, IsCut, IsRest, IsWithinCuts, Reach}
-use Rattle.shb_witness.specs.ThreadEvents.{IsWithinCut}
 use Rattle.shb_witness.proofs.Grouping.{time_of}
 
 pub cut_is : (trace ordered : List Event) (i j t n m : ℕ) → ordered ≡ trace → IsBelowPredCount ordered t i n → IsBelowPredCount ordered t j m → IsCut trace i j t (max n m)

@@ -1,15 +1,9 @@
 -- The events of pairs.
 use Rattle.std.proofs.Common.{◌≡◌, ℕ, suc, ◌+◌, ◌<◌, ◌↔◌, arith, inl, inr, List, [], ◌∷◌, ◌++◌, length, get_or, take, ap, sym, subst, ◌∙◌}
 use Rattle.std.specs.Prelude.{All, Contains}
-use Rattle.std.proofs.lemmas.List.{append_assoc, flat_map_more, take_more}
-use Rattle.std.proofs.lemmas.List.Elements.{All-contains, Contains-append_cases, Contains-append_left, Contains-append_right, Contains-get_or}
-use Rattle.shb_lines.specs.declared.event.Event.{Event}
-use Rattle.shb_lines.specs.declared.event.Pair.{Pair}
-use Rattle.shb_lines.specs.events.Race.{Race}
-use Rattle.shb_lines.proofs.events.Increasing.{contains_cases, contains_head, contains_none, contains_tail}
+use Rattle.shb_witness.proofs.Words.{All-contains, AreRaces, AsksEach, Contains-append_cases, Contains-append_left, Contains-append_right, Contains-get_or, Event, Pair, Race, append_assoc, contains_cases, contains_head, contains_none, contains_tail, ends_of, flat_map_more, take_more}
 use Rattle.shb_stamps.specs.Listed.{is_listed}
 use Rattle.shb_stamps.proofs.ListedLemmas.{contains_listed}
-use Rattle.shb_witness.specs.Schedules.{AreRaces, AsksEach, ends_of}
 use Rattle.shb_witness.proofs.Printed.{race_ends}
 
 -- the two events of one pair

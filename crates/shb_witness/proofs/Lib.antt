@@ -3,3 +3,4 @@ pub mod Ends
 pub mod Grouping
 pub mod Places
 pub mod Printed
+mod Words

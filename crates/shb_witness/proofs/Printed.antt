@@ -1,21 +1,9 @@
 -- The list of the members found is the printed schedule, and there is just one.
 use Rattle.std.proofs.Common.{◌≡◌, ℕ, ◌<◌, List, Some, Vec, Global, Result, Ok, Err, length, subst, sym}
 use Rattle.std.specs.Prelude.{◌||◌, IfOk, slice_get, slice_index_or}
-use Rattle.shb_io.specs.declared.no_memory.NoMemory.{NoMemory}
-use Rattle.shb_lines.specs.declared.event.Event.{Event}
-use Rattle.shb_lines.specs.declared.event.Pair.{Pair}
-use Rattle.shb_lines.specs.events.Race.{Race}
-use Rattle.shb_lines.specs.events.Reach.{is_below_pred}
-use Rattle.shb_lines.specs.events.Discipline.{IsDisciplined}
-use Rattle.shb_lines.specs.events.Schedule.{IsPrintedSchedule, IsSchedule}
+use Rattle.shb_witness.proofs.Words.{Asked, BelowEither, Event, IsDisciplined, IsListed, IsPrintedSchedule, IsSchedule, NoMemory, Pair, Race, event_at_access, get_or_from_slice_get, increasing_equal, is_below_pred, numbers_listed, printed_is_schedule, reflect_below_pred, reflect_or, schedule_at, slice_get_within}
+use Rattle.shb_witness.specs.Schedules.{printed_schedule}
 use Rattle.shb_lines.proofs.events.Decide.{printed_from_listed}
-use Rattle.shb_lines.proofs.events.Listed.{IsListed}
-use Rattle.shb_lines.proofs.events.Schedulable.{printed_is_schedule}
-use Rattle.shb_lines.proofs.events.Reach.{numbers_listed, reflect_or, reflect_below_pred, event_at_access}
-use Rattle.std.proofs.lemmas.Option.{get_or_from_slice_get, slice_get_within}
-use Rattle.shb_lines.proofs.events.Increasing.{increasing_equal}
-use Rattle.shb_witness.specs.Cuts.{BelowEither}
-use Rattle.shb_witness.specs.Schedules.{Asked, printed_schedule, schedule_at}
 
 -- the members are all found before the end
 pub printed_before : (trace : List Event) (i j end : ℕ) (s : List ℕ) → ((k : ℕ) → BelowEither trace i j k → k < end) → IsListed (BelowEither trace i j) end s → IsPrintedSchedule trace s i j

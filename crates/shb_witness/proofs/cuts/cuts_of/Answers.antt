@@ -1,5 +1,5 @@
 use Rattle.std.proofs.Common.{ℕ, subst, sym}
-use Rattle.shb_witness.specs.Cuts.{IsCut}
+use Rattle.shb_witness.proofs.Words.{IsCut}
 use Rattle.shb_witness.proofs.CutLemmas.{cut_is, cuts_more}
 use Rattle.shb_witness.proofs.cuts.cuts_of.Goals as goal
 

@@ -1,4 +1,4 @@
-use Rattle.shb_witness.specs.Cuts.{HasCuts}
+use Rattle.shb_witness.proofs.Words.{HasCuts}
 use Rattle.shb_witness.proofs.cuts.cuts_of.Given as goal
 
 abbrev pub invariant-loop-thread : goal.invariant-loop-thread

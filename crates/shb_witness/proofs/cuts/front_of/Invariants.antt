@@ -1,6 +1,5 @@
 use Rattle.std.proofs.Common.{◌≡◌, ◌<◌, ◌≤◌, ℕ, Some, length, get_or}
-use Rattle.shb_lines.specs.events.Discipline.{local_time}
-use Rattle.shb_lines.specs.events.Events.{thread_at}
+use Rattle.shb_witness.proofs.Words.{local_time, thread_at}
 use Rattle.shb_witness.proofs.cuts.front_of.Given as goal
 
 abbrev pub invariant-loop-thread : goal.invariant-loop-thread

@@ -1,5 +1,4 @@
-use Rattle.shb_lines.proofs.events.Schedulable.{printed_is_schedule}
-use Rattle.shb_witness.specs.Schedules.{schedule_at}
+use Rattle.shb_witness.proofs.Words.{printed_is_schedule, schedule_at}
 use Rattle.shb_witness.proofs.Printed.{piece_is_printed}
 use Rattle.shb_witness.proofs.laws.pieces_are_schedules.Goals as goal
 

@@ -1,5 +1,5 @@
 use Rattle.std.proofs.Common.{◌≡◌, take}
-use Rattle.shb_witness.specs.Schedules.{ends_of}
+use Rattle.shb_witness.proofs.Words.{ends_of}
 use Rattle.shb_witness.proofs.race_order.events_of.Given as goal
 
 abbrev pub invariant-loop-k : goal.invariant-loop-k

@@ -1,8 +1,5 @@
 use Rattle.std.proofs.Common.{List, ℕ, ◌++◌, ◌∙◌, ◌<◌, arith, ap, length, take}
-use Rattle.std.specs.List.{range_with_len}
-use Rattle.std.proofs.lemmas.List.{get_or_read, length-append, length-take-le, take_all}
-use Rattle.std.proofs.lemmas.List.Elements.{Contains-get_or}
-use Rattle.std.proofs.lemmas.List.FromFn.{length-range_with_len}
+use Rattle.shb_witness.proofs.Words.{Contains-get_or, get_or_read, length-append, length-range_with_len, length-take-le, range_with_len, take_all}
 use Rattle.shb_witness.proofs.CutLemmas.{front_and_rest}
 use Rattle.shb_witness.proofs.Places.{thread_inside}
 use Rattle.shb_witness.proofs.schedules.gathered.Goals as goal

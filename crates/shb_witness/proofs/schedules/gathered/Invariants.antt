@@ -1,5 +1,5 @@
 use Rattle.std.proofs.Common.{◌≡◌, ◌++◌, take}
-use Rattle.std.specs.List.{range_with_len}
+use Rattle.shb_witness.proofs.Words.{range_with_len}
 use Rattle.shb_witness.proofs.schedules.gathered.Given as goal
 
 abbrev pub invariant-loop-at : goal.invariant-loop-at

@@ -1,8 +1,5 @@
 use Rattle.std.proofs.Common.{◌≡◌, ℕ, [], ◌∷◌, ◌++◌, length, List, subst, sym, ap, ◌∙◌, arith}
-use Rattle.std.proofs.lemmas.List.{length_push}
-use Rattle.std.proofs.lemmas.List.FromFn.{length-range_with_len}
-use Rattle.shb_lines.proofs.events.Listed.{IsListed, listed_more_yes, listed_more_no}
-use Rattle.shb_witness.specs.Cuts.{IsWithinCuts}
+use Rattle.shb_witness.proofs.Words.{IsListed, IsWithinCuts, length-range_with_len, length_push, listed_more_no, listed_more_yes}
 use Rattle.shb_witness.proofs.CutLemmas.{found_all, front_listed, within_test}
 use Rattle.shb_witness.proofs.schedules.passed.Goals as goal
 use Rattle.shb_witness.proofs.schedules.passed.Goals.{then-below+in_ok-push, else-below}

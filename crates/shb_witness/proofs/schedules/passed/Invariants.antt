@@ -1,6 +1,5 @@
 use Rattle.std.proofs.Common.{◌≤◌, length}
-use Rattle.shb_lines.proofs.events.Listed.{IsListed}
-use Rattle.shb_witness.specs.Cuts.{IsWithinCuts}
+use Rattle.shb_witness.proofs.Words.{IsListed, IsWithinCuts}
 use Rattle.shb_witness.proofs.schedules.passed.Given as goal
 
 abbrev pub invariant-loop-k : goal.invariant-loop-k

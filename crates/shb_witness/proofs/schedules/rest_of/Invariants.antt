@@ -1,6 +1,6 @@
 use Rattle.std.proofs.Common.{ℕ}
 use Rattle.std.specs.Prelude.{Contains, ◌↔◌}
-use Rattle.shb_witness.specs.Cuts.{IsRest}
+use Rattle.shb_witness.proofs.Words.{IsRest}
 use Rattle.shb_witness.proofs.schedules.rest_of.Given as goal
 
 abbrev pub invariant-loop-thread : goal.invariant-loop-thread

@@ -1,6 +1,5 @@
 use Rattle.std.proofs.Common.{List, arith, ap, length, refl, subst}
-use Rattle.shb_lines.specs.declared.event.Event.{Event}
-use Rattle.shb_witness.specs.Cuts.{EndsBefore}
+use Rattle.shb_witness.proofs.Words.{EndsBefore, Event}
 use Rattle.shb_witness.proofs.CutLemmas.{made_printed, threads_of}
 use Rattle.shb_witness.proofs.Printed.{race_ends}
 use Rattle.shb_witness.proofs.schedules.schedule_runs.Goals as goal
