@@ -11,7 +11,7 @@ pub use Rattle.shb_lines.specs.events.Order.{BelowPred, IsBelowPredCount}
 pub use Rattle.shb_lines.specs.events.Race.{Conflict, FirstAccess, IsRaceList, KeyBefore, Race, RaceBefore, ends, variable_at}
 pub use Rattle.shb_lines.specs.events.Reach.{is_below_pred, is_race, numbers_where}
 pub use Rattle.shb_lines.specs.events.Sizes.{IsNumberedByAccess}
-pub use Rattle.shb_links.proofs.Owners.{apart, shared_same, variable_known, variable_sized}
+pub use Rattle.shb_links.proofs.Owners.{apart, variable_known, variable_sized}
 pub use Rattle.shb_pairs.specs.Accesses.{HasAccesses, accesses_at, accesses_in, listed_accesses, variables_in}
 pub use Rattle.shb_pairs.specs.Listed.{NotAfter, pair_in, race_in, race_of}
 pub use Rattle.shb_pairs.specs.Open.{AreOpen, AsksOpen}

@@ -12,7 +12,7 @@ use shb_links::{Linked, Links};
 use shb_stamps::{Latest, Ordered, Sweep, is_open};
 use std::alloc::Global;
 
-/// Takes the event at e into what is kept of its variable, if it accesses a shared one.
+/// Takes the event at e into what is kept of its variable, if it accesses one.
 fn screen(ordered: &Ordered<'_, Sweep<'_>>, table: &mut Vec<Latest>, e: u32)
     requires in_range { e < length ordered.now.disciplined.now.events.now }
     requires next { ordered.now.order.now ≡ record { trace = ordered.now.disciplined.now.events.now; next = e } }
@@ -22,10 +22,8 @@ fn screen(ordered: &Ordered<'_, Sweep<'_>>, table: &mut Vec<Latest>, e: u32)
         ordered.now.disciplined.now.sizes.variables table.new.items }
 {
     if let Some(x) = ordered.disciplined.events.op(e).variable() {
-        if ordered.links.is_shared(x) {
-            let latest = table[x as usize];
-            table[x as usize] = ordered.order.screen(latest);
-        }
+        let latest = table[x as usize];
+        table[x as usize] = ordered.order.screen(latest);
     }
 }
 
@@ -41,8 +39,8 @@ fn flags_of(alloc: Global, table: &[Latest]) -> Result<Vec<bool>, NoMemory>
 }
 
 /// Which variables may have a race, a flag for each: where it is false, no pair of accesses of the
-/// variable is a race. One pass over the trace with a [`Sweep`], which is asked twice for each access of
-/// a shared variable. Beside what the sweep keeps, 16 bytes per variable, and one for its flag.
+/// variable is a race. One pass over the trace with a [`Sweep`], which is asked twice for each access.
+/// Beside what the sweep keeps, 16 bytes per variable, and one for its flag.
 ///
 /// A variable is settled where one thread alone accesses it, or where, of each access, the last write
 /// before it is SHB-below its predecessor and, where the access writes, so is the newest read since that
