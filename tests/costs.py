@@ -160,6 +160,8 @@ def costs():
     yield Cost("another variable has many locations", RACES, shapes.other_locations, 40_000, cut=True)
     yield Cost("1,000 threads with variables of their own", RACES, shapes.other_threads, 40_000, cut=True)
     yield Cost("60 threads that come late", RACES, shapes.late_threads, 40_000, cut=True)
+    yield Cost("one thread", RACES, growth.SHAPES["one thread"], 400_000, unit=MEMORY)
+    yield Cost("races of one that joined 500 threads", SCHEDULES, shapes.races_after_joined, 10_000, unit=MEMORY)
     for path in sorted(RECORDED.glob("*.std.xz")):
         for words in (STREAM, PLACES, RACES):
             yield Cost(path.name, words, recorded(path), 0, grows=False)

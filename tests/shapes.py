@@ -246,3 +246,11 @@ def late_threads(n):
     """Two threads write a variable without order, and 60 others write it once at the end: what comes later costs no step before."""
     yield from (f"{'AB'[k % 2]}|w(x)|x\n" for k in range(n))
     yield from (f"T{t}|w(x)|x\n" for t in range(60))
+
+
+def races_after_joined(n):
+    """A thread forks 500 others and joins each, and then races with another one, once on each variable: a schedule asks what it knew
+    there, and it has learned nothing since."""
+    for k in range(500):
+        yield f"M|fork(T{k})|f\nT{k}|w(y)|t\nM|join(T{k})|j\n"
+    yield from (f"M|w(x{k})|m\nB|w(x{k})|b\n" for k in range(n // 2))
