@@ -1,10 +1,12 @@
 -- The races of one variable that a sweep finds, one event after the other, and all variables' races as the race list.
-use Rattle.std.proofs.Common.{◌≡◌, ◌≢◌, ◌⊎◌, ℕ, zero, suc, ◌+◌, ◌<◌, ◌≤◌, inl, inr, Bool, true, false, List, [], ◌∷◌, ◌++◌, Option, Some, None, length, map, max, refl, arith, ap, sym, subst, ◌∙◌, append-nil}
-use Rattle.std.specs.Prelude.{cond, flat_map}
+use Rattle.std.proofs.Common.{◌≡◌, ◌≢◌, ◌⊎◌, ℕ, zero, suc, ◌+◌, ◌-◌, ◌<◌, ◌≤◌, inl, inr, Bool, true, false, List, [], ◌∷◌, ◌++◌, Option, Some, None, length, map, max, refl, arith, ap, sym, subst, ◌∙◌, append-nil}
+use Rattle.std.specs.Prelude.{All, cond, drop, flat_map}
 use Rattle.std.specs.Option.{option_map_or}
 use Rattle.std.proofs.lemmas.Bool.{cases_Bool, cases_eq, cases_lt}
-use Rattle.std.proofs.lemmas.List.{append_assoc, map-append}
+use Rattle.std.proofs.lemmas.List.{append_assoc, drop_all, map-append}
 use Rattle.std.proofs.lemmas.List.Concat.{flat_map-append}
+use Rattle.std.proofs.lemmas.List.Elements.{All-drop, All-map}
+use Rattle.std.proofs.Math.Seq.{drop-append-add}
 use Rattle.shb_lines.specs.declared.event.Event.{Event}
 use Rattle.shb_lines.specs.declared.event.Sizes.{Sizes}
 use Rattle.shb_lines.specs.events.Race.{IsRaceList, variable_at}
@@ -20,7 +22,7 @@ use Rattle.shb_pairs.proofs.Listing.{all_is_race_list}
 use Rattle.shb_lists.specs.Batches.{AreNarrowed, races_below, races_on}
 use Rattle.shb_pairs.specs.Listed.{pair_in, race_of}
 use Rattle.shb_lists.specs.Listed.{races_before}
-use Rattle.shb_lists.specs.Parts.{races_until}
+use Rattle.shb_lists.specs.Parts.{IsPart, races_until}
 use Rattle.shb_pairs.specs.declared.listed.ListedRace.{ListedRace}
 use Rattle.shb_lists.proofs.BatchLemmas.{accessed_within, below_next}
 use Rattle.shb_lists.proofs.ListedLemmas.{open_access, open_variable, pairs_of_kept, quiet_numbers, races_more}
@@ -69,6 +71,19 @@ module _ (trace : List Event) (sizes : Sizes) (x : ℕ) (flags : List Bool) (wit
       ∙ (append_assoc (races_until trace x start) (map pair_in old) (map (λ i. (i, e)) found)
       ∙ ap (λ (l : List (ℕ × ℕ)). races_until trace x start ++ l)
       (sym (ap (map pair_in) more ∙ (map-append pair_in old (map (λ i. race_of v e i) found) ∙ ap (λ (l : List (ℕ × ℕ)). map pair_in old ++ l) (pairs_of_kept v e found)))))))
+
+-- ---- a part
+
+pub part_small : (most : ℕ) (races : List ListedRace) → length races ≤ most → IsPart most races
+part_small most races few = (0, subst (All (λ (r : ListedRace). r.second ≡ 0)) (sym (drop_all most races few)) (λ k d lt. absurd (let bad : ⊥ = omega (arith, lt) in bad)))
+
+pub part_with : (most e x : ℕ) (found : List ℕ) (old new : List ListedRace) → length old ≤ most → new ≡ old ++ map (λ i. race_of x e i) found → IsPart most new
+part_with most e x found old new few is =
+    let rest = most - length old in
+    let more = map (λ i. race_of x e i) found in
+    let at : most ≡ length old + rest = omega (arith, few) in
+    let left : drop most new ≡ drop rest more = ap (λ (n : ℕ). drop n new) at ∙ (ap (drop (length old + rest)) is ∙ drop-append-add old more rest) in
+    (e, subst (All (λ (r : ListedRace). r.second ≡ e)) (sym left) (All-drop (λ (r : ListedRace). r.second ≡ e) rest more (All-map (λ (r : ListedRace). r.second ≡ e) (λ i. race_of x e i) found (λ k d lt. refl))))
 
 -- ---- the races up to an event are the first ones
 

@@ -115,12 +115,16 @@ between_more trace plan from x is le =
     let own = is x in
     omega (arith, next, size, own)
 
--- the variable x is too much
-pub between_few : (trace : List Event) (plan : BatchPlan) (from x left most : ℕ) → from ≤ x → left + length (races_between trace from x) ≡ most → left < planned plan.races.items x → planned plan.races.items from ≤ most → length (races_between trace from (max x (from + 1))) ≤ most
-between_few trace plan from x left most le sum more low = elim (cases_lt from x) [
+-- the variable x is too much: those before it have not more than `most` races, and with it they have
+pub between_most : (trace : List Event) (plan : BatchPlan) (from x left most : ℕ) → IsPlan trace plan → from ≤ x → left + length (races_between trace from x) ≡ most → left < planned plan.races.items x → planned plan.races.items from ≤ most
+    → (length (races_between trace from (max x (from + 1))) ≤ most) × (most < length (races_between trace from (max x (from + 1) + 1)))
+between_most trace plan from x left most is le sum more low = elim (cases_lt from x) [
   | inl less ↦ (
-      let same = ap (λ (n : ℕ). length (races_between trace from n)) (let e : max x (from + 1) ≡ x = omega (arith, less) in e) in
-      omega (arith, same, sum))
+      let end : max x (from + 1) ≡ x = omega (arith, less) in
+      let size = ap (λ (n : ℕ). length (races_between trace from n)) end in
+      let wider = ap (λ (n : ℕ). length (races_between trace from (n + 1))) end in
+      let next = between_more trace plan from x is le in
+      (omega (arith, size, sum), omega (arith, wider, next, sum, more)))
   | inr history ↦ (
       let same : x ≡ from = omega (arith, le, history) in
       let size = ap (λ (n : ℕ). length (races_between trace from n)) same in

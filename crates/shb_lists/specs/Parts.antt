@@ -1,9 +1,10 @@
 -- The races of one variable, found a part at a time.
-use Rattle.std.specs.Prelude.{◌≡◌, ◌+◌, ◌≤◌, ℕ, List, [], flat_map, length}
+use Rattle.std.specs.Prelude.{◌≡◌, ◌+◌, ◌≤◌, ℕ, List, [], All, drop, flat_map, length}
 use Rattle.shb_lines.specs.declared.event.Event.{Event}
 use Rattle.shb_lines.specs.events.Reach.{numbers_where}
 use Rattle.shb_pairs.specs.Accesses.{accesses_at}
 use Rattle.shb_pairs.specs.Races.{races_with}
+use Rattle.shb_pairs.specs.declared.listed.ListedRace.{ListedRace}
 use Rattle.shb_lists.specs.Batches.{AreNarrowed}
 use Rattle.shb_lists.specs.History.{IsHistory}
 use Rattle.shb_lists.specs.declared.parts.RaceParts.{RaceParts}
@@ -19,3 +20,7 @@ pub record IsPartly (trace : List Event) (variables x : ℕ) (parts : RaceParts)
   pub flags : AreNarrowed [] variables x (x + 1) parts.flags.items
   pub history : IsHistory trace parts.flags.items parts.next variables parts.history
   pub sweep : parts.sweep ≡ record { trace = trace; next = parts.next }
+
+-- not more than `most` races, and those of one more access
+abbrev pub IsPart : ℕ → List ListedRace → Type 0
+IsPart most races = (e : ℕ) × All (λ race. race.second ≡ e) (drop most races)

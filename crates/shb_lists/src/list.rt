@@ -6,7 +6,7 @@ ghost use Rattle.shb_pairs.specs.Listed.{pair_in};
 ghost use Rattle.shb_lists.specs.Batches.{races_below};
 ghost use Rattle.shb_lists.specs.Given.{HasGiven, IsNext, ListsRaces, parts_left};
 ghost use Rattle.shb_lists.specs.PlaceRaces.{HaveNearest};
-ghost use Rattle.shb_lists.specs.Parts.{IsPartly, races_until};
+ghost use Rattle.shb_lists.specs.Parts.{IsPart, IsPartly, races_until};
 ghost use Rattle.shb_lists.specs.declared.list.Rest.TheVariants.{From, Within};
 
 use crate::counted::{RaceCount, counted_races};
@@ -69,6 +69,7 @@ fn part_within<'a>(
     requires search { IsPartly settled.now.disciplined.now.events.now settled.now.disciplined.now.sizes.variables parts.variable parts }
     requires next { to ≡ parts.variable + 1 }
     requires within { to ≤ settled.now.disciplined.now.sizes.variables }
+    ensures part { IfOk result (λ part. IsPart plan.most part.races.items) }
     ensures given { IfOk result (λ part. HasGiven settled.now.disciplined.now.events.now settled.now.disciplined.now.sizes.variables (races_below settled.now.disciplined.now.events.now settled.now.disciplined.now.sizes.variables)
         (races_below settled.now.disciplined.now.events.now parts.entry.variable ++ races_until settled.now.disciplined.now.events.now parts.entry.variable parts.entry.next ++ map pair_in part.races.items) part.rest) }
     ensures fewer { IfOk result (λ part. parts_left (length settled.now.disciplined.now.events.now) settled.now.disciplined.now.sizes.variables part.rest < parts_left (length settled.now.disciplined.now.events.now) settled.now.disciplined.now.sizes.variables (Within plan parts.entry to)) }

@@ -2,7 +2,7 @@
 
 ghost use Rattle.std.specs.Prelude.{◌≡◌, ◌<◌, ◌≤◌, ◌++◌, ℕ, IfOk, OnOk, length, map};
 ghost use Rattle.shb_pairs.specs.Listed.{pair_in};
-ghost use Rattle.shb_lists.specs.Parts.{IsPartly, races_until};
+ghost use Rattle.shb_lists.specs.Parts.{IsPart, IsPartly, races_until};
 
 use crate::batches::narrowed;
 use crate::history::AccessHistory;
@@ -73,6 +73,8 @@ impl<'a> RaceParts<'a> {
         ensures races { (x : ℕ) → IsPartly settled.now.disciplined.now.events.now settled.now.disciplined.now.sizes.variables x self.old
             → IfOk result (λ part. races_until settled.now.disciplined.now.events.now x self.new.next
             ≡ races_until settled.now.disciplined.now.events.now x self.old.next ++ map pair_in part.items) }
+        ensures part { IfOk result (λ part. IsPart most part.items) }
+        ensures full { IfOk result (λ part. self.new.next < length settled.now.disciplined.now.events.now → most ≤ length part.items) }
         ensures forward { OnOk result (self.old.next ≤ self.new.next) }
         ensures more { OnOk result (self.old.next < length settled.now.disciplined.now.events.now → self.old.next < self.new.next) }
     {

@@ -52,6 +52,8 @@ impl BatchPlan {
         ensures within { result ≤ variables }
         ensures few { (trace : List Event) → IsPlan trace self.now → planned self.now.races.items from ≤ self.now.most
             → length (races_between trace from result) ≤ self.now.most }
+        ensures full { (trace : List Event) → IsPlan trace self.now → planned self.now.races.items from ≤ self.now.most
+            → result < variables → self.now.most < length (races_between trace from (result + 1)) }
     {
         let mut left = self.most;
         for x in from..variables {
@@ -65,7 +67,8 @@ impl BatchPlan {
     }
 
     /// The races of the variables from `from` on, of as many as have not more than can be kept together: at least one. The
-    /// batch has no races if and only if it is one variable that has more. A sweep; none for a variable that has more.
+    /// batch has no races if and only if it is one variable that has more; else one variable more would be too many. A
+    /// sweep; none for a variable that has more.
     /// Memory: a byte per variable, and what [`kept_races`](crate::kept_races) takes for so many races.
     ///
     /// # Errors
@@ -81,6 +84,9 @@ impl BatchPlan {
             → IfOk result (λ batch. AreKept (Some self.now.most) (races_on settled.now.disciplined.now.events.now from) batch.races) }
         ensures few { IsPlan settled.now.disciplined.now.events.now self.now
             → IfOk result (λ batch. IfSome batch.races (λ races. length races.items ≤ self.now.most)) }
+        ensures full { IsPlan settled.now.disciplined.now.events.now self.now
+            → IfOk result (λ batch. IfSome batch.races (λ races. batch.to < settled.now.disciplined.now.sizes.variables
+            → self.now.most < length (races_between settled.now.disciplined.now.events.now from (batch.to + 1)))) }
     {
         let to = self.end(from, settled.disciplined.sizes.variables);
         if !self.can_keep(from) {

@@ -14,6 +14,7 @@ invariant-loop-e l = record {
   of_trace : l.self.sweep.trace ≡ l.settled.disciplined.now.events.now;
   swept : l.self.sweep.next ≡ l.e;
   history : IsHistory l.settled.disciplined.now.events.now l.self.flags.items l.e l.settled.disciplined.now.sizes.variables l.self.history;
+  few : length l.part.items ≤ l.most;
   races : (x : ℕ) → IsPartly l.settled.disciplined.now.events.now l.settled.disciplined.now.sizes.variables x l.initial.self
       → races_until l.settled.disciplined.now.events.now x l.e ≡ races_until l.settled.disciplined.now.events.now x l.initial.self.next ++ map pair_in l.part.items;
 }
