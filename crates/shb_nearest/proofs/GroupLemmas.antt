@@ -6,10 +6,11 @@ use Rattle.std.specs.List.{remove}
 use Rattle.std.proofs.Math.ListN.{set}
 use Rattle.std.proofs.Math.Seq.{take-suc}
 use Rattle.std.proofs.lemmas.Bool.{cases_Bool, cases_eq, cases_lt, eq-eqb, eqb-true}
-use Rattle.std.proofs.lemmas.List.Elements.{All-contains, All-filter, All-nil, All-push, All-set, All-weaker, Contains-append_left, Contains-get_or, Contains-push, Contains-push_cases}
+use Rattle.std.proofs.lemmas.List.Elements.{All-contains, All-nil, All-push, All-set, All-weaker, Contains-append_left, Contains-get_or, Contains-push, Contains-push_cases}
 use Rattle.std.proofs.lemmas.List.Kept.{AllPairs-filter}
 use Rattle.std.proofs.lemmas.List.Quantifiers.{all_pairs_push, all_pairs_remove}
-use Rattle.std.proofs.lemmas.List.{get_or-take, get_or_push, length-take, length_push}
+use Rattle.std.proofs.lemmas.List.{get_or-take, get_or_append_left, get_or_push, length-take, length_push}
+use Rattle.std.proofs.lemmas.List.Edits.{remove-append_left}
 use Rattle.std.proofs.lemmas.Option.{get_or_from_slice_get, slice_get_read, slice_get_within}
 use Rattle.std.specs.List.Retain.{RetainsInTurn}
 use Rattle.shb_lines.specs.declared.event.Event.{Event}
@@ -23,9 +24,9 @@ use Rattle.shb_nearest.specs.declared.groups.KeptAccess.{KeptAccess}
 use Rattle.shb_nearest.specs.declared.groups.Run.{Run}
 use Rattle.shb_nearest.specs.Classes.{HasLastOf, HasPut, IsLastOf, IsNewestOf, IsOfClass, is_newest_in, newest_in, same_class}
 use Rattle.shb_nearest.specs.Found.{IsFoundAccess}
-use Rattle.shb_nearest.specs.Groups.{AreGroups, HasGroupAt, HasKept, HasLast, HasReplaced, IsEarlier, IsGroup, IsKept, IsOfGroup, IsRun, KeepsAccess, access_of, class_of, is_newest_kept}
+use Rattle.shb_nearest.specs.Groups.{AreGroups, HasGroupAt, HasKept, HasLast, IsEarlier, IsGroup, IsKept, IsOfGroup, IsRun, KeepsAccess, access_of, class_of, is_newest_kept}
 use Rattle.shb_nearest.proofs.ClassLemmas.{class_own, last_before, one_class_at}
-use Rattle.shb_nearest.proofs.Members.{all_remove, index_of, longer_cases, member_at, member_filter, member_remove, member_set, stays_or_is}
+use Rattle.shb_nearest.proofs.Members.{index_of, longer_cases, member_at, member_filter, member_of_filter, member_of_remove, member_remove, member_set, stays_or_is}
 
 -- equal classes are the same
 same_kind_is : (a b : Bool) → beq a b ≡ true → a ≡ b
@@ -83,9 +84,6 @@ module _ (trace : List Event) (spots : List Spot) (x n : ℕ) where
   pub group_until : (m : ℕ) → n ≤ m → (g : Group) → IsGroup trace spots x n g → IsGroup trace spots x m g
   group_until m le g h = record { each = All-weaker (IsKept trace spots x n g.thread g.writes) (IsKept trace spots x m g.thread g.writes) (kept_until m le g.thread g.writes) g.kept.items h.each; rising = h.rising }
 
-  kept_later : (t : ℕ) (w : Bool) (a : KeptAccess) → IsKept trace spots x n t w a → IsKept trace spots x (n + 1) t w a
-  kept_later = kept_until (n + 1) (omega arith)
-
   group_later : (g : Group) → IsGroup trace spots x n g → IsGroup trace spots x (n + 1) g
   group_later = group_until (n + 1) (omega arith)
 
@@ -126,7 +124,7 @@ module _ (trace : List Event) (spots : List Spot) (x n : ℕ) where
     abbrev pub class_in : Group → KeptAccess → Class
     class_in g a = class_of x (access_of g.thread g.writes a)
 
-    module _ (old new : Group) (is_of : IsOfGroup old access.thread access.writes) (h : HasKept x kept old new) (was : IsGroup trace spots x n old) where
+    module _ (old new : Group) (is_of : IsOfGroup old access.thread access.writes) (h : HasKept kept old new) (was : IsGroup trace spots x n old) where
       abbrev pub pushed : List KeptAccess
       pushed = old.kept.items ++ kept ∷ []
 
@@ -138,69 +136,21 @@ module _ (trace : List Event) (spots : List Spot) (x n : ℕ) where
       pushed_rising : AllPairs IsEarlier pushed
       pushed_rising = all_pairs_push IsEarlier old.kept.items kept was.rising (λ k d lt. let past = (was.each k d lt).past in omega (arith, past, at_event, here))
 
-      -- an access at its location went
-      module _ (r : HasReplaced kept old.kept.items new.kept.items) where
-        gone_within : r.at < length old.kept.items
-        gone_within = slice_get_within old.kept.items r.at r.gone r.there
-
-        abbrev left : List KeptAccess
-        left = remove old.kept.items r.at
-
-        left_before : All (IsKept trace spots x n old.thread old.writes) left
-        left_before = all_remove (IsKept trace spots x n old.thread old.writes) old.kept.items r.at gone_within was.each
-
-        left_each : All (IsKept trace spots x (n + 1) new.thread new.writes) left
-        left_each = subst (λ (t : ℕ). All (IsKept trace spots x (n + 1) t new.writes) left) (sym h.own.thread_is) (subst (λ (w : Bool). All (IsKept trace spots x (n + 1) old.thread w) left) (sym h.own.writes_is)
-            (All-weaker (IsKept trace spots x n old.thread old.writes) (IsKept trace spots x (n + 1) old.thread old.writes) (kept_later old.thread old.writes) left left_before))
-
-        group_replaced : IsGroup trace spots x (n + 1) new
-        group_replaced = record {
-          each = subst (λ (l : List KeptAccess). All (IsKept trace spots x (n + 1) new.thread new.writes) l) (sym r.items) (All-push (IsKept trace spots x (n + 1) new.thread new.writes) left kept left_each
-              (subst (λ (t : ℕ). IsKept trace spots x (n + 1) t new.writes kept) (sym (h.own.thread_is ∙ is_of.thread_is)) (subst (λ (w : Bool). IsKept trace spots x (n + 1) access.thread w kept) (sym (h.own.writes_is ∙ is_of.writes_is)) own_kept)));
-          rising = subst (λ (l : List KeptAccess). AllPairs IsEarlier l) (sym r.items) (all_pairs_push IsEarlier left kept (all_pairs_remove IsEarlier old.kept.items r.at gone_within was.rising)
-              (λ k d lt. let past = (left_before k d lt).past in omega (arith, past, at_event, here)));
-        }
-
-        replaced_kept : (a : KeptAccess) → Contains pushed a → ((b : KeptAccess) → Contains pushed b → b.spot.location ≡ a.spot.location → b.event ≤ a.event) → Contains new.kept.items a
-        replaced_kept a there last = subst (λ (l : List KeptAccess). Contains l a) (sym r.items) (elim (Contains-push_cases old.kept.items kept a there) [
-          | inr same ↦ subst (λ (b : KeptAccess). Contains (left ++ kept ∷ []) b) same (Contains-push left kept)
-          | inl before ↦ (
-              let k = index_of old.kept.items a before in
-              Contains-append_left left (kept ∷ []) a (member_remove old.kept.items r.at k.0 a gone_within k.1
-              (λ same. let s : Some a ≡ Some r.gone = sym k.1 ∙ (ap (slice_get old.kept.items) same ∙ r.there) in
-              let e : a ≡ r.gone = cc in
-              let at_a : kept.spot.location ≡ a.spot.location = sym r.location_is ∙ ap (λ (b : KeptAccess). b.spot.location) (sym e) in
-              let le = last kept (Contains-push old.kept.items kept) at_a in
-              let past = (All-contains (IsKept trace spots x n old.thread old.writes) old.kept.items a was.each before).past in
-              absurd (omega (arith, le, past, at_event, here)))))
-        ])
-
       pub group_kept : IsGroup trace spots x (n + 1) new
-      group_kept = elim h.items [
-        | inl all ↦ record {
-          each = subst (λ (l : List KeptAccess). All (IsKept trace spots x (n + 1) new.thread new.writes) l) (sym all) pushed_each;
-          rising = subst (λ (l : List KeptAccess). AllPairs IsEarlier l) (sym all) pushed_rising;
-        }
-        | inr (inl one) ↦ group_replaced one
-        | inr (inr some) ↦ record {
-          each = subst (λ (l : List KeptAccess). All (IsKept trace spots x (n + 1) new.thread new.writes) l) (sym some.items) (All-filter (is_newest_kept some.newest x old.thread old.writes) (IsKept trace spots x (n + 1) new.thread new.writes) pushed pushed_each);
-          rising = subst (λ (l : List KeptAccess). AllPairs IsEarlier l) (sym some.items) (AllPairs-filter IsEarlier (is_newest_kept some.newest x old.thread old.writes) pushed pushed_rising);
-        }
-      ]
+      group_kept = record {
+        each = λ k d lt. All-contains (IsKept trace spots x (n + 1) new.thread new.writes) pushed (get_or new.kept.items k d) pushed_each (h.from (get_or new.kept.items k d) (Contains-get_or new.kept.items k d lt));
+        rising = h.rising pushed_rising;
+      }
 
       -- the last at a location is kept
       pub newest_kept : (a : KeptAccess) → Contains pushed a → ((b : KeptAccess) → Contains pushed b → b.spot.location ≡ a.spot.location → b.event ≤ a.event) → Contains new.kept.items a
-      newest_kept a there last = elim h.items [
-        | inl all ↦ subst (λ (l : List KeptAccess). Contains l a) (sym all) there
-        | inr (inl one) ↦ replaced_kept one a there last
-        | inr (inr some) ↦ subst (λ (l : List KeptAccess). Contains l a) (sym some.items) (member_filter (is_newest_kept some.newest x old.thread old.writes) pushed a there (newest_passes some.newest (class_in old a) a.event a.event (some.last pushed_rising a there (λ b in_pushed same. last b in_pushed (ap (λ (c : Class). c.location) same))) refl))
-      ]
+      newest_kept = h.last pushed_rising
 
       -- each access of the group is of the class of its location
       pub in_class : (b : KeptAccess) → Contains pushed b → IsOfClass trace spots (class_in new b) b.event × (b.event < n + 1)
       in_class b there = let k = All-contains (IsKept trace spots x (n + 1) new.thread new.writes) pushed b pushed_each there in (class_own trace spots x (access_of new.thread new.writes b) k.own, k.past)
 
-    pub noted : (last : ℕ) → n < last → (groups mid : List Group) (at : ℕ) (old new : Group) → AreGroups trace spots x n last groups → HasGroupAt groups mid access.thread access.writes at → slice_get mid at ≡ Some old → HasKept x kept old new → AreGroups trace spots x (n + 1) last (set mid at new)
+    pub noted : (last : ℕ) → n < last → (groups mid : List Group) (at : ℕ) (old new : Group) → AreGroups trace spots x n last groups → HasGroupAt groups mid access.thread access.writes at → slice_get mid at ≡ Some old → HasKept kept old new → AreGroups trace spots x (n + 1) last (set mid at new)
     noted last within groups mid at old new are found at_old h = record { each = All-set (IsGroup trace spots x (n + 1)) mid at new (group_kept old new is_of h was) mid_each; covers = covers }
       where
         is_of : IsOfGroup old access.thread access.writes
@@ -331,17 +281,68 @@ group_made old new t w at g at_end more of_t of_w empty = record {
 pub group_same : (g h : Group) → Some g ≡ Some h → g ≡ h
 group_same g h is = let e : g ≡ h = cc in e
 
--- a group that kept an access and forgot others
-pub kept_some : (x : ℕ) (access : KeptAccess) (old new : Group) → new.thread ≡ old.thread → new.writes ≡ old.writes → (pushed seen : List KeptAccess) (newest : List (Class × ℕ)) → pushed ≡ old.kept.items ++ access ∷ [] → seen ≡ pushed
-    → (AllPairs IsEarlier seen → HasLast newest x old.thread old.writes seen) → new.kept.items ≡ filter (is_newest_kept newest x old.thread old.writes) pushed → HasKept x access old new
-kept_some x access old new of_t of_w pushed seen newest more same last forgot = record {
-  own = record { thread_is = of_t; writes_is = of_w };
-  items = inr (inr (record {
-    newest = newest;
-    last = subst (λ (l : List KeptAccess). AllPairs IsEarlier l → HasLast newest x old.thread old.writes l) (same ∙ more) last;
-    items = forgot ∙ ap (filter (is_newest_kept newest x old.thread old.writes)) more;
-  }));
-}
+-- a group that keeps an access more and all before it, or all but one at its location, or those that a table has
+module _ (access : KeptAccess) (old new : Group) (of_t : new.thread ≡ old.thread) (of_w : new.writes ≡ old.writes) where
+  abbrev both : List KeptAccess
+  both = old.kept.items ++ access ∷ []
+
+  pub kept_all : new.kept.items ≡ both → HasKept access old new
+  kept_all is = record {
+    own = record { thread_is = of_t; writes_is = of_w };
+    from = λ a there. subst (λ (l : List KeptAccess). Contains l a) is there;
+    rising = subst (λ (l : List KeptAccess). AllPairs IsEarlier l) (sym is);
+    last = λ up a there none_later. subst (λ (l : List KeptAccess). Contains l a) (sym is) there;
+  }
+
+  pub kept_without : (at : ℕ) (gone : KeptAccess) → slice_get old.kept.items at ≡ Some gone → gone.spot.location ≡ access.spot.location → new.kept.items ≡ remove old.kept.items at ++ access ∷ [] → HasKept access old new
+  kept_without at gone there location is = record {
+    own = record { thread_is = of_t; writes_is = of_w };
+    from = λ a found. member_of_remove both at a within (subst (λ (l : List KeptAccess). Contains l a) all found);
+    rising = λ up. subst (λ (l : List KeptAccess). AllPairs IsEarlier l) (sym all) (all_pairs_remove IsEarlier both at within up);
+    last = λ up a found none_later.
+        let index = index_of both a found in
+        subst (λ (l : List KeptAccess). Contains l a) (sym all) (member_remove both at index.0 a within index.1 (λ same.
+        let gone_is : gone ≡ a = (let s : Some gone ≡ Some a = sym at_gone ∙ (ap (slice_get both) (sym same) ∙ index.1) in cc) in
+        let le = none_later access (Contains-push old.kept.items access) (sym location ∙ ap (λ (b : KeptAccess). b.spot.location) gone_is) in
+        let rise = up at (length old.kept.items) access inside (omega (arith, long)) in
+        let first = ap (λ (b : KeptAccess). b.event) (get_or_from_slice_get both at gone access at_gone ∙ gone_is) in
+        let second = ap (λ (b : KeptAccess). b.event) (get_or_push old.kept.items access access (length old.kept.items) refl) in
+        omega (arith, le, rise, first, second)));
+  }
+    where
+      inside : at < length old.kept.items
+      inside = slice_get_within old.kept.items at gone there
+
+      long : length both ≡ length old.kept.items + 1
+      long = length_push old.kept.items access
+
+      within : at < length both
+      within = omega (arith, inside, long)
+
+      at_gone : slice_get both at ≡ Some gone
+      at_gone = slice_get_read both (length both) at gone refl within (sym (get_or_append_left old.kept.items (access ∷ []) gone at inside ∙ get_or_from_slice_get old.kept.items at gone gone there))
+
+      all : new.kept.items ≡ remove both at
+      all = is ∙ sym (remove-append_left old.kept.items (access ∷ []) at inside)
+
+  pub kept_some : (pushed seen : List KeptAccess) (newest : List (Class × ℕ)) (x : ℕ) → pushed ≡ both → seen ≡ pushed → (AllPairs IsEarlier seen → HasLast newest x old.thread old.writes seen)
+      → new.kept.items ≡ filter (is_newest_kept newest x old.thread old.writes) pushed → HasKept access old new
+  kept_some pushed seen newest x more same last forgot = record {
+    own = record { thread_is = of_t; writes_is = of_w };
+    from = λ a there. member_of_filter passes both a (subst (λ (l : List KeptAccess). Contains l a) is there);
+    rising = λ up. subst (λ (l : List KeptAccess). AllPairs IsEarlier l) (sym is) (AllPairs-filter IsEarlier passes both up);
+    last = λ up a there none_later. subst (λ (l : List KeptAccess). Contains l a) (sym is) (member_filter passes both a there (newest_passes newest (class_at a) a.event a.event
+        (subst (λ (l : List KeptAccess). AllPairs IsEarlier l → HasLast newest x old.thread old.writes l) (same ∙ more) last up a there (λ b found of_class. none_later b found (ap (λ (c : Class). c.location) of_class))) refl));
+  }
+    where
+      passes : KeptAccess → Bool
+      passes = is_newest_kept newest x old.thread old.writes
+
+      class_at : KeptAccess → Class
+      class_at a = class_of x (access_of old.thread old.writes a)
+
+      is : new.kept.items ≡ filter passes both
+      is = forgot ∙ ap (filter passes) more
 
 -- the run of a variable, an access more
 module _ (trace : List Event) (spots : List Spot) (x : ℕ) (access : FoundAccess) (own : IsFoundAccess trace spots x access) where

@@ -11,7 +11,6 @@ use Rattle.std.proofs.lemmas.List.Elements.{Contains-push_cases}
 use Rattle.std.proofs.lemmas.Bool.{cases_eq, cases_lt, eq-eqb, eqb-true}
 use Rattle.std.proofs.lemmas.List.{get_or_default, length_push}
 use Rattle.std.proofs.lemmas.Option.{get_or_from_slice_get, slice_get_within}
-use Rattle.std.specs.List.{remove}
 use Rattle.shb_discipline.proofs.Steps.{set_cases}
 use Rattle.shb_lines.proofs.events.Increasing.{contains_none}
 use Rattle.shb_numbers.specs.Numbers.{Numbers}
@@ -22,8 +21,8 @@ use Rattle.shb_nearest.specs.declared.late.Late.{Late}
 use Rattle.shb_nearest.specs.declared.places.Place.{Place}
 use Rattle.shb_nearest.specs.declared.sites.Site.{Site}
 use Rattle.shb_nearest.specs.declared.sites.Sites.{Sites}
-use Rattle.shb_nearest.proofs.Members.{at_other, at_set, get_before, longer_cases, member_of_filter, member_of_remove, middle, one_at}
-use Rattle.shb_nearest.specs.Groups.{HasGroupAt, HasKept, is_newest_kept}
+use Rattle.shb_nearest.proofs.Members.{at_other, at_set, get_before, longer_cases, middle, one_at}
+use Rattle.shb_nearest.specs.Groups.{HasGroupAt, HasKept}
 use Rattle.shb_nearest.specs.Places.{IsKnown, PlaceEntry}
 use Rattle.shb_nearest.specs.Sites.{AreAllNoted, AreFew, AreNoted, ArePaired, HasSets, HasNoted, HasSetsOf, HasSite, HaveAllSites, HaveSites, IsAfter, IsDone, IsIn, IsNoted, IsPair, IsSettled, IsSite, of_group, of_kind, place_at}
 
@@ -303,27 +302,16 @@ sites_found by_variable x entries old mid t w at same found are = record {
   paired = λ sites is. are.paired sites (sym same ∙ is);
 }
 
--- what a group keeps with an access more was kept, or is it
-pub kept_from : (x : ℕ) (kept : KeptAccess) (was now : Group) → HasKept x kept was now → (a : KeptAccess) → Contains now.kept.items a → Contains was.kept.items a ⊎ (kept ≡ a)
-kept_from x kept was now h a there = elim h.items [
-  | inl all ↦ Contains-push_cases was.kept.items kept a (subst (λ (l : List KeptAccess). Contains l a) all there)
-  | inr (inl one) ↦ elim (Contains-push_cases (remove was.kept.items one.at) kept a (subst (λ (l : List KeptAccess). Contains l a) one.items there)) [
-    | inl before ↦ inl (member_of_remove was.kept.items one.at a (slice_get_within was.kept.items one.at one.gone one.there) before)
-    | inr same ↦ inr same
-  ]
-  | inr (inr some) ↦ Contains-push_cases was.kept.items kept a (member_of_filter (is_newest_kept some.newest x was.thread was.writes) (was.kept.items ++ kept ∷ []) a (subst (λ (l : List KeptAccess). Contains l a) some.items there))
-]
-
 -- the groups, where one keeps an access more
 pub sites_kept : (by_variable : Bool) (x : ℕ) (entries : List PlaceEntry) (old new : Groups) (at : ℕ) (late : Late) (kept : KeptAccess) (was now : Group) → new.sites ≡ old.sites → new.each.items ≡ set old.each.items at now → slice_get old.each.items at ≡ Some was → was.writes ≡ late.writes
-    → kept.event ≡ late.event → kept.spot.location ≡ late.location → HasKept x kept was now → HasNoted old at late → HaveSites by_variable x entries old → HaveSites by_variable x entries new
+    → kept.event ≡ late.event → kept.spot.location ≡ late.location → HasKept kept was now → HasNoted old at late → HaveSites by_variable x entries old → HaveSites by_variable x entries new
 sites_kept by_variable x entries old new at late kept was now same each there kind at_event at_location h noted are = record {
   marked = λ sites is k g here few a among. elim (set_cases old.each.items at k now g (slice_get_within old.each.items at was there) (subst (λ (l : List Group). slice_get l k ≡ Some g) each here)) [
     | inr other ↦ are.marked sites (sym same ∙ is) k g other.1 few a among
     | inl one ↦ (
         let kind_g : g.writes ≡ was.writes = ap (λ (i : Group). i.writes) one.1 ∙ h.own.writes_is in
         subst (λ (i : ℕ). IsNoted sites.value i g.writes a.spot.location a.event) (sym one.0) (subst (λ (w : Bool). IsNoted sites.value at w a.spot.location a.event) (sym kind_g)
-        (elim (kept_from x kept was now h a (subst (λ (i : Group). Contains i.kept.items a) one.1 among)) [
+        (elim (Contains-push_cases was.kept.items kept a (h.from a (subst (λ (i : Group). Contains i.kept.items a) one.1 among))) [
           | inl before ↦ are.marked sites (sym same ∙ is) at was there few a before
           | inr is_kept ↦ subst (λ (b : KeptAccess). IsNoted sites.value at was.writes b.spot.location b.event) is_kept
               (subst (λ (w : Bool). IsNoted sites.value at w kept.spot.location kept.event) (sym kind) (subst (λ (e : ℕ). IsNoted sites.value at late.writes kept.spot.location e) (sym at_event) (subst (λ (l : ℕ). IsNoted sites.value at late.writes l late.event) (sym at_location) (noted sites (sym same ∙ is) few))))

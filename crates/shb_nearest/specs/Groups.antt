@@ -1,6 +1,5 @@
 -- The accesses that are kept of a variable, by thread and kind.
-use Rattle.std.specs.List.{remove}
-use Rattle.std.specs.Prelude.{◌≡◌, ◌⊎◌, ◌<◌, ◌≤◌, ◌++◌, ◌∷◌, ℕ, Bool, List, [], Some, All, AllPairs, Contains, filter, slice_get}
+use Rattle.std.specs.Prelude.{◌≡◌, ◌⊎◌, ◌<◌, ◌≤◌, ◌++◌, ◌∷◌, ℕ, Bool, List, [], Some, All, AllPairs, Contains, slice_get}
 use Rattle.shb_lines.specs.declared.event.Event.{Event}
 use Rattle.shb_lines.specs.events.Discipline.{local_time}
 use Rattle.shb_lines.specs.events.Events.{thread_at}
@@ -74,24 +73,12 @@ is_newest_kept newest x thread writes kept = is_newest_in newest (class_of x (ac
 abbrev pub HasLast : List (Class × ℕ) → ℕ → ℕ → Bool → List KeptAccess → Type 0
 HasLast newest x thread writes kept = HasLastOf (λ (a : KeptAccess). a.event) (λ (a : KeptAccess). class_of x (access_of thread writes a)) newest kept
 
--- of a group's accesses those stay that a table has, which has the last at each location
-pub record HasForgotten (x thread : ℕ) (writes : Bool) (old new : List KeptAccess) : Type 0 where
-  pub newest : List (Class × ℕ)
-  pub last : AllPairs IsEarlier old → HasLast newest x thread writes old
-  pub items : new ≡ filter (is_newest_kept newest x thread writes) old
-
--- the access came last, and one at its location went
-pub record HasReplaced (access : KeptAccess) (old new : List KeptAccess) : Type 0 where
-  pub at : ℕ
-  pub gone : KeptAccess
-  pub there : slice_get old at ≡ Some gone
-  pub location_is : gone.spot.location ≡ access.spot.location
-  pub items : new ≡ remove old at ++ access ∷ []
-
--- the group keeps one access more, and perhaps not an earlier one at its location, or forgets those that aren't the last at theirs
-pub record HasKept (x : ℕ) (access : KeptAccess) (old new : Group) : Type 0 where
+-- the group keeps an access more: of it and those before at least the last at each location, in their order
+pub record HasKept (access : KeptAccess) (old new : Group) : Type 0 where
   pub own : IsOfGroup new old.thread old.writes
-  pub items : (new.kept.items ≡ old.kept.items ++ access ∷ []) ⊎ (HasReplaced access old.kept.items new.kept.items ⊎ HasForgotten x old.thread old.writes (old.kept.items ++ access ∷ []) new.kept.items)
+  pub from : (a : KeptAccess) → Contains new.kept.items a → Contains (old.kept.items ++ access ∷ []) a
+  pub rising : AllPairs IsEarlier (old.kept.items ++ access ∷ []) → AllPairs IsEarlier new.kept.items
+  pub last : AllPairs IsEarlier (old.kept.items ++ access ∷ []) → (a : KeptAccess) → Contains (old.kept.items ++ access ∷ []) a → ((b : KeptAccess) → Contains (old.kept.items ++ access ∷ []) b → b.spot.location ≡ a.spot.location → b.event ≤ a.event) → Contains new.kept.items a
 
 -- an access of the kept ones at a location, or 0
 abbrev pub IsAt : List KeptAccess → ℕ → ℕ → Type 0

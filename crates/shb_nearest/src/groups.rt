@@ -196,7 +196,7 @@ impl Group {
     ///
     /// `NoMemory` where a growth was refused.
     fn replace(&mut self, access: KeptAccess) -> Result<u32, NoMemory>
-        ensures kept { (x : ℕ) → OnOk result (HasKept x access self.old self.new) }
+        ensures kept { OnOk result (HasKept access self.old self.new) }
         ensures before { IfOk result (IsAt self.old.kept.items access.spot.location) }
     {
         let Some(at) = index_at(self.kept.as_slice(), access.spot.location) else {
@@ -220,7 +220,7 @@ impl Group {
         variable: u32,
         access: KeptAccess,
     ) -> Result<(), NoMemory>
-        ensures { OnOk result (HasKept variable access self.old self.new) }
+        ensures { OnOk result (HasKept access self.old self.new) }
     {
         self.kept.push(access)?;
         if self.kept.len() <= self.most {

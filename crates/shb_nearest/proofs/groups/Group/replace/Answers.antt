@@ -1,9 +1,16 @@
-use Rattle.std.proofs.Common.{List, ◌≡◌, ◌∙◌, Some, ap, inr, length, refl, subst, sym}
+use Rattle.std.proofs.Common.{List, [], ◌∷◌, ◌++◌, ◌≡◌, ◌∙◌, Some, ap, inr, length, refl, subst, sym}
 use Rattle.std.specs.Prelude.{slice_get}
 use Rattle.std.proofs.lemmas.Option.{slice_get_read, slice_get_within}
 use Rattle.shb_nearest.specs.declared.groups.KeptAccess.{KeptAccess}
+use Rattle.shb_nearest.proofs.GroupLemmas.{kept_without}
 use Rattle.shb_nearest.proofs.Members.{member_at}
 use Rattle.shb_nearest.proofs.groups.Group.replace.Goals as goal
+
+pub returns-clause-kept : goal.returns-clause-kept
+returns-clause-kept c =
+    let found = c.in-Some.ensures in
+    let there = subst (λ (l : List KeptAccess). slice_get l c.in-Some.at ≡ Some found.0) c.as_slice.ensures found.1 in
+    kept_without c.args.access c.args.self.now _ refl refl c.in-Some.at found.0 there found.2 (c.in_ok-push-2.ensures.ok ∙ ap (λ (l : List KeptAccess). l ++ c.args.access ∷ []) c.remove-before.ensures.items)
 
 pub returns-clause-before : goal.returns-clause-before
 returns-clause-before c =
