@@ -35,14 +35,8 @@ pub record IsCovered (rivals : List FoundAccess) (access : FoundAccess) : Type 0
   pub location_is : rival.spot.location ≡ access.spot.location
   pub not_before : access.event ≤ rival.event
 
--- accesses came to the rivals, of which those may be left out that another one covers
-pub record HasAdded (old new added : List FoundAccess) : Type 0 where
-  pub stay : (a : FoundAccess) → IsCovered old a → IsCovered new a
-  pub from : (a : FoundAccess) → Contains new a → Contains old a ⊎ Contains added a
-  pub covers : (a : FoundAccess) → Contains added a → IsCovered new a
-
--- the same, where those may be left out too whose place with a later access at a location is known
-pub record HasAddedSome (groups : Groups) (second : ℕ) (old new added : List FoundAccess) : Type 0 where
+-- accesses came to the rivals, of which those may be left out that another one covers, or whose place with a later access at a location is known
+pub record HasAdded (groups : Groups) (second : ℕ) (old new added : List FoundAccess) : Type 0 where
   pub stay : (a : FoundAccess) → IsCovered old a → IsCovered new a
   pub from : (a : FoundAccess) → Contains new a → Contains old a ⊎ Contains added a
   pub covers : (a : FoundAccess) → Contains added a → IsCovered new a ⊎ IsSettled groups a.spot.location second
@@ -51,7 +45,7 @@ pub record HasAddedSome (groups : Groups) (second : ℕ) (old new added : List F
 pub record HasMet (groups : Groups) (second : ℕ) (group : Group) (below since : ℕ) (old new : List FoundAccess) : Type 0 where
   pub from : ℕ
   pub from_is : IsFrom group.kept.items below since from
-  pub more : HasAddedSome groups second old new (map (access_of group.thread group.writes) (drop from group.kept.items))
+  pub more : HasAdded groups second old new (map (access_of group.thread group.writes) (drop from group.kept.items))
 
 -- accesses of the group are of another thread than the access, and one of both writes
 pub record CanRace (group : Group) (access : FoundAccess) : Type 0 where

@@ -3,10 +3,11 @@
 ghost use Rattle.std.specs.Prelude.{◌≡◌, ◌+◌, ◌<◌, ◌≤◌, ◌++◌, ◌∷◌, [], ℕ, false, true, List, OnOk, Some, length, map, slice_get};
 ghost use Rattle.shb_lines.specs.declared.event.Event.{Event};
 ghost use Rattle.shb_nearest.specs.Groups.{AreGroups, IsGroup, IsRun, access_of};
-ghost use Rattle.shb_nearest.specs.Rivals.{AreRivals, CanRace, HasAdded, HasAddedSome, HasMet, HasMetGroup, IsFrom, IsNextAccess, IsOver};
+ghost use Rattle.shb_nearest.specs.Rivals.{AreRivals, CanRace, HasAdded, HasMet, HasMetGroup, IsFrom, IsNextAccess, IsOver};
 ghost use Rattle.shb_nearest.specs.Sites.{AreMarked};
 ghost use Rattle.shb_nearest.specs.declared.access.Spot.{Spot as SpotData};
 ghost use Rattle.shb_nearest.specs.declared.groups.Group.{Group as GroupData};
+ghost use Rattle.shb_nearest.specs.declared.groups.Groups.{Groups as GroupsData};
 
 use crate::access::FoundAccess;
 use crate::groups::{Group, Groups, KeptAccess, Run};
@@ -59,7 +60,7 @@ impl Rivals {
 
     /// Takes an access in, unless a later one at its location is there. An earlier one there goes.
     fn add(&mut self, access: FoundAccess) -> Result<(), NoMemory>
-        ensures { OnOk result (HasAdded self.old.found.items self.new.found.items (access ∷ [])) }
+        ensures { (groups : GroupsData) (second : ℕ) → OnOk result (HasAdded groups second self.old.found.items self.new.found.items (access ∷ [])) }
     {
         let location = access.spot.location;
         let index = item_or(self.indices.as_slice(), location, 0);
@@ -86,7 +87,7 @@ impl Rivals {
         second: u32,
         kept: KeptAccess,
     ) -> Result<(), NoMemory>
-        ensures { OnOk result (HasAddedSome groups.now second self.old.found.items self.new.found.items (access_of thread writes kept ∷ [])) }
+        ensures { OnOk result (HasAdded groups.now second self.old.found.items self.new.found.items (access_of thread writes kept ∷ [])) }
     {
         let settled = groups.is_settled(kept, second);
         if settled {
@@ -110,7 +111,7 @@ impl Rivals {
         second: u32,
         kept: &[KeptAccess],
     ) -> Result<(), NoMemory>
-        ensures { OnOk result (HasAddedSome groups.now second self.old.found.items self.new.found.items (map (access_of thread writes) kept.now)) }
+        ensures { OnOk result (HasAdded groups.now second self.old.found.items self.new.found.items (map (access_of thread writes) kept.now)) }
     {
         for access in kept {
             self.add_unsettled(groups, thread, writes, second, *access)?;
