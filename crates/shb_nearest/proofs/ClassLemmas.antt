@@ -90,23 +90,6 @@ module _ (trace : List Event) (spots : List Spot) where
       go (inl accesses) = let k = kind_at trace i x accesses in by k (kind_or_not k.0 w)
       go (inr fails) = inr (λ h. fails (ap (option_and_then variable_of) h ∙ op_variable w x))
 
-  class_or_not : (c : Class) (i : ℕ) → Decided (IsOfClass trace spots c i)
-  class_or_not c i = go (number_or_not (thread_at trace i) c.thread) (op_or_not i c.variable c.writes) (number_or_not (location_in spots i) c.location)
-    where
-      go : Decided (thread_at trace i ≡ Some c.thread) → Decided (op_at trace i ≡ Some (access_op c.writes c.variable)) → Decided (location_in spots i ≡ Some c.location) → Decided (IsOfClass trace spots c i)
-      go (inl a) (inl b) (inl d) = inl (record { thread_is = a; op_is = b; location_is = d })
-      go (inl a) (inl b) (inr f) = inr (λ h. f h.location_is)
-      go (inl a) (inr f) d = inr (λ h. f h.op_is)
-      go (inr f) b d = inr (λ h. f h.thread_is)
-
-  -- a class with an access has a newest one
-  pub newest_exists : (n : ℕ) (c : Class) (i : ℕ) → i < n → IsOfClass trace spots c i → (k : ℕ) × IsNewestOf trace spots n c k
-  newest_exists n c i lt h = go (greatest (IsOfClass trace spots c) (class_or_not c) n)
-    where
-      go : ((m : ℕ) × (m < n) × IsOfClass trace spots c m × ((k : ℕ) → k < n → IsOfClass trace spots c k → k ≤ m)) ⊎ ((k : ℕ) → k < n → IsOfClass trace spots c k → ⊥) → (k : ℕ) × IsNewestOf trace spots n c k
-      go (inl found) = (found.0, record { own = found.2; past = found.1; last = found.3 })
-      go (inr none) = absurd (none i lt h)
-
   -- the newest access before n + 1 that isn't n is the newest before n
   pub newest_before : (n : ℕ) (c : Class) (k : ℕ) → IsNewestOf trace spots (n + 1) c k → (k ≡ n → ⊥) → IsNewestOf trace spots n c k
   newest_before n c k is other = record {

@@ -77,9 +77,6 @@ module _ (by_variable : Bool) (trace : List Event) (disciplined : IsDisciplined 
   own_place : location_in spots access.event ≡ Some access.spot.location
   own_place = location_of_access trace spots x access own
 
-  own_variable : (y : ℕ) → variable_at trace access.event ≡ Some y → x ≡ y
-  own_variable y is = (let s : Some x ≡ Some y = sym (variable_is trace spots x access own) ∙ is in cc)
-
   -- the place of a race with the access, by the location of its earlier event
   abbrev place_from : ℕ → Place
   place_from l = place_with l access.spot.location (variable_part by_variable x)

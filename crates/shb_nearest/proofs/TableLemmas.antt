@@ -38,8 +38,7 @@ use Rattle.shb_nearest.specs.Groups.{AreGroups, HasGroupAt, IsAt, IsGroup, IsKep
 use Rattle.shb_nearest.specs.Late.{AreAccesses, HaveGroups, StayGroups, StayWaiting}
 use Rattle.shb_nearest.specs.Places.{ArePlaces, PlaceEntry}
 use Rattle.shb_nearest.specs.Rivals.{IsNextAccess}
-use Rattle.shb_nearest.specs.Searched.{AreTables, AreVariables, IsVariable}
-use Rattle.shb_nearest.specs.Wide.{AreMoreVariables}
+use Rattle.shb_nearest.specs.Searched.{AreMoreVariables, AreTables, AreVariables, IsVariable}
 use Rattle.shb_nearest.proofs.GroupLemmas.{class_self, group_empty, group_same, groups_next, groups_until, one_class}
 use Rattle.shb_nearest.proofs.ClassLemmas.{class_own, class_variable, class_with, op_variable}
 use Rattle.shb_nearest.proofs.LateLemmas.{late_none, late_skip}
@@ -47,13 +46,6 @@ use Rattle.shb_nearest.proofs.Members.{at_other, member_at}
 use Rattle.shb_nearest.proofs.RivalLemmas.{variable_is, writes_where}
 
 module _ (trace : List Event) (spots : List Spot) where
-  -- no access of an event that does something else
-  no_class : (c : Class) (i : ℕ) (op : Op) → op_at trace i ≡ Some op → variable_of op ≡ None → IsOfClass trace spots c i → ⊥
-  no_class c i op is none h =
-      let a = op_variable c.writes c.variable in
-      let same : op ≡ access_op c.writes c.variable = (let s : Some op ≡ Some (access_op c.writes c.variable) = sym is ∙ h.op_is in cc) in
-      let v = sym a ∙ (sym (ap variable_of same) ∙ none) in (let f : ⊥ = cc in f)
-
   no_race : (i j : ℕ) (op : Op) → op_at trace j ≡ Some op → variable_of op ≡ None → Race trace i j → ⊥
   no_race i j op is none race =
       let v = sym race.conflict.second_accesses ∙ (ap (option_and_then variable_of) is ∙ none) in (let f : ⊥ = cc in f)
@@ -63,9 +55,6 @@ module _ (trace : List Event) (spots : List Spot) where
     pub classes_put : (before newest : List (Class × ℕ)) (x : ℕ) (access : FoundAccess) → access.event < n → IsFoundAccess trace spots x access → HasPut before newest (class_of x access) access.event → AreClasses trace spots n before → AreClasses trace spots n newest
     classes_put before newest x access past own put are = record { own = own_class }
       where
-        class : Class
-        class = class_of x access
-
         is_new : (c : Class) → class_of x access ≡ c → newest_in newest c ≡ Some access.event
         is_new c same = put c ∙ ap (λ (b : Bool). cond b (Some access.event) (newest_in before c)) (subst (λ (d : Class). same_class (class_of x access) d ≡ true) same (class_self (class_of x access)))
 

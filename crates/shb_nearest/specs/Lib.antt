@@ -7,5 +7,4 @@ pub mod Rivals
 pub mod Places
 pub mod Sites
 pub mod Searched
-pub mod Wide
 pub mod Sorted

@@ -1,5 +1,5 @@
 -- What a search has taken of a stream.
-use Rattle.std.specs.Prelude.{◌≡◌, ◌++◌, ◌∷◌, [], ◌+◌, ◌<◌, ◌≤◌, ◌^◌, ℕ, Bool, List, Some, All, length, map, slice_get}
+use Rattle.std.specs.Prelude.{◌≡◌, ◌⊎◌, ◌++◌, ◌∷◌, [], ◌+◌, ◌<◌, ◌≤◌, ◌^◌, ℕ, Bool, List, Some, All, length, map, slice_get}
 use Rattle.shb_lines.specs.declared.event.Event.{Event}
 use Rattle.shb_lines.specs.declared.event.Op.{Op}
 use Rattle.shb_lines.specs.events.Discipline.{IsDisciplined}
@@ -19,6 +19,7 @@ use Rattle.shb_nearest.specs.declared.access.FoundAccess.{FoundAccess}
 use Rattle.shb_nearest.specs.declared.access.FoundRace.{FoundRace}
 use Rattle.shb_nearest.specs.declared.access.Spot.{Spot}
 use Rattle.shb_nearest.specs.declared.groups.Groups.{Groups}
+use Rattle.shb_nearest.specs.declared.log.Accesses.TheVariants.{Waiting}
 use Rattle.shb_nearest.specs.declared.log.Entry.{Entry}
 use Rattle.shb_nearest.specs.declared.search.NearestRaces.{NearestRaces}
 use Rattle.shb_nearest.specs.declared.tables.Tables.{Tables}
@@ -38,6 +39,11 @@ pub record IsVariable (trace : List Event) (spots : List Spot) (x n : ℕ) (entr
 pub record AreVariables (trace : List Event) (spots : List Spot) (n : ℕ) (entries : List Entry) (groups : List Groups) (variables : List Variable) : Type 0 where
   pub each : (x : ℕ) (variable : Variable) → slice_get variables x ≡ Some variable → IsVariable trace spots x n entries groups variable
   pub wide : (i x : ℕ) → i < n → variable_at trace i ≡ Some x → x < length variables
+
+-- the variables that were there stay, and those that are new have no access
+pub record AreMoreVariables (old new : List Variable) : Type 0 where
+  pub longer : length old ≤ length new
+  pub from : (x : ℕ) (variable : Variable) → slice_get new x ≡ Some variable → (slice_get old x ≡ Some variable) ⊎ ((length old ≤ x) × (variable.accesses ≡ Waiting 0))
 
 -- the tables are those of the accesses before n
 pub record AreTables (by_variable : Bool) (trace : List Event) (spots : List Spot) (n : ℕ) (tables : Tables) : Type 0 where

@@ -73,13 +73,9 @@ pub record IsPair (all : List Site) (first second : ℕ) : Type 0 where
 abbrev pub place_at : Bool → ℕ → ℕ → ℕ → Place
 place_at by_variable x first second = record { first = first; second = second; variable = variable_part by_variable x }
 
--- the sites that are paired with a site of the location are sites, and their place is known
-abbrev pub ArePairedWith : Bool → ℕ → List PlaceEntry → List Site → Site → Type 0
-ArePairedWith by_variable x entries all site = (k : ℕ) → set.contains site.paired k ≡ true → (other : Site) × (slice_get all k ≡ Some other) × IsKnown entries (place_at by_variable x other.location site.location)
-
--- of sites that are paired the place is known
+-- the sites that are paired with a site are sites, and their place is known
 abbrev pub ArePaired : Bool → ℕ → List PlaceEntry → List Site → Type 0
-ArePaired by_variable x entries all = (k : ℕ) (site : Site) → slice_get all k ≡ Some site → ArePairedWith by_variable x entries all site
+ArePaired by_variable x entries all = (k : ℕ) (site : Site) → slice_get all k ≡ Some site → (i : ℕ) → set.contains site.paired i ≡ true → (other : Site) × (slice_get all i ≡ Some other) × IsKnown entries (place_at by_variable x other.location site.location)
 
 -- the place of two locations is known by the sites
 pub record IsSettled (groups : Groups) (first second : ℕ) : Type 0 where

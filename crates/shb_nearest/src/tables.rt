@@ -1,13 +1,12 @@
 //! What is known of the accesses of a stream: classes, groups and places.
 
-ghost use Rattle.std.specs.Prelude.{◌≡◌, ◌+◌, ◌++◌, ◌∷◌, [], Bool, List, IfOk, OnOk};
+ghost use Rattle.std.specs.Prelude.{◌≡◌, ◌+◌, ◌<◌, ◌++◌, ◌∷◌, [], Bool, List, IfOk, OnOk, length};
 ghost use Rattle.shb_lines.specs.declared.event.Event.{Event};
 ghost use Rattle.shb_nearest.specs.Groups.{AreGroups, IsRun, IsSince};
 ghost use Rattle.shb_nearest.specs.Places.{ArePlaces};
 ghost use Rattle.shb_nearest.specs.Rivals.{IsNextAccess};
-ghost use Rattle.shb_nearest.specs.Searched.{AreTables, HasRoom};
+ghost use Rattle.shb_nearest.specs.Searched.{AreMoreVariables, AreTables, HasRoom};
 ghost use Rattle.shb_nearest.specs.Sites.{HasOffered, HaveSites};
-ghost use Rattle.shb_nearest.specs.Wide.{HasSpace};
 ghost use Rattle.shb_nearest.specs.declared.access.Spot.{Spot as SpotData};
 
 use crate::access::FoundAccess;
@@ -53,7 +52,8 @@ pub struct Tables {
 
 /// Makes variables, so that there is one of this number.
 fn make_space(variables: &mut Vec<Variable>, variable: u32) -> Result<(), NoMemory>
-    ensures { OnOk result (HasSpace variables.old.items variables.new.items variable) }
+    ensures more { OnOk result (AreMoreVariables variables.old.items variables.new.items) }
+    ensures wide { OnOk result (variable < length variables.new.items) }
 {
     while variables.len() <= variable as usize {
         variables.push(Variable {
