@@ -1,8 +1,10 @@
 //! Names, numbered in order of first appearance, and looked up by their hashes.
-ghost use Rattle.std.specs.Prelude.{◌≡◌, ◌<◌, ◌^◌, [], ℕ, List, false, true, Some, length, nat_eq, slice_get, IfNone, IfOk, IfSome, OnOk};
+ghost use Rattle.std.specs.Prelude.{◌≡◌, ◌<◌, ◌^◌, [], ℕ, List, false, true, Some, length, slice_get, IfNone, IfOk, IfSome, OnOk};
 ghost use Rattle.std.specs.Option.{option_copied};
 ghost use Rattle.std.specs.List.{list_any};
 ghost use Rattle.std.specs.Str.{bytes_eq};
+ghost use Rattle.shb_lines.specs.declared.hashing.HashKeys.{HashKeys};
+ghost use Rattle.shb_lines.specs.text.Hashing.{AreHashed, hash_in};
 ghost use Rattle.shb_lines.specs.text.Names.{with_name};
 
 use crate::growing::item_or;
@@ -39,14 +41,12 @@ impl Model for OwnedNames {
     ghost invariant = { λ n. AreHashed n.keys n.hashes.keys n.names };
 }
 
-/// The number of a name with this hash, if it has one. Of names that have one hash the first is found by it, and the others
-/// by a look at all names; under secret keys none are known.
-#[inline(always)]
-fn found(names: &Names, hashes: &IndexSet<u64>, hash: u64, name: &[u8]) -> Option<usize>
+/// The number of a name, if it has one, which mostly is that of its hash. Of names that have one hash the first has its
+/// number, and the others are found by a look at all names; under secret keys none are known.
+fn found(names: &Names, number: usize, name: &[u8]) -> Option<usize>
     ensures some { IfSome result (λ number. slice_get names.now number ≡ Some name.now) }
-    ensures none { list_any (nat_eq hash) hashes.now.keys ≡ true → IfNone result (list_any (bytes_eq name.now) names.now ≡ false) }
+    ensures none { IfNone result (list_any (bytes_eq name.now) names.now ≡ false) }
 {
-    let number = hashes.get_index_of(&hash)?;
     if names.is_named(number, name) {
         Some(number)
     } else {
@@ -59,6 +59,30 @@ fn guess(guesses: &mut [u32], hash: u64, number: usize) {
     if let Some(guess) = guesses.get_mut((hash % GUESSES) as usize) {
         *guess = (number & 0xFFFF_FFFF) as u32;
     }
+}
+
+/// The number of a name with this hash, by a look-up. A name that is new is put last, and copied.
+#[tactic(auto, using(crate::proofs::text::NameLemmas::known_stays))]
+#[inline(never)]
+fn looked_up(
+    names: &mut Names,
+    hashes: &mut IndexSet<u64>,
+    hash: u64,
+    name: &[u8],
+) -> Result<usize, NoMemory>
+    ensures hashed { (keys : HashKeys) → hash ≡ hash_in keys name.now → AreHashed keys hashes.old.keys names.old → AreHashed keys hashes.new.keys names.new }
+    ensures names { (keys : HashKeys) → hash ≡ hash_in keys name.now → AreHashed keys hashes.old.keys names.old → OnOk result (names.new ≡ with_name names.old name.now) }
+    ensures number { IfOk result (λ number. slice_get names.new number ≡ Some name.now) }
+{
+    let (first, is_new) = hashes.insert_full(hash)?;
+    if !is_new {
+        if let Some(number) = found(&*names, first, name) {
+            return Ok(number);
+        }
+    }
+    let number = names.len();
+    names.push(name)?;
+    Ok(number)
 }
 
 impl OwnedNames {
@@ -101,7 +125,10 @@ impl OwnedNames {
     pub(crate) fn contains(&self, name: &[u8]) -> bool
         ensures { result ≡ list_any (bytes_eq name.now) self.now }
     {
-        found(&self.names, &self.hashes, self.keys.hash_of(name), name).is_some()
+        match self.hashes.get_index_of(&self.keys.hash_of(name)) {
+            Some(number) => found(&self.names, number, name).is_some(),
+            None => false,
+        }
     }
 
     /// The name of this number. There must be one.
@@ -119,35 +146,22 @@ impl OwnedNames {
         self.names.get(number as usize)
     }
 
-    /// The number of a name. A name that is new is put last, and copied.
+    /// The number of a name, by the guess for its hash or by a look-up. A name that is new is put last, and copied.
+    #[tactic(auto, using(crate::proofs::text::NameLemmas::known_stays))]
     pub fn number_of(&mut self, name: &[u8]) -> Result<u32, NoMemory>
         requires room { length self.old < 2 ^ 32 }
         ensures names { OnOk result (self.new ≡ with_name self.old name.now) }
         ensures number { IfOk result (λ number. slice_get self.new number ≡ Some name.now) }
     {
-        Ok(self.looked_up(name)? as u32)
-    }
-
-    /// The number of a name, by the guess for its hash or by a look-up.
-    #[tactic(auto, using(crate::proofs::text::NameLemmas::known_stays))]
-    fn looked_up(&mut self, name: &[u8]) -> Result<usize, NoMemory>
-        ensures names { OnOk result (self.new ≡ with_name self.old name.now) }
-        ensures number { IfOk result (λ number. slice_get self.new number ≡ Some name.now) }
-    {
         let hash = self.keys.hash_of(name);
-        let guessed = item_or(self.guesses.as_slice(), (hash % GUESSES) as u32, 0) as usize;
-        if self.names.is_named(guessed, name) {
+        let guessed = item_or(self.guesses.as_slice(), (hash % GUESSES) as u32, 0);
+        if self.names.is_named(guessed as usize, name) {
             return Ok(guessed);
         }
-        if let Some(number) = found(&self.names, &self.hashes, hash, name) {
-            guess(self.guesses.as_mut_slice(), hash, number);
-            return Ok(number);
-        }
-        let number = self.names.len();
-        self.hashes.insert(hash)?;
-        self.names.push(name)?;
+        let (names, hashes) = (&mut self.names, &mut self.hashes);
+        let number = looked_up(names, hashes, hash, name)?;
         guess(self.guesses.as_mut_slice(), hash, number);
-        Ok(number)
+        Ok(number as u32)
     }
 
     /// The number of a name, which may be known.

@@ -1,5 +1,5 @@
 -- What a look-up by hashes says of the names.
-use Rattle.std.proofs.Common.{◌≡◌, ◌||◌, ◌++◌, ◌∷◌, [], ℕ, Bool, List, Option, None, Some, IfNone, IfSome, true, false, cond, is_some, length, nat_eq, slice_get, refl, sym, ap, subst, ◌∙◌, true≢false, arith, length-append}
+use Rattle.std.proofs.Common.{◌≡◌, ◌||◌, ◌++◌, ◌∷◌, [], ℕ, Bool, List, Option, None, Some, IfNone, IfSome, true, false, cond, is_some, not, length, nat_eq, slice_get, refl, sym, ap, subst, ◌∙◌, true≢false, arith, length-append}
 use Rattle.std.specs.Cmp.{unsigned_Decides}
 use Rattle.std.specs.List.{list_any}
 use Rattle.std.specs.Str.{bytes_eq}
@@ -42,13 +42,16 @@ module _ (keys : HashKeys) (hashes : List ℕ) (names : List (List ℕ)) (name :
           ((unsigned_Decides _ _).1 (ap (hash_in keys) (equal refl) ∙ sym (get_or-append_seam hashes (hash_in keys name) [] 0)))
       by _ known false before false equal h = absurd (true≢false (sym h))
 
-  -- what is found by the hash says whether the name is among the names
-  pub found_any : (hash : ℕ) → hash ≡ hash_in keys name → (found : Option ℕ) → IfSome found (λ number. slice_get names number ≡ Some name)
-      → (list_any (nat_eq hash) hashes ≡ true → IfNone found (list_any (bytes_eq name) names ≡ false)) → is_some found ≡ list_any (bytes_eq name) names
-  found_any hash is (Some number) some lacks =
-      sym (list_any_at (bytes_eq name) names number name (slice_get_within names number name some) (ap (bytes_eq name) (get_or_from_slice_get names number name name some) ∙ (bytes_eq-Decides name name).1 refl))
-  found_any hash is None some lacks = by (list_any (bytes_eq name) names) refl
+  -- a name whose hash is new is new
+  pub new_hash : (hash : ℕ) → hash ≡ hash_in keys name → true ≡ not (list_any (nat_eq hash) hashes) → list_any (bytes_eq name) names ≡ false
+  new_hash hash is new = by (list_any (bytes_eq name) names) refl
     where
-      by : (b : Bool) → list_any (bytes_eq name) names ≡ b → false ≡ b
-      by true among = sym (lacks (subst (λ h. list_any (nat_eq h) hashes ≡ true) (sym is) (all name among))) ∙ among
-      by false among = refl
+      by : (b : Bool) → list_any (bytes_eq name) names ≡ b → list_any (bytes_eq name) names ≡ false
+      by true among = absurd (true≢false (new ∙ ap not (subst (λ h. list_any (nat_eq h) hashes ≡ true) (sym is) (all name among))))
+      by false among = among
+
+-- what is found says whether the name is among the names
+pub found_any : (names : List (List ℕ)) (name : List ℕ) (found : Option ℕ) → IfSome found (λ number. slice_get names number ≡ Some name) → IfNone found (list_any (bytes_eq name) names ≡ false) → is_some found ≡ list_any (bytes_eq name) names
+found_any names name (Some number) some lacks =
+    sym (list_any_at (bytes_eq name) names number name (slice_get_within names number name some) (ap (bytes_eq name) (get_or_from_slice_get names number name name some) ∙ (bytes_eq-Decides name name).1 refl))
+found_any names name None some lacks = sym lacks

@@ -5,9 +5,8 @@ use Rattle.std.specs.Str.{bytes_eq}
 use Rattle.shb_lines.proofs.text.OwnedLemmas.{found_any}
 use Rattle.shb_lines.proofs.owned_names.OwnedNames.contains.Goals as goal
 
-pub returns : goal.returns
-returns c =
-    let inside = c.self.inside in
+pub returns-in-Some : goal.returns-in-Some
+returns-in-Some c =
     c.is_some.ensures
-    ∙ found_any inside.keys inside.hashes.keys inside.names c.args.name.now c.self.invariant c.hash_of.result c.hash_of.ensures c.found.result c.found.ensures.some c.found.ensures.none
+    ∙ found_any c.self.inside.names c.args.name.now c.found.result c.found.ensures.some c.found.ensures.none
     ∙ ap (list_any (bytes_eq c.args.name.now)) c.self.view_is
