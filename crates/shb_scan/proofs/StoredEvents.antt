@@ -1,6 +1,7 @@
 -- What is known of a trace whose events are kept, with an event more, and at its end.
 use Rattle.std.proofs.Common.{◌≡◌, ◌⊎◌, inl, inr, ◌+◌, ◌<◌, ◌≤◌, ℕ, Bool, false, true, zero, suc, List, [], ◌∷◌, ◌++◌, length, map, take, option_and_then, OnOk, Option, Result, Some, slice_get, refl, sym, ap, subst, ◌∙◌, arith}
-use Rattle.std.specs.List.{IsDistinct}
+use Rattle.std.specs.Bool.{beq}
+use Rattle.std.specs.List.{IsDistinct, list_any}
 use Rattle.std.specs.Option.{option_map_or}
 use Rattle.std.specs.Str.{bytes_eq}
 use Rattle.std.proofs.lemmas.Bool.{cases_Bool}
@@ -10,12 +11,15 @@ use Rattle.std.proofs.Math.Seq.{take-suc}
 use Rattle.shb_lines.specs.declared.event.Event.{Event}
 use Rattle.shb_lines.specs.declared.event.Op.{Op}
 use Rattle.shb_lines.specs.declared.event.Pair.{Pair}
+use Rattle.shb_lines.specs.declared.event.Sizes.{Sizes}
 use Rattle.shb_lines.specs.events.Discipline.{IsDisciplined, MayCome}
 use Rattle.shb_lines.specs.events.Events.{op_at, thread_at, variable_of}
 use Rattle.shb_lines.specs.events.Race.{Race, ends, variable_at}
+use Rattle.shb_lines.specs.events.Sizes.{IsWithin}
 use Rattle.shb_lines.specs.text.Limits.{most_events}
 use Rattle.shb_lines.specs.text.TraceData.{TraceData}
 use Rattle.shb_lines.proofs.events.Events.{event_of_thread, same_op}
+use Rattle.shb_links.proofs.Owners.{variable_sized}
 use Rattle.shb_format.specs.Places.{location_at}
 use Rattle.shb_stamps.specs.Open.{is_open}
 use Rattle.shb_pairs.specs.Open.{AreOpen}
@@ -98,6 +102,26 @@ open_of events flags settled i j race = elim (cases_Bool (is_open flags race.con
   | inl yes_ ↦ yes_
   | inr no_ ↦ absurd (settled race.conflict.variable no_ i j race.conflict.second_accesses race)
 ]
+
+-- of flags none of which is true each is false
+pub closed_at : (flags : List Bool) (x : ℕ) → list_any (λ flag. beq flag true) flags ≡ false → x < length flags → is_open flags x ≡ false
+closed_at [] x none low = absurd (omega (arith, low))
+closed_at (true ∷ flags) x none low = absurd cc
+closed_at (false ∷ flags) zero none low = refl
+closed_at (false ∷ flags) (suc x) none low = closed_at flags x none (omega (arith, low))
+
+-- no race is listed where no variable is open
+pub no_races : (by_variable : Bool) (trace : TraceData) (es : List Event) (sizes : Sizes) (flags : List Bool) → es ≡ trace.events → IsWithin es sizes → AreOpen es flags → ((x : ℕ) → x < sizes.variables → is_open flags x ≡ false) → (pairs : List (ℕ × ℕ)) → pairs ≡ [] → IsScan by_variable trace pairs
+no_races by_variable trace es sizes flags same within settled closed pairs none = subst (IsScan by_variable trace) (sym none) record {
+  all = λ i j. (
+    λ listed. absurd (omega (arith, listed.1)),
+    λ near. absurd (
+        let race : Race es i j = subst (λ (l : List Event). Race l i j) (sym same) near.race in
+        let access = race.conflict.second_accesses in
+        settled race.conflict.variable (closed race.conflict.variable (variable_sized es sizes j race.conflict.variable within access).1) i j access race),
+  );
+  in_order = λ i j d before low. absurd (omega (arith, low));
+}
 
 -- after all events
 pub stored_races : (by_variable : Bool) (trace : TraceData) (es : List Event) (flags : List Bool) (n : ℕ) (locations : List (List ℕ)) (nearest : NearestRaces) (found : List FoundRace) (pairs : List Pair) → es ≡ trace.events → AreOpen es flags → length trace.events ≤ n → HasTakenTo trace flags n locations nearest → IsDistinct bytes_eq locations

@@ -1,6 +1,6 @@
 //! The nearest races of a trace whose events are kept.
 
-ghost use Rattle.std.specs.Prelude.{◌≡◌, ◌+◌, ◌<◌, ◌≤◌, false, IfOk, OnOk, length, map};
+ghost use Rattle.std.specs.Prelude.{◌≡◌, ◌+◌, ◌<◌, ◌≤◌, ℕ, false, true, IfOk, OnOk, length, map};
 ghost use Rattle.std.specs.Option.{option_map_or};
 ghost use Rattle.shb_lines.specs.events.Events.{variable_of};
 ghost use Rattle.shb_lines.specs.events.Race.{ends};
@@ -93,9 +93,17 @@ fn pairs_of(alloc: Global, races: &[FoundRace]) -> Result<Vec<Pair>, NoMemory>
     Ok(pairs)
 }
 
+/// Whether none of so many variables is open.
+#[tactic(auto, using(crate::proofs::StoredEvents::closed_at))]
+fn are_closed(flags: &[bool], variables: u32) -> bool
+    ensures { result ≡ true → (x : ℕ) → x < variables → is_open_in flags.now x ≡ false }
+{
+    flags.len() >= variables as usize && !flags.contains(&true)
+}
+
 /// The nearest races of a trace, one of each place; with `by_variable`, one of each place and variable. They are those
 /// that [`run_scan`](crate::run_scan) lists of its text. A variable whose flag is false has no race: the locations of its
-/// accesses aren't looked for.
+/// accesses aren't looked for, and if all are false, no event is.
 ///
 /// # Errors
 ///
@@ -110,6 +118,9 @@ pub fn nearest_races<R: RandomSource>(
     requires settled { AreOpen disciplined.now.events.now flags.now }
     ensures { IfOk result (λ races. IsScan by_variable disciplined.now.trace.now (map ends races.items)) }
 {
+    if are_closed(flags, disciplined.sizes.variables) {
+        return Ok(Vec::new(alloc));
+    }
     let mut locations = Locations::new(rt, alloc)?;
     let mut nearest = NearestRaces::new(rt, alloc, by_variable)?;
     for e in 0..disciplined.events.len() as u32 {
