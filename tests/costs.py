@@ -155,6 +155,7 @@ def costs():
     yield Cost("variables whose reads waited for a write", STREAM, shapes.opened_late, 20_000)
     yield Cost("2,500 threads forked and joined", STREAM, shapes.forked_and_joined, 7_500, unit=MEMORY)
     yield Cost("a lock handed on by 3,000 threads", STREAM, shapes.handed_on, 6_000, unit=MEMORY)
+    yield Cost("a variable for each section of 1,000 threads under a lock", STREAM, shapes.variables_of_many_threads, 180_000, unit=MEMORY)
     yield Cost("variables that 200 threads write under a lock again and again", STREAM, shapes.variables_under_a_lock, 1_500_000,
                unit=MEMORY, growth=SAME)
     yield Cost("another variable has many locations", RACES, shapes.other_locations, 40_000, cut=True)

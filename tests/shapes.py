@@ -216,6 +216,11 @@ def variables_under_a_lock(n):
         yield f"T{k % 200}|acq(l)|a\n" + "".join(f"T{k % 200}|w(v{(30 * k + i) % 20010})|b\n" for i in range(30)) + f"T{k % 200}|rel(l)|c\n"
 
 
+def variables_of_many_threads(n):
+    """1,000 threads in turn write a new variable each under a lock: of each variable what its writer knew stays."""
+    yield from ("T{0}|acq(l)|a\nT{0}|w(v{1})|b\nT{0}|rel(l)|c\n".format(k % 1000, k) for k in range(n // 3))
+
+
 def handed_on(n):
     """A lock goes from thread to thread: each knows all threads before it."""
     yield from (f"T{k}|acq(l)|a\nT{k}|rel(l)|r\n" for k in range(n // 2))

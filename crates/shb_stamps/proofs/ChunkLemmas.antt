@@ -24,7 +24,7 @@ longer_still {A} old now new first then = record {
 }
 
 -- chunks, and one more
-pub chunks_push : (chunks new : List (List ℕ)) (piece : List ℕ) → AreChunks chunks → length piece ≡ 128 → new ≡ chunks ++ piece ∷ [] → AreChunks new
+pub chunks_push : (chunks new : List (List ℕ)) (piece : List ℕ) → AreChunks chunks → length piece ≡ 64 → new ≡ chunks ++ piece ∷ [] → AreChunks new
 chunks_push chunks new piece are long is n lt = elim (cases_lt n (length chunks)) [
   | inl low ↦ ap length (ap (λ (xs : List (List ℕ)). get_or xs n []) is ∙ get_or_append_left chunks (piece ∷ []) [] n low) ∙ are n low
   | inr ge ↦ (let size = ap length is ∙ length_push chunks piece in
@@ -50,7 +50,7 @@ pub record HasPart (old_chunks : List (List ℕ)) (old_cells row : List ℕ) (ch
   pub cells_are : cells ≡ old_cells ++ numbers
   pub many : length numbers ≡ k
   pub numbers_are : AreNumbers chunks numbers
-  pub same : chunked chunks numbers ≡ take (128 * k) row
+  pub same : chunked chunks numbers ≡ take (64 * k) row
 
 pub part_none : (chunks : List (List ℕ)) (cells row : List ℕ) → AreChunks chunks → HasPart chunks cells row chunks cells 0
 part_none chunks cells row are = record {
@@ -72,7 +72,7 @@ numbers_push chunks numbers n are low k lt = elim (cases_lt k (length numbers)) 
 ]
 
 pub part_more : (old_chunks : List (List ℕ)) (old_cells row : List ℕ) (chunks : List (List ℕ)) (cells : List ℕ) (k : ℕ) (new : List (List ℕ)) (more piece : List ℕ) (n : ℕ)
-    → HasPart old_chunks old_cells row chunks cells k → AreChunks new → length new ≤ length chunks + 1 → IsLonger chunks new → piece ≡ take 128 (drop (128 * k) row) → (n < length new) × (get_or new n [] ≡ piece) → more ≡ cells ++ n ∷ []
+    → HasPart old_chunks old_cells row chunks cells k → AreChunks new → length new ≤ length chunks + 1 → IsLonger chunks new → piece ≡ take 64 (drop (64 * k) row) → (n < length new) × (get_or new n [] ≡ piece) → more ≡ cells ++ n ∷ []
     → HasPart old_chunks old_cells row new more (k + 1)
 part_more old_chunks old_cells row chunks cells k new more piece n part are few longer piece_is named more_is = record {
   chunks_are = are;
@@ -84,12 +84,12 @@ part_more old_chunks old_cells row chunks cells k new more piece n part are few 
   numbers_are = numbers_push new part.numbers n (numbers_grown chunks new part.numbers part.numbers_are longer) named.0;
   same = flat_map-append (λ (i : ℕ). get_or new i []) part.numbers (n ∷ [])
       ∙ (ap (λ (xs : List ℕ). xs ++ chunked new (n ∷ [])) (chunked_grown chunks new part.numbers part.numbers_are longer ∙ part.same)
-      ∙ (ap (λ (xs : List ℕ). take (128 * k) row ++ xs) (append-nil (get_or new n []) ∙ (named.1 ∙ piece_is)) ∙ take_piece row k));
+      ∙ (ap (λ (xs : List ℕ). take (64 * k) row ++ xs) (append-nil (get_or new n []) ∙ (named.1 ∙ piece_is)) ∙ take_piece row k));
 }
 
 -- the entries after the chunks come last
 module _ (old_chunks : List (List ℕ)) (old_cells row : List ℕ) (chunks : List (List ℕ)) (cells : List ℕ) (k count : ℕ) (part : HasPart old_chunks old_cells row chunks cells k) (all : k ≡ count) (some : 0 < count) (few : count < 2 ^ 32)
-    (rest wider : List ℕ) (start size : ℕ) (rest_is : rest ≡ drop (128 * k) row) (wider_is : wider ≡ cells ++ rest) (starts : start ≡ length old_cells) (size_is : size ≡ length rest) where
+    (rest wider : List ℕ) (start size : ℕ) (rest_is : rest ≡ drop (64 * k) row) (wider_is : wider ≡ cells ++ rest) (starts : start ≡ length old_cells) (size_is : size ≡ length rest) where
   abbrev last : Span
   last = record { start = start; whole = 0; chunks = count; rest = size }
 
@@ -107,7 +107,7 @@ module _ (old_chunks : List (List ℕ)) (old_cells row : List ℕ) (chunks : Lis
   pub part_row : row_in chunks wider last ≡ row
   part_row = ap (λ (numbers : List ℕ). row_by chunks numbers (take (0 + size) (drop (start + count) wider))) numbers_at
       ∙ (ap (λ (xs : List ℕ). row_by chunks part.numbers xs) rest_at
-      ∙ (ap (λ (xs : List ℕ). xs ++ rest) part.same ∙ (ap (λ (xs : List ℕ). take (128 * k) row ++ xs) rest_is ∙ take-append-drop (128 * k) row)))
+      ∙ (ap (λ (xs : List ℕ). xs ++ rest) part.same ∙ (ap (λ (xs : List ℕ). take (64 * k) row ++ xs) rest_is ∙ take-append-drop (64 * k) row)))
 
   pub part_inside : IsInside chunks wider last
   part_inside = record {

@@ -1,5 +1,5 @@
 -- What is kept of the order of a trace, an event more.
-use Rattle.std.proofs.Common.{◌≡◌, ◌≢◌, ℕ, ◌+◌, ◌<◌, ◌≤◌, ◌^◌, ◌⊎◌, inl, inr, Bool, true, false, List, [], ◌∷◌, ◌++◌, Some, length, get_or, take, arith, refl, sym, subst, ◌∙◌, ap, get_or-set_same, get_or-set_other}
+use Rattle.std.proofs.Common.{◌≡◌, ◌≢◌, ℕ, ◌+◌, ◌-◌, ◌<◌, ◌≤◌, ◌^◌, ◌⊎◌, inl, inr, Bool, true, false, List, [], ◌∷◌, ◌++◌, Some, length, get_or, take, arith, refl, sym, subst, ◌∙◌, ap, get_or-set_same, get_or-set_other}
 use Rattle.std.specs.Prelude.{◌↔◌, count_by, max, slice_get, replicate}
 use Rattle.std.proofs.Math.ListN.{set, length-replicate, get_or-replicate}
 use Rattle.std.proofs.lemmas.Bool.{cases_Bool, cases_eq, cases_lt}
@@ -17,7 +17,7 @@ use Rattle.shb_lines.proofs.events.Events.{event_of_thread, is_of_true, thread_i
 use Rattle.shb_lines.proofs.events.Prefix.{is_of_thread}
 use Rattle.shb_lines.proofs.events.Search.{IsLatest, latest_below, of_thread_at, of_thread_true}
 use Rattle.shb_links.specs.Latest.{IsLatestBefore, OfThread, ReleasesLock}
-use Rattle.shb_stamps.specs.Clocks.{AreClocks, HasRowAfter, IsNext, KeepsWrite}
+use Rattle.shb_stamps.specs.Clocks.{AreClocks, Covers, HasRowAfter, IsNext, KeepsWrite}
 use Rattle.shb_stamps.specs.Fronts.{IsFront, IsFrontBut, Learns}
 use Rattle.shb_stamps.specs.Moved.{AreAlike, HasMoved, IsMovedRow, IsMovedStamp, MovesRow}
 use Rattle.shb_stamps.specs.Rows.{AreMore}
@@ -28,7 +28,7 @@ use Rattle.shb_stamps.proofs.Fronts.{front_whole, thread_in_range, thread_same, 
 use Rattle.shb_stamps.proofs.Locals.{time_at}
 use Rattle.shb_stamps.proofs.MovedLemmas.{latest_moved, row_moved}
 use Rattle.shb_stamps.proofs.Raised.{zeros_after}
-use Rattle.shb_stamps.proofs.Sources.{join_learns, learns_join, learns_nothing, strictly_below_below, below_cases}
+use Rattle.shb_stamps.proofs.Sources.{join_learns, learns_join, learns_nothing, path_append, strictly_below_below, below_cases}
 use Rattle.shb_stamps.proofs.Stamping.{known_forked, known_latest, known_other, known_pred, latest_more, latest_skip, more_push, more_same, read_known, row_known, row_more, row_nothing_new, row_same, source_acquire, source_new, source_read}
 
 -- a clock whose entries are those of another
@@ -56,37 +56,6 @@ front_put trace b u row clock of_b put but = front_alike trace (λ k. ShbBelow t
     go t (inr ne) = put.others t ne ∙ (sym (zeros_after row (u + 1) t) ∙ sym (get_or-set_other wide u t (local_time trace u b) 0 ne))
 
 module _ (trace : List Event) (disciplined : IsDisciplined trace) where
-  -- the row after an event that learns of others, whose clock was joined
-  module _ (rows : List (List ℕ)) (e u before : ℕ) (of_e : thread_at trace e ≡ Some u) (row : IsRowFor trace rows u (λ k. BelowPred trace k e) before) (source : Stamp) (is : IsSource trace rows e source)
-      (unknown : (source.thread ≡ u) ⊎ (source.time ≤ get_or (get_or rows before []) source.thread 0) → ⊥) (clock joined : List ℕ) (put : IsPut 0 source.thread source.time (get_or rows source.row []) clock)
-      (each : (t : ℕ) → get_or joined t 0 ≡ max (get_or (get_or rows before []) t 0) (get_or clock t 0)) where
-    found : (r : ℕ) × (r < e) × IsStampOf trace rows r source × ((k : ℕ) → ShbBelow trace k r ↔ Learns trace e k)
-    found = source_new trace disciplined rows e u before of_e row source is unknown
-
-    front : IsFront trace (λ k. ShbBelow trace k found.0) clock
-    front = front_put trace found.0 source.thread (get_or rows source.row []) clock found.2.of_thread (subst (λ (n : ℕ). IsPut 0 source.thread n (get_or rows source.row []) clock) found.2.time_is put) found.2.row_is.front
-
-    down : (t k : ℕ) → thread_at trace k ≡ Some t → t ≢ u → local_time trace t k ≤ get_or joined t 0 → ShbBelow trace k e
-    down t k of_k ne le = elim (cases_lt (get_or (get_or rows before []) t 0) (local_time trace t k)) [
-      | inr low ↦ strictly_below_below trace disciplined k e (inl ((row.front.exact t k of_k ne).0 low))
-      | inl high ↦ strictly_below_below trace disciplined k e (inr ((found.3 k).0 ((front.exact t k of_k).0 (let m = each t in omega (arith, m, high, le)))))
-    ]
-
-    up : (t k : ℕ) → thread_at trace k ≡ Some t → t ≢ u → ShbBelow trace k e → local_time trace t k ≤ get_or joined t 0
-    up t k of_k ne path = elim (below_cases trace disciplined k e path) [
-      | inl same ↦ absurd (ne (let one : Some t ≡ Some u = sym (subst (λ (m : ℕ). thread_at trace m ≡ Some t) same of_k) ∙ of_e in cc))
-      | inr strictly ↦ elim strictly [
-        | inl below ↦ (let le = (row.front.exact t k of_k ne).1 below in let m = each t in omega (arith, m, le))
-        | inr learned ↦ (let le = (front.exact t k of_k).1 ((found.3 k).1 learned) in let m = each t in omega (arith, m, le))
-      ]
-    ]
-
-    pub joined_front : IsFrontBut trace u (λ k. ShbBelow trace k e) joined
-    joined_front = record {
-      within = λ t ne. (let a = row.front.within t ne in let b = front.within t in let m = each t in omega (arith, a, b, m));
-      exact = λ t k of_k ne. (down t k of_k ne, up t k of_k ne);
-    }
-
   -- the last event of a thread that had some
   pub last_event : (v e time : ℕ) → e ≤ length trace → time ≡ count_by (is_of v) (take e trace) → 0 < time → (b : ℕ) × IsLatestBefore (OfThread trace v) e b × (time ≡ local_time trace v b)
   last_event v e time within is some = elim (latest_below (of_thread trace v) e) [
@@ -105,6 +74,64 @@ module _ (trace : List Event) (disciplined : IsDisciplined trace) where
 
       time_of : (b : ℕ) → IsLatest (of_thread trace v) e b → time ≡ local_time trace v b
       time_of b h = is ∙ count_gap (is_of v) trace (b + 1) e (let lt = h.below in omega (arith, lt)) (λ k d low high at. fails k d at (h.last k (omega (arith, low)) high))
+
+  -- the row after an event that learns of others: the clock of the source
+  module _ (rows : List (List ℕ)) (e u before : ℕ) (of_e : thread_at trace e ≡ Some u) (row : IsRowFor trace rows u (λ k. BelowPred trace k e) before) (source : Stamp) (is : IsSource trace rows e source)
+      (unknown : (source.thread ≡ u) ⊎ (source.time ≤ get_or (get_or rows before []) source.thread 0) → ⊥) (clock : List ℕ) (put : IsPut 0 source.thread source.time (get_or rows source.row []) clock) where
+    found : (r : ℕ) × (r < e) × IsStampOf trace rows r source × ((k : ℕ) → ShbBelow trace k r ↔ Learns trace e k)
+    found = source_new trace disciplined rows e u before of_e row source is unknown
+
+    front : IsFront trace (λ k. ShbBelow trace k found.0) clock
+    front = front_put trace found.0 source.thread (get_or rows source.row []) clock found.2.of_thread (subst (λ (n : ℕ). IsPut 0 source.thread n (get_or rows source.row []) clock) found.2.time_is put) found.2.row_is.front
+
+    by_learning : (t k : ℕ) → thread_at trace k ≡ Some t → local_time trace t k ≤ get_or clock t 0 → ShbBelow trace k e
+    by_learning t k of_k le = strictly_below_below trace disciplined k e (inr ((found.3 k).0 ((front.exact t k of_k).0 le)))
+
+    -- to which the row before was joined
+    module _ (joined : List ℕ) (each : (t : ℕ) → get_or joined t 0 ≡ max (get_or (get_or rows before []) t 0) (get_or clock t 0)) where
+      down : (t k : ℕ) → thread_at trace k ≡ Some t → t ≢ u → local_time trace t k ≤ get_or joined t 0 → ShbBelow trace k e
+      down t k of_k ne le = elim (cases_lt (get_or (get_or rows before []) t 0) (local_time trace t k)) [
+        | inr low ↦ strictly_below_below trace disciplined k e (inl ((row.front.exact t k of_k ne).0 low))
+        | inl high ↦ by_learning t k of_k (let m = each t in omega (arith, m, high, le))
+      ]
+
+      up : (t k : ℕ) → thread_at trace k ≡ Some t → t ≢ u → ShbBelow trace k e → local_time trace t k ≤ get_or joined t 0
+      up t k of_k ne path = elim (below_cases trace disciplined k e path) [
+        | inl same ↦ absurd (ne (let one : Some t ≡ Some u = sym (subst (λ (m : ℕ). thread_at trace m ≡ Some t) same of_k) ∙ of_e in cc))
+        | inr strictly ↦ elim strictly [
+          | inl below ↦ (let le = (row.front.exact t k of_k ne).1 below in let m = each t in omega (arith, m, le))
+          | inr learned ↦ (let le = (front.exact t k of_k).1 ((found.3 k).1 learned) in let m = each t in omega (arith, m, le))
+        ]
+      ]
+
+      pub joined_front : IsFrontBut trace u (λ k. ShbBelow trace k e) joined
+      joined_front = record {
+        within = λ t ne. (let a = row.front.within t ne in let b = front.within t in let m = each t in omega (arith, a, b, m));
+        exact = λ t k of_k ne. (down t k of_k ne, up t k of_k ne);
+      }
+
+    -- which has all that the thread knew, if the source's row has each of its events
+    module _ (time : ℕ) (time_is : time ≡ local_time trace u e) (covers : Covers (get_or rows source.row []) u time) where
+      last : (b : ℕ) × IsLatestBefore (OfThread trace u) e b × (time - 1 ≡ local_time trace u b)
+      last = last_event u e (time - 1) (let low = thread_in_range trace e u of_e in omega (arith, low)) (let at = time_at trace u e of_e in omega (arith, at, time_is)) (let some = covers.some in omega (arith, some))
+
+      reached : ShbBelow trace last.0 found.0
+      reached = (found.2.row_is.front.exact u last.0 last.1.holds (λ same. unknown (inl (sym same)))).0 (let time_of = last.2 in let all = covers.all in omega (arith, time_of, all))
+
+      known : (k : ℕ) → BelowPred trace k e → ShbBelow trace k found.0
+      known k below = path_append trace k last.0 found.0 ((known_latest trace disciplined e last.0 u last.1 k).0 ((known_pred trace disciplined e u of_e k).1 below)) reached
+
+      covered : (t k : ℕ) → thread_at trace k ≡ Some t → t ≢ u → ShbBelow trace k e → local_time trace t k ≤ get_or clock t 0
+      covered t k of_k ne path = elim (below_cases trace disciplined k e path) [
+        | inl same ↦ absurd (ne (let one : Some t ≡ Some u = sym (subst (λ (m : ℕ). thread_at trace m ≡ Some t) same of_k) ∙ of_e in cc))
+        | inr strictly ↦ (front.exact t k of_k).1 (elim strictly [ inl below ↦ known k below | inr learned ↦ (found.3 k).1 learned ])
+      ]
+
+      pub covered_front : IsFrontBut trace u (λ k. ShbBelow trace k e) clock
+      covered_front = record {
+        within = λ t ne. front.within t;
+        exact = λ t k of_k ne. (by_learning t k of_k, covered t k of_k ne);
+      }
 
 -- the row of what a thread knows before its next event
 pub row_at : (trace : List Event) → IsDisciplined trace → (n thread : ℕ) (all : Bool) (rows : List (List ℕ)) (current : List ℕ) (locks variables : List Stamp) → thread_at trace n ≡ Some thread → AreClocks trace n all rows current locks variables → (before : ℕ) → before ≡ get_or current thread 0 → IsRowFor trace rows thread (λ k. BelowPred trace k n) before
@@ -180,15 +207,21 @@ module _ (trace : List Event) (n thread time joined : ℕ) (op : Op) (next : IsN
       ]
     ]
 
-    own_row : HasRowAfter rows more thread before source after → KnowsStamp (get_or rows before []) thread source ⊎ (KnowsStamp (get_or rows before []) thread source → ⊥) → IsRowFor trace more thread (λ k. ShbBelow trace k n) after.row
+    own_row : HasRowAfter rows more thread time before source after → KnowsStamp (get_or rows before []) thread source ⊎ (KnowsStamp (get_or rows before []) thread source → ⊥) → IsRowFor trace more thread (λ k. ShbBelow trace k n) after.row
     own_row has (inl known) = subst (IsRowFor trace more thread (λ k. ShbBelow trace k n)) (sym (has.knew known))
         (row_more trace rows more thread before (λ k. ShbBelow trace k n) has.more (row_known trace next.disciplined rows n thread before next.of_thread (row_before before before_is) source is_source known))
     own_row has (inr unknown) =
         let known_row = (source_new trace next.disciplined rows n thread before next.of_thread (row_before before before_is) source is_source unknown).2.row_is in
         let joined = has.learned unknown few_rows known_row.in_range in
-        record { in_range = joined.0; front = joined_front trace next.disciplined rows n thread before next.of_thread (row_before before before_is) source is_source unknown joined.1.clock (get_or more after.row []) joined.1.clock_is joined.1.each }
+        record {
+          in_range = joined.0;
+          front = elim joined.1.each [
+            | inl raised ↦ joined_front trace next.disciplined rows n thread before next.of_thread (row_before before before_is) source is_source unknown joined.1.clock joined.1.clock_is (get_or more after.row []) raised
+            | inr clock ↦ subst (IsFrontBut trace thread (λ k. ShbBelow trace k n)) (sym clock.1) (covered_front trace next.disciplined rows n thread before next.of_thread (row_before before before_is) source is_source unknown joined.1.clock joined.1.clock_is time next.time_is clock.0)
+          ];
+        }
 
-    renamed_stamp : (P : ℕ → Type 0) → HasRowAfter rows more thread before source after → after.renames ≡ true → IsLatestStamp trace rows P n source → IsLatestStamp trace more P n (record { row = after.row; thread = source.thread; time = source.time })
+    renamed_stamp : (P : ℕ → Type 0) → HasRowAfter rows more thread time before source after → after.renames ≡ true → IsLatestStamp trace rows P n source → IsLatestStamp trace more P n (record { row = after.row; thread = source.thread; time = source.time })
     renamed_stamp P has renames (of_none absent zero) = of_none absent zero
     renamed_stamp P has renames (of_event w latest is) = of_event w latest (record { of_thread = is.of_thread; time_is = is.time_is; row_is = record { in_range = put.0; front = record { within = λ t ne. front.within t; exact = λ t k of_k ne. front.exact t k of_k } } })
       where
@@ -345,7 +378,7 @@ module _ (trace : List Event) (n thread time joined : ℕ) (op : Op) (next : IsN
   passed_read x is none = read_unchanged x is (row_nothing_new trace next.disciplined rows n thread (get_or current thread 0) next.of_thread (row_before (get_or current thread 0) refl) (λ k learned. read_known trace next.disciplined all n x k (does (Read x) is) (λ w lt. none w) learned))
 
   -- the event was taken, as the code names what it did
-  module _ (before : ℕ) (source : Stamp) (after : AfterSource) (more : List (List ℕ)) (current_after : List ℕ) (before_is : before ≡ get_or current thread 0) (is_source : IsSource trace rows n source) (has : HasRowAfter rows more thread before source after) (put_row : IsPut 0 thread after.row current current_after) where
+  module _ (before : ℕ) (source : Stamp) (after : AfterSource) (more : List (List ℕ)) (current_after : List ℕ) (before_is : before ≡ get_or current thread 0) (is_source : IsSource trace rows n source) (has : HasRowAfter rows more thread time before source after) (put_row : IsPut 0 thread after.row current current_after) where
     own : IsRowFor trace more thread (λ k. ShbBelow trace k n) after.row
     own = own_row more before source after before_is is_source has (asked more before source after before_is is_source)
 

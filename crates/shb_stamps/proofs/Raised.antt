@@ -57,8 +57,8 @@ raised_start old row = record {
 }
 
 -- a piece more
-pub raised_piece : (old row now after piece : List ℕ) (k start : ℕ) → IsRaisedTo old row now (128 * k) → start ≡ k * 128 → piece ≡ take 128 (drop (128 * k) row) → length after ≡ length now
-    → ((t : ℕ) → t < start → get_or after t 0 ≡ get_or now t 0) → ((t : ℕ) → get_or after (start + t) 0 ≡ max (get_or now (start + t) 0) (get_or piece t 0)) → IsRaisedTo old row after (128 * (k + 1))
+pub raised_piece : (old row now after piece : List ℕ) (k start : ℕ) → IsRaisedTo old row now (64 * k) → start ≡ k * 64 → piece ≡ take 64 (drop (64 * k) row) → length after ≡ length now
+    → ((t : ℕ) → t < start → get_or after t 0 ≡ get_or now t 0) → ((t : ℕ) → get_or after (start + t) 0 ≡ max (get_or now (start + t) 0) (get_or piece t 0)) → IsRaisedTo old row after (64 * (k + 1))
 raised_piece old row now after piece k start raised start_is piece_is long before above = record {
   long = long ∙ raised.long;
   done = done;
@@ -66,28 +66,28 @@ raised_piece old row now after piece k start raised start_is piece_is long befor
 }
   where
     -- the entry behind the start by j
-    entry : (t : ℕ) → 128 * k ≤ t → get_or after t 0 ≡ max (get_or now t 0) (get_or piece (t - 128 * k) 0)
-    entry t le = subst (λ (m : ℕ). get_or after m 0 ≡ max (get_or now m 0) (get_or piece (t - 128 * k) 0)) (omega (arith, le, start_is)) (above (t - 128 * k))
+    entry : (t : ℕ) → 64 * k ≤ t → get_or after t 0 ≡ max (get_or now t 0) (get_or piece (t - 64 * k) 0)
+    entry t le = subst (λ (m : ℕ). get_or after m 0 ≡ max (get_or now m 0) (get_or piece (t - 64 * k) 0)) (omega (arith, le, start_is)) (above (t - 64 * k))
 
-    done : (t : ℕ) → t < 128 * (k + 1) → get_or after t 0 ≡ max (get_or old t 0) (get_or row t 0)
-    done t lt = elim (cases_lt t (128 * k)) [
+    done : (t : ℕ) → t < 64 * (k + 1) → get_or after t 0 ≡ max (get_or old t 0) (get_or row t 0)
+    done t lt = elim (cases_lt t (64 * k)) [
       | inl low ↦ before t (omega (arith, low, start_is)) ∙ raised.done t low
       | inr ge ↦ (let at = entry t ge in let own = raised.rest t ge in
-          let same = ap (λ (xs : List ℕ). get_or xs (t - 128 * k) 0) piece_is ∙ piece_entry row k (t - 128 * k) (omega (arith, lt, ge)) in
-          let where_it_is : 128 * k + (t - 128 * k) ≡ t = omega (arith, ge) in
+          let same = ap (λ (xs : List ℕ). get_or xs (t - 64 * k) 0) piece_is ∙ piece_entry row k (t - 64 * k) (omega (arith, lt, ge)) in
+          let where_it_is : 64 * k + (t - 64 * k) ≡ t = omega (arith, ge) in
           let here = ap (λ (m : ℕ). get_or row m 0) where_it_is in
           omega (arith, at, own, same, here))
     ]
 
-    rest : (t : ℕ) → 128 * (k + 1) ≤ t → get_or after t 0 ≡ get_or old t 0
+    rest : (t : ℕ) → 64 * (k + 1) ≤ t → get_or after t 0 ≡ get_or old t 0
     rest t le = (let at = entry t (omega (arith, le)) in let own = raised.rest t (omega (arith, le)) in
-        let short = ap length piece_is ∙ length-take 128 (drop (128 * k) row) in
-        let none = get_or_past piece (t - 128 * k) 0 (omega (arith, le, short)) in
+        let short = ap length piece_is ∙ length-take 64 (drop (64 * k) row) in
+        let none = get_or_past piece (t - 64 * k) 0 (omega (arith, le, short)) in
         omega (arith, at, own, none))
 
 -- all pieces
-pub raised_all : (old row now : List ℕ) (k n : ℕ) → IsRaisedTo old row now (128 * k) → n ≤ k → length row < 128 * n → (t : ℕ) → get_or now t 0 ≡ max (get_or old t 0) (get_or row t 0)
-raised_all old row now k n raised most long t = elim (cases_lt t (128 * k)) [
+pub raised_all : (old row now : List ℕ) (k n : ℕ) → IsRaisedTo old row now (64 * k) → n ≤ k → length row < 64 * n → (t : ℕ) → get_or now t 0 ≡ max (get_or old t 0) (get_or row t 0)
+raised_all old row now k n raised most long t = elim (cases_lt t (64 * k)) [
   | inl low ↦ raised.done t low
   | inr ge ↦ (let own = raised.rest t ge in let none = get_or_past row t 0 (omega (arith, most, ge, long)) in omega (arith, own, none))
 ]

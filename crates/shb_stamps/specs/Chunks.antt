@@ -1,4 +1,4 @@
--- Rows in one memory, which share chunks of 128 entries.
+-- Rows in one memory, which share chunks of 64 entries.
 use Rattle.std.specs.Prelude.{◌≡◌, ℕ, ◌+◌, ◌<◌, ◌≤◌, ◌++◌, ◌^◌, List, [], drop, length, map, slice_index_or, take}
 use Rattle.std.specs.List.{flat_map}
 use Rattle.shb_stamps.specs.declared.row_list.Span.{Span}
@@ -7,9 +7,9 @@ use Rattle.shb_stamps.specs.declared.row_list.Span.{Span}
 abbrev pub row_by : List (List ℕ) → List ℕ → List ℕ → List ℕ
 row_by chunks numbers rest = flat_map (λ n. slice_index_or chunks n []) numbers ++ rest
 
--- each chunk has 128 entries
+-- each chunk has 64 entries
 abbrev pub AreChunks : List (List ℕ) → Type 0
-AreChunks chunks = (n : ℕ) → n < length chunks → length (slice_index_or chunks n []) ≡ 128
+AreChunks chunks = (n : ℕ) → n < length chunks → length (slice_index_or chunks n []) ≡ 64
 
 -- numbers of chunks
 abbrev pub AreNumbers : List (List ℕ) → List ℕ → Type 0

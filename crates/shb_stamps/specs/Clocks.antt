@@ -39,16 +39,21 @@ pub record IsNext (trace : List Event) (n thread : ℕ) (op : Op) (time joined :
   pub time_is : time ≡ local_time trace thread n
   pub joined_is : (t : ℕ) → op ≡ Join t → joined ≡ count_by (is_of t) (take n trace)
 
--- each entry of a row is the greater of those of the row before and of the source's clock
-pub record IsJoined (rows : List (List ℕ)) (before : ℕ) (source : Stamp) (row : List ℕ) : Type 0 where
+-- a row has each event of a thread before that of this time, and there is one
+pub record Covers (row : List ℕ) (thread time : ℕ) : Type 0 where
+  pub some : 1 < time
+  pub all : time ≤ slice_index_or row thread 0 + 1
+
+-- each entry of a row is the greater of those of the row before and of the source's clock, or the row is this clock, if the source's row has each event of the thread so far
+pub record IsJoined (rows : List (List ℕ)) (thread time before : ℕ) (source : Stamp) (row : List ℕ) : Type 0 where
   pub clock : List ℕ
   pub clock_is : IsPut 0 source.thread source.time (slice_index_or rows source.row []) clock
-  pub each : (t : ℕ) → slice_index_or row t 0 ≡ max (slice_index_or (slice_index_or rows before []) t 0) (slice_index_or clock t 0)
+  pub each : ((t : ℕ) → slice_index_or row t 0 ≡ max (slice_index_or (slice_index_or rows before []) t 0) (slice_index_or clock t 0)) ⊎ (Covers (slice_index_or rows source.row []) thread time × (row ≡ clock))
 
 -- the rows stay, and one more is added at most; a thread that knew the source has the row before, and another one has a joined row; it renames the source only where it is the source's clock
-pub record HasRowAfter (old new : List (List ℕ)) (thread before : ℕ) (source : Stamp) (after : AfterSource) : Type 0 where
+pub record HasRowAfter (old new : List (List ℕ)) (thread time before : ℕ) (source : Stamp) (after : AfterSource) : Type 0 where
   pub more : AreMore old new
   pub few : length new ≤ length old + 1
   pub knew : KnowsStamp (slice_index_or old before []) thread source → after.row ≡ before
-  pub learned : (KnowsStamp (slice_index_or old before []) thread source → ⊥) → length old < 2 ^ 32 → source.row < length old → (after.row < length new) × IsJoined old before source (slice_index_or new after.row [])
+  pub learned : (KnowsStamp (slice_index_or old before []) thread source → ⊥) → length old < 2 ^ 32 → source.row < length old → (after.row < length new) × IsJoined old thread time before source (slice_index_or new after.row [])
   pub renames : after.renames ≡ true → length old < 2 ^ 32 → (after.row < length new) × IsPut 0 source.thread source.time (slice_index_or old source.row []) (slice_index_or new after.row [])

@@ -14,7 +14,7 @@ ghost use Rattle.std.specs.Prelude.{◌≡◌, ◌+◌, ◌<◌, ◌≤◌, ◌�
 ghost use Rattle.shb_lines.specs.Growing.{IsPut};
 ghost use Rattle.shb_lines.specs.declared.event.Event.{Event};
 ghost use Rattle.shb_lines.specs.declared.event.Op.TheVariants.{Fork, Read, Release, Write};
-ghost use Rattle.shb_stamps.specs.Clocks.{HasRowAfter, IsBefore, IsNext, KeepsWrite};
+ghost use Rattle.shb_stamps.specs.Clocks.{Covers, HasRowAfter, IsBefore, IsNext, KeepsWrite};
 ghost use Rattle.shb_stamps.specs.Stamps.{IsSource, KnowsStamp, empty_stamp};
 
 use crate::clock::zeros;
@@ -89,24 +89,29 @@ fn set_clock(
     Ok(())
 }
 
-/// Whether no entry of a row is above that of a clock, where it is asked.
+/// Whether a row has all events of a thread before that of this time, and there are some. What the thread knows is
+/// below the row then.
 #[inline(always)]
-fn is_asked_below(asks: bool, rows: &RowList, row: u32, clock: &[u32]) -> bool
-    ensures { result ≡ true → (t : ℕ) → slice_index_or (slice_index_or rows.now row []) t 0 ≤ slice_index_or clock.now t 0 }
+fn covers(rows: &RowList, row: u32, thread: u32, time: u32) -> bool
+    ensures { result ≡ true → Covers (slice_index_or rows.now row []) thread time }
 {
-    if asks {
-        return rows.is_within(row, clock);
+    if time <= 1 {
+        return false;
     }
-    false
+    rows.entry(row, thread) >= time - 1
 }
 
-/// Raises each entry of a clock to that of a row. Where it is asked, says whether the clock is the same.
+/// Raises each entry of a clock to that of a row, unless it covers the row. Says whether the clock is the same.
 #[inline(always)]
-fn join(clock: &mut Vec<u32>, rows: &RowList, row: u32, asks: bool) -> Result<bool, NoMemory>
-    ensures raised { OnOk result ((t : ℕ) → slice_index_or clock.new.items t 0 ≡ max (slice_index_or clock.old.items t 0) (slice_index_or (slice_index_or rows.now row []) t 0)) }
+fn join(clock: &mut Vec<u32>, rows: &RowList, row: u32, covered: bool) -> Result<bool, NoMemory>
+    ensures raised { covered ≡ false → OnOk result ((t : ℕ) → slice_index_or clock.new.items t 0 ≡ max (slice_index_or clock.old.items t 0) (slice_index_or (slice_index_or rows.now row []) t 0)) }
     ensures same { IfOk result (λ same. same ≡ true → clock.new.items ≡ clock.old.items) }
+    ensures covered { covered ≡ true → OnOk result (clock.new.items ≡ clock.old.items) }
 {
-    let below = is_asked_below(asks, rows, row, clock.as_slice());
+    if covered {
+        return Ok(true);
+    }
+    let below = rows.is_within(row, clock.as_slice());
     if below {
         return Ok(true);
     }
@@ -114,23 +119,18 @@ fn join(clock: &mut Vec<u32>, rows: &RowList, row: u32, asks: bool) -> Result<bo
     Ok(false)
 }
 
-/// Whether it is a read.
-fn is_read(op: Op) -> bool {
-    matches!(op, Op::Read(_))
-}
-
 /// The row of what a thread knows after an event that learns of the source: the one before it where it knows the
-/// source, or that of the source; no row is made then. Else a new one. Where the event reads, it may rename the
-/// source. The clock is space to work in.
+/// source, or that of the source; no row is made then. Else a new one. The event has this local time, and the clock is
+/// space to work in.
 fn row_after(
     rows: &mut RowList,
     clock: &mut Vec<u32>,
     thread: u32,
+    time: u32,
     before: u32,
     source: Stamp,
-    reads: bool,
 ) -> Result<AfterSource, NoMemory>
-    ensures { IfOk result (HasRowAfter rows.old rows.new thread before source) }
+    ensures { IfOk result (HasRowAfter rows.old rows.new thread time before source) }
 {
     let told = source.is_known(thread, rows, before);
     if told {
@@ -147,8 +147,9 @@ fn row_after(
         });
     }
     set_clock(clock, rows, source.row, source.thread, source.time)?;
-    let renames = join(clock, rows, before, reads)?;
-    let row = rows.push(clock.as_slice(), source.row)?;
+    let covered = covers(rows, source.row, thread, time);
+    let renames = join(clock, rows, before, covered)?;
+    let row = rows.push(clock.as_slice(), source.row, renames)?;
     Ok(AfterSource { row, renames })
 }
 
@@ -292,7 +293,7 @@ impl Clocks {
     {
         let own = self.row_number(thread);
         set_clock(&mut self.clock, &self.rows, own, thread, time)?;
-        let forked = self.rows.push(self.clock.as_slice(), own)?;
+        let forked = self.rows.push(self.clock.as_slice(), own, true)?;
         put(&mut self.current, child, forked, 0)?;
         Ok(())
     }
@@ -307,14 +308,13 @@ impl Clocks {
     {
         let source = self.source(op, joined);
         let before = self.row_number(thread);
-        let reads = is_read(op);
         let after = row_after(
             &mut self.rows,
             &mut self.clock,
             thread,
+            time,
             before,
             source,
-            reads,
         )?;
         put(&mut self.current, thread, after.row, 0)?;
         if let Op::Read(variable) = op {

@@ -11,7 +11,7 @@
 //! A vector clock of a property of events has for each thread the number of its events, from the
 //! first on, that have the property (`IsFront`). Clocks are rows of one memory, and a row says
 //! nothing of its own thread: the event's local time stands in when it is read. So an event at which its
-//! thread learns nothing new shares the row before. A row of more than 1,024 entries begins with chunks of 128, and
+//! thread learns nothing new shares the row before. A row of more than 512 entries may begin with chunks of 64, and
 //! rows share the chunks in which they are equal (`row_list`): what threads that are joined one after the other
 //! knew takes little more than what the last one did.
 //!

@@ -8,12 +8,12 @@ use shb_io::NoMemory;
 use std::marker::Model;
 
 /// How many entries a chunk has.
-pub const CHUNK: usize = 128;
+pub const CHUNK: usize = 64;
 
 /// A row, seen as the list of its entries.
 #[derive(Drop)]
 pub struct Row<'a> {
-    chunks: &'a [[u32; 128]],
+    chunks: &'a [[u32; 64]],
     /// The numbers of the chunks that it begins with.
     numbers: &'a [u32],
     /// The entries after those of the chunks.
@@ -33,10 +33,10 @@ impl<'a> Model for Row<'a> {
 
 /// The chunk of a number.
 #[inline(always)]
-pub fn chunk_at(chunks: &[[u32; 128]], number: u32) -> &[u32]
+pub fn chunk_at(chunks: &[[u32; 64]], number: u32) -> &[u32]
     requires { number < length chunks.now }
     ensures same { result.now ≡ slice_index_or chunks.now number [] }
-    ensures long { length result.now ≡ 128 }
+    ensures long { length result.now ≡ 64 }
 {
     &chunks[number as usize]
 }
@@ -78,7 +78,7 @@ fn raise_from(clock: &mut [u32], start: usize, piece: &[u32])
 impl<'a> Row<'a> {
     /// The row of these chunks and entries.
     #[inline(always)]
-    pub fn new(chunks: &'a [[u32; 128]], numbers: &'a [u32], rest: &'a [u32]) -> Row<'a>
+    pub fn new(chunks: &'a [[u32; 64]], numbers: &'a [u32], rest: &'a [u32]) -> Row<'a>
         requires { IsRow chunks.now numbers.now }
         ensures { result ≡ row_by chunks.now numbers.now rest.now }
     {
@@ -140,8 +140,8 @@ impl<'a> Row<'a> {
     /// The entries of the piece k, as many as a chunk has but for the last piece.
     #[inline(always)]
     pub fn piece(&self, k: usize) -> &'a [u32]
-        requires { 128 * k ≤ length self.now }
-        ensures { result.now ≡ take 128 (drop (128 * k) self.now) }
+        requires { 64 * k ≤ length self.now }
+        ensures { result.now ≡ take 64 (drop (64 * k) self.now) }
     {
         if k < self.numbers.len() {
             return chunk_at(self.chunks, self.numbers[k]);
@@ -154,8 +154,8 @@ impl<'a> Row<'a> {
     /// How many pieces it has.
     #[inline(always)]
     fn pieces(&self) -> usize
-        ensures all { length self.now < 128 * result }
-        ensures each { (k : ℕ) → k < result → 128 * k ≤ length self.now }
+        ensures all { length self.now < 64 * result }
+        ensures each { (k : ℕ) → k < result → 64 * k ≤ length self.now }
     {
         self.len() / CHUNK + 1
     }

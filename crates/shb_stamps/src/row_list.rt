@@ -4,8 +4,8 @@
 //!
 //! | Row | Numbers of chunks | Rest |
 //! |---|---|---|
-//! | 0 | 0 to 7 | entries 1,024 to 1,099 |
-//! | 1 | 0, 8, 2 to 7 | entries 1,024 to 1,099 |
+//! | 0 | 0 to 16 | entries 1,088 to 1,099 |
+//! | 1 | 0, 1, 2, 17, 4 to 16 | entries 1,088 to 1,099 |
 //!
 //! Whoever adds a row says which one it may share chunks with; the chunks at the same place are compared. A compaction
 //! shares what was shared before.
@@ -22,7 +22,11 @@ use std::alloc::Global;
 use std::marker::Model;
 
 /// Up to so many entries a row has no chunks: to find an entry costs least so.
-const WHOLE: usize = 1024;
+const WHOLE: usize = 512;
+
+/// Up to so many it has none unless one entry differs, as far as is known, from the row that it is like: where many do,
+/// no chunk would be another row's.
+const WHOLE_UNLIKE: usize = 1024;
 
 /// Where the cells of a row are in the memory of all. Either it is whole and has so many entries, or it begins with so
 /// many chunks, whose numbers come first, and has so many entries after those.
@@ -34,13 +38,13 @@ struct Span {
     rest: usize,
 }
 
-/// Rows one after the other in one memory, seen as the list of their entries. A row of more than 1,024
-/// entries begins with chunks of 128, and names those that another row has as well.
+/// Rows one after the other in one memory, seen as the list of their entries. A row of more than 512
+/// entries may begin with chunks of 64, and names those that another row has as well.
 #[derive(Drop)]
 pub struct RowList {
     spans: Vec<Span>,
     cells: Vec<u32>,
-    chunks: Vec<[u32; 128]>,
+    chunks: Vec<[u32; 64]>,
     /// The numbers of the chunks that the next row may have.
     hints: Vec<u32>,
     /// How many bytes the rows take.
@@ -50,17 +54,17 @@ pub struct RowList {
 /// How many bytes so many rows take, with so many cells and chunks.
 #[inline(always)]
 fn bytes_of(spans: usize, cells: usize, chunks: usize) -> usize
-    ensures { result ≡ min (32 * spans + 4 * cells + 512 * chunks) (2 ^ 64 - 1) }
+    ensures { result ≡ min (32 * spans + 4 * cells + 256 * chunks) (2 ^ 64 - 1) }
 {
     let short = spans
         .saturating_mul(32)
         .saturating_add(cells.saturating_mul(4));
-    short.saturating_add(chunks.saturating_mul(512))
+    short.saturating_add(chunks.saturating_mul(256))
 }
 
 /// The row whose cells are there.
 #[inline(always)]
-fn row_of<'a>(chunks: &'a [[u32; 128]], cells: &'a [u32], span: Span) -> Row<'a>
+fn row_of<'a>(chunks: &'a [[u32; 64]], cells: &'a [u32], span: Span) -> Row<'a>
     requires chunks { AreChunks chunks.now }
     requires inside { IsInside chunks.now cells.now span }
     ensures { result ≡ row_in chunks.now cells.now span }
@@ -74,9 +78,8 @@ fn row_of<'a>(chunks: &'a [[u32; 128]], cells: &'a [u32], span: Span) -> Row<'a>
 }
 
 /// The entry of a thread in the row whose cells are there.
-#[cold]
-#[inline(never)]
-fn entry_of(chunks: &[[u32; 128]], cells: &[u32], span: &Span, t: u32) -> u32
+#[inline(always)]
+fn entry_of(chunks: &[[u32; 64]], cells: &[u32], span: &Span, t: u32) -> u32
     requires chunks { AreChunks chunks.now }
     requires inside { IsInside chunks.now cells.now span.now }
     ensures { result ≡ slice_index_or (row_in chunks.now cells.now span.now) t 0 }
@@ -86,7 +89,7 @@ fn entry_of(chunks: &[[u32; 128]], cells: &[u32], span: &Span, t: u32) -> u32
 
 /// Whether two chunks are equal.
 fn is_same(chunk: &[u32], other: &[u32]) -> bool
-    requires { (length chunk.now ≡ 128) × (length other.now ≡ 128) }
+    requires { (length chunk.now ≡ 64) × (length other.now ≡ 64) }
     ensures { result ≡ true → chunk.now ≡ other.now }
 {
     let mut same = true;
@@ -98,8 +101,8 @@ fn is_same(chunk: &[u32], other: &[u32]) -> bool
 
 /// Whether the chunk of a number has these entries.
 #[inline(always)]
-fn is_hint(chunks: &[[u32; 128]], number: u32, piece: &[u32]) -> bool
-    requires { length piece.now ≡ 128 }
+fn is_hint(chunks: &[[u32; 64]], number: u32, piece: &[u32]) -> bool
+    requires { length piece.now ≡ 64 }
     ensures { result ≡ true → (number < length chunks.now) × (slice_index_or chunks.now number [] ≡ piece.now) }
 {
     if number as usize >= chunks.len() {
@@ -109,9 +112,9 @@ fn is_hint(chunks: &[[u32; 128]], number: u32, piece: &[u32]) -> bool
 }
 
 /// The number of a chunk with these entries: the hint where it is one, or that of a new one.
-fn shared(chunks: &mut Vec<[u32; 128]>, hint: u32, piece: &[u32]) -> Result<u32, NoMemory>
+fn shared(chunks: &mut Vec<[u32; 64]>, hint: u32, piece: &[u32]) -> Result<u32, NoMemory>
     requires chunks { AreChunks chunks.old.items }
-    requires long { length piece.now ≡ 128 }
+    requires long { length piece.now ≡ 64 }
     requires few { length chunks.old.items < 2 ^ 32 }
     ensures chunks { AreChunks chunks.new.items }
     ensures few { length chunks.new.items ≤ length chunks.old.items + 1 }
@@ -123,7 +126,7 @@ fn shared(chunks: &mut Vec<[u32; 128]>, hint: u32, piece: &[u32]) -> Result<u32,
         return Ok(hint);
     }
     let number = chunks.len() as u32;
-    let mut chunk = [0; 128];
+    let mut chunk = [0; 64];
     chunk.copy_from_slice(piece);
     chunks.push(chunk)?;
     Ok(number)
@@ -149,7 +152,7 @@ fn add_whole(cells: &mut Vec<u32>, row: &Row<'_>) -> Result<Span, NoMemory>
 /// Adds the cells of a row. Where there are no numbers for its chunks it has none.
 fn add_cells(
     cells: &mut Vec<u32>,
-    chunks: &mut Vec<[u32; 128]>,
+    chunks: &mut Vec<[u32; 64]>,
     hints: &[u32],
     row: &Row<'_>,
 ) -> Result<Span, NoMemory>
@@ -161,7 +164,7 @@ fn add_cells(
 {
     let start = cells.len();
     let count = row.len().saturating_sub(1) / CHUNK;
-    if row.len() <= WHOLE {
+    if row.len() <= CHUNK {
         return add_whole(cells, row);
     }
     let numbers = chunks.len().saturating_add(count);
@@ -231,7 +234,7 @@ impl RowList {
         ensures { IfOk result (λ rows. rows ≡ [] ∷ []) }
     {
         let mut rows = RowList::empty(alloc);
-        rows.push(&[], 0)?;
+        rows.push(&[], 0, false)?;
         Ok(rows)
     }
 
@@ -325,9 +328,6 @@ impl RowList {
     pub fn is_within(&self, number: u32, clock: &[u32]) -> bool
         ensures { result ≡ true → (t : ℕ) → slice_index_or (slice_index_or self.now number []) t 0 ≤ slice_index_or clock.now t 0 }
     {
-        if let Some(entries) = self.whole(number) {
-            return is_below(entries, clock);
-        }
         self.row(number).is_below(&Row::of(clock))
     }
 
@@ -430,14 +430,15 @@ impl RowList {
         self.push_row(row)
     }
 
-    /// Adds a row of these entries, which may share chunks with another one, and gives its number. Numbers count
-    /// from 0.
+    /// Adds a row of these entries, which may share chunks with another one, the more so if it is near, and gives its
+    /// number. Numbers count from 0.
     #[inline(always)]
-    pub fn push(&mut self, entries: &[u32], like: u32) -> Result<u32, NoMemory>
+    pub fn push(&mut self, entries: &[u32], like: u32, near: bool) -> Result<u32, NoMemory>
         ensures rows { OnOk result (self.new ≡ self.old ++ entries.now ∷ []) }
         ensures number { length self.old < 2 ^ 32 → IfOk result (λ number. number ≡ length self.old) }
     {
-        if entries.len() > WHOLE {
+        let most = if near { WHOLE } else { WHOLE_UNLIKE };
+        if entries.len() > most {
             return self.push_like(&Row::of(entries), like);
         }
         self.push_whole(entries)
@@ -449,7 +450,7 @@ impl RowList {
         ensures number { length self.old < 2 ^ 32 → IfOk result (λ number. number ≡ length self.old) }
     {
         if let Some(entries) = rows.whole(number) {
-            return self.push(entries, like);
+            return self.push(entries, like, false);
         }
         self.push_like(&rows.row(number), like)
     }

@@ -1,4 +1,5 @@
-use Rattle.std.proofs.Common.{List, [], ◌∷◌, ◌++◌, ℕ, refl, ap, subst, sym, arith, ◌≡◌, ◌∙◌, length, get_or}
+use Rattle.std.proofs.Common.{List, [], ◌∷◌, ◌++◌, ℕ, inl, inr, refl, ap, subst, sym, arith, ◌≡◌, ◌∙◌, length, get_or}
+use Rattle.std.proofs.lemmas.Bool.{cases_Bool}
 use Rattle.std.proofs.lemmas.List.{length_push}
 use Rattle.shb_lines.specs.Growing.{IsPut}
 use Rattle.shb_stamps.proofs.Stamping.{more_push, more_same, row_pushed}
@@ -25,7 +26,7 @@ returns-then-shared c =
         record {
           clock = get_or c.args.rows.now c.args.source.row [];
           clock_is = record { there = found.0; others = λ k ne. refl };
-          each = λ t. (let le = found.1 t in omega (arith, le));
+          each = inl (λ t. (let le = found.1 t in omega (arith, le)));
         },
       );
       renames = λ renames. absurd (let f : ⊥ = cc in f);
@@ -44,7 +45,10 @@ returns c =
             record {
               clock = c.set_clock.new.clock.items;
               clock_is = c.in_ok-set_clock.ensures;
-              each = λ t. (let same = ap (λ (xs : List ℕ). get_or xs t 0) pushed.1 in let greater = c.in_ok-renames.ensures.raised t in omega (arith, same, greater));
+              each = elim (cases_Bool c.covers-covered.result) [
+                | inl is ↦ inr (c.covers-covered.ensures is, pushed.1 ∙ c.in_ok-renames.ensures.covered is)
+                | inr isnt ↦ inl (λ t. (let same = ap (λ (xs : List ℕ). get_or xs t 0) pushed.1 in let greater = c.in_ok-renames.ensures.raised isnt t in omega (arith, same, greater)))
+              ];
             },
           );
       renames = λ renames few.

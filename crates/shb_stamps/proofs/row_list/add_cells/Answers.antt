@@ -5,8 +5,8 @@ use Rattle.shb_stamps.proofs.row_list.add_cells.Goals as goal
 
 pub shared-requires-clause-long : goal.shared-requires-clause-long
 shared-requires-clause-long c =
-    let short = ap length c.piece.ensures ∙ length-take 128 (drop (128 * c.loop-k.k) c.args.row.now) in
-    let left = length-drop (128 * c.loop-k.k) c.args.row.now in
+    let short = ap length c.piece.ensures ∙ length-take 64 (drop (64 * c.loop-k.k) c.args.row.now) in
+    let left = length-drop (64 * c.loop-k.k) c.args.row.now in
     let low = c.loop-k-test.true in
     let less = c.saturating_sub-count.ensures in
     let long = c.len.ensures in
@@ -24,7 +24,7 @@ loop-k-preserved c = part_more _ _ c.args.row.now c.loop-k.chunks.items c.loop-k
 -- where the entries after the chunks are
 module _ (c : goal.In_ok-extend_from_slice) where
   abbrev count : ℕ
-  count = c.saturating_sub-count.result / 128
+  count = c.saturating_sub-count.result / 64
 
   at_end : c.loop-k.k ≡ count
   at_end = let past = c.loop-k-test.false in let within = c.loop-k.auto.k-end in omega (arith, past, within)
@@ -33,14 +33,14 @@ module _ (c : goal.In_ok-extend_from_slice) where
   few = let numbers = c.if-numbers.false in let sum = c.saturating_add-numbers.ensures in omega (arith, numbers, sum)
 
   some : 0 < count
-  some = let less = c.saturating_sub-count.ensures in let long = c.len.ensures in let size = c.len-2.ensures in let over = c.if-len-le-WHOLE.false in omega (arith, less, long, size, over)
+  some = let less = c.saturating_sub-count.ensures in let long = c.len.ensures in let size = c.len-2.ensures in let over = c.if-len-le-CHUNK.false in omega (arith, less, long, size, over)
 
-  rest_is : c.piece-rest.result.now ≡ drop (128 * c.loop-k.k) c.args.row.now
+  rest_is : c.piece-rest.result.now ≡ drop (64 * c.loop-k.k) c.args.row.now
   rest_is =
-      let left = length-drop (128 * count) c.args.row.now in
+      let left = length-drop (64 * count) c.args.row.now in
       let less = c.saturating_sub-count.ensures in
       let long = c.len.ensures in
-      c.piece-rest.ensures ∙ (take_all 128 (drop (128 * count) c.args.row.now) (omega (arith, left, less, long)) ∙ ap (λ (k : ℕ). drop (128 * k) c.args.row.now) (sym at_end))
+      c.piece-rest.ensures ∙ (take_all 64 (drop (64 * count) c.args.row.now) (omega (arith, left, less, long)) ∙ ap (λ (k : ℕ). drop (64 * k) c.args.row.now) (sym at_end))
 
 pub returns-clause-inside : goal.returns-clause-inside
 returns-clause-inside c = part_inside _ _ c.args.row.now c.loop-k.chunks.items c.loop-k.cells.items c.loop-k.k _ c.loop-k.invariant (at_end c) (some c) (few c) c.piece-rest.result.now _ c.len-start.result _ (rest_is c) c.in_ok-extend_from_slice.ensures.items (omega (arith, c.len-start.ensures)) refl

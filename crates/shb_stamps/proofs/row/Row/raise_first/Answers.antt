@@ -4,8 +4,8 @@ use Rattle.shb_stamps.proofs.row.Row.raise_first.Goals as goal
 
 pub raise_from-requires : goal.raise_from-requires
 raise_from-requires c =
-    let short = ap length c.piece.ensures ∙ length-take 128 (drop (128 * c.loop-k.k) c.args.self.now) in
-    let left = length-drop (128 * c.loop-k.k) c.args.self.now in
+    let short = ap length c.piece.ensures ∙ length-take 64 (drop (64 * c.loop-k.k) c.args.self.now) in
+    let left = length-drop (64 * c.loop-k.k) c.args.self.now in
     let long = c.loop-k.invariant.long in
     let wide = c.requires in
     let within = c.pieces-k-end.ensures.each c.loop-k.k c.loop-k-test.true in
