@@ -35,7 +35,7 @@ def processor_seconds(words, status, **how):
 
 def events_of(record):
     """How many events the run's trace has."""
-    said = subprocess.run([TOP / "recorder/shb-std", "--scan", record], stdout=subprocess.DEVNULL, stderr=subprocess.PIPE, check=True).stderr
+    said = subprocess.run([TOP / "recorder/shb-std", "--list", record], stdout=subprocess.DEVNULL, stderr=subprocess.PIPE, check=True).stderr
     return int(re.search(rb"(\d+) events", said)[1])
 
 

@@ -29,10 +29,10 @@ class Trials(program.Case):
     def group(self, lines, beside=(), more=(), stacks=(), held=()):
         """The only group of a run with these lines, which are the page's trace too; and its remedy. Pairs in
         `held` are locations with the lock that is held there."""
-        paths = {name: self.folder / f"page.{name}" for name in ("std", "scan", "stacks", "uses", "json")}
+        paths = {name: self.folder / f"page.{name}" for name in ("std", "places", "stacks", "uses", "json")}
         trace = "".join(f"{line}\n" for line in lines).encode()
         paths["std"].write_bytes(trace)
-        paths["scan"].write_bytes(program.run(["places", "--list", "--variables"], trace).out)
+        paths["places"].write_bytes(program.run(["places", "--list", "--variables"], trace).out)
         numbers = array.array("I", stacks or [0] * len(lines))
         stacks = b"shb-stacks 1 %020d\n" % len(lines) + numbers.tobytes()
         stacks += "".join(f"{line}\n" for line in beside).encode()
@@ -44,7 +44,7 @@ class Trials(program.Case):
         events = [f"event\t{number}\t{number}" for number in range(1, len(lines) + 1)]
         whole = [*kinds, *events, *more, f"events\t{len(lines)}"]
         paths["uses"].write_text("".join(f"{line}\n" for line in whole))
-        options = asked(str(paths["std"]), listed=str(paths["scan"]), uses=Uses(paths["uses"]),
+        options = asked(str(paths["std"]), listed=str(paths["places"]), uses=Uses(paths["uses"]),
                         stacks=str(paths["stacks"]), json=str(paths["json"]), shb=str(program.PATH))
         status, _ = explain(options, None)
         document = json.loads(paths["json"].read_text())

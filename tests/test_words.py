@@ -99,7 +99,7 @@ class Words(program.Case):
     def test_a_word_that_is_no_command(self):
         """The nearest commands are named, and all; a file isn't a command."""
         said = b"The commands are races, places and check. Begin with 'shb places --list TRACE'.\n"
-        for word in ("good.std", "scan", "place"):
+        for word in ("good.std", "lists", "place"):
             answer = program.run([word])
             self.assertTrue(answer.err.endswith(HINT + said), answer.err)
             self.assertEqual(b"tip: some similar subcommands exist: 'races', 'places'\n" in answer.err, word == "place")

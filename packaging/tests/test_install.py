@@ -146,7 +146,7 @@ class Tree(installing.Case):
                     more = self.folder / "out" if command == "shb-farm" else ""
                     call("sh", "-c", f"'{self.prefix}'/bin/{command} ./none {more} {error}", cwd=self.folder, status=status)
 
-    def test_a_farm_scans_a_long_trace(self):
+    def test_a_farm_lists_a_long_trace(self):
         self.need("python3", os.defpath)
         trace = self.folder / "traces" / "long.std"
         trace.parent.mkdir()

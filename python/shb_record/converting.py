@@ -76,19 +76,19 @@ def check_room(process, most_events):
 
 class Conversion:
     """Turns a record into the run's trace, for `shb places --list`, and where that finds races into the trace
-    of their page. `trace`, `uses` and `stacks` are of that trace, `scan` is the list of places; `numbers` has
+    of their page. `trace`, `uses` and `stacks` are of that trace, `place_list` is the list of places; `numbers` has
     for the events of a race those of that trace, if it has both in one part."""
 
     def __init__(self, process, options):
         self.process = process
-        self.trace, self.scan, self.uses, self.stacks = (process.record.with_suffix(suffix) for suffix in (".std", ".scan", ".uses", ".stacks"))
+        self.trace, self.place_list, self.uses, self.stacks = (process.record.with_suffix(suffix) for suffix in (".std", ".places", ".uses", ".stacks"))
         strip = ["--strip", options.strip] if options.strip else []
         self.left = process.record.with_suffix(".left")  # a segment's blocks at its end
         blocks = ["--blocks", process.blocks] if process.blocks else []
         self.window = options.window
-        self.list_words = [CONVERTER, "--scan", *strip, *blocks, process.record]
+        self.list_words = [CONVERTER, "--list", *strip, *blocks, process.record]
         self.page_words = [*strip, *blocks, "-n", str(options.window), process.record]
-        self.words = [CONVERTER, "--scan", "--only", "/dev/stdin", "--page", self.trace, "--uses", self.uses, "--stacks", self.stacks,
+        self.words = [CONVERTER, "--list", "--only", "/dev/stdin", "--page", self.trace, "--uses", self.uses, "--stacks", self.stacks,
                       *(["--left", self.left] if options.live else []), *self.page_words]
         self.size, self.notes, self.cuts = "", [], []  # known at the end: how much there is, what is said of it, what makes it a part
         self.numbers, self.used = {}, None  # `used`: what the file of uses has, once there is a page's trace
@@ -107,7 +107,7 @@ class Conversion:
                 except Refused as its:
                     fault = its
                 if self.found:
-                    listed.copy(self.scan)
+                    listed.copy(self.place_list)
                 with contextlib.suppress(BrokenPipeError):  # its status says how it ended
                     ran.stdin.write(b"".join(lines_of(chosen)))
                     ran.stdin.close()

@@ -148,8 +148,8 @@ class Look:
         if not looked.places or looked.has_files:
             return
         looked.has_files, conversion = True, looked.conversion
-        conversion.trace, conversion.scan, conversion.uses, conversion.stacks = (
-            self.results.keep(path, f"{looked.process.base}{path.suffix}") for path in (conversion.trace, conversion.scan, conversion.uses, conversion.stacks))
+        conversion.trace, conversion.place_list, conversion.uses, conversion.stacks = (
+            self.results.keep(path, f"{looked.process.base}{path.suffix}") for path in (conversion.trace, conversion.place_list, conversion.uses, conversion.stacks))
 
     def choose(self, process, places):
         """The places that are to be on a page. Where the command was told to end they are said: what comes then takes its time."""
@@ -170,7 +170,7 @@ class Look:
         if looked.behind:
             looked.places = [*looked.places, *looked.behind]
             looked.conversion.write_page(looked.places)
-            add_races(looked.conversion.scan, looked.behind)
+            add_races(looked.conversion.place_list, looked.behind)
             new, _ = self.add_new(looked, looked.behind, True)
             looked.new = [*looked.new, *new]
             self.keep_files(looked)
@@ -226,7 +226,7 @@ class Look:
         _, view = explain(asked(
             conversion.trace, title=f"{process.command} ({process.name}, {self.started})", note=notes,
             about=list(self.meaning()), has_notes=False, recorded_source=True, source=self.options.source,
-            stacks=conversion.stacks, listed=conversion.scan, uses=conversion.used, text=True, html=page,
+            stacks=conversion.stacks, listed=conversion.place_list, uses=conversion.used, text=True, html=page,
             only=variables_at(unknown),
             behind=variables_at(one for one in unknown if one.place in looked.behind),
             unseen=self.modules.calls(process.modules), turns=turns, shb=ANALYSER,

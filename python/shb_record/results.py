@@ -15,7 +15,7 @@ from shb_record.parts import now, say
 LIST = "made-by-shb-record.txt"
 LIST_BEGIN = "# What shb-record made in this folder"
 TABLES = "unknown.places", "places.tsv", "places.json", "places.sarif", "index.html"
-OURS = r"run\d+\.\d[\d-]*(\.\d+)?\.(rec|turns|std|scan|uses|stacks|html)|work-\w+|places\.(tsv|json|sarif)|unknown\.places|index\.html"
+OURS = r"run\d+\.\d[\d-]*(\.\d+)?\.(rec|turns|std|places|uses|stacks|html)|work-\w+|places\.(tsv|json|sarif)|unknown\.places|index\.html"
 
 
 class Results:

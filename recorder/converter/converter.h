@@ -5,7 +5,7 @@
 #include "threads.h"
 
 /* What shb takes of a trace, as python/shb_common/limits.py has it; the last is the most threads of shb places --list. */
-enum { SHB_EVENTS = 4194304, SHB_THREADS = 1024, SHB_LINE = 4096, SHB_BYTES = 1 << 30, SCAN_THREADS = 65535 };
+enum { SHB_EVENTS = 4194304, SHB_THREADS = 1024, SHB_LINE = 4096, SHB_BYTES = 1 << 30, LIST_THREADS = 65535 };
 typedef struct { const char *at; u64 length; } part;         /* of a text, without an end of its own */
 
 /* The last line of a help text, after an empty one, and what --version says: what is installed. The installation defines it. */
@@ -242,7 +242,7 @@ extern const char *cut_reason;         /* null while the trace goes on */
 extern const char *too_many_threads;   /* what it is then */
 void begin_events(void);               /* each pass that writes a trace */
 void begin_accesses(void);             /* the same */
-void use_limits_of_scan(void);
+void use_limits_of_list(void);
 void name_thread(u32 t, u64 function); /* by the function that it runs, where it has no name yet */
 void name_by_own(u32 t, u64 i);        /* the same, by the functions that a record tells, if one is the program's own */
 void give_name(u32 t, const char *piece, int is_first);      /* a piece of one that the program gave; the main thread keeps its own */

@@ -4,16 +4,16 @@
 #include <string.h>
 #include "converter.h"
 
-static const u64 SCAN_EVENTS = 4294967294;
+static const u64 LIST_EVENTS = 4294967294;
 
 u64 event_limit = SHB_EVENTS, events, written;
 const char *cut_reason, *too_many_threads = "before a thread too many: shb takes 1,024";
 static u64 bytes, byte_limit = SHB_BYTES;
 
-void use_limits_of_scan(void) {
-    event_limit = SCAN_EVENTS;
+void use_limits_of_list(void) {
+    event_limit = LIST_EVENTS;
     byte_limit = -1;
-    thread_limit = SCAN_THREADS;
+    thread_limit = LIST_THREADS;
     too_many_threads = "before a thread too many: shb places --list takes 65,535";
 }
 

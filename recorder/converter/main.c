@@ -133,18 +133,18 @@ static void write_trace(int has_stacks) {
 static const char help[] =
     "usage: shb-std [OPTION].. RECORD > TRACE\n"
     "       shb-std --only RACES [OPTION].. RECORD > TRACE\n"
-    "       shb-std --scan [--only RACES --page TRACE] [OPTION].. RECORD > TRACE\n"
+    "       shb-std --list [--only RACES --page TRACE] [OPTION].. RECORD > TRACE\n"
     "\n"
     "Turns a record of the recorder into an STD trace.\n"
     "\n"
     "The trace is cut at the most events and threads that shb takes.\n"
     "\n"
     "options:\n"
-    "  --scan         the trace of the whole run, for 'shb places --list'\n"
+    "  --list         the trace of the whole run, for 'shb places --list'\n"
     "  --only RACES   write a part of the trace, for a page: around the races of this\n"
     "                 file, the accesses of their variables, and locks, forks and\n"
     "                 joins. It has a line for each race: I J VARIABLE, with the\n"
-    "                 numbers of its events in the trace of --scan. With --scan both\n"
+    "                 numbers of its events in the trace of --list. With --list both\n"
     "                 are written, and RACES is read, from a FIFO or standard input,\n"
     "                 when the first is; if it is empty, only the first is written\n"
     "  --page TRACE   write the trace of --only to this file\n"
@@ -169,11 +169,11 @@ static const char help[] =
     "3 wrong command line.\n" VERSION_LINE;
 
 static const char *stacks_path, *only_path, *page_path, *uses_path, *blocks_path, *left_path;
-static int for_scan;
+static int for_list;
 
 static void read_words(int count, char **words) {
     static const struct option options[] = {{"stacks", required_argument, 0, 's'}, {"strip", required_argument, 0, 'd'},
-                                            {"scan", no_argument, &for_scan, 1}, {"only", required_argument, 0, 'r'}, {"page", required_argument, 0, 'g'},
+                                            {"list", no_argument, &for_list, 1}, {"only", required_argument, 0, 'r'}, {"page", required_argument, 0, 'g'},
                                             {"uses", required_argument, 0, 'u'}, {"blocks", required_argument, 0, 'b'}, {"left", required_argument, 0, 'l'}, {"version", no_argument, 0, 'v'},
                                             {"help", no_argument, 0, 'h'}, {0, 0, 0, 0}};
     opterr = 0;
@@ -199,7 +199,7 @@ static void read_words(int count, char **words) {
     if (optind == count) bad_words("no RECORD is named", "");
     if (optind + 1 < count) bad_words(words[optind + 1], " is one word too many");
     if (!only_path && (uses_path || page_path)) bad_words(uses_path ? "--uses" : "--page", " needs --only");
-    if (for_scan && only_path && !page_path) bad_words("--scan", " with --only needs --page");
+    if (for_list && only_path && !page_path) bad_words("--list", " with --only needs --page");
 }
 
 static void write_to(const char *path) {
@@ -210,10 +210,10 @@ static void write_to(const char *path) {
    is cut, or null. */
 static const char *write_run(void) {
     u64 limit = event_limit;
-    if (for_scan) use_limits_of_scan();
-    if (for_scan) fcntl(fileno(stdout), F_SETPIPE_SZ, 1 << 20);     /* bytes, the most that the system gives */
-    write_trace(!for_scan);
-    if (!for_scan) end_stacks();
+    if (for_list) use_limits_of_list();
+    if (for_list) fcntl(fileno(stdout), F_SETPIPE_SZ, 1 << 20);     /* bytes, the most that the system gives */
+    write_trace(!for_list);
+    if (!for_list) end_stacks();
     event_limit = limit;
     return cut_reason;
 }
@@ -222,7 +222,7 @@ static const char *write_run(void) {
 static void write_page(u64 run_events) {
     u64 limit = event_limit;
     if (!read_races(only_path, run_events)) return;
-    use_limits_of_scan();
+    use_limits_of_list();
     event_limit = limit;
     if (uses_path) open_uses(uses_path);
     write_trace(1);
@@ -240,7 +240,7 @@ int main(int count, char **words) {
     pass(find_cuts, 0);
     find_places();
     pass(find_sharing, 0);
-    int has_run = for_scan || !only_path;
+    int has_run = for_list || !only_path;
     const char *cut = has_run ? write_run() : 0;
     u64 run_events = events;
     if (page_path) write_to(page_path);

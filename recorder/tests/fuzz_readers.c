@@ -121,7 +121,7 @@ static int prepare(const uint8_t *data, size_t size, char **words) {
     put(data + from + head, size - from - head, HEADER_BYTES);
     int count = 0;
     words[count++] = "shb-std";
-    if (data[0] & 1) words[count++] = "--scan";
+    if (data[0] & 1) words[count++] = "--list";
     if (data[0] & 2) words[count++] = "-a";
     if (data[0] & 4) { words[count++] = "--stacks"; words[count++] = stacks; }
     if (data[0] & 8) { words[count++] = "--only"; words[count++] = races; words[count++] = "--page"; words[count++] = page; }

@@ -96,11 +96,11 @@ def convert(path, *options):
     return call(BUILT / "shb-std", *options, path)
 
 
-def scanned(record, page, converter=None):
+def listed(record, page, converter=None):
     """The places of a record's trace, each with its two locations in order and a variable; the page's trace of these is
     written to a file, or none. It has both accesses of each listed race where the file of uses says."""
     uses = page.with_suffix(".uses")
-    words = [str(word) for word in (converter or BUILT / "shb-std", "--scan", "--only", "/dev/stdin", "--page", page, "--uses", uses, record)]
+    words = [str(word) for word in (converter or BUILT / "shb-std", "--list", "--only", "/dev/stdin", "--page", page, "--uses", uses, record)]
     with subprocess.Popen(words, stdin=subprocess.PIPE, stdout=subprocess.PIPE, stderr=subprocess.PIPE) as ran:
         listed = must(call(SHB, "places", "--list", "--variables", stdin=ran.stdout)).stdout
         found = re.findall(rb"^race \d+: (\d+) (\d+)\nfirst (.*?\|[rw]\((.*?)\)\|(.*))\nsecond (.*?\|[rw]\(.*?\)\|(.*))$", listed, re.M)

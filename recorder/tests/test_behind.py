@@ -95,7 +95,7 @@ class Rest(recorder.Case):
         def found(first, second, name, at, to):
             return Found((first, second), (Access(b"A", b"w", name, at), Access(b"B", b"r", name, to)))
 
-        path = self.folder / "scan"
+        path = self.folder / "app.places"
         path.write_bytes(b"shb-report 2\nevents 9 threads 2 locks 0 variables 3\nraces 1\nplaces 1\nplace 1: 1\nat 1\nand 2\nrace 1: 1 2\n"
                          b"first A|w(x)|1\nsecond B|r(x)|2\nend\n")
         second.add_races(path, [Place(b"1", b"2", {b"y": found(3, 4, b"y", b"1", b"2")}, False), Place(b"3", b"4", {b"z": found(5, 6, b"z", b"3", b"4")}, False)])

@@ -63,7 +63,7 @@ class Command(recorder.Case):
         self.assertEqual([said.splitlines()[-5], *said.splitlines()[-2:]], ["shb-record: 1 place with races; the program's own status: 0; files in "
                                                   f"{self.folder}/status.shb", ONE, f"shb-record: page: {page}"])
         self.assertRegex(text_of(page), r"<title>\S+/status 0 race \(run 1, process \d+, \d{4}-\d\d-\d\d \d\d:\d\d\): 1 place with races, ")
-        self.assertEqual(self.names(), [*TABLES, "run1.N.html", "run1.N.scan", "run1.N.stacks", "run1.N.std", "run1.N.turns", "run1.N.uses",
+        self.assertEqual(self.names(), [*TABLES, "run1.N.html", "run1.N.places", "run1.N.stacks", "run1.N.std", "run1.N.turns", "run1.N.uses",
                                         "unknown.places"])
         self.assertIn("     | shared = 1; /* RACE */\n", said)  # by the debug information
         self.assertIn('"    shared = 1; /* RACE */"', text_of(page))
@@ -142,13 +142,13 @@ int main(int count, char **words) {
         """x is written by one thread first, and then by the other; y by the other first."""
         status, _, said = self.record(self.program("both_orders.c"))
         self.assertEqual(status, 66)
-        scan, page = (next((self.folder / "both_orders.shb").glob(f"run1.*.{kind}")) for kind in ("scan", "html"))
-        [there, back] = re.findall(r"(?m)^at (.*)\nand (.*)$", text_of(scan))
+        places, page = (next((self.folder / "both_orders.shb").glob(f"run1.*.{kind}")) for kind in ("places", "html"))
+        [there, back] = re.findall(r"(?m)^at (.*)\nand (.*)$", text_of(places))
         self.assertEqual(there, back[::-1])
         for shown in said, text_of(page):
             self.assertRegex(shown, r"2 places with races, in \d group")
         numbers = re.findall(r"In the run the accesses are events ([\d,]+) and ([\d,]+)\.", text_of(page))
-        races = re.findall(r"(?m)^race \d+: (\d+) (\d+)$", text_of(scan))
+        races = re.findall(r"(?m)^race \d+: (\d+) (\d+)$", text_of(places))
         self.assertTrue(numbers and {tuple(number.replace(",", "") for number in pair) for pair in numbers} <= set(races), (numbers, races))
         self.assertIn(f"races with {there[1]}\n", said)
         self.assertIn("shb-record: 2 places with races;", said)
@@ -503,7 +503,7 @@ int main(int count, char **words) {
             status, _, said = self.record("--known", "status.shb/unknown.places", "-o", f"{folder}.results", program, "0", "race")
             self.assertEqual(status, wanted, said)
             ends = {path.suffix for path in (self.folder / f"{folder}.results").glob("run*")}
-            self.assertEqual(ends, {".std", ".stacks", ".scan", ".uses", *[".html", ".turns"] * bool(wanted)})
+            self.assertEqual(ends, {".std", ".stacks", ".places", ".uses", *[".html", ".turns"] * bool(wanted)})
 
     def test_a_file_of_known_places_with_a_line_that_is_none(self):
         status, _, said = self.record("--known", self.known("a.c:1\tb.c:2\na.c:1 b.c:2\n"), self.program(), "0")
@@ -616,7 +616,7 @@ int main(int count, char **words) {
         found = re.findall(r"(?m)^shb-record: run 1, process \d+ \((.*)\): .*; (\d+) places? with races$", said)
         self.assertEqual(sorted(found), [("./atomic_plain", "1"), ("./status 0 race", "1")])
         self.assertIn("shb-record: 2 places with races; the program's own status: 0;", said)
-        self.assertEqual(self.names("make.shb"), [*TABLES, *["run1.N.html"] * 2, *["run1.N.scan"] * 2,
+        self.assertEqual(self.names("make.shb"), [*TABLES, *["run1.N.html"] * 2, *["run1.N.places"] * 2,
                                                   *["run1.N.stacks"] * 2, *["run1.N.std"] * 2, *["run1.N.turns"] * 2, *["run1.N.uses"] * 2, "unknown.places"])
 
     def test_a_daemon_is_waited_for(self):
@@ -637,7 +637,7 @@ int main(int count, char **words) {
     def test_results_of_an_earlier_call_are_replaced(self):
         program = self.program()
         self.record("--keep", program, "0", "race")
-        self.assertEqual(self.names(), [*TABLES, "run1.N.html", "run1.N.rec", "run1.N.scan", "run1.N.stacks",
+        self.assertEqual(self.names(), [*TABLES, "run1.N.html", "run1.N.places", "run1.N.rec", "run1.N.stacks",
                                         "run1.N.std", "run1.N.turns", "run1.N.uses", "unknown.places"])
         _, _, said = self.record(program, "0")
         self.assertRegex(said, rf"(?m)^shb-record: replacing the results in {self.folder}/status.shb, made on \S+ \S+, for: {program} 0 race$")
@@ -672,7 +672,7 @@ int main(int count, char **words) {
         folders = [re.search(r"files in (.*)", text)[1] for text in said]
         self.assertEqual(sorted(folders), [f"{self.folder}/sh.shb{end}" for end in ("", "-2", "-3", "-4")])
         for folder in folders:
-            self.assertEqual(self.names(folder), [*TABLES, "run1.N.html", "run1.N.scan", "run1.N.stacks", "run1.N.std", "run1.N.turns", "run1.N.uses",
+            self.assertEqual(self.names(folder), [*TABLES, "run1.N.html", "run1.N.places", "run1.N.stacks", "run1.N.std", "run1.N.turns", "run1.N.uses",
                                                   "unknown.places"])
 
     def test_a_part_of_a_run_is_called_one(self):
@@ -716,7 +716,7 @@ int main(int count, char **words) {
     def test_wrong_words_of_the_converter(self):
         for words, why in (("", "no RECORD is named"), ("a b", "b is one word too many"), ("--nonsense a", "--nonsense isn't an option, or has no value"),
                            ("-n 0 a", "0 isn't a number of events"), ("--uses u a", "--uses needs --only"), ("--page p a", "--page needs --only"),
-                           ("--scan --only r a", "--scan with --only needs --page")):
+                           ("--list --only r a", "--list with --only needs --page")):
             answer = recorder.call(recorder.BUILT / "shb-std", *words.split(), cwd=self.folder)
             self.assertEqual((answer.returncode, answer.stdout), (3, b""), words)
             self.assertEqual(answer.stderr.decode(), f"shb-std: {why}; shb-std --help says more\n")

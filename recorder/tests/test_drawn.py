@@ -110,9 +110,9 @@ def draw_record(folder, seed):
     return drawn.steps, path
 
 
-def scanned(path, converter):
+def listed(path, converter):
     """By two places: the first bytes of the variables of which `shb places --list` has a race, as (number of the block, address or offset)."""
-    trace = recorder.must(recorder.call(converter, "--scan", path)).stdout
+    trace = recorder.must(recorder.call(converter, "--list", path)).stdout
     report = Report(io.BytesIO(recorder.must(recorder.call(recorder.SHB, "places", "--list", "--variables", input=trace)).stdout))
     found = {}
     for _, (one, other) in report.races():
@@ -143,7 +143,7 @@ class Decided(recorder.Case):
         places = 0
         for seed in range(300):
             steps, path = draw_record(self.folder, seed)
-            found = scanned(path, recorder.BUILT / "shb-std")
+            found = listed(path, recorder.BUILT / "shb-std")
             self.assertIsNone(differs(steps, found), seed)
             places += len(found)
         self.assertGreater(places, 1000)
@@ -167,7 +167,7 @@ def is_right_of_many(folder, converter):
                        + b"".join(entry(t, kind, at, place, 8) for t, kind, _, place in accesses for at in variables))
     wanted = ["main|fork(T1)|0x101", *(f"{'main' if t == 0 else 'T1'}|{word}({at:#x})|{place:#x}"
                                        for t, _, word, place in accesses for at in variables)]
-    return recorder.must(recorder.call(converter, "--scan", record)).stdout.decode().splitlines() == wanted
+    return recorder.must(recorder.call(converter, "--list", record)).stdout.decode().splitlines() == wanted
 
 
 class Many(recorder.Case):
@@ -191,7 +191,7 @@ FAULTS = {  # to plant in the converter: the file, what stands there, and what i
     "atomics": ("accesses.c", "if (u.writes_atomically && is_read_by_others(users, t)) {", "if (u.writes_atomically && users->many_readers) {"),
     "reuse": ("memory.c", "u32 newest = grain > p->whole ? grain : p->whole;", "u32 newest = grain ? 1 : p->whole;"),
     "late": ("late.c", "u64 order = late[k] >> NUMBER_BITS;", "u64 order = k - from;"),
-    "scan_name": ("events.c", "        part name = variable_name(p->at, block", "        part name = variable_name(p->at & ~1ul, block"),
+    "list_name": ("events.c", "        part name = variable_name(p->at, block", "        part name = variable_name(p->at & ~1ul, block"),
     "shared_lock": ("objects.c", "    int orders = o->many_users || whole_trace;", "    int orders = whole_trace || is_atomic(operation_of(i));"),
     "repeats": ("accesses.c", " && last->writes == this.writes", ""),
     "fences": ("objects.c", "if (releases(i)) threads[thread_of(i)].is_fenced = 1;", ""),
@@ -232,7 +232,7 @@ class Planted(recorder.Case):
         _, path = draw_record(self.folder, seed)
         page = self.folder / "page.std"
         try:
-            found = recorder.scanned(path, page, converter)
+            found = recorder.listed(path, page, converter)
             return bool(found) and recorder.places(page.read_bytes()) != {place for place, _ in found}
         except AssertionError:
             return True
@@ -241,7 +241,7 @@ class Planted(recorder.Case):
         for seed in range(300):
             steps, path = draw_record(self.folder, seed)
             try:
-                if differs(steps, scanned(path, converter)):
+                if differs(steps, listed(path, converter)):
                     return True
             except AssertionError:
                 return True  # it can't go on

@@ -139,7 +139,7 @@ class Failures(recorder.Case):
         path, page = self.folder / "app.rec", self.folder / "page.std"
         ran = recorder.must(recorder.call(self.program("many_in_turn.c"), env=recorder.settings(path)))
         self.assertEqual((ran.stdout, ran.stderr), (b"66002\n", b""))
-        answer = recorder.part(recorder.convert(path, "--scan"))
+        answer = recorder.part(recorder.convert(path, "--list"))
         self.assertIn(b" 66003 threads, ", answer.stderr)
         self.assertIn(b"the trace is cut before a thread too many: shb places --list takes 65,535", answer.stderr)
 

@@ -30,7 +30,7 @@ class Languages(recorder.Case):
             run += 1
             how = {**recorder.settings(record, run, recorder.OWN_SLICES), "LD_LIBRARY_PATH": f"{recorder.BUILT}/lib"}
             recorder.must(recorder.call(program, env=how))
-            for pair, variable in recorder.scanned(record, page):
+            for pair, variable in recorder.listed(record, page):
                 found.update(pair)
                 names.add(variable)
         self.assertEqual((found, names), (lines, set(marks)))

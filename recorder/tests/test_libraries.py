@@ -35,7 +35,7 @@ class Libraries(recorder.Case):
             how = {**recorder.settings(record, seed, recorder.OWN_SLICES), "LD_LIBRARY_PATH": str(recorder.BUILT / "lib")}
             ran = recorder.call(program, env=how)
             self.assertEqual((ran.returncode, ran.stderr), (0, b""))
-            found |= {place for pair, _ in recorder.scanned(record, self.folder / f"{seed}.std") for place in pair}
+            found |= {place for pair, _ in recorder.listed(record, self.folder / f"{seed}.std") for place in pair}
         self.assertEqual(found, planted)
 
     def test_qt_5(self):

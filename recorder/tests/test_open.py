@@ -102,10 +102,10 @@ def races(trace):
 
 
 def trace_of(folder, drawn, *words):
-    """The trace of drawn entries. By --scan, for a number that is used again is another thread, of which else there may be 1,024."""
+    """The trace of drawn entries. By --list, for a number that is used again is another thread, of which else there may be 1,024."""
     record = folder / "app.rec"
     record.write_bytes(HEADER + b"".join(drawn.entries))
-    return recorder.must(recorder.call(*words, "--scan", record)).stdout
+    return recorder.must(recorder.call(*words, "--list", record)).stdout
 
 
 def accesses(trace, variables):
@@ -134,9 +134,9 @@ class Open(recorder.Case):
         for seed in range(150):
             whole = trace_of(self.folder, Drawn(seed), converter)
             places, variables = races(whole)
-            of_scan = recorder.scanned(self.folder / "app.rec", page)
-            self.assertEqual({pair for pair, _ in of_scan}, {tuple(sorted(pair)) for pair in places}, seed)
-            self.assertEqual({name for _, name in of_scan}, variables, seed)
+            of_list = recorder.listed(self.folder / "app.rec", page)
+            self.assertEqual({pair for pair, _ in of_list}, {tuple(sorted(pair)) for pair in places}, seed)
+            self.assertEqual({name for _, name in of_list}, variables, seed)
             if not places:
                 continue
             needed = page.read_bytes()
@@ -165,7 +165,7 @@ class Limits(recorder.Case):
         record, page, uses = (self.folder / name for name in ("app.rec", "page.std", "uses"))
         record.write_bytes(HEADER + b"".join([entry(0, "FORK", 1, 0x100), *locks[2:4], x[0], *locks, x[1], *y]))
         for most, is_far_there in ((100_000, True), (3_000, False)):
-            words = [recorder.BUILT / "shb-std", "--scan", "--only", "/dev/stdin", "--page", page, "--uses", uses, "-n", most, record]
+            words = [recorder.BUILT / "shb-std", "--list", "--only", "/dev/stdin", "--page", page, "--uses", uses, "-n", most, record]
             recorder.must(recorder.call(*words, input=b"4 22005 0x5000\n22006 22007 0x5008\n"))
             there = {int(number) for number in re.findall(r"(?m)^event\t\d+\t(\d+)$", uses.read_text())}
             self.assertEqual((22_007 in there, 4 in there), (True, is_far_there), most)

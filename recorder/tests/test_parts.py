@@ -47,11 +47,11 @@ class Parts(recorder.Case):
 
     def page_of(self, entries, *options):
         """The page's trace of a record, with spans of a few events; the list of places is beside it."""
-        record, page, scan = (self.folder / name for name in ("app.rec", "page.std", "page.scan"))
+        record, page, listed = (self.folder / name for name in ("app.rec", "page.std", "page.places"))
         record.write_bytes(HEADER + b"".join(entries))
-        whole = recorder.must(recorder.call(self.converter, "--scan", record)).stdout
-        scan.write_bytes(recorder.must(recorder.call(recorder.SHB, "places", "--list", "--variables", input=whole)).stdout)
-        races = re.findall(rb"^race \d+: (\d+) (\d+)\nfirst .*?\|[rw]\((.*?)\)", scan.read_bytes(), re.M)
+        whole = recorder.must(recorder.call(self.converter, "--list", record)).stdout
+        listed.write_bytes(recorder.must(recorder.call(recorder.SHB, "places", "--list", "--variables", input=whole)).stdout)
+        races = re.findall(rb"^race \d+: (\d+) (\d+)\nfirst .*?\|[rw]\((.*?)\)", listed.read_bytes(), re.M)
         uses = self.folder / "page.uses"
         page.write_bytes(recorder.must(recorder.call(self.converter, "--only", "/dev/stdin", "--uses", uses, *options, record,
                                                      input=b"".join(b"%b %b %b\n" % race for race in races))).stdout)
@@ -62,7 +62,7 @@ class Parts(recorder.Case):
         """The view's document and text of such a page."""
         page, found = self.page_of(entries, *options), self.folder / "found.json"
         out = io.TextIOWrapper(io.BytesIO(), "utf-8", write_through=True)
-        status, _ = explain(asked(page, listed=page.with_suffix(".scan"), uses=self.uses, all=True, text=True, json=found,
+        status, _ = explain(asked(page, listed=page.with_suffix(".places"), uses=self.uses, all=True, text=True, json=found,
                                   shb=recorder.SHB), out)
         self.assertEqual(status, 0)
         return json.loads(found.read_text()), re.split(r"(?m)^(?=\d+\. )", out.buffer.getvalue().decode())

@@ -39,7 +39,7 @@ class Program(recorder.Case):
             if seed < 2 and self.source.name not in CUT:
                 self.assertEqual(places, recorder.places(recorder.must(recorder.convert(path, "-a")).stdout))
                 page = self.folder / "page.std"
-                self.assertEqual(places, {pair for pair, _ in recorder.scanned(path, page)})
+                self.assertEqual(places, {pair for pair, _ in recorder.listed(path, page)})
                 if places:
                     self.assertEqual(places, recorder.places(page.read_bytes()))
             found |= {line for pair in places for line in pair}

@@ -98,7 +98,7 @@ class Canned(recorder.Case):
     def test_the_trace_of_the_whole_run(self):
         """It is the same, and no limit cuts it."""
         for words in ((), ("-n", "5"), ("--stacks", self.folder / "stacks")):
-            answer = recorder.must(recorder.convert(self.record, "--scan", *words))
+            answer = recorder.must(recorder.convert(self.record, "--list", *words))
             self.assertEqual(answer.stdout.decode().splitlines(), TRACE)
 
     def test_a_recording_that_ended_early_is_said(self):
@@ -273,7 +273,7 @@ class Open(recorder.Case):
         entries = [entry(0, "FORK", 1, 0x101), entry(0, "WRITE", CELL, 0x102, 4), entry(0, "FORK", 2, 0x103), entry(1, "JOIN", 2, 0x201),
                    entry(1, "WRITE", CELL, 0x202, 4)]
         self.record.write_bytes(HEADER + b"".join(entries))
-        for words in ((), ("-a",), ("--scan",)):
+        for words in ((), ("-a",), ("--list",)):
             trace = recorder.must(recorder.convert(self.record, *words)).stdout
             self.assertIn(b"T2|begin(T2)|0x201\nT1|join(T2)|0x201\n", trace)
             self.assertEqual(recorder.places(trace), set())
@@ -375,7 +375,7 @@ class Damaged(recorder.Case):
                                 ("the thread was joined before", [fork, start, join, *write]),
                                 ("a thread cannot join itself", [entry(0, "JOIN", 0, 0x101)])):
             record.write_bytes(HEADER + block + b"".join(entries))
-            for options in ((), ("--scan",)):
+            for options in ((), ("--list",)):
                 with self.subTest(reason, options=options):
                     answer = recorder.convert(record, *options)
                     self.assertEqual(answer.returncode, 2)
@@ -386,7 +386,7 @@ class Damaged(recorder.Case):
         fork, start, join = entry(0, "FORK", 1, 0x101), entry(1, "START", STACK, 0x500, 4096), entry(0, "JOIN", 1, 0x103)
         write, record = entry(1, "WRITE", BLOCK, 0x201, 8), self.folder / "app.rec"
         record.write_bytes(HEADER + entry(0, "ALLOC", BLOCK, 0x100, 16) + (fork + start + write + join) * 3)
-        trace = recorder.must(recorder.convert(record, "--scan")).stdout.decode()
+        trace = recorder.must(recorder.convert(record, "--list")).stdout.decode()
         self.assertEqual(re.findall(r"^(\w+)\|(\w+)(?:\((T\d+)\))?", trace, re.M),
                          [event for thread in ("T1", "T65534", "T65535")
                           for event in (("main", "fork", thread), (thread, "w", ""), ("main", "join", thread))])
@@ -398,7 +398,7 @@ class Damaged(recorder.Case):
         record.write_bytes(HEADER + names(0, b"not main") + entry(0, "ALLOC", BLOCK, 0x100, 16) + fork + names(1, b"first")
                            + write + names(1, b"fifteen bytes..") + join + fork + write + join
                            + fork + names(1, b"") + write + names(1, b"third") + join)
-        lines = recorder.must(recorder.convert(record, "-a", "--scan")).stdout.decode().splitlines()
+        lines = recorder.must(recorder.convert(record, "-a", "--list")).stdout.decode().splitlines()
         self.assertEqual([line.split("|")[:2] for line in lines],
                          [[*event] for thread in ("T1.fifteen bytes..", "T65534", "T65535.third")
                           for event in (("main", f"fork({thread})"), (thread, "w(0x100#1)"), ("main", f"join({thread})"))])

@@ -31,7 +31,7 @@ class Uses(recorder.Case):
         source.write_text(PROGRAM)
         recorder.build(source, "-O1", program)
         recorder.must(recorder.call(program, env=recorder.settings(record, SHB_CELLS="0")))
-        recorder.scanned(record, self.folder / "u.std")
+        recorder.listed(record, self.folder / "u.std")
         fields = [line.split("\t") for line in (self.folder / "u.uses").read_text().splitlines() if line.startswith("use\t")]
         reads = [(int(count), locks) for _, count, word, _, _, _, _, _, *locks in fields if word == "r"]
         self.assertEqual((sum(count for count, _ in reads), {tuple(locks) for _, locks in reads}), (6, {("m",)}))
