@@ -16,11 +16,12 @@ void add_to_list(u32 *list, u32 thread) {
 
 static u64 end_of(u64 i) { return address_of(i) + accessed_bytes(i); }
 
-/* What the passes know of each record, for the next. After the first: the block in which its access begins, plus one; after
-   the second, the same where the block isn't of one thread alone. After the third, the number of its only piece, or where
-   the runs of several begin, with the mark. Without an access 0, or the mark alone where the record means more than that. */
-#define MARK (1u << 31)
-u32 *known;
+/* What the passes know of each record, for the next: whether it means more than an access, and what it accesses, or 0. Until the third
+   pass that is the block, plus one, in which the access begins; from there on its only piece, or behind these the first of its runs. */
+typedef struct { u32 accessed : 31, means_more : 1; } known_record;
+static known_record *known;
+
+int is_passed_over(u64 i) { return !known[i].accessed && !known[i].means_more; }
 
 /* ---- 1: users of blocks; a range over several is shared, to be cut at their bounds ---- */
 static void use_block(block *b, u32 t, int with_others) {
@@ -35,15 +36,15 @@ static int means_more(u64 i) {
 }
 
 /* Not so where an access that is late, with its context beside it, is none of the trace: its memory is of one thread alone. */
-int means_access(u64 i) { return !late_context(i) || known[i] != MARK; }
+int means_access(u64 i) { return !late_context(i) || known[i].accessed; }
 
 void find_users(u64 i) {
     u64 end = end_of(i);
     if (!known) known = zeroed(record_count, sizeof *known);
-    known[i] = means_more(i) ? MARK : 0;
+    known[i].means_more = means_more(i);
     if (end == address_of(i)) return;
     block *first = block_at(address_of(i));
-    known[i] |= block_number(first) + 1;
+    known[i].accessed = block_number(first) + 1;
     if (in_one_grain(address_of(i), end)) use_block(first, thread_of(i), 0);
     else for (u64 at = address_of(i); at < end; at = next_cut(at, end)) {
         block *b = block_at(at);
@@ -54,10 +55,9 @@ void find_users(u64 i) {
 
 /* ---- 2: cuts ---- */
 void find_cuts(u64 i) {
-    u32 begins_in = known[i] & ~MARK;
-    if (!begins_in) return;
-    block *b = block_of(begins_in - 1);
-    if (b && !b->many_users && !whole_trace) known[i] &= MARK;
+    if (!known[i].accessed) return;
+    block *b = block_of(known[i].accessed - 1);
+    if (b && !b->many_users) known[i].accessed = 0;
     else {
         note_caller(caller_of(i));
         cut(address_of(i));
@@ -93,8 +93,8 @@ static void share_piece(use u, u32 number) {
     if (p->reader != user) p->many_readers = 1;
 }
 
-/* Neighbours mostly have numbers that follow each other: so an access has runs of these, to the last with a mark. */
-typedef struct { u32 first, count; } run;
+/* Neighbours mostly have numbers that follow each other: so an access has runs of these. */
+typedef struct { u32 first, count : 31, is_last : 1; } run;
 static VECTOR(run) runs;
 
 static void share_run(use u, const run *r) {
@@ -113,33 +113,36 @@ static void add_to_runs(u64 from, const u32 *numbers, u32 count) {
         length = following(numbers, count);
         run *last = runs.count > from ? &runs.at[runs.count - 1] : 0;
         if (last && last->first + last->count == *numbers) last->count += length;
-        else if (runs.count == MARK - 1) die("out of memory");
-        else *PUSH(runs) = (run){*numbers, length};
+        else if (runs.count == MOST_PIECES) die("out of memory");
+        else *PUSH(runs) = (run){*numbers, length, 0};
     }
 }
 
 void share_pieces(u64 i) {
-    if ((known[i] & ~MARK) && (is_plain(operation_of(i)) || operation_of(i) == OP_FREE) && is_unseen(caller_of(i))) known[i] &= MARK;
-    if (!(known[i] & ~MARK)) return;
+    if (!known[i].accessed) return;
+    if ((is_plain(operation_of(i)) || operation_of(i) == OP_FREE) && is_unseen(caller_of(i))) {
+        known[i].accessed = 0;
+        return;
+    }
     u64 at = address_of(i), end = end_of(i), from = runs.count;
     use u = use_of(i);
     u32 count, *numbers = pieces_at(&at, end, &count);
     if (count == 1 && at == end) {
-        known[i] = *numbers;
+        known[i].accessed = *numbers;
         share_piece(u, *numbers);
         return;
     }
-    known[i] = MARK | (from + 1);
+    known[i].accessed = MOST_PIECES + 1 + from;
     add_to_runs(from, numbers, count);
     while (at < end) {
         numbers = pieces_at(&at, end, &count);
         add_to_runs(from, numbers, count);
     }
     for (u64 k = from; k < runs.count; k++) share_run(u, &runs.at[k]);
-    runs.at[runs.count - 1].count |= MARK;
+    runs.at[runs.count - 1].is_last = 1;
 }
 
-piece *only_piece(u64 i) { return known[i] && !(known[i] & MARK) ? piece_of(known[i]) : 0; }
+piece *only_piece(u64 i) { return known[i].accessed && known[i].accessed <= MOST_PIECES ? piece_of(known[i].accessed) : 0; }
 
 /* ---- 4: events ---- */
 /* The same read, by the same thread at the same place under the same locks, with no write of the variable since, and
@@ -162,10 +165,10 @@ static int repeats(use u, u64 own, u32 number, read **kept) {
     u64 slot = (mix(site, 0) + number) & (RECENT - 1);       /* neighbours stand side by side */
     read *last = *kept = &recent[slot];
     int same = last->site == this.site && last->piece == number && last->writes == this.writes && last->epoch == this.epoch
-        && last->locks == this.locks;
-    if (!same || whole_trace) *last = this;
+        && last->locks == this.locks && !whole_trace;
+    if (!same) *last = this;
     else for (; last->from < last->end; last->from++) note_repeated(last->from);
-    return same && !whole_trace;
+    return same;
 }
 
 static void keep_event(read *kept, u64 event) {
@@ -204,7 +207,7 @@ static int is_read_by_others(const piece_use *p, u32 t) { return p->many_readers
 static void piece_events(u64 i, use u, u32 number, int is_kept) {
     const piece_use *users = use_of_piece(number);
     u32 t = u.thread;
-    int shared = is_shared(users) || whole_trace;
+    int shared = is_shared(users);
     if (!shared && !u.writes_atomically && !users->written_atomically) return;
     u64 own = own_place(t, caller_of(i)), event_number = 0;
     read *kept = 0;
@@ -243,16 +246,12 @@ void begin_accesses(void) {
 }
 
 void access_events(u64 i) {
-    u32 found = known[i];
-    if (!(found & ~MARK)) return;
+    u32 found = known[i].accessed;
+    if (!found) return;
     use u = use_of(i);
-    if (!(found & MARK)) {
-        use_piece(i, u, found);
-        return;
-    }
-    for (const run *r = &runs.at[(found & ~MARK) - 1];; r++) {
-        u32 end = r->first + (r->count & ~MARK);
-        for (u32 number = r->first; number < end && !cut_reason; number++) use_piece(i, u, number);
-        if (r->count & MARK) return;
+    if (found <= MOST_PIECES) use_piece(i, u, found);
+    else for (const run *r = &runs.at[found - MOST_PIECES - 1];; r++) {
+        for (u32 k = 0; k < r->count && !cut_reason; k++) use_piece(i, u, r->first + k);
+        if (r->is_last) return;
     }
 }

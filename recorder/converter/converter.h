@@ -129,7 +129,7 @@ typedef struct {
     u32 user : 28, many_users : 1, written : 1, written_atomically : 1;          /* the first thread that used it, plus one */
     u32 reader : 28, many_readers : 1;                       /* and that read it plainly */
 } piece_use;
-enum { MOST_PIECES = (1u << 31) - 1 }; /* in accesses.c a mark stands above their numbers */
+enum { MOST_PIECES = (1u << 30) - 1 }; /* in accesses.c numbers of runs stand behind theirs */
 extern u64 range_steps;                /* in this pass: pages and pieces after the first of each range */
 void begin_memory_pass(void);
 block *meet_block(u64 i);              /* it, or null; each pass calls it for each OP_ALLOC and OP_START: the newest block holds its addresses */
@@ -213,9 +213,9 @@ void end_uses(u64 in_page);            /* so many events */
 
 /* accesses.c, objects.c: what the passes do with a record. */
 extern int whole_trace;                /* also what cannot conflict */
-extern u32 *known;                     /* of each record: 0 where the passes that follow pass over it (accesses.c) */
 piece *only_piece(u64 i);              /* that a record accesses, from the third pass on; null of several, or none */
 void find_users(u64 i);
+int is_passed_over(u64 i);             /* from the second pass on: no pass needs the record */
 int means_access(u64 i);               /* does a record mean more than its context? */
 void find_cuts(u64 i);
 void share_pieces(u64 i);

@@ -95,7 +95,7 @@ static inline __attribute__((always_inline)) void pass(void (*step)(u64), int is
     begin_records();
     for (u64 i = 0; i < record_count && !cut_reason; i++) {
         if (i == records_end) next_records();
-        if (!is_first && !known[i]) continue;
+        if (!is_first && is_passed_over(i)) continue;
         if (step == find_cuts) {       /* it needs no more */
             find_cuts(i);
             continue;

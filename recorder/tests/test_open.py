@@ -151,7 +151,7 @@ class Limits(recorder.Case):
     """What a record of gigabytes would reach, with limits that a drawn one reaches."""
 
     def test_more_variables_than_are_numbered(self):
-        limited, record = planted(self.folder / "limited", "converter.h", "MOST_PIECES = (1u << 31) - 1", "MOST_PIECES = 2"), self.folder / "app.rec"
+        limited, record = planted(self.folder / "limited", "converter.h", "MOST_PIECES = (1u << 30) - 1", "MOST_PIECES = 2"), self.folder / "app.rec"
         used = [entry(thread, "WRITE", 0x5000 + 8 * k, 0x200, 8) for k in range(3) for thread in (0, 1)]
         for accesses, status in ((used[:4], 0), (used, 2)):
             record.write_bytes(HEADER + b"".join([entry(0, "FORK", 1, 0x100), *accesses]))
