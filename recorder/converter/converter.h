@@ -4,8 +4,11 @@
 #include "tables.h"
 #include "threads.h"
 
-/* What shb takes of a trace, as python/shb_common/limits.py has it; the last is the most threads of shb places --list. */
-enum { SHB_EVENTS = 4194304, SHB_THREADS = 1024, SHB_LINE = 4096, SHB_BYTES = 1 << 30, LIST_THREADS = 65535 };
+/* What shb takes of a trace, as python/shb_common/limits.py has it. */
+enum { SHB_EVENTS = 4194304, SHB_THREADS = 1024, SHB_LINE = 4096, SHB_BYTES = 1 << 30 };
+typedef struct { u64 events, bytes; u32 threads; const char *before_thread; } limits;    /* the last: why it is cut before a thread more */
+#define LIMITS_OF_SHB ((limits){SHB_EVENTS, SHB_BYTES, SHB_THREADS, "before a thread too many: shb takes 1,024"})
+#define LIMITS_OF_LIST ((limits){4294967294, -1, 65535, "before a thread too many: shb places --list takes 65,535"})
 typedef struct { const char *at; u64 length; } part;         /* of a text, without an end of its own */
 
 /* The last line of a help text, after an empty one, and what --version says: what is installed. The installation defines it. */
@@ -149,11 +152,11 @@ piece_use *use_of_piece(u32 number);
 void forget_writes(void);              /* of all pieces */
 
 /* stacks.c: call stacks, in a file beside the trace. */
-extern int with_stacks;                /* of the trace that is written */
+extern int with_stacks;                /* has the trace that is written a file of stacks? */
 void open_stacks(const char *path);
 void note_call(u64 i);                 /* each record of calls, in the first pass */
 void meet_call(u64 i);                 /* each record of the fourth pass, before its events */
-void begin_calls(void);                /* each pass that meets them */
+void begin_calls(int has_stacks);      /* each pass that meets them */
 u64 own_function(u64 i);               /* of the context that a record tells: the outermost function that is the program's own, or 0 */
 u64 own_place(u32 t, u64 caller);      /* of what a thread does now: the innermost place in the program's own code, or the caller */
 u32 stack_at(u32 t, u64 caller);
@@ -166,8 +169,7 @@ void note_free(u64 first, u64 last);   /* the events of one call that frees a bl
 void note_name(u64 at, u32 block, u64 event, u32 t);         /* of a piece or an object: this event of a thread is of it */
 void note_use(u64 i, u64 object, int gives);       /* of an atomic that several threads use: what stores, and a thread's first load of another's store */
 void note_fence(u64 i);                /* with acquire */
-void pause_stacks(int is_paused);      /* while a trace is written that has none */
-void end_stacks(void);
+void end_stacks(void);                 /* of each trace */
 
 u64 allocated_by(u32 block_number);    /* what called for it, or 0 */
 
@@ -185,7 +187,6 @@ enum event_kind { IS_ACCESS, IS_ACQUIRE, IS_RELEASE, IS_FORK, IS_JOIN, IS_MARK }
 typedef void (*held_lock)(const char *operation, part thread, part lock, part line_end, u32 stack);
 u32 trace_lock(part name);             /* its number, from 1 */
 part lock_name(u32 number);            /* with WIDE bytes that may be read; it stands for good */
-extern u32 thread_limit;               /* of the trace */
 u32 trace_threads(void);               /* so many were met */
 u32 trace_thread(const char *name, u64 length);              /* its number, from 1 */
 /* 0 where the trace can't go on with it; other: the lock that it takes or releases, or the thread that it forks or joins; line_end: it stands for good. */
@@ -209,7 +210,7 @@ void note_part(u64 in_page);           /* a span begins or ends behind so many e
 part name_of_held(u64 key, u32 t);     /* objects.c: of a lock that a thread holds */
 void count_use(u32 t, u64 caller, u32 piece, char word);
 void note_repeated(u64 in_page);       /* an event stands for others that were omitted */
-void end_uses(u64 in_page);            /* so many events */
+void end_uses(void);                   /* of each trace */
 
 /* accesses.c, objects.c: what the passes do with a record. */
 extern int whole_trace;                /* also what cannot conflict */
@@ -235,14 +236,12 @@ const list_entry *entry_of_list(u32 list);                   /* or null */
 void add_to_list(u32 *list, u32 thread);
 
 /* events.c: the events of the trace. */
-extern u64 event_limit;
+extern limits most;                    /* of the trace */
 extern u64 events;                     /* of the run's trace so far */
 extern u64 written;                    /* of the one that is written: the same, or those of the page */
 extern const char *cut_reason;         /* null while the trace goes on */
-extern const char *too_many_threads;   /* what it is then */
 void begin_events(void);               /* each pass that writes a trace */
 void begin_accesses(void);             /* the same */
-void use_limits_of_list(void);
 void name_thread(u32 t, u64 function); /* by the function that it runs, where it has no name yet */
 void name_by_own(u32 t, u64 i);        /* the same, by the functions that a record tells, if one is the program's own */
 void give_name(u32 t, const char *piece, int is_first);      /* a piece of one that the program gave; the main thread keeps its own */

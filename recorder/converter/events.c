@@ -4,18 +4,10 @@
 #include <string.h>
 #include "converter.h"
 
-static const u64 LIST_EVENTS = 4294967294;
-
-u64 event_limit = SHB_EVENTS, events, written;
-const char *cut_reason, *too_many_threads = "before a thread too many: shb takes 1,024";
-static u64 bytes, byte_limit = SHB_BYTES;
-
-void use_limits_of_list(void) {
-    event_limit = LIST_EVENTS;
-    byte_limit = -1;
-    thread_limit = LIST_THREADS;
-    too_many_threads = "before a thread too many: shb places --list takes 65,535";
-}
+limits most = LIMITS_OF_SHB;
+u64 events, written;
+const char *cut_reason;
+static u64 bytes;
 
 void begin_events(void) {
     events = written = bytes = 0;
@@ -202,7 +194,7 @@ static void keep_line(const char *end, u32 stack) {
 
 /* ---- spans ---- */
 static void add_held(const char *operation, part thread, part lock, part line_end, u32 stack) {
-    if (written == event_limit) return;
+    if (written == most.events) return;
     char *end = add_line(room_for_line(), thread, operation, lock, line_end);
     keep_line(end, *operation == 'a' ? stack : 0);
 }
@@ -241,8 +233,8 @@ static u64 write_event(u32 t, const char *operation, part name, u32 lock, u64 ca
     part line_end = line_end_of(caller), thread = name_of_thread(t);
     char *end = add_line(line, thread, operation, name, line_end);
     if (is_first) threads[t].number = trace_thread(thread.at, thread.length);
-    if (written == event_limit || bytes + (end - line) > byte_limit) {
-        end_trace(written == event_limit ? "at the limit of events" : "at 1 GiB of text");
+    if (written == most.events || bytes + (end - line) > most.bytes) {
+        end_trace(written == most.events ? "at the limit of events" : "at 1 GiB of text");
         return 0;
     }
     u32 other = kind == IS_FORK || kind == IS_JOIN ? trace_thread(name.at, name.length) : lock;
@@ -283,10 +275,10 @@ u64 event(u32 t, const char *operation, part name, u64 caller) {
 /* Most events are accesses inside a span by a thread that is in the trace: they take less than others. */
 u64 access_event(u32 t, const char *operation, u32 number, u64 caller, u64 own) {
     part name = piece_name(number);
-    int has_room = events < span_last && written < event_limit;
+    int has_room = events < span_last && written < most.events;
     int is_usual = has_room && !threads[t].unwritten && threads[t].number && name.length;
     char *line = room_for_line(), *end = is_usual ? add_line(line, name_of_thread(t), operation, name, line_end_of(own)) : line;
-    if (!is_usual || bytes + (end - line) > byte_limit) return event(t, operation, name, caller);
+    if (!is_usual || bytes + (end - line) > most.bytes) return event(t, operation, name, caller);
     need_event(trace_access(end - line - 1, threads[t].number), line, end);
     events++;
     keep_line(end, stack_at(t, caller));

@@ -46,8 +46,8 @@ static void find_sharing(u64 i) {
 }
 
 static void write_fork(u32 t, u32 child, u64 caller) {
-    if (trace_threads() >= thread_limit) {
-        end_trace(too_many_threads);
+    if (trace_threads() >= most.threads) {
+        end_trace(most.before_thread);
         return;
     }
     event(t, "fork", name_of_thread(child), caller);
@@ -119,15 +119,16 @@ static inline __attribute__((always_inline)) void pass(void (*step)(u64), int is
 
 /* The states of what the passes meet are as they were before the first that wrote a trace. */
 static void write_trace(int has_stacks) {
-    pause_stacks(!has_stacks);
     forget_thread_states();
     forget_states();
-    begin_calls();
+    begin_calls(has_stacks);
     begin_events();
     begin_accesses();
     pass(write_events, 0);
     write_lines();
     if (fflush(stdout) || ferror(stdout)) die("cannot write the trace: %s", strerror(errno));
+    end_uses();
+    end_stacks();
 }
 
 static const char help[] =
@@ -170,6 +171,7 @@ static const char help[] =
 
 static const char *stacks_path, *only_path, *page_path, *uses_path, *blocks_path, *left_path;
 static int for_list;
+static u64 event_limit = SHB_EVENTS;
 
 static void read_words(int count, char **words) {
     static const struct option options[] = {{"stacks", required_argument, 0, 's'}, {"strip", required_argument, 0, 'd'},
@@ -209,25 +211,20 @@ static void write_to(const char *path) {
 /* In a pipe with room this process and shb places --list give way to each other less often. Returns why the trace
    is cut, or null. */
 static const char *write_run(void) {
-    u64 limit = event_limit;
-    if (for_list) use_limits_of_list();
+    if (for_list) most = LIMITS_OF_LIST;
+    else most.events = event_limit;
     if (for_list) fcntl(fileno(stdout), F_SETPIPE_SZ, 1 << 20);     /* bytes, the most that the system gives */
     write_trace(!for_list);
-    if (!for_list) end_stacks();
-    event_limit = limit;
     return cut_reason;
 }
 
 /* A part of the run's trace, which has so many events. */
 static void write_page(u64 run_events) {
-    u64 limit = event_limit;
+    most = LIMITS_OF_LIST;
+    most.events = event_limit;
     if (!read_races(only_path, run_events)) return;
-    use_limits_of_list();
-    event_limit = limit;
     if (uses_path) open_uses(uses_path);
     write_trace(1);
-    if (uses_path) end_uses(written);
-    end_stacks();
 }
 
 int main(int count, char **words) {

@@ -278,7 +278,6 @@ part name_of_held(u64 key, u32 t) { return lock_name(lock_of_key(key, t)); }
 
 /* Before an event of it. */
 static void note_lock(const object *o, u32 t, u64 caller) {
-    if (!with_stacks) return;
     note_name(o->at, o->block, written + 1, t);
     note_use_of_block(o->at, o->block, (use_of_block){.at = o->at, .caller = caller});
 }

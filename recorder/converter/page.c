@@ -84,7 +84,7 @@ static u64 covered(void) {
 
 /* Where a page has no room for all races, those whose accesses are far apart give way: else the first such one may take it all. */
 static void drop_far(void) {
-    while (covered() > SPARSE * event_limit) {
+    while (covered() > SPARSE * most.events) {
         u64 longest = 0, kept = 0;
         EACH(s, page.spans.at, page.spans.count)
             if (length_of(s) > longest) longest = length_of(s);
@@ -253,8 +253,9 @@ void open_uses(const char *path) {
     if (!uses_file) cannot_write();
 }
 
-void end_uses(u64 in_page) {
+void end_uses(void) {
+    if (!uses_file) return;
     for (u64 k = 0; k < uses.numbers.count; k++) write_use(&uses.at[k]);
-    fprintf(uses_file, "events\t%lu\n", in_page);
+    fprintf(uses_file, "events\t%lu\n", written);
     if (fflush(uses_file) || ferror(uses_file) || fclose(uses_file)) cannot_write();
 }

@@ -73,7 +73,6 @@ void open_stacks(const char *path_) {
     if (!file || fprintf(file, STACKS_BEGIN, 0ul) < 0) cannot_write();
     lines = open_memstream(&lines_text, &lines_bytes);
     if (!lines) die("out of memory");
-    with_stacks = 1;
 }
 
 /* ---- the stack of each thread, as the record tells it ---- */
@@ -189,7 +188,7 @@ void note_call(u64 i) {
     has_calls = 1;
     note_frame(i);
     note_hooked(address_of(i));
-    if (with_stacks) note_caller(address_of(i));
+    if (file) note_caller(address_of(i));
 }
 
 void meet_call(u64 i) {
@@ -250,9 +249,7 @@ static u32 node_by_way(u32 outer, u64 caller, u64 function, u64 way) {
 }
 
 /* The stack of what a thread does now, at a place in its innermost function. */
-u32 stack_at(u32 t, u64 caller) {
-    thread_calls *s = &threads[t].calls;
-    if (!with_stacks) return 0;
+static u32 node_now(thread_calls *s, u64 caller) {
     for (; s->known < s->depth; s->known++) {
         call *c = &s->calls.at[s->known];
         c->node = node_by_way(s->known ? c[-1].node : 0, c->caller, c->function, c->way);
@@ -267,7 +264,12 @@ u32 stack_at(u32 t, u64 caller) {
     return s->last;
 }
 
-void begin_calls(void) { has_place = 0; }
+u32 stack_at(u32 t, u64 caller) { return with_stacks ? node_now(&threads[t].calls, caller) : 0; }
+
+void begin_calls(int has_stacks) {
+    has_place = 0;
+    with_stacks = file && has_stacks;
+}
 
 /* ---- locals ---- */
 /* By where a thread is in a function, which is the caller or the way; "" where none is known. Each is looked for once. */
@@ -312,7 +314,7 @@ enum { MOST_LENGTH = 4096 };            /* of what has a name */
 
 const char *local_now(u64 at, const block *b) {
     u32 depth;
-    if (!with_stacks || !b || !b->stack) return "";
+    if (!b || !b->stack) return "";
     return local_at(&threads[b->thread].calls, at, next_cut(at, at + MOST_LENGTH) - at, &depth);
 }
 
@@ -397,7 +399,6 @@ void note_free(u64 first, u64 last) {
 }
 
 void stack_of_block(const block *b, u32 number) {
-    if (!with_stacks) return;
     while (block_nodes.count <= block_number(b)) *PUSH(block_nodes) = 0;
     block_nodes.at[block_number(b)] = number;
 }
@@ -486,10 +487,7 @@ void note_crash(u64 i) {
     crash.caller = own_place(thread_of(i), caller_of(i));
     crash.thread = thread_of(i);
     crash.is_met = 1;
-    int is_paused = !with_stacks;
-    pause_stacks(0);
-    crash.node = stack_at(thread_of(i), caller_of(i));
-    pause_stacks(is_paused);
+    crash.node = file ? node_now(&threads[crash.thread].calls, caller_of(i)) : 0;
     keep_stack(crash.node);
 }
 
@@ -522,8 +520,6 @@ void say_crash(void) {
     }
     fputc('\n', stderr);
 }
-
-void pause_stacks(int is_paused) { with_stacks = file && !is_paused; }
 
 void end_stacks(void) {
     if (!with_stacks) return;

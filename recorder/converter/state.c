@@ -129,12 +129,10 @@ static int can_follow(enum event_kind kind, u32 t, u32 other) {
     return kind != IS_JOIN || other != t;
 }
 
-u32 thread_limit = SHB_THREADS;
-
 u32 trace_threads(void) { return thread_count; }
 
 int trace_event(u64 length, enum event_kind kind, u32 t, u32 other, part line_end, u32 stack) {
-    if (length > SHB_LINE || thread_count > thread_limit || !can_follow(kind, t, other)) return 0;
+    if (length > SHB_LINE || thread_count > most.threads || !can_follow(kind, t, other)) return 0;
     thread_at(t)->started = 1;
     if (kind == IS_ACQUIRE) add_acquire(t, other, line_end, stack);
     if (kind == IS_RELEASE) end_acquire(other);
