@@ -182,18 +182,15 @@ void write_names_in_blocks(FILE *to);
 /* The local that lies there on a stack now; "" where none is known, and of other memory. It stands for good. */
 const char *local_now(u64 at, const block *b);
 
-/* state.c: what a trace can go on with, and which locks are held in it. */
+/* state.c: what a trace can go on with. */
 enum event_kind { IS_ACCESS, IS_ACQUIRE, IS_RELEASE, IS_FORK, IS_JOIN, IS_MARK };
-typedef void (*held_lock)(const char *operation, part thread, part lock, part line_end, u32 stack);
 u32 trace_lock(part name);             /* its number, from 1 */
 part lock_name(u32 number);            /* with WIDE bytes that may be read; it stands for good */
 u32 trace_threads(void);               /* so many were met */
 u32 trace_thread(const char *name, u64 length);              /* its number, from 1 */
-/* 0 where the trace can't go on with it; other: the lock that it takes or releases, or the thread that it forks or joins; line_end: it stands for good. */
-int trace_event(u64 length, enum event_kind kind, u32 thread, u32 other, part line_end, u32 stack);
+/* 0 where the trace can't go on with it; other: the lock that it takes or releases, or the thread that it forks or joins. */
+int trace_event(u64 length, enum event_kind kind, u32 thread, u32 other);
 int trace_access(u64 length, u32 thread);                    /* the same of an access, in a thread that is in the trace already */
-/* Passes on each acquire that isn't released, the oldest first. */
-void each_held(held_lock give, const char *operation);
 void forget_trace(void);
 
 /* page.c: which of the run's events the trace has that is written, and the uses of variables in races. */
@@ -226,6 +223,8 @@ extern int has_fences;                 /* known before the third pass */
 void share_fence(u64 i);
 void forget_states(void);              /* of objects, between the passes */
 void write_holds(u32 t);               /* acquires of what it holds that aren't in the trace */
+typedef void (*held_lock)(const char *operation, u32 t, const hold *h);
+void each_held(held_lock give, const char *operation);       /* those whose acquires are in the trace, the oldest first */
 void access_events(u64 i);
 void object_events(u64 i);
 void fence_events(u64 i);

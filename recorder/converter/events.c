@@ -193,10 +193,10 @@ static void keep_line(const char *end, u32 stack) {
 }
 
 /* ---- spans ---- */
-static void add_held(const char *operation, part thread, part lock, part line_end, u32 stack) {
+static void add_held(const char *operation, u32 t, const hold *h) {
     if (written == most.events) return;
-    char *end = add_line(room_for_line(), thread, operation, lock, line_end);
-    keep_line(end, *operation == 'a' ? stack : 0);
+    char *end = add_line(room_for_line(), name_of_thread(t), operation, lock_name(h->lock), line_end_of(h->caller));
+    keep_line(end, *operation == 'a' ? h->stack : 0);
 }
 
 static enum trace_step meet_span(void) {
@@ -238,7 +238,7 @@ static u64 write_event(u32 t, const char *operation, part name, u32 lock, u64 ca
         return 0;
     }
     u32 other = kind == IS_FORK || kind == IS_JOIN ? trace_thread(name.at, name.length) : lock;
-    need_event(name.length && trace_event(end - line - 1, kind, threads[t].number, other, line_end, stack), line, end);
+    need_event(name.length && trace_event(end - line - 1, kind, threads[t].number, other), line, end);
     events++;
     if (!has_event(step, kind, is_first)) return 0;
     if (!is_inside(step) && (kind == IS_ACQUIRE || kind == IS_RELEASE))

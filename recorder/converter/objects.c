@@ -1,6 +1,7 @@
 /* Objects: locks, and all whose order is told by locks. */
 #define _GNU_SOURCE
 #include <stdio.h>
+#include <stdlib.h>
 #include <string.h>
 #include "converter.h"
 
@@ -282,54 +283,80 @@ static void note_lock(const object *o, u32 t, u64 caller) {
     note_use_of_block(o->at, o->block, (use_of_block){.at = o->at, .caller = caller});
 }
 
-static void write_hold(u32 t, u64 key, const char *operation, u64 caller, u32 stack) {
+static u64 acquire_count;                   /* in all traces */
+
+static void write_hold(u32 t, hold *h, const char *operation, u64 caller, u32 stack) {
     if (is_over()) return;
-    note_lock(object_of_key(key), t, caller);
-    hold_event(t, operation, lock_of_key(key, t), caller, stack);
+    note_lock(object_of_key(h->key), t, caller);
+    h->lock = lock_of_key(h->key, t);
+    hold_event(t, operation, h->lock, caller, stack);
 }
 
 void write_holds(u32 t) {
     thread_state *s = &threads[t];
-    for (u64 k = 0; s->unwritten && k < s->held.count; k++) {
-        hold *h = &s->held.at[k];
-        if (!h->is_written) write_hold(t, h->key, "acq", h->caller, h->stack);
-        h->is_written = 1;
+    EACH(h, s->held.at, s->unwritten ? s->held.count : 0) {
+        if (h->acquire) continue;
+        write_hold(t, h, "acq", h->caller, h->stack);
+        h->acquire = ++acquire_count;
     }
     s->unwritten = 0;
 }
 
+/* The last one of a lock, or null. */
+static hold *hold_of(u32 t, u64 key) {
+    thread_state *s = &threads[t];
+    u64 k = s->held.count;
+    while (k && s->held.at[k - 1].key != key) k--;
+    return k ? &s->held.at[k - 1] : 0;
+}
+
 static void add_hold(u32 t, hold added) {
     thread_state *s = &threads[t];
-    EACH(h, s->held.at, s->held.count) added.is_again |= h->key == added.key;
+    added.is_again = hold_of(t, added.key) != 0;
     *PUSH(s->held) = added;
-    s->unwritten += !added.is_written;
+    s->unwritten += !added.acquire;
+    if (added.key & ONLY_ORDERS) return;
     s->locks += mix(added.key + 1, 0);
     s->lock_set = 0;
 }
 
-static void take_hold(object *o, u32 t, which w, u64 caller) {
-    add_hold(t, (hold){key_of(o, w), own_place(t, caller), stack_at(t, caller), 0, 0});
+static void end_hold(u32 t, hold *h) {
+    thread_state *s = &threads[t];
+    s->unwritten -= !h->acquire;
+    if (!(h->key & ONLY_ORDERS)) {
+        s->locks -= mix(h->key + 1, 0);
+        s->lock_set = 0;
+    }
+    memmove(h, h + 1, (&s->held.at[s->held.count--] - (h + 1)) * sizeof *h);
 }
 
-/* Returns whether there was one; *is_written: whether its acquire is in the trace. */
-static int end_hold(u32 t, u64 key, int *is_written) {
-    thread_state *s = &threads[t];
-    u64 k = s->held.count;
-    while (k && s->held.at[k - 1].key != key) k--;
-    if (!k) return 0;
-    hold *h = &s->held.at[k - 1];
-    *is_written = h->is_written;
-    s->unwritten -= !h->is_written;
-    memmove(h, h + 1, (s->held.count-- - k) * sizeof *h);
-    s->locks -= mix(key + 1, 0);
-    s->lock_set = 0;
-    return 1;
+static void take_hold(object *o, u32 t, which w, u64 caller) {
+    add_hold(t, (hold){.key = key_of(o, w), .caller = own_place(t, caller), .stack = stack_at(t, caller)});
 }
 
 static int leave_hold(object *o, u32 t, which w, u64 caller) {
-    int is_written = 0, was_there = end_hold(t, key_of(o, w), &is_written);
-    if (is_written) write_hold(t, key_of(o, w), "rel", own_place(t, caller), stack_at(t, caller));
-    return was_there;
+    hold *h = hold_of(t, key_of(o, w));
+    if (!h) return 0;
+    if (h->acquire) write_hold(t, h, "rel", own_place(t, caller), stack_at(t, caller));
+    end_hold(t, h);
+    return 1;
+}
+
+typedef struct { const hold *hold; u32 thread; } held;
+
+static int by_acquire(const void *a, const void *b) {
+    const held *one = a, *other = b;
+    return one->hold->acquire < other->hold->acquire ? -1 : 1;
+}
+
+void each_held(held_lock give, const char *operation) {
+    static VECTOR(held) all;
+    all.count = 0;
+    for (u32 t = 0; t < thread_bound(); t = next_thread(t))
+        EACH(h, threads[t].held.at, threads[t].held.count)
+            if (h->acquire) *PUSH(all) = (held){h, t};
+    if (all.count) qsort(all.at, all.count, sizeof *all.at, by_acquire);
+    EACH(it, all.at, all.count) give(operation, it->thread, it->hold);
 }
 
 /* What an operation means for these, before and after its other events. */
@@ -353,15 +380,26 @@ static void holds_after(u64 i, object *o, int is_private) {
 }
 
 /* ---- 4: events ---- */
-static void use_lock(object *o, u32 t, const char *operation, which w, u64 caller) {
-    if (is_over()) return;
+/* Returns the lock, or 0 where the trace has no more events. */
+static u32 use_lock(object *o, u32 t, const char *operation, which w, u64 caller) {
+    if (is_over()) return 0;
     note_lock(o, t, caller);
-    lock_event(t, operation, lock_of(o, w, t), caller);
+    u32 lock = lock_of(o, w, t);
+    lock_event(t, operation, lock, caller);
+    return lock;
 }
 
-static void take_lock(object *o, u32 t, which w, u64 caller) { use_lock(o, t, "acq", w, caller); }
+static void take_lock(object *o, u32 t, which w, u64 caller) {
+    u32 lock = use_lock(o, t, "acq", w, caller);
+    u64 key = w.sign ? ONLY_ORDERS | lock : key_of(o, w);
+    add_hold(t, (hold){key, own_place(t, caller), ++acquire_count, lock ? stack_at(t, caller) : 0, lock, 0});
+}
 
-static void leave_lock(object *o, u32 t, which w, u64 caller) { use_lock(o, t, "rel", w, caller); }
+static void leave_lock(object *o, u32 t, which w, u64 caller) {
+    u32 lock = use_lock(o, t, "rel", w, caller);
+    hold *h = hold_of(t, w.sign ? ONLY_ORDERS | lock : key_of(o, w));
+    if (h) end_hold(t, h);
+}
 
 static void pass_lock(object *o, u32 t, which w, u64 caller) {
     take_lock(o, t, w, caller);
@@ -448,10 +486,10 @@ static void arrive_events(object *o, u32 t, u64 caller) {    /* rounds are told 
 /* For a lock of several threads, which each of them releases itself. */
 static void lock_events(u64 i, object *o) {
     u32 t = thread_of(i);
-    int is_written = 1;
-    if (operation_of(i) == OP_UNLOCK) end_hold(t, key_of(o, own), &is_written);
-    if (is_written) use_lock(o, t, operation_of(i) == OP_LOCK ? "acq" : "rel", own, caller_of(i));
-    if (operation_of(i) == OP_LOCK) add_hold(t, (hold){.key = key_of(o, own), .is_written = 1});
+    hold *h = operation_of(i) == OP_UNLOCK ? hold_of(t, key_of(o, own)) : 0;
+    if (operation_of(i) == OP_LOCK) take_lock(o, t, own, caller_of(i));
+    else if (h && !h->acquire) end_hold(t, h);
+    else leave_lock(o, t, own, caller_of(i));
 }
 
 static void order_events(u64 i, object *o) {

@@ -205,7 +205,7 @@ static u32 set_of(u32 t) {
     u64 sum = 0, count = 0, first = keys_of_sets.count;
     if (s->lock_set) return s->lock_set - 1;
     EACH(h, s->held.at, s->held.count) {
-        if (h->is_again) continue;
+        if (h->is_again || h->key & ONLY_ORDERS) continue;
         *PUSH(keys_of_sets) = h->key;
         sum += mix(h->key + 1, 0);
         count++;

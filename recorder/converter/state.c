@@ -1,4 +1,4 @@
-/* What a trace can go on with, and which locks are held in it. */
+/* What a trace can go on with. */
 #define _GNU_SOURCE
 #include <errno.h>
 #include <stdlib.h>
@@ -59,18 +59,15 @@ static u32 name_number(names *n, const char *text, u64 length) {
 }
 
 /* ---- the state of the trace ---- */
-typedef struct { u32 lock, thread, before, after, below, stack; part line_end; } acquire;  /* not released */
-typedef struct { u32 holder, top; } lock;                    /* the last of its acquires */
+typedef struct { u32 holder, depth; } lock;
 typedef struct { uint8_t is_met, started, forked, joined; } thread;
 
 static names thread_names, lock_names;
 static VECTOR(thread) met;             /* by their names' numbers, as the locks */
 static VECTOR(lock) locks;
-static VECTOR(acquire) acquired;       /* by numbers from 1; in a list in order, or of free ones */
-static u32 oldest, newest, free_acquires, thread_count;
+static u32 thread_count;
 static lock *lock_at(u32 number) { return &locks.at[number - 1]; }
 static thread *thread_at(u32 number) { return &met.at[number - 1]; }
-static acquire *acquire_at(u32 number) { return &acquired.at[number - 1]; }
 
 u32 trace_thread(const char *text, u64 length) {
     u32 number = name_number(&thread_names, text, length);
@@ -86,56 +83,28 @@ u32 trace_lock(part name) {
     return number;
 }
 
-static part name_in(const names *n, u32 number) {
-    const name *its = &n->list.at[number - 1];
+part lock_name(u32 number) {
+    const name *its = &lock_names.list.at[number - 1];
     return (part){its->text, its->length};
-}
-
-part lock_name(u32 number) { return name_in(&lock_names, number); }
-
-static void add_acquire(u32 t, u32 l, part line_end, u32 stack) {
-    u32 number = free_acquires;
-    acquire *h = number ? acquire_at(number) : PUSH(acquired);
-    if (number) free_acquires = h->after;
-    else number = acquired.count;
-    *h = (acquire){l, t, newest, 0, lock_at(l)->top, stack, line_end};
-    if (newest) acquire_at(newest)->after = number;
-    else oldest = number;
-    newest = number;
-    *lock_at(l) = (lock){t, number};
-}
-
-static void end_acquire(u32 l) {
-    lock *its = lock_at(l);
-    u32 number = its->top;
-    acquire *h = acquire_at(number);
-    if (h->before) acquire_at(h->before)->after = h->after;
-    else oldest = h->after;
-    if (h->after) acquire_at(h->after)->before = h->before;
-    else newest = h->before;
-    its->top = h->below;
-    if (!h->below) its->holder = 0;
-    h->after = free_acquires;
-    free_acquires = number;
 }
 
 static int may_be_forked(const thread *child) { return !child->started && !child->forked && !child->joined; }
 
 static int can_follow(enum event_kind kind, u32 t, u32 other) {
     if (thread_at(t)->joined) return 0;
-    if (kind == IS_ACQUIRE) return !lock_at(other)->holder || lock_at(other)->holder == t;
-    if (kind == IS_RELEASE) return lock_at(other)->holder == t;
+    if (kind == IS_ACQUIRE) return !lock_at(other)->depth || lock_at(other)->holder == t;
+    if (kind == IS_RELEASE) return lock_at(other)->depth && lock_at(other)->holder == t;
     if (kind == IS_FORK) return other != t && may_be_forked(thread_at(other));
     return kind != IS_JOIN || other != t;
 }
 
 u32 trace_threads(void) { return thread_count; }
 
-int trace_event(u64 length, enum event_kind kind, u32 t, u32 other, part line_end, u32 stack) {
+int trace_event(u64 length, enum event_kind kind, u32 t, u32 other) {
     if (length > SHB_LINE || thread_count > most.threads || !can_follow(kind, t, other)) return 0;
     thread_at(t)->started = 1;
-    if (kind == IS_ACQUIRE) add_acquire(t, other, line_end, stack);
-    if (kind == IS_RELEASE) end_acquire(other);
+    if (kind == IS_ACQUIRE) *lock_at(other) = (lock){t, lock_at(other)->depth + 1};
+    if (kind == IS_RELEASE) lock_at(other)->depth--;
     if (kind == IS_FORK) thread_at(other)->forked = 1;
     if (kind == IS_JOIN) thread_at(other)->joined = 1;
     return 1;
@@ -148,10 +117,5 @@ int trace_access(u64 length, u32 t) {
 void forget_trace(void) {
     for (u64 k = 0; k < met.count; k++) met.at[k] = (thread){0};
     for (u64 k = 0; k < locks.count; k++) locks.at[k] = (lock){0};
-    thread_count = acquired.count = oldest = newest = free_acquires = 0;
-}
-
-void each_held(held_lock give, const char *operation) {
-    for (const acquire *h = oldest ? acquire_at(oldest) : 0; h; h = h->after ? acquire_at(h->after) : 0)
-        give(operation, name_in(&thread_names, h->thread), lock_name(h->lock), h->line_end, h->stack);
+    thread_count = 0;
 }

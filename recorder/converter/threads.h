@@ -30,8 +30,10 @@ typedef struct {
     u64 last_caller, last_way;
 } thread_calls;
 
-/* A lock that it holds, which the program has. key: its object, and whether it is a reader's. */
-typedef struct { u64 key, caller; u32 stack; uint8_t is_written, is_again; } hold;
+/* A lock that it holds. key: of one that the program has its object, and whether it is a reader's. Once its acquire is in the trace lock
+   is its number there, and acquire that of the acquire. */
+typedef struct { u64 key, caller, acquire; u32 stack, lock; uint8_t is_again; } hold;
+#define ONLY_ORDERS (1ull << 63)       /* in the key of a lock of the trace's own */
 
 typedef struct { u32 object, version; } note;
 
@@ -46,7 +48,7 @@ typedef struct {
     thread_calls calls;                /* stacks.c */
     /* objects.c */
     VECTOR(hold) held;                 /* in the order in which they were taken */
-    u64 unwritten, locks;              /* so many acquires aren't in the trace; a sum of those held */
+    u64 unwritten, locks;              /* so many acquires aren't in the trace; a sum of the program's locks that it holds */
     u32 lock_set;                      /* page.c: its number, if known */
     VECTOR(note) notes;                /* what it will take at its next fence */
     int is_fenced;                     /* by a release fence */
