@@ -69,7 +69,7 @@ static void ask_own(const in_block *i) {
         object o = {.access = k};
         a->type_length = ask_access(k, i, name, &o);
         if (!a->type_length) continue;
-        if (!(a->name = strdup(name))) die("out of memory");
+        a->name = copied(name);
         name[a->type_length] = 0;
         o.type = map_text(&types, name);
         a->object = object_number(i->block, o);
@@ -154,13 +154,11 @@ static void find_names(void) {
     EACH(i, in_blocks.at, count) {
         const block *b = block_of(i->block);
         i->type_length = name_in_block(allocated_by(i->block), b->size, i->at - b->at, i->length, name, sizeof name);
-        if (i->type_length) i->name = strdup(name);
+        if (i->type_length) i->name = copied(name);
         else ask_own(i);
     }
-    EACH(i, in_blocks.at, count) {
-        if (!i->type_length && (i->type_length = name_by_uses(i, name))) i->name = strdup(name);
-        if (i->type_length && !i->name) die("out of memory");
-    }
+    EACH(i, in_blocks.at, count)
+        if (!i->type_length && (i->type_length = name_by_uses(i, name))) i->name = copied(name);
     if (count) qsort(in_blocks.at, count, sizeof *in_blocks.at, by_type);
 }
 

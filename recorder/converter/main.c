@@ -205,7 +205,7 @@ static void read_words(int count, char **words) {
 }
 
 static void write_to(const char *path) {
-    if (!freopen(path, "w", stdout)) die("cannot write to %s: %s", path, strerror(errno));
+    if (!freopen(path, "w", stdout)) cannot_write(path);
 }
 
 /* In a pipe with room this process and shb places --list give way to each other less often. Returns why the trace

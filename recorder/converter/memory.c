@@ -7,7 +7,6 @@
    In the third pass there are no new cuts.  Then a page has a slot for each of its cuts, which has the number of the
    piece that begins there now; a new block empties its slots.  The cuts of 64 bytes stand beside their first slot, so a
    piece is found by one look at each of the page, these, the slot and the piece. */
-#include <errno.h>
 #include <stdlib.h>
 #include <string.h>
 #include "converter.h"
@@ -102,7 +101,7 @@ void write_blocks(const char *path) {
         const struct record r[] = {{b->at, b->caller | (u64)OP_ALLOC << 48 | (u64)SIZE_FOLLOWS << 54}, {b->size, (u64)OP_SIZE << 48}};
         if (!b->stack && !b->freed && block_at(b->at) == b) fwrite(r, sizeof r, 1, file);
     }
-    if (!file || fflush(file) || ferror(file) || fclose(file)) die("cannot write to %s: %s", path, strerror(errno));
+    if (!file || fflush(file) || ferror(file) || fclose(file)) cannot_write(path);
 }
 
 int in_one_grain(u64 address, u64 end) { return address / GRAIN == (end - 1) / GRAIN; }

@@ -38,12 +38,6 @@ static char *cleaned(char *text) {        /* what would end a field or a line */
     return text;
 }
 
-static char *copy(const char *text) {
-    char *p = strdup(text);
-    if (!p) die("out of memory");
-    return p;
-}
-
 static struct reader *reader_of(module *m) { return m->reader ? m->reader : (m->reader = open_reader(m->path)); }
 
 /* Says what isn't read of a module of the program's own, once for each. */
@@ -59,7 +53,7 @@ void read_modules(char *header) {
         module *m = &modules[module_count];
         int path = 0;
         if (sscanf(line, "%lx %lx %lx %n", &m->low, &m->high, &m->base, &path) < 3 || !path) continue;
-        m->path = copy(line + path);
+        m->path = copied(line + path);
         for (char *p = m->path; *p; p++)
             if (*p == LINE_END_IN_PATH) *p = '\n';
         module_count++;
@@ -79,7 +73,7 @@ static void ask_symbols(module *m, u64 page, page_symbols *to) {
             return;
         }
         behind = size - before < SYMBOL_PAGE - from ? from + size - before : SYMBOL_PAGE;
-        *PUSH(to->symbols) = (symbol){a.one + m->base, size, cleaned(copy(a.first)), a.two & SYMBOL_IS_TWICE};
+        *PUSH(to->symbols) = (symbol){a.one + m->base, size, cleaned(copied(a.first)), a.two & SYMBOL_IS_TWICE};
     }
 }
 
@@ -87,13 +81,8 @@ static symbol *symbol_at(module *m, u64 address) {
     const u64 page = (address - m->base) & -(u64)SYMBOL_PAGE;
     page_symbols *p = ENTRY(m->pages, page, 0);
     if (!p->is_asked++) ask_symbols(m, page, p);
-    u64 low = 0, end = p->symbols.count;
-    while (low < end) {                /* how many begin at it or before */
-        u64 middle = low + (end - low) / 2;
-        if (p->symbols.at[middle].at - m->base <= address - m->base) low = middle + 1;
-        else end = middle;
-    }
-    symbol *s = low ? &p->symbols.at[low - 1] : 0;
+    u64 begun = COUNT_BEFORE(k, p->symbols.count, p->symbols.at[k].at - m->base <= address - m->base);
+    symbol *s = begun ? &p->symbols.at[begun - 1] : 0;
     return s && address - s->at < s->size && *s->name ? s : 0;
 }
 
@@ -145,12 +134,12 @@ static char *shortened(char *name) {
     return name;
 }
 
-static char *short_name(const symbol *s) { return shortened(copy(s->name)); }
+static char *short_name(const symbol *s) { return shortened(copied(s->name)); }
 
 const char *function_name(u64 address, char *buffer, size_t size) {
     module *m = module_at(address);
     symbol *s = m ? symbol_at(m, address) : 0;
-    char *name = s ? short_name(s) : copy("");
+    char *name = s ? short_name(s) : copied("");
     snprintf(buffer, size, "%s", name);
     free(name);
     return buffer;
@@ -171,7 +160,7 @@ static char *lambda_among(const char *name) {
             if (!depth && (before == '<' || before == '(' || before == ',')) break;
             depth += (before == '>' || before == ')') - (before == '<' || before == '(');
         }
-        char *found = copy(from + strspn(from, " "));
+        char *found = copied(from + strspn(from, " "));
         found[at + strlen(a_lambda) - from - strspn(from, " ")] = 0;
         if (!is_of_cxx_library(shortened(found))) return found;
         free(found);
@@ -203,7 +192,7 @@ static u64 length_at(const symbol *s, u64 address) {
 
 static void keep_member(module *m, u64 address, u64 length, const char *text) {
     char **kept = ENTRY(m->members, address, length);
-    if (!*kept) *kept = cleaned(copy(text));
+    if (!*kept) *kept = cleaned(copied(text));
 }
 
 /* Asks for what is at an address of a variable, and for what is behind it: an array may have many elements. */
@@ -343,7 +332,7 @@ static u64 *addresses_in(module *m, u64 *count) {
 static char *location_of(const char *path, u64 line) {
     char text[2 * MOST_TEXT];
     int length = snprintf(text, sizeof text, "%s:%lu", source_name(path), line);
-    return copy(cleaned(length > PLACE_BYTES ? text + length - PLACE_BYTES : text));
+    return copied(cleaned(length > PLACE_BYTES ? text + length - PLACE_BYTES : text));
 }
 
 static inlined_frame *new_frame(const char *function, const char *location, u64 line) {
@@ -365,7 +354,7 @@ static char *function_part(char *name) {
 static inlined_frame *frame_of(const module *m, const answer *a) {
     int is_named = a->two || !in_system(m->path);            /* else the name may be a neighbour's */
     u64 line = *a->second && a->two < UINT32_MAX ? a->two : 0;
-    inlined_frame *f = new_frame(is_named ? cleaned(function_part(copy(a->first))) : "", line ? copy(a->second) : 0, line);
+    inlined_frame *f = new_frame(is_named ? cleaned(function_part(copied(a->first))) : "", line ? copied(a->second) : 0, line);
     if (line && !m->is_late) note_source(a->second);
     f->in_system = in_system(m->path);
     f->in_rust_library = line && in_rust_library(a->second);
@@ -395,7 +384,7 @@ static void read_frames(module *m, const u64 *addresses, u64 count) {
 
 /* A function's name with lambdas as symbols have them, where gcc's debug information has <lambda(int)>. */
 static char *with_lambdas(const char *name) {
-    char *text = copy(name);
+    char *text = copied(name);
     for (char *at = text; (at = strstr(at, "<lambda(")); at++) *at = *a_lambda;
     return text;
 }
@@ -434,7 +423,7 @@ static char *address_place(u64 caller) {
     module *m = module_at(caller);
     if (m) snprintf(text, sizeof text, "%.900s+0x%lx", leaf(m->path), caller - m->base - 1);
     else snprintf(text, sizeof text, "0x%lx", caller);
-    return copy(cleaned(text));
+    return copied(cleaned(text));
 }
 
 /* A copy with ")|" before it and WIDE bytes behind. */
@@ -556,7 +545,7 @@ int in_one_function(u64 caller, u64 other) {
     module *m = module_at(caller);
     symbol *s = m ? symbol_at(m, caller - 1) : 0, *o = m && module_at(other) == m ? symbol_at(m, other - 1) : 0;
     if (!s || !o || s == o) return s && s == o;
-    char *one = function_part(copy(s->name)), *two = function_part(copy(o->name));
+    char *one = function_part(copied(s->name)), *two = function_part(copied(o->name));
     int same = !strcmp(one, two);
     free(one);
     free(two);

@@ -28,7 +28,7 @@ typedef struct { u64 first, last; } span;
 /* What is written: the events in these spans, and of accesses those of variables with these names, or of all. */
 typedef struct {
     VECTOR(span) spans;
-    VECTOR(char *) names;
+    map names;
     u64 at;                            /* the span that it is in, or that comes next */
 } sink;
 static span whole_run = {1, -1};
@@ -39,7 +39,6 @@ static u64 wanted_at;
 static FILE *uses_file;
 static const char *uses_path;
 
-static void cannot_write(void) { die("cannot write to %s: %s", uses_path, strerror(errno)); }
 
 /* ---- the races ---- */
 static int by_first(const void *a, const void *b) {
@@ -52,20 +51,16 @@ static int by_number(const void *a, const void *b) {
     return one < other ? -1 : one > other;
 }
 
-static int by_name(const void *a, const void *b) { return strcmp(*(char *const *)a, *(char *const *)b); }
-
-static void add_name(const char *name, u64 length) {
-    if (!(*PUSH(page.names) = strndup(name, length))) die("out of memory");
-}
-
 /* What stands behind the last "!" may be the thread of an atomic's writer. */
-static void add_race(u64 first, u64 second, const char *variable) {
-    const char *sign = strrchr(variable, '!');
+static void add_race(u64 first, u64 second, char *variable) {
+    char *sign = strrchr(variable, '!');
     *PUSH(page.spans) = (span){first, second};
     *PUSH(wanted) = first;
     *PUSH(wanted) = second;
-    add_name(variable, strlen(variable));
-    if (sign) add_name(variable, sign - variable);
+    map_text(&page.names, variable);
+    if (!sign) return;
+    *sign = 0;
+    map_text(&page.names, variable);
 }
 
 static u64 length_of(const span *s) { return s->last - s->first; }
@@ -133,7 +128,6 @@ int read_races(const char *path, u64 run_events) {
     if (!page.spans.count) return 0;
     join_spans(run_events);
     qsort(wanted.at, wanted.count, sizeof *wanted.at, by_number);
-    qsort(page.names.at, page.names.count, sizeof *page.names.at, by_name);
     into = &page;
     span_last = 0;
     return 1;
@@ -143,14 +137,13 @@ int read_races(const char *path, u64 run_events) {
 static int is_racing(u32 number) {
     static VECTOR(uint8_t) answers;
     enum { NO = 1, YES };
-    char text[NAME_BYTES + 1], *key = text;
+    char text[NAME_BYTES + 1];
     while (answers.count <= number) *PUSH(answers) = 0;
     if (answers.at[number]) return answers.at[number] == YES;
     part name = variable_name(piece_of(number)->at, block_of(piece_of(number)->block));
     *(char *)mempcpy(text, name.at, name.length) = 0;
-    int found = bsearch(&key, page.names.at, page.names.count, sizeof *page.names.at, by_name) != 0;
-    answers.at[number] = found ? YES : NO;
-    return found;
+    answers.at[number] = map_find_text(&page.names, text) ? YES : NO;
+    return answers.at[number] == YES;
 }
 
 int takes_piece(u32 number) { return !into->names.count || is_racing(number); }
@@ -250,12 +243,12 @@ static void write_use(const use *u) {
 void open_uses(const char *path) {
     uses_path = path;
     uses_file = fopen(path, "w");
-    if (!uses_file) cannot_write();
+    if (!uses_file) cannot_write(path);
 }
 
 void end_uses(void) {
     if (!uses_file) return;
     for (u64 k = 0; k < uses.numbers.count; k++) write_use(&uses.at[k]);
     fprintf(uses_file, "events\t%lu\n", written);
-    if (fflush(uses_file) || ferror(uses_file) || fclose(uses_file)) cannot_write();
+    if (fflush(uses_file) || ferror(uses_file) || fclose(uses_file)) cannot_write(uses_path);
 }

@@ -32,7 +32,6 @@
        line LOCATION TAB SUM                         of the text that a frame's line has now, without the blanks at its ends: 16
                                                      hexadecimal digits. Not where the file can't be read */
 #define _GNU_SOURCE
-#include <errno.h>
 #include <stdio.h>
 #include <stdlib.h>
 #include <string.h>
@@ -65,12 +64,10 @@ static size_t lines_bytes;
 static u64 told_place;
 static int has_place;
 
-static void cannot_write(void) { die("cannot write to %s: %s", path, strerror(errno)); }
-
 void open_stacks(const char *path_) {
     path = path_;
     file = fopen(path, "w");
-    if (!file || fprintf(file, STACKS_BEGIN, 0ul) < 0) cannot_write();
+    if (!file || fprintf(file, STACKS_BEGIN, 0ul) < 0) cannot_write(path);
     lines = open_memstream(&lines_text, &lines_bytes);
     if (!lines) die("out of memory");
 }
@@ -124,15 +121,7 @@ static void note_frame(u64 i) {
     *PUSH(contexts) = added;
 }
 
-static u32 context_of_frame(u64 i) {
-    u64 low = 1, high = contexts.count - 1;
-    while (low < high) {
-        u64 k = (low + high) / 2;
-        if (contexts.at[k].record < i) low = k + 1;
-        else high = k;
-    }
-    return low;
-}
+static u32 context_of_frame(u64 i) { return 1 + COUNT_BEFORE(k, contexts.count - 2, contexts.at[k + 1].record < i); }
 
 /* That a record tells. */
 static u32 context_of(u64 i) {
@@ -283,9 +272,7 @@ static const char *name_of_local(u64 function, const call *in, u64 from_top, u64
     if (in_one_function(in->caller, function)) pc = in->caller;
     else if (in->way && in_one_function(in->way, function)) pc = in->way;
     int is_known = pc && local_name(function, pc, from_top, from_stack, length, text, sizeof text);
-    *name = is_known ? strdup(text) : "";
-    if (!*name) die("out of memory");
-    return *name;
+    return *name = is_known ? copied(text) : "";
 }
 
 /* By the functions that the thread is in by its last record. Where nothing was told since it came back to a function it is behind the
@@ -343,7 +330,7 @@ void keep_stack(u32 number) {
 }
 
 static void write_nodes(void) {
-    if (fwrite(buffer, sizeof *buffer, buffered, file) != buffered) cannot_write();
+    if (fwrite(buffer, sizeof *buffer, buffered, file) != buffered) cannot_write(path);
     nodes_written += buffered;
     buffered = 0;
 }
@@ -543,5 +530,5 @@ void end_stacks(void) {
                                                "hooks of functions\n");
     rewind(file);
     fprintf(file, STACKS_BEGIN, nodes_written);
-    if (fflush(file) || ferror(file) || fclose(file)) cannot_write();
+    if (fflush(file) || ferror(file) || fclose(file)) cannot_write(path);
 }

@@ -1,5 +1,6 @@
 /* Arrays that grow, and maps. */
 #define _GNU_SOURCE
+#include <errno.h>
 #include <stdarg.h>
 #include <stdio.h>
 #include <stdlib.h>
@@ -19,6 +20,8 @@ void die(const char *format, ...) {
     exit(failed_status);
 }
 
+void cannot_write(const char *path) { die("cannot write to %s: %s", path, strerror(errno)); }
+
 void bad_words(const char *which, const char *why) {
     failed_status = 3;
     die("%s%s; %s --help says more", which, why, program_name);
@@ -37,6 +40,12 @@ void *zeroed(size_t count, size_t size) {
     void *p = calloc(count, size);
     if (!p) die("out of memory");
     return in_large_pages(p, count * size);
+}
+
+char *copied(const char *text) {
+    char *copy = strdup(text);
+    if (!copy) die("out of memory");
+    return copy;
 }
 
 void *mapped(size_t count, size_t size) {
@@ -104,4 +113,6 @@ static u64 sum_of(const char *text, u64 factor) {
     return sum;
 }
 
-u32 map_text(map *m, const char *text) { return map_number(m, sum_of(text, 0x100000001b3), sum_of(text, 0x9E3779B97F4A7C15)); }
+#define SUMS_OF(text) sum_of(text, 0x100000001b3), sum_of(text, 0x9E3779B97F4A7C15)
+u32 map_text(map *m, const char *text) { return map_number(m, SUMS_OF(text)); }
+u32 map_find_text(const map *m, const char *text) { return map_find(m, SUMS_OF(text)); }

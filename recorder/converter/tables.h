@@ -12,14 +12,25 @@ typedef struct { map_entry *entries; u64 count, capacity; } map;
 extern const char *program_name;       /* as messages begin */
 extern int failed_status;
 void die(const char *format, ...) __attribute__((noreturn, format(printf, 1, 2)));
+void cannot_write(const char *path) __attribute__((noreturn));
 void bad_words(const char *which, const char *why) __attribute__((noreturn));    /* the command line is wrong */
 void *zeroed(size_t count, size_t size);
+char *copied(const char *text);
 void *mapped(size_t count, size_t size);                     /* what isn't used of it takes addresses alone */
 void *grown(void *array, u64 count, u64 *capacity, size_t size);
 #define GROW(array, count, capacity) ((array) = grown((array), (count), &(capacity), sizeof *(array)))  /* by one */
 /* An array that grows. PUSH points to a new entry at its end, which has to be written. */
 #define VECTOR(type) struct { type *at; u64 count, capacity; }
 #define PUSH(vector) (GROW((vector).at, (vector).count, (vector).capacity), &(vector).at[(vector).count++])
+/* How many of the first `count` numbers k from 0 on are before something: `is_before`, of k, holds for these alone. */
+#define COUNT_BEFORE(k, count, is_before) ({ \
+    u64 its_low = 0, its_end = (count); \
+    while (its_low < its_end) { \
+        const u64 k = its_low + (its_end - its_low) / 2; \
+        if (is_before) its_low = k + 1; \
+        else its_end = k; \
+    } \
+    its_low; })
 /* For each entry of an array, which may be null if it has none. */
 #define EACH(item, array, count) \
     for (__typeof__(array) item = (array); item && item < (array) + (count); item++)
@@ -33,4 +44,5 @@ u32 intern(map *numbers, u64 a, u64 b, void *array, u64 *capacity, size_t size);
 u32 map_find(const map *m, u64 a, u64 b);                    /* 0: it isn't there */
 u32 map_number(map *m, u64 a, u64 b);
 u32 map_text(map *m, const char *text);                      /* the same of a text, by two sums of it */
+u32 map_find_text(const map *m, const char *text);
 u64 mix(u64 a, u64 b);

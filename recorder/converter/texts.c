@@ -40,14 +40,9 @@ static int is_of(const wanted *w, const char *name) {
 static u64 first_of(const char *name) {
     char *text = zeroed(strlen(name) + 3, 1);
     wanted key = {strcat(strcpy(text, name), ":0"), 0};
-    u64 low = 0, end = locations.count;
-    while (low < end) {
-        u64 middle = low + (end - low) / 2;
-        if (by_place(&locations.at[middle], &key) < 0) low = middle + 1;
-        else end = middle;
-    }
+    u64 first = COUNT_BEFORE(k, locations.count, by_place(&locations.at[k], &key) < 0);
     free(text);
-    return low;
+    return first;
 }
 
 static int is_blank(uint8_t byte) { return byte == ' ' || (byte >= '\t' && byte <= '\r'); }

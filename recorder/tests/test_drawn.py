@@ -213,7 +213,7 @@ FAULTS = {  # to plant in the converter: the file, what stands there, and what i
 
 
 FAULTS_OF_PAGES = {
-    "no page for what is written atomically": ("page.c", "if (sign) add_name(", "if (0) add_name("),
+    "no page for what is written atomically": ("page.c", "if (!sign) return;", "return;"),
     "a write that is passed over orders nothing": ("events.c", "threads[t].epoch += writes;", ""),
     "locks before what is passed over aren't counted": ("events.c", "    write_holds(t);\n    meet_span();", "    meet_span();"),
     "the second pass goes on with the reads of the first": ("accesses.c", "if (recent) memset", "if (0) memset"),
