@@ -22,11 +22,12 @@ class Use(collections.namedtuple("Use", "count word variable local thread locati
 
 class Uses:
     """`events` has for an event of the run that of the page's trace; `count` is how many that trace has. `parts` are those of its events
-    before which some of the run may be missing; `repeated` are those that stand for repeats before them."""
+    before which some of the run may be missing; `repeated` are those that stand for repeats before them. `sights` are a variable, and where it was
+    written and then read by another thread, in the run."""
 
     def __init__(self, path):
         self.uses, self.events, self.parts, self.count = [], {}, [], None
-        self.repeated = set()
+        self.repeated, self.sights = set(), set()
         with open_regular(path) as file:
             for number, line in enumerate(file, 1):
                 try:
@@ -49,6 +50,8 @@ class Uses:
             self.events[in_run] = in_page
         elif kind == b"repeated":
             self.repeated.update(map(number_of, fields[1:]))
+        elif kind == b"seen":
+            self.sights.add(tuple(fields[1:]))
         elif kind == b"part":
             self.parts.extend(map(number_of, fields[1:]))
         elif kind == b"events":

@@ -73,9 +73,9 @@ class Kinds:
 
 
 class Counting:
-    def __init__(self, groups, wanted, kinds, uses=None, repeated=frozenset()):
+    def __init__(self, groups, wanted, kinds, uses=None, repeated=frozenset(), sights=()):
         """`groups` has a number for each racing variable; `wanted` are the accesses to be noted, `kinds` says what an access is; `uses`
-        are those of the whole run where the trace is a part of it; `repeated` events stand for omitted ones."""
+        are those of the whole run where the trace is a part of it; `repeated` events stand for omitted ones; `sights` are the run's."""
         self.uses = uses
         self.groups, self.wanted, self.access_kinds = groups, wanted, kinds
         self.lines = kinds.gathered.lines
@@ -90,10 +90,10 @@ class Counting:
         self.held, self.operations = collections.defaultdict(Held), Operations(kinds.locks)  # by thread
         self.recent = collections.defaultdict(lambda: collections.deque(maxlen=BEFORE))  # by thread: its last events
         self.before = {}  # by group and thread: its last access
-        self.writes = {}  # by variable: its last write, and the thread and location of that
+        self.writes = {}  # by variable: its last write, and the location of that
         # By variable and location: the stacks of the racing accesses, or of a run of all accesses, each with whether no lock is held.
         self.callers = collections.defaultdict(collections.Counter)
-        self.seen = set()  # the locations of races where the second access reads what the first wrote
+        self.seen = {sight[1:] for sight in self.racing_reads.intersection(sights)}  # where races write and read
         self.joined = {}  # by a join its thread's last event
         self.lockers = collections.defaultdict(set)  # by lock: the threads that use it
         self.begins, self.ends = {}, {}  # by thread: where it is created and joined, as `Step`
@@ -142,9 +142,9 @@ class Counting:
             if self.lines[number] != line:
                 raise BadReport(f"the report belongs to another trace: it has another line for event {number}")
         if word == b"w":
-            self.writes[variable] = number, thread, location
+            self.writes[variable] = number, location
         elif variable in self.writes:
-            self.see(number, variable, thread, location)
+            self.see(number, variable, location)
         if number in self.repeated:
             since = self.alike.get((thread, operation, location), 0)
             self.again[variable].append(Repeated(thread, word, since, number))
@@ -182,12 +182,9 @@ class Counting:
             self.kinds += 1
         counts[kind] = counts.get(kind, 0) + 1
 
-    def see(self, number, variable, thread, location):
-        """Takes a read of what a racing write wrote. Of a run one race of a variable at a place is known, and
-        stands for others there."""
-        write, writer, written = self.writes[variable]
-        stands = self.uses is not None and writer != thread and (variable, written, location) in self.racing_reads
-        if stands or (write, number) in self.reads:
+    def see(self, number, variable, location):
+        write, written = self.writes[variable]
+        if (write, number) in self.reads:
             self.seen.add((written, location))
 
     def take_uses(self):

@@ -54,12 +54,12 @@ NO_REPORT = Given("", None, OWN, None)
 
 
 class Subject(collections.namedtuple("Subject", "given counts races listed is_sample events uses in_run parts "
-                                                "repeated", defaults=({}, (), frozenset()))):
+                                                "repeated sights", defaults=({}, (), frozenset(), ()))):
     """The races of a trace with so many events: how many it has, and how many of these a given report has. Of
     a sample (`is_sample`) one race of each variable at each place is known. Of a recorded run too, and they
     aren't counted; it has the `uses` in the run, and `counts` are the run's. `in_run` has by an event of the
     trace that of the run, of those that race; at `parts` parts of the trace begin; `repeated` events stand for
-    omitted ones."""
+    omitted ones, and `sights` are the run's."""
 
 
 class View(collections.namedtuple("View", "title made pairs groups sections source notes about stacks kinds "
@@ -149,7 +149,7 @@ def of_record(options, file, gathered, stack):
     in_run = {in_page: event for event, in_page in uses.events.items()}
     count = len(races)
     return Subject(given, report.counts, count, count, False, uses.count, uses.uses, in_run, uses.parts,
-                   uses.repeated)
+                   uses.repeated, uses.sights)
 
 
 def schedules(options, file, races, stack):
@@ -260,7 +260,7 @@ def make_sections(options, kinds, made, trace, groups):
         return 0, []
     wanted = {access for race in (group.closest() for group in groups) for access in (race.first, race.second)}
     variables = {variable: number for number, group in enumerate(groups) for variable in group.names}
-    counting = Counting(variables, wanted, kinds, made.uses, made.repeated)
+    counting = Counting(variables, wanted, kinds, made.uses, made.repeated, made.sights)
     try:
         counting.read(trace, made.events)
         facts = Facts(counting, "trace" if made.uses is None else "run")

@@ -177,8 +177,6 @@ static void keep_event(read *kept, u64 event) {
     kept->end = event + 1;
 }
 
-enum { NOBODY = -1u };
-
 /* An event of the variable itself, or of that which stands for its atomic writes by one thread. The page's trace
    lacks those of variables in no race, but each thread's first one. Returns its number in the trace that is written,
    if it isn't known yet whether it stands for others; else 0. */
@@ -194,6 +192,7 @@ static u64 piece_event(u64 i, u64 own, u32 number, const char *operation, u32 wr
         int length = snprintf(text, sizeof text, "%.*s!%s", (int)name.length, name.at, thread_name(writer));
         event_number = event(t, operation, (part){text, length}, caller_of(i));
     }
+    if (is_kept) note_sight(t, own, number, writer, *operation == 'w');
     if (!event_number || !is_repeated(i)) return event_number;
     note_repeated(event_number);
     return 0;
@@ -232,8 +231,10 @@ static void use_piece(u64 i, use u, u32 number) {
     int is_kept = takes_piece(number);
     piece_events(i, u, number, is_kept);
     if (is_kept) count_use(u.thread, caller_of(i), number, word_of(i, u));
-    if (!with_stacks || !is_kept || written == before) return;
+    if (!with_stacks || !is_kept) return;
     const piece *p = piece_of(number);
+    const block *b = block_of(p->block);
+    if (written == before && (!b || b->stack)) return;       /* of a local only an event has a name; of a block any access may tell it */
     note_name(p->at, p->block, before + 1, u.thread);
     if (operation_of(i) == OP_FREE) return;
     const int writes = u.writes || u.writes_atomically;

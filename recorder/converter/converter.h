@@ -206,6 +206,8 @@ void note_written(u64 number, u64 in_page);                  /* an event of the 
 void note_part(u64 in_page);           /* a span begins or ends behind so many events */
 part name_of_held(u64 key, u32 t);     /* objects.c: of a lock that a thread holds */
 void count_use(u32 t, u64 caller, u32 piece, char word);
+enum { NOBODY = -1u };
+void note_sight(u32 t, u64 own_place, u32 piece, u32 writer, int writes);   /* an event of the piece, or of what stands for a thread's atomic writes */
 void note_repeated(u64 in_page);       /* an event stands for others that were omitted */
 void end_uses(void);                   /* of each trace */
 

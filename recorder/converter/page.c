@@ -10,6 +10,8 @@
    each set of locks; and which events of the page's trace those of the races are. Lines, with tabs between their fields:
        use COUNT WORD VARIABLE LOCAL THREAD LOCATION STACK LOCK..     WORD is r, w, a (written atomically) or f (freed); STACK a number
                                                                       of the file of stacks, or 0
+       seen VARIABLE WRITTEN READ                               in the run a read at the location READ saw what another thread
+                                                                wrote at the location WRITTEN
        event NUMBER-IN-PAGE NUMBER-IN-RUN
        part NUMBER-IN-PAGE                                      between this event and the one before it some may be missing
        repeated NUMBER-IN-PAGE                this access stands for others of its kind, which are omitted: earlier
@@ -22,7 +24,7 @@
 #include <string.h>
 #include "converter.h"
 
-enum { CONTEXT = 2000, SHORT_RUN = 20000, ONE_TRACE = 200000, SPARSE = 4 };          /* events; one of SPARSE is kept, about */
+enum { BEFORE = 500, BEHIND = 16, SHORT_RUN = 20000, SPARSE = 4 };          /* events; one of SPARSE is kept, about */
 typedef struct { u64 first, last; } span;
 
 /* What is written: the events in these spans, and of accesses those of variables with these names, or of all. */
@@ -92,20 +94,16 @@ static void drop_far(void) {
     }
 }
 
-/* Where all races are near each other there is one span, and it begins and ends with the run where that is short. */
+/* The spans of races that are near each other are one; it begins and ends with the run where that is short. */
 static void join_spans(u64 run_events) {
-    u64 last = 0, count = 0;
+    u64 count = 0;
     drop_far();
-    EACH(s, page.spans.at, page.spans.count)
-        if (s->last > last) last = s->last;
-    u64 gap = last - page.spans.at->first <= ONE_TRACE ? -1ull : SHORT_RUN;
     EACH(s, page.spans.at, page.spans.count) {
-        span next = {s->first > SHORT_RUN ? s->first - CONTEXT : 1, s->last + CONTEXT};
+        span next = {s->first > SHORT_RUN ? s->first - BEFORE : 1, s->last + BEHIND};
         span *before = count ? &page.spans.at[count - 1] : 0;
         if (next.last < SHORT_RUN) next.last = SHORT_RUN;
         if (next.last > run_events) next.last = run_events;
-        int is_near = before && (next.first <= before->last || next.first - before->last <= gap);
-        if (!is_near) page.spans.at[count++] = next;
+        if (!before || next.first > before->last + 1) page.spans.at[count++] = next;
         else if (before->last < next.last) before->last = next.last;
     }
     page.spans.count = count;
@@ -227,6 +225,29 @@ void count_use(u32 t, u64 caller, u32 number, char word) {
     u->count++;
 }
 
+/* ---- which writes were read ---- */
+typedef struct { u64 caller; u32 thread; } last_write;       /* its thread plus one */
+typedef struct { u64 written, read; u32 piece, writer; } sight;
+static INTERNED(last_write) last_writes;                     /* by pieces, each with an atomic's writer or NOBODY */
+static INTERNED(sight) sights;
+
+void note_sight(u32 t, u64 own, u32 number, u32 writer, int writes) {
+    static map places;
+    if (!uses_file) return;
+    last_write *last = ENTRY(last_writes, number, writer);
+    if (writes) *last = (last_write){own, t + 1};
+    else if (last->thread && last->thread != t + 1)
+        *ENTRY(sights, map_number(&places, last->caller, own), (u64)writer << 32 | number) = (sight){last->caller, own, number, writer};
+}
+
+static void write_sight(const sight *s) {
+    const piece *p = piece_of(s->piece);
+    part name = variable_name(p->at, block_of(p->block)), written = place_of(s->written), read = place_of(s->read);
+    int is_atomic = s->writer != NOBODY;
+    fprintf(uses_file, "seen\t%.*s%s%s\t%.*s\t%.*s\n", (int)name.length, name.at, is_atomic ? "!" : "", is_atomic ? thread_name(s->writer) : "",
+            (int)written.length, written.at, (int)read.length, read.at);
+}
+
 static void write_use(const use *u) {
     const piece *p = piece_of(u->piece);
     part name = variable_name(p->at, block_of(p->block)), place = place_of(u->caller);
@@ -248,7 +269,8 @@ void open_uses(const char *path) {
 
 void end_uses(void) {
     if (!uses_file) return;
-    for (u64 k = 0; k < uses.numbers.count; k++) write_use(&uses.at[k]);
+    EACH(u, uses.at, uses.numbers.count) write_use(u);
+    EACH(s, sights.at, sights.numbers.count) write_sight(s);
     fprintf(uses_file, "events\t%lu\n", written);
     if (fflush(uses_file) || ferror(uses_file) || fclose(uses_file)) cannot_write(uses_path);
 }

@@ -10,7 +10,7 @@ from shb_view.command import asked, explain
 from test_open import planted
 from test_record import HEADER, LOCK, entry
 
-SPANS = "enum { CONTEXT = 2000, SHORT_RUN = 20000, ONE_TRACE = 200000, SPARSE = 4 };"
+SPANS = "enum { BEFORE = 500, BEHIND = 16, SHORT_RUN = 20000, SPARSE = 4 };"
 X, Y, Z, OTHER_LOCK = 0x5000, 0x6000, 0x7000, LOCK + 0x100
 
 
@@ -43,7 +43,7 @@ IN_LOCKS = (  # thread 1 holds nine locks before the page begins
 class Parts(recorder.Case):
     def setUp(self):
         super().setUp()
-        self.converter = planted(self.folder / "converter", "page.c", SPANS, "enum { CONTEXT = 2, SHORT_RUN = 4, ONE_TRACE = 20, SPARSE = 4 };")
+        self.converter = planted(self.folder / "converter", "page.c", SPANS, "enum { BEFORE = 2, BEHIND = 2, SHORT_RUN = 4, SPARSE = 4 };")
 
     def page_of(self, entries, *options):
         """The page's trace of a record, with spans of a few events; the list of places is beside it."""

@@ -45,6 +45,21 @@ class Uses(recorder.Case):
         lines = [line.split("\t") for line in uses.read_text().splitlines()]
         return sorted(trace[int(fields[1]) - 1] for fields in lines if fields[0] == "repeated")
 
+    def test_what_was_read_of_another_thread_in_the_whole_run(self):
+        """Also behind the end of the page's trace, and of what a thread wrote atomically; not of its own."""
+        def access(thread, kind, place, size=4):
+            return entry(thread, kind, RANGE, place, size)
+
+        record, races, uses = (self.folder / name for name in ("app.rec", "races", "uses"))
+        record.write_bytes(HEADER + entry(0, "FORK", 1, 0x101) + access(0, "WRITE", 0x102) + access(1, "READ", 0x201) + access(1, "WRITE", 0x202)
+                           + access(1, "READ", 0x203) + access(0, "READ", 0x103) + access(0, "READ", 0x104) + access(1, "ATOMIC_STORE", 0x204, 4 | 3 << 5)
+                           + access(0, "READ", 0x103))
+        races.write_text(f"2 3 {hex(RANGE)}\n")
+        recorder.must(recorder.convert(record, "-n", "3", "--only", races, "--uses", uses))
+        found = [line.split("\t")[1:] for line in uses.read_text().splitlines() if line.startswith("seen\t")]
+        name = hex(RANGE)
+        self.assertEqual(sorted(found), sorted([[name, "0x102", "0x201"], [name, "0x202", "0x103"], [name, "0x202", "0x104"], [f"{name}!T1", "0x204", "0x103"]]))
+
     def test_a_late_access_that_stands_for_earlier_ones(self):
         """The last entry of these comes twice, and says so; with and without that."""
         self.assertEqual(self.repeated(LATE_ENTRIES, "2 4"), ["main|r(0x40000000)|0x104"])
