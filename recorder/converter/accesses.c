@@ -1,6 +1,5 @@
 /* Accesses of memory: which blocks and pieces they use, and their events. */
 #include <stdio.h>
-#include <string.h>
 #include "converter.h"
 
 int whole_trace;
@@ -239,11 +238,6 @@ static void use_piece(u64 i, use u, u32 number) {
     if (operation_of(i) == OP_FREE) return;
     const int writes = u.writes || u.writes_atomically;
     note_use_of_block(p->at, p->block, (use_of_block){address_of(i), accessed_bytes(i), caller_of(i), writes});
-}
-
-void begin_accesses(void) {
-    if (recent) memset(recent, 0, RECENT * sizeof *recent);
-    forget_writes();
 }
 
 void access_events(u64 i) {

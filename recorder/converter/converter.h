@@ -124,7 +124,7 @@ typedef struct {
     u64 at;
     u32 block;                         /* its number, or 0 */
     u32 atomic_writers;                /* a list */
-    u32 writes;                        /* events so far that wrote it */
+    u32 writes;                        /* events so far that wrote it, in all traces */
     u32 object;                        /* the number of the one that was met last at its address, or 0 (objects.c) */
 } piece;
 /* Who uses a piece. It stands apart, for most accesses ask no more, and of several neighbours. */
@@ -149,7 +149,6 @@ int in_one_grain(u64 address, u64 end);                      /* then it lies in 
 u32 *pieces_at(u64 *cut, u64 end, u32 *count);
 piece *piece_of(u32 number);
 piece_use *use_of_piece(u32 number);
-void forget_writes(void);              /* of all pieces */
 
 /* stacks.c: call stacks, in a file beside the trace. */
 extern int with_stacks;                /* has the trace that is written a file of stacks? */
@@ -242,7 +241,6 @@ extern u64 events;                     /* of the run's trace so far */
 extern u64 written;                    /* of the one that is written: the same, or those of the page */
 extern const char *cut_reason;         /* null while the trace goes on */
 void begin_events(void);               /* each pass that writes a trace */
-void begin_accesses(void);             /* the same */
 void name_thread(u32 t, u64 function); /* by the function that it runs, where it has no name yet */
 void name_by_own(u32 t, u64 i);        /* the same, by the functions that a record tells, if one is the program's own */
 void give_name(u32 t, const char *piece, int is_first);      /* a piece of one that the program gave; the main thread keeps its own */

@@ -123,7 +123,6 @@ static void write_trace(int has_stacks) {
     forget_states();
     begin_calls(has_stacks);
     begin_events();
-    begin_accesses();
     pass(write_events, 0);
     write_lines();
     if (fflush(stdout) || ferror(stdout)) die("cannot write the trace: %s", strerror(errno));

@@ -191,7 +191,3 @@ u32 *pieces_at(u64 *cut, u64 end, u32 *count) {
 
 piece *piece_of(u32 number) { return &pieces.at[number - 1]; }
 piece_use *use_of_piece(u32 number) { return &piece_uses.at[number - 1]; }
-
-void forget_writes(void) {
-    for (u64 k = 0; k < pieces.count; k++) pieces.at[k].writes = 0;
-}

@@ -42,7 +42,7 @@ typedef struct {
     char name[THREAD_BYTES + WIDE];
     u32 name_length, number;           /* number: in state.c, from its first event on */
     uint8_t is_named;                  /* has it a name besides its number? */
-    u64 epoch;                         /* it grows with each event of the thread that could order another */
+    u64 epoch;                         /* it grows with each event of the thread that could order another, and each trace */
     u32 forked_by;                     /* plus one */
     u32 created_at;                    /* a node of the file of stacks */
     thread_calls calls;                /* stacks.c */

@@ -216,7 +216,6 @@ FAULTS_OF_PAGES = {
     "no page for what is written atomically": ("page.c", "if (!sign) return;", "return;"),
     "a write that is passed over orders nothing": ("events.c", "threads[t].epoch += writes;", ""),
     "locks before what is passed over aren't counted": ("events.c", "    write_holds(t);\n    meet_span();", "    meet_span();"),
-    "the second pass goes on with the reads of the first": ("accesses.c", "if (recent) memset", "if (0) memset"),
 }
 
 

@@ -45,6 +45,14 @@ class Uses(recorder.Case):
         lines = [line.split("\t") for line in uses.read_text().splitlines()]
         return sorted(trace[int(fields[1]) - 1] for fields in lines if fields[0] == "repeated")
 
+    def test_a_page_repeats_no_read_of_the_list(self):
+        """The first read is the same as the last one of the trace before."""
+        record, page = self.folder / "app.rec", self.folder / "page.std"
+        record.write_bytes(HEADER + entry(0, "FORK", 1, 0x101) + b"".join(entry(*access, 4) for access in (
+            (1, "READ", RANGE, 0x201), (0, "WRITE", RANGE, 0x102), (1, "READ", RANGE, 0x201))))
+        self.assertEqual(recorder.listed(record, page), {(("0x102", "0x201"), hex(RANGE))})
+        self.assertEqual(page.read_text().count("|r("), 2)
+
     def test_what_was_read_of_another_thread_in_the_whole_run(self):
         """Also behind the end of the page's trace, and of what a thread wrote atomically; not of its own."""
         def access(thread, kind, place, size=4):
