@@ -156,12 +156,12 @@ ATOMIC static uint128_t load_16(const volatile uint128_t *p) {
 }
 
 #define FETCH_16(name, new_value) \
-    ATOMIC static uint128_t name##_16(volatile uint128_t *p, uint128_t value) { \
+    ATOMIC static uint128_t name##_16(volatile uint128_t *p, uint128_t value, int order) { \
         uint128_t old = load_16(p); \
         while (!exchange_16(p, &old, new_value)) ; \
         return old; \
     }
-FETCH_16(exchange_all, value)
+FETCH_16(exchange_n, value)
 FETCH_16(fetch_add, old + value)
 FETCH_16(fetch_sub, old - value)
 FETCH_16(fetch_and, old & value)
@@ -172,14 +172,10 @@ FETCH_16(fetch_nand, ~(old & value))
 /* The operations as the macros below name them: of up to 8 bytes the compiler's own. */
 #define LOAD(p) __atomic_load_n(p, __ATOMIC_SEQ_CST)
 #define STORE(p, value) __atomic_store_n(p, value, __ATOMIC_SEQ_CST)
+#define STORE_16(p, value) exchange_n_16(p, value, __ATOMIC_SEQ_CST)
 #define EXCHANGE(p, expected, value) __atomic_compare_exchange_n(p, expected, value, 0, __ATOMIC_SEQ_CST, __ATOMIC_SEQ_CST)
-#define DO_exchange(p, value) __atomic_exchange_n(p, value, __ATOMIC_SEQ_CST)
-#define DO_fetch_add(p, value) __atomic_fetch_add(p, value, __ATOMIC_SEQ_CST)
-#define DO_fetch_sub(p, value) __atomic_fetch_sub(p, value, __ATOMIC_SEQ_CST)
-#define DO_fetch_and(p, value) __atomic_fetch_and(p, value, __ATOMIC_SEQ_CST)
-#define DO_fetch_or(p, value) __atomic_fetch_or(p, value, __ATOMIC_SEQ_CST)
-#define DO_fetch_xor(p, value) __atomic_fetch_xor(p, value, __ATOMIC_SEQ_CST)
-#define DO_fetch_nand(p, value) __atomic_fetch_nand(p, value, __ATOMIC_SEQ_CST)
+#define OF_COMPILER(name) __atomic_##name
+#define OF_16_BYTES(name) name##_16
 
 #define IS_QUICK(operation, bits, p, order) \
     begin_quick_atomic(operation, (uint64_t)(p), bits / 8, size_and_order(bits / 8, order), CALLER)
@@ -195,7 +191,7 @@ FETCH_16(fetch_nand, ~(old & value))
     ATOMIC PUBLIC type __tsan_atomic##bits##_##name(volatile type *p, type value, int order) { \
         int is_quick = IS_QUICK(OP_ATOMIC_UPDATE, bits, p, order); \
         thread *t = is_quick ? 0 : before_atomic(OP_ATOMIC_UPDATE, p, size_and_order(bits / 8, order), CALLER); \
-        type old = perform(p, value); \
+        type old = perform(p, value, __ATOMIC_SEQ_CST); \
         uint64_t last = last_of((type)(NEW_##name(old, value)) != old, p, CALLER); \
         if (is_quick) end_quick_atomic(last); \
         else after_atomic(t, last); \
@@ -236,30 +232,24 @@ FETCH_16(fetch_nand, ~(old & value))
     COMPARE_EXCHANGE(bits, type, weak, exchange, int, done, *expected, expected) \
     COMPARE_EXCHANGE(bits, type, val, exchange, type, expected, expected, &expected)
 
-#define UPDATES(bits, type) \
-    UPDATE(bits, type, exchange, DO_exchange) \
-    UPDATE(bits, type, fetch_add, DO_fetch_add) \
-    UPDATE(bits, type, fetch_sub, DO_fetch_sub) \
-    UPDATE(bits, type, fetch_and, DO_fetch_and) \
-    UPDATE(bits, type, fetch_or, DO_fetch_or) \
-    UPDATE(bits, type, fetch_xor, DO_fetch_xor) \
-    UPDATE(bits, type, fetch_nand, DO_fetch_nand)
+#define UPDATES(bits, type, of) \
+    UPDATE(bits, type, exchange, of(exchange_n)) \
+    UPDATE(bits, type, fetch_add, of(fetch_add)) \
+    UPDATE(bits, type, fetch_sub, of(fetch_sub)) \
+    UPDATE(bits, type, fetch_and, of(fetch_and)) \
+    UPDATE(bits, type, fetch_or, of(fetch_or)) \
+    UPDATE(bits, type, fetch_xor, of(fetch_xor)) \
+    UPDATE(bits, type, fetch_nand, of(fetch_nand))
 ATOMICS(8, uint8_t, LOAD, STORE, EXCHANGE)
-UPDATES(8, uint8_t)
+UPDATES(8, uint8_t, OF_COMPILER)
 ATOMICS(16, uint16_t, LOAD, STORE, EXCHANGE)
-UPDATES(16, uint16_t)
+UPDATES(16, uint16_t, OF_COMPILER)
 ATOMICS(32, uint32_t, LOAD, STORE, EXCHANGE)
-UPDATES(32, uint32_t)
+UPDATES(32, uint32_t, OF_COMPILER)
 ATOMICS(64, uint64_t, LOAD, STORE, EXCHANGE)
-UPDATES(64, uint64_t)
-ATOMICS(128, uint128_t, load_16, exchange_all_16, exchange_16)
-UPDATE(128, uint128_t, exchange, exchange_all_16)
-UPDATE(128, uint128_t, fetch_add, fetch_add_16)
-UPDATE(128, uint128_t, fetch_sub, fetch_sub_16)
-UPDATE(128, uint128_t, fetch_and, fetch_and_16)
-UPDATE(128, uint128_t, fetch_or, fetch_or_16)
-UPDATE(128, uint128_t, fetch_xor, fetch_xor_16)
-UPDATE(128, uint128_t, fetch_nand, fetch_nand_16)
+UPDATES(64, uint64_t, OF_COMPILER)
+ATOMICS(128, uint128_t, load_16, STORE_16, exchange_16)
+UPDATES(128, uint128_t, OF_16_BYTES)
 
 PUBLIC void __tsan_atomic_thread_fence(int order) {
     thread *t = others ? enter(MAY_YIELD) : 0;

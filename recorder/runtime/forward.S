@@ -32,41 +32,24 @@
 forward_first:
     pushq %rbp
     movq %rsp, %rbp
-    subq $192, %rsp
+    .irp word, rdi, rsi, rdx, rcx, r8, r9, rax
+    pushq %\word
+    .endr
+    subq $128, %rsp
     andq $-16, %rsp
-    movq %rdi, (%rsp)
-    movq %rsi, 8(%rsp)
-    movq %rdx, 16(%rsp)
-    movq %rcx, 24(%rsp)
-    movq %r8, 32(%rsp)
-    movq %r9, 40(%rsp)
-    movq %rax, 48(%rsp)
-    movups %xmm0, 64(%rsp)
-    movups %xmm1, 80(%rsp)
-    movups %xmm2, 96(%rsp)
-    movups %xmm3, 112(%rsp)
-    movups %xmm4, 128(%rsp)
-    movups %xmm5, 144(%rsp)
-    movups %xmm6, 160(%rsp)
-    movups %xmm7, 176(%rsp)
+    .irp k, 0, 1, 2, 3, 4, 5, 6, 7
+    movups %xmm\k, 16 * \k(%rsp)
+    .endr
     movq %r11, %rdi
     call find_forwarded
     movq %rax, %r11
-    movq (%rsp), %rdi
-    movq 8(%rsp), %rsi
-    movq 16(%rsp), %rdx
-    movq 24(%rsp), %rcx
-    movq 32(%rsp), %r8
-    movq 40(%rsp), %r9
-    movq 48(%rsp), %rax
-    movups 64(%rsp), %xmm0
-    movups 80(%rsp), %xmm1
-    movups 96(%rsp), %xmm2
-    movups 112(%rsp), %xmm3
-    movups 128(%rsp), %xmm4
-    movups 144(%rsp), %xmm5
-    movups 160(%rsp), %xmm6
-    movups 176(%rsp), %xmm7
+    .irp k, 0, 1, 2, 3, 4, 5, 6, 7
+    movups 16 * \k(%rsp), %xmm\k
+    .endr
+    leaq -56(%rbp), %rsp
+    .irp word, rax, r9, r8, rcx, rdx, rsi, rdi
+    popq %\word
+    .endr
     leave
     jmp *%r11
     .size forward_first, . - forward_first

@@ -43,20 +43,16 @@ static void will_limit(int resource, uint64_t addresses) {
     leave(t);
 }
 
-#define LIMITS(name, rlimit) \
-    PUBLIC int name(__rlimit_resource_t resource, const struct rlimit *limit) { \
-        will_limit(resource, limit->rlim_cur); \
-        return REAL(name)(resource, limit); \
-    }
-#define LIMITS_PROCESS(name, rlimit) \
-    PUBLIC int name(pid_t process, enum __rlimit_resource resource, const struct rlimit *limit, struct rlimit *old) { \
-        if (!process || process == getpid()) will_limit(resource, limit ? limit->rlim_cur : RLIM_INFINITY); \
-        return REAL(name)(process, resource, limit, old); \
-    }
-LIMITS(setrlimit, rlimit)
-LIMITS(setrlimit64, rlimit64)
-LIMITS_PROCESS(prlimit, rlimit)
-LIMITS_PROCESS(prlimit64, rlimit64)
+PUBLIC int setrlimit(__rlimit_resource_t resource, const struct rlimit *limit) {
+    will_limit(resource, limit->rlim_cur);
+    return REAL(setrlimit)(resource, limit);
+}
+PUBLIC int prlimit(pid_t process, enum __rlimit_resource resource, const struct rlimit *limit, struct rlimit *old) {
+    if (!process || process == getpid()) will_limit(resource, limit ? limit->rlim_cur : RLIM_INFINITY);
+    return REAL(prlimit)(process, resource, limit, old);
+}
+PUBLIC int setrlimit64(__rlimit_resource_t, const struct rlimit64 *) __attribute__((alias("setrlimit")));
+PUBLIC int prlimit64(pid_t, enum __rlimit_resource, const struct rlimit64 *, struct rlimit64 *) __attribute__((alias("prlimit")));
 
 /* ---- seccomp: a system call of ours that isn't allowed may kill the program ---- */
 static void will_limit_calls(void) { stop_recording("the program limits its system calls (seccomp)"); }

@@ -142,14 +142,10 @@ DELETES(_ZdlPvSt11align_val_t) DELETES(_ZdaPvSt11align_val_t) DELETES(_ZdlPvmSt1
 DELETES(_ZdlPvSt11align_val_tRKSt9nothrow_t) DELETES(_ZdaPvSt11align_val_tRKSt9nothrow_t)
 
 /* ---- ranges: never yields, for this may be the tail of a structure's copy ---- */
-static void note_part(enum operation operation, const void *p, size_t n, uint64_t caller) {
-    if (!hold_range(operation, (uint64_t)p, n, caller)) note_bytes(NEVER_YIELD, operation, p, n, caller);
-}
-
 static void note_copy(void *to, const void *from, size_t n, uint64_t caller) {
     if (!others || !n || !instrumented(caller)) return;
-    if (from) note_part(OP_READ, from, n, caller);
-    note_part(OP_WRITE, to, n, caller);
+    if (from) note_bytes(NEVER_YIELD, OP_READ, from, n, caller);
+    note_bytes(NEVER_YIELD, OP_WRITE, to, n, caller);
     if (self) end_copy(self);
 }
 

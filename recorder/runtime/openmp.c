@@ -1,10 +1,8 @@
 /* gcc's OpenMP. Its library hands over by system calls that nobody sees; so what orders threads is told here, at the calls
    that the compiler makes into it: a region's begin and end, barriers, critical and ordered sections, locks and tasks. */
 #include <stdbool.h>
-#include <stdint.h>
 #include <stdlib.h>
 #include <string.h>
-#include <unistd.h>
 #include "runtime.h"
 
 typedef char object[16];               /* its address is what it is known by */

@@ -4,7 +4,6 @@
 #define _GNU_SOURCE
 #include <errno.h>
 #include <fcntl.h>
-#include <limits.h>
 #include <stdio.h>
 #include <string.h>
 #include <sys/mman.h>
@@ -100,7 +99,7 @@ static void grow(void) {
 /* ---- segments: of a program that runs on ---- */
 enum { MOST_SEGMENTS = 8, SEGMENT_SECONDS = 10 };            /* that are kept, besides the one that is written */
 
-static time_t now(void) {
+time_t seconds_now(void) {
     struct timespec time;
     clock_gettime(CLOCK_MONOTONIC_COARSE, &time);
     return time.tv_sec;
@@ -109,10 +108,10 @@ static time_t now(void) {
 static void begin_counting(uint64_t before) {
     segment = before + 1;
     segment_end = written + segment_records;
-    segment_until = now() + SEGMENT_SECONDS;
+    segment_until = seconds_now() + SEGMENT_SECONDS;
 }
 
-int is_segment_full(void) { return written >= segment_end || (written > segment_end - segment_records && now() >= segment_until); }
+int is_segment_full(void) { return written >= segment_end || (written > segment_end - segment_records && seconds_now() >= segment_until); }
 
 /* ---- records ---- */
 static struct record record_of(const thread *t, enum operation operation, uint64_t where, uint64_t size, uint64_t caller) {
@@ -196,18 +195,12 @@ int begin_work(thread *t) {
 }
 
 /* Is it a read that the thread made before, with nothing but reads of any thread in between?  Then it got the same value, by
-   the same order. */
-static inline int is_repeated(thread *t, enum operation operation, struct record r) {
-    if (!only_reads(operation)) {
-        changes++;
-        return 0;
-    }
-    const context *context = context_at(t, recordable_depth(t));
-    for (int i = 0; i < RECENT_READS; i++) {
-        struct read *recent = &t->recent[i];
-        if (recent->where == r.where && recent->what == r.what && recent->changes == changes && recent->context == context) return 1;
-    }
-    t->recent[t->next_recent++ % RECENT_READS] = (struct read){r.where, r.what, changes, context};
+   the same order. Where there are cells most such reads are held back. */
+static int is_repeated(thread *t, struct record r) {
+    const struct read now = {r, changes, context_at(t, recordable_depth(t))};
+    for (int i = 0; i < RECENT_READS; i++)
+        if (!memcmp(&t->recent[i], &now, sizeof now)) return 1;
+    t->recent[t->next_recent++ % RECENT_READS] = now;
     return 0;
 }
 
@@ -262,12 +255,9 @@ static void put_now(thread *t, enum operation operation, const volatile void *ad
     int of_contexts = room_of_contexts(t);
     if (of_contexts && make_room(of_contexts)) add_contexts(t);
     uint64_t inside = inside_of(t, operation, size);
+    changes += !only_reads(operation);
     struct record r = record_of(t, operation, (uint64_t)address, inside, caller);
-    if (is_held_back(t, operation, r, bytes_of(operation, size))) {
-        changes += !only_reads(operation);
-        return;
-    }
-    if (is_repeated(t, operation, r) || !make_room(ROOM)) return;
+    if (is_held_back(t, operation, r, bytes_of(operation, size)) || is_repeated(t, r) || !make_room(ROOM)) return;
     tell_context(t, recordable_depth(t), inside >> LOGARITHM_BITS == DEPTH_BEFORE || !has_depth_inside(operation, size));
     uint64_t way = is_plain(operation) ? 0 : way_to(t, t->depth, caller);
     if (way) add(t, OP_WAY, 0, 0, way);
@@ -313,6 +303,7 @@ void put_name(thread *t, thread *named, const char *name) {
 
 void note_bytes(enum yields yields, enum operation operation, const volatile void *p, uint64_t size, uint64_t caller) {
     int saved = errno;
+    if (is_plain(operation) && hold_range(operation, (uint64_t)p, size, caller)) return;
     thread *t = enter_access(yields);
     if (t) {
         put(t, operation, p, size, caller);

@@ -58,7 +58,7 @@ typedef struct thread {
     char may_be_held;                  /* there */
     int quantum;                       /* hooks until it gives the turn to a waiter */
     int spins;                         /* how often in a row its last hook left the value as it was */
-    struct read { uint64_t where, what, changes; const context *context; } recent[RECENT_READS];     /* its last ones in the record */
+    struct read { struct record r; uint64_t changes; const context *context; } recent[RECENT_READS];     /* its last ones in the record */
     unsigned next_recent;
     char joined;
     char is_cancelled_anywhere;        /* by pthread_setcanceltype */
@@ -201,6 +201,7 @@ extern int stall_seconds;
 /* most_records: 0, as many as there is room for; most_cells: bytes of cells (cells.h) */
 int open_recording(const char *path, uint64_t most_records, uint64_t most_cells);
 int leave_recording(void);             /* in a process made by fork; does it go on in memory? */
+time_t seconds_now(void);              /* since any moment */
 int move_to_file(void);
 void close_recording(void);
 extern uint64_t segment_records;       /* after so many a segment of the record ends; 0: there is one alone */

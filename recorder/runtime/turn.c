@@ -229,13 +229,8 @@ static int take_free(thread *t) {
 
 /* Waits until a new thread is at its first hook.  It doesn't sleep, for then a waiter would take the turn over. */
 void wait_for_start(const thread *child) {
-    struct timespec now;
-    clock_gettime(CLOCK_MONOTONIC, &now);
-    time_t end = now.tv_sec + START_SECONDS;
-    while (recording && !child->began && are_slices_short() && now.tv_sec <= end) {
-        syscall(SYS_sched_yield);
-        clock_gettime(CLOCK_MONOTONIC, &now);
-    }
+    time_t end = seconds_now() + START_SECONDS;
+    while (recording && !child->began && are_slices_short() && seconds_now() <= end) syscall(SYS_sched_yield);
 }
 
 /* The waiter's last step, and the end of its doubt: takes the turn if its word is still the one seen; also where the recording has ended. */
@@ -299,17 +294,15 @@ static uint64_t doubted_word(struct watch *watch) {
 
 /* May the turn, whose word was read before this look at the holder, be taken over? */
 static int past_its_access(uint64_t word, struct watch *watch) {
-    struct timespec now;
-    clock_gettime(CLOCK_MONOTONIC, &now);
     long ticks = watch->ticks;
     if (HOLDER(word) == NOBODY) return 1;
     if (!watch->doubts) return 0;
     const thread *seen = holder_of(word);
     int works = seen->works;           /* read before the look: if not, it has ended that, or the word is another one by now */
     if (gone_or_asleep(seen->system_id, &ticks) && (!works || is_gone(seen->system_id))) return 1;
-    if (!watch->since) watch->since = now.tv_sec;
+    if (!watch->since) watch->since = seconds_now();
     if (watch->ticks < 0 && !works) watch->ticks = ticks;
-    if (now.tv_sec - watch->since > stall_seconds)
+    if (seconds_now() - watch->since > stall_seconds)
         stop_recording("one thread neither slept, computed nor came to a hook for SHB_STALL seconds");
     return !works && ticks >= watch->ticks + COMPUTES_TICKS + (long)(seen->range / BYTES_OF_TICK);
 }
@@ -334,10 +327,8 @@ static const char *reason_to_leave(const thread *t, uint64_t word, time_t second
 }
 
 static void leave_late_replay(const thread *t, uint64_t word, struct lateness *late) {
-    struct timespec now;
-    clock_gettime(CLOCK_MONOTONIC, &now);
-    if (word != late->word) *late = (struct lateness){word, now.tv_sec};
-    time_t seconds = now.tv_sec - late->since;
+    if (word != late->word) *late = (struct lateness){word, seconds_now()};
+    time_t seconds = seconds_now() - late->since;
     const char *reason = seconds < LOOK_SECONDS ? 0 : reason_to_leave(t, word, seconds);
     if (!reason) return;
     thread *next = 0;
