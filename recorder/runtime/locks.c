@@ -3,6 +3,7 @@
 #define _GNU_SOURCE
 #include <errno.h>
 #include <semaphore.h>
+#include <stdio.h>
 #include <sys/syscall.h>
 #include <threads.h>
 #include <time.h>
@@ -88,6 +89,10 @@ TRIES(mtx_trylock, OP_LOCK, m, thrd_busy, r == thrd_success, (mtx_t *m), (m))
 GIVES(mtx_unlock, OP_UNLOCK, m, 0, (mtx_t *m), (m))
 BEGINS(mtx_init, OP_LOCK_INIT, m, 0, (mtx_t *m, int type), (m, type))
 ENDS(void, mtx_destroy, mtx_t)
+
+TAKES_BY(void, flockfile, OP_LOCK, f, DONE(REAL(flockfile)(f)), r, REAL(ftrylockfile)(f), 1, (FILE *f))
+TRIES_BY(int, ftrylockfile, OP_LOCK, f, REAL(ftrylockfile)(f), EBUSY, !r, (FILE *f))
+GIVES_BY(void, funlockfile, OP_UNLOCK, f, 0, DONE(REAL(funlockfile)(f)), (FILE *f))
 
 /* ---- conditions: the mutex is given up and taken again; a signal orders nothing by itself ---- */
 #define WAITS(name, parameters, arguments) \
