@@ -25,7 +25,7 @@
 #define DEPTH_BEFORE 63
 #define IS_RANGE 512
 #define MAX_SIZE (1ull << 36)          /* of a range; none is as long */
-#define THREAD_NUMBERS 65534           /* a joined thread's is used again when there is no new one: each fork begins another thread */
+#define THREAD_NUMBERS 65534           /* that of one which is over is used again when there is no new one: each fork begins another thread */
 #define MOST_FRAMES 16384              /* of a thread; those further in aren't recorded */
 #define CONTEXT_BITS 23                /* of the number of a context in which an access is held back */
 #define PLACE_BITS 24                  /* of each of the two numbers of a record OP_PLACE */

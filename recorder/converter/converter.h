@@ -39,8 +39,8 @@ int is_repeated(u64 i);                /* is it late, and stands for earlier one
 void name_piece(u64 i, char *piece);   /* of a record OP_NAME: NAME_PIECE bytes and an end */
 u64 depth_inside(u64 i);               /* DEPTH_BEFORE where it is told by records before */
 void begin_thread_pass(void);
-int meet_fork(u64 i);                  /* each pass calls these for each fork and join; 0 where there are too many threads */
-void meet_join(u64 i);
+int meet_fork(u64 i);                  /* each pass calls these for each fork and begin; 0 where there are too many threads */
+void meet_start(u64 i);
 u32 thread_bound(void);                /* all threads are below it */
 u32 next_thread(u32 t);                /* the one after it, of those that there may be */
 u32 thread_of(u64 i);

@@ -107,7 +107,7 @@ static inline __attribute__((always_inline)) void pass(void (*step)(u64), int is
             record_count = i;
             break;
         }
-        if (operation == OP_JOIN) meet_join(i);
+        if (operation == OP_START) meet_start(i);
         block *b = operation == OP_ALLOC || operation == OP_START ? meet_block(i) : 0;
         step(i);
         if (b && step == write_events && operation == OP_ALLOC) name_block(b, i);

@@ -65,10 +65,10 @@ u64 caller_of(u64 i) { return record_at(i)->what & LOW_48_BITS; }
 u64 late_context(u64 i) { return contexts_at_hand ? contexts_at_hand[i] % IS_REPEATED : 0; }
 int is_repeated(u64 i) { return contexts_at_hand && contexts_at_hand[i] / IS_REPEATED; }
 
-/* ---- threads: a number that was joined is used again by the next one that is forked with it ---- */
+/* ---- threads: a number is used again by the next one that is forked with it, for the one before is over ---- */
 static u32 thread_count;               /* of those met in this pass */
 static u32 with_number[THREAD_NUMBERS];
-static uint8_t is_joined[THREAD_NUMBERS];
+static uint8_t is_used[THREAD_NUMBERS]; /* by one that was forked, or was there when a segment began */
 
 u32 thread_of(u64 i) { return with_number[record_at(i)->where >> 48]; }
 u32 other_thread_of(u64 i) { return with_number[address_of(i)]; }
@@ -76,10 +76,10 @@ u32 other_thread_of(u64 i) { return with_number[address_of(i)]; }
 void begin_thread_pass(void) {
     thread_count = 1;
     for (u32 n = 0; n < THREAD_NUMBERS; n++) with_number[n] = n;
-    memset(is_joined, 0, sizeof is_joined);
+    memset(is_used, 0, sizeof is_used);
 }
 
-void meet_join(u64 i) { is_joined[address_of(i)] = 1; }
+void meet_start(u64 i) { is_used[record_at(i)->where >> 48] = 1; }
 
 static u32 own_numbers = 1;            /* those of threads in records that were met are below it */
 
@@ -93,9 +93,9 @@ u32 thread_bound(void) { return thread_count < THREAD_NUMBERS ? THREAD_NUMBERS :
 
 int meet_fork(u64 i) {
     u32 number = address_of(i);
-    if (is_joined[number]) with_number[number] = thread_bound();
+    if (is_used[number]) with_number[number] = thread_bound();
     if (with_number[number] == THREADS) return 0;
-    is_joined[number] = 0;
+    is_used[number] = 1;
     if (with_number[number] >= thread_count) thread_count = with_number[number] + 1;
     return 1;
 }

@@ -47,7 +47,7 @@ typedef struct thread {
     const context *in;                 /* the functions that it is in, the outermost MOST_FRAMES */
     uint64_t kind;                     /* of that */
     uint64_t reader;                   /* as cells.h has it in a use */
-    uint32_t number;                   /* in the order of creation, from 0; or that of one that was joined */
+    uint32_t number;                   /* in the order of creation, from 0; or that of one that is over */
     uint32_t depth;                    /* how many functions it is in */
     uint64_t kept;                     /* those of its steps that were in its turns, but for quick hooks since */
     uint64_t quick_from;               /* since so many steps its hooks may be quick */
@@ -60,7 +60,8 @@ typedef struct thread {
     int spins;                         /* how often in a row its last hook left the value as it was */
     struct read { struct record r; uint64_t changes; const context *context; } recent[RECENT_READS];     /* its last ones in the record */
     unsigned next_recent;
-    char joined;
+    char is_over;                      /* joined, or detached and gone */
+    char ends;                         /* its ways to an end without a join (way_to_end) */
     char is_cancelled_anywhere;        /* by pthread_setcanceltype */
     int cancel_state;                  /* when its hook ends */
     uint64_t range;                    /* how many bytes its last record accesses */
@@ -102,11 +103,13 @@ void restart_turns(thread *t);         /* in a process made by fork, where there
 void for_all_threads(void (*step)(thread *t));               /* that are there; with the turn */
 int end_turns(void);                   /* all threads run free from here on; returns whether they took turns before */
 thread *new_thread(void);
-void end_thread(thread *t);            /* it is joined, and the record has that */
+void end_thread(thread *t);            /* it is joined, and the record has that; or it was not started */
+enum way_to_end { IS_DETACHED = 1, LEAVES = 2 };             /* LEAVES: its last destructors run */
+void come_to_end(thread *t, enum way_to_end way);            /* after both it is over as soon as it is gone */
 int number_thread(thread *t);
 void wait_for_start(const thread *child);
 thread *thread_of(pthread_t handle);
-thread *newest_with(void *argument);   /* that isn't joined */
+thread *newest_with(void *argument);   /* that isn't over */
 thread *enter(enum yields yields);
 thread *enter_access(enum yields yields);                    /* to put one record, and nothing before */
 void leave(thread *t);

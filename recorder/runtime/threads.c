@@ -69,8 +69,13 @@ static void release_robust(const thread *t) {
 
 static void thread_exits(void *t_) {   /* runs again in each round of destructors, until the last */
     thread *t = t_;
-    if (++t->exit_rounds < PTHREAD_DESTRUCTOR_ITERATIONS) pthread_setspecific(at_exit, t);
-    else release_robust(t);
+    int is_last = ++t->exit_rounds == PTHREAD_DESTRUCTOR_ITERATIONS;
+    if (is_last) release_robust(t);
+    else pthread_setspecific(at_exit, t);
+    if (is_last && enter(MAY_YIELD)) {
+        come_to_end(t, LEAVES);
+        leave(t);
+    }
     set_depth(t, 0);                   /* of functions in C that pthread_exit left */
     let_others_run();
 }
@@ -226,6 +231,13 @@ static int start_blocked(thread *t, thread *child, pthread_t *created, const pth
     return error;
 }
 
+/* Is it never joined? Not so of Qt's, which are waited for by a call of Qt's own (qt.c). */
+static int is_detached(const pthread_attr_t *attributes, uint64_t caller) {
+    int state = PTHREAD_CREATE_JOINABLE;
+    if (attributes) pthread_attr_getdetachstate(attributes, &state);
+    return state == PTHREAD_CREATE_DETACHED && !tells_its_own_order(caller) ? IS_DETACHED : 0;
+}
+
 /* Records the fork and starts the thread, whose function and argument are in `start`; NOT_STARTED where it can't have a number. */
 enum { NOT_STARTED = -1 };
 static int create_in_hook(thread *t, thread start, pthread_t *handle, const pthread_attr_t *attributes, uint64_t caller) {
@@ -241,13 +253,14 @@ static int create_in_hook(thread *t, thread start, pthread_t *handle, const pthr
     child->function = start.function;
     child->c11_function = start.c11_function;
     child->argument = start.argument;
+    child->ends = is_detached(attributes, caller);
     others++;
     put(t, OP_FORK, (void *)(uint64_t)child->number, 0, caller);
     pthread_t created;                 /* where the caller wants it only when it is known: others may read that */
     int error = start_blocked(t, child, &created, attributes);
     if (!error) wait_for_start(child);
     keep_turn_after_call(t);
-    if (error) others--;
+    if (error) others--, end_thread(child);
     else *handle = child->handle = created;
     return error;
 }
@@ -290,6 +303,17 @@ JOIN(pthread_tryjoin_np, (pthread_t h, void **value), (h, value))
 JOIN(pthread_timedjoin_np, (pthread_t h, void **value, deadline d), (h, value, d))
 JOIN(pthread_clockjoin_np, (pthread_t h, void **value, clockid_t c, deadline d), (h, value, c, d))
 JOIN(thrd_join, (thrd_t h, int *value), (h, value))
+
+#define DETACHES(name, type) \
+    PUBLIC int name(type h) { \
+        thread *t = enter(MAY_YIELD), *detached = t ? thread_of(h) : 0; \
+        if (detached) come_to_end(detached, IS_DETACHED); \
+        int error = REAL(name)(h); \
+        if (t) leave(t); \
+        return error; \
+    }
+DETACHES(pthread_detach, pthread_t)
+DETACHES(thrd_detach, thrd_t)
 
 PUBLIC int pthread_setcanceltype(int type, int *before) {
     if (self) self->is_cancelled_anywhere = type == PTHREAD_CANCEL_ASYNCHRONOUS;

@@ -70,7 +70,7 @@ static thread *waiting[THREAD_NUMBERS];
 static volatile int waiters;
 static thread *threads[THREAD_NUMBERS];
 static uint32_t thread_count, serials;
-static uint32_t joined_numbers[THREAD_NUMBERS], joined_count;          /* to be used again; with the turn */
+static uint32_t free_numbers[THREAD_NUMBERS], free_count;   /* to be used again; with the turn */
 static uint64_t random_state = 88172645463325252ull;
 static int slice, last_slice, slices, given_slice;
 static thread *held;                   /* one of the waiters, or nobody; under the guard */
@@ -78,6 +78,7 @@ thread *volatile quick_holder = NOBODY_IS_QUICK;             /* changed under th
 static thread *holder;                 /* who has accepted the turn, and has neither given nor lost it; under the guard */
 static int doubters;                   /* under the guard */
 static int has_barrier;                /* of the system, for all threads; else no hook is quick */
+static thread *leaving;                /* a list of detached ones that run their last destructors, or are gone; with the turn */
 
 static uint64_t draw(void) {           /* xorshift; with the turn or the guard */
     random_state ^= random_state << 13;
@@ -493,8 +494,8 @@ void begin_turns(int slice_, uint64_t seed) {
 
 void restart_turns(thread *t) {
     waiters = doubters = 0;
-    held = 0;
-    thread_count = joined_count = 0;
+    held = leaving = 0;
+    thread_count = free_count = 0;
     leave_list(t);
     number_thread(t);
     t->system_id = syscall(SYS_gettid);
@@ -519,20 +520,38 @@ int end_turns(void) {
     return was;
 }
 
-/* ---- the memory of threads: one that is joined is used again, for a waiter may still look into it ---- */
+/* ---- the memory of threads: that of one which is over is used again, for a waiter may still look into it ---- */
 static thread *ended;                  /* a list; under the guard */
 
 /* With the turn, so no word of the turn names it from here on. */
 void end_thread(thread *t) {
-    t->joined = 1;
-    joined_numbers[joined_count++] = t->number;
+    t->is_over = 1;
+    free_numbers[free_count++] = t->number;
     lock_guard();
     t->next_ended = ended;
     ended = t;
     unlock_guard();
 }
 
+/* With the turn. Its handle may be another one's as soon as it is gone. */
+void come_to_end(thread *t, enum way_to_end way) {
+    t->ends |= way;
+    if (t->ends != (IS_DETACHED | LEAVES)) return;
+    t->handle = 0;
+    t->next_ended = leaving;
+    leaving = t;
+}
+
+static void end_those_gone(void) {
+    for (thread **at = &leaving, *t; (t = *at);)
+        if (is_gone(t->system_id)) {
+            *at = t->next_ended;
+            end_thread(t);
+        } else at = &t->next_ended;
+}
+
 static thread *used_again(void) {
+    end_those_gone();
     lock_guard();
     thread *t = ended;
     if (t) ended = t->next_ended;
@@ -554,13 +573,13 @@ thread *new_thread(void) {             /* it may sleep in the system */
 }
 
 int number_thread(thread *t) {         /* with the turn */
-    if (thread_count == THREAD_NUMBERS && !joined_count) return 0;
+    if (thread_count == THREAD_NUMBERS && !free_count) return 0;
     if (thread_count <= MOST_STARTS) begin_slices();
     t->may_be_held = are_slices_short() && draw() & 1;
     t->serial = ++serials;
     t->told = context_at(t, 0);
     set_depth(t, t->depth);
-    t->number = thread_count < THREAD_NUMBERS ? thread_count++ : joined_numbers[--joined_count];
+    t->number = thread_count < THREAD_NUMBERS ? thread_count++ : free_numbers[--free_count];
     threads[t->number] = t;
     t->reader = reader_of(t->serial, t->number);
     return 1;
@@ -568,18 +587,18 @@ int number_thread(thread *t) {         /* with the turn */
 
 thread *thread_of(pthread_t handle) {  /* asked before a join: a handle is used again after it */
     for (uint32_t i = thread_count; i-- > 0;)
-        if (threads[i]->handle == handle && !threads[i]->joined) return threads[i];
+        if (threads[i]->handle == handle && !threads[i]->is_over) return threads[i];
     return 0;
 }
 
 thread *newest_with(void *argument) {  /* of what it runs; with the turn */
     thread *newest = 0;
     for (uint32_t i = 0; i < thread_count; i++)
-        if (threads[i]->argument == argument && !threads[i]->joined && (!newest || threads[i]->serial > newest->serial)) newest = threads[i];
+        if (threads[i]->argument == argument && !threads[i]->is_over && (!newest || threads[i]->serial > newest->serial)) newest = threads[i];
     return newest;
 }
 
 void for_all_threads(void (*step)(thread *t)) {
     for (uint32_t i = 0; i < thread_count; i++)
-        if (!threads[i]->joined && threads[i]->began && !is_gone(threads[i]->system_id)) step(threads[i]);
+        if (!threads[i]->is_over && threads[i]->began && !is_gone(threads[i]->system_id)) step(threads[i]);
 }

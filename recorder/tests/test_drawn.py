@@ -208,7 +208,7 @@ FAULTS = {  # to plant in the converter: the file, what stands there, and what i
     "a fork ends no repeats": (
         "events.c", "if (*operation != 'r' || operation[1]) threads", "if (!strchr(\"rf\", *operation)) threads"),
     "acquire fences": ("objects.c", "if (acquires(i)) take_noted(thread_of(i), hand, caller_of(i));", ""),
-    "numbers that are used again": ("records.c", "if (is_joined[number]) with_number[number] = thread_bound();", ""),
+    "numbers that are used again": ("records.c", "if (is_used[number]) with_number[number] = thread_bound();", ""),
 }
 
 

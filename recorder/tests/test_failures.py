@@ -143,6 +143,18 @@ class Failures(recorder.Case):
         self.assertIn(b" 66003 threads, ", answer.stderr)
         self.assertIn(b"the trace is cut before a thread too many: shb places --list takes 65,535", answer.stderr)
 
+    def test_more_detached_threads_than_numbers(self):
+        path, program = self.folder / "app.rec", self.folder / "app"
+        few = recorder.build_recorder(self.folder, "lib/forwarded.inc")
+        text = (few / "record.h").read_text()
+        (few / "record.h").write_text(text.replace("THREAD_NUMBERS 65534", "THREAD_NUMBERS 32"))
+        recorder.must(recorder.call("make", "-C", few, "CFLAGS=-O1", "lib/libtsan.so.2"))
+        recorder.build(recorder.PROGRAMS / "detached_in_turn.c", "-O1", program, few)
+        self.assertEqual(recorder.must(recorder.call(program, env=recorder.settings(path))).stderr, b"")
+        trace = recorder.must(recorder.convert(path)).stdout
+        self.assertEqual(len(set(re.findall(rb"fork\((\S+)\)", trace))), 102)
+        self.assertEqual(recorder.places(trace), {("detached_in_turn.c:21", "detached_in_turn.c:21")})
+
     def test_threads_whose_begin_is_not_seen(self):
         path = self.folder / "app.rec"
         for name in "sigev_thread.c", "unseen_threads.c":

@@ -16,8 +16,8 @@ ATOMICS = "ATOMIC_LOAD", "ATOMIC_STORE", "ATOMIC_UPDATE"
 
 
 class Drawn:
-    """A record. A thread goes on for a while, at few places, so that accesses repeat. Threads are joined by any other, also those that did
-    nothing, and numbers of joined ones are used again."""
+    """A record. A thread goes on for a while, at few places, so that accesses repeat. Threads are joined by any other, or detached, also those that
+    did nothing, and their numbers are used again."""
 
     all_words, sizes, longest_run = WORDS, (4, 4, 8, 16), 8
 
@@ -90,7 +90,8 @@ class Drawn:
         holds = thread in self.readers or thread in self.owners.values()
         if thread not in (0, self.thread) and not holds and self.draw.random() < chance:
             self.running.remove(thread)
-            self.add("JOIN", thread)
+            if self.draw.random() < 0.8:
+                self.add("JOIN", thread)
             if self.draw.random() < 0.5:
                 self.unused.append(thread)
 

@@ -1,5 +1,6 @@
 """The converter: a record made by hand with the trace worked out from the table in README.md, and damaged records."""
 
+import itertools
 import os
 import random
 import re
@@ -370,8 +371,7 @@ class Damaged(recorder.Case):
         fork, start, join = entry(0, "FORK", 1, 0x101), entry(1, "START", STACK, 0x500, 4096), entry(0, "JOIN", 1, 0x103)
         write = entry(0, "WRITE", BLOCK, 0x104, 8), entry(1, "WRITE", BLOCK, 0x201, 8)
         block, record = entry(0, "ALLOC", BLOCK, 0x100, 16), self.folder / "app.rec"
-        for reason, entries in (("the thread was forked before", [fork, fork]), ("a thread cannot fork itself", [entry(1, "FORK", 1, 1)]),
-                                ("the forked thread has started already", [start, *write, fork]),
+        for reason, entries in (("a thread cannot fork itself", [entry(1, "FORK", 1, 1)]),
                                 ("the thread was joined before", [fork, start, join, *write]),
                                 ("a thread cannot join itself", [entry(0, "JOIN", 0, 0x101)])):
             record.write_bytes(HEADER + block + b"".join(entries))
@@ -382,14 +382,18 @@ class Damaged(recorder.Case):
                     self.assertRegex(answer.stderr.decode(), r"event \d+, \w+\|.*: a trace can't go on with this event")
 
     def test_a_number_that_is_used_again(self):
-        """After its thread was joined: the next one that is forked with it is another thread."""
+        """The next one that is forked with it is another thread: the one before was joined, or detached, or there when a segment began."""
         fork, start, join = entry(0, "FORK", 1, 0x101), entry(1, "START", STACK, 0x500, 4096), entry(0, "JOIN", 1, 0x103)
         write, record = entry(1, "WRITE", BLOCK, 0x201, 8), self.folder / "app.rec"
-        record.write_bytes(HEADER + entry(0, "ALLOC", BLOCK, 0x100, 16) + (fork + start + write + join) * 3)
-        trace = recorder.must(recorder.convert(record, "--list")).stdout.decode()
-        self.assertEqual(re.findall(r"^(\w+)\|(\w+)(?:\((T\d+)\))?", trace, re.M),
-                         [event for thread in ("T1", "T65534", "T65535")
-                          for event in (("main", "fork", thread), (thread, "w", ""), ("main", "join", thread))])
+        block, threads = entry(0, "ALLOC", BLOCK, 0x100, 16), ("T1", "T65534", "T65535")
+        forks, uses, joins = ([(by or thread, word, thread * bool(by)) for thread in threads]
+                              for by, word in (("main", "fork"), ("", "w"), ("main", "join")))
+        for entries, events in (((fork + start + write + join) * 3, itertools.chain(*zip(forks, uses, joins))),
+                                ((fork + start + write) * 3, itertools.chain(*zip(forks, uses))),
+                                (start + write + (fork + write) * 2, itertools.chain(uses[:1], *zip(forks[1:], uses[1:])))):
+            record.write_bytes(HEADER + block + entries)
+            trace = recorder.must(recorder.convert(record, "--list")).stdout.decode()
+            self.assertEqual(re.findall(r"^(\w+)\|(\w+)(?:\((T\d+)\))?", trace, re.M), list(events))
 
     def test_a_name_is_that_of_the_thread_which_has_the_number(self):
         """A thread's last name is its name from its fork on; the next thread with its number has none, or its own."""
