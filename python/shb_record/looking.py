@@ -192,8 +192,8 @@ class Look:
                 say(f"{process.name} ({process.command}): {note}{more}")
 
     def note_cuts(self, looked):
-        """Takes what makes a record a part of its run. Without a second thread nothing is lost where the program was killed."""
-        cuts = looked.conversion.cuts if looked.events else [cut for cut in looked.conversion.cuts if cut != KILLED]
+        """Takes what makes a record a part of its run. A thread too many doesn't, nor that a program of one thread was killed."""
+        cuts = [cut for cut in looked.conversion.cuts if "a thread too many" not in cut and (looked.events or cut != KILLED)]
         self.is_cut = self.is_cut or bool(cuts) and cuts != [KILLED]
         self.is_killed = self.is_killed or cuts == [KILLED]
         self.has_threads = self.has_threads or bool(looked.events)

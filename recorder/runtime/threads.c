@@ -247,7 +247,7 @@ static int create_in_hook(thread *t, thread start, pthread_t *handle, const pthr
     open_list();
     t->works = 0;
     if (!child || !number_thread(child)) {
-        stop_recording("too many threads");
+        stop_recording("a thread too many");
         return NOT_STARTED;
     }
     child->function = start.function;
