@@ -201,10 +201,10 @@ uint64_t free_space(void);             /* bytes that the disk has for more of th
 
 /* recording.c: the record. */
 extern int stall_seconds;
+time_t seconds_now(void);              /* since any moment */
 /* most_records: 0, as many as there is room for; most_cells: bytes of cells (cells.h) */
 int open_recording(const char *path, uint64_t most_records, uint64_t most_cells);
 int leave_recording(void);             /* in a process made by fork; does it go on in memory? */
-time_t seconds_now(void);              /* since any moment */
 int move_to_file(void);
 void close_recording(void);
 extern uint64_t segment_records;       /* after so many a segment of the record ends; 0: there is one alone */
