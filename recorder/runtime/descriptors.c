@@ -110,15 +110,8 @@ static void know_file(int f) {
 
 static void note_descriptor(enum operation operation, void *what, uint64_t caller) {
     if (!others) return;
-    int saved = errno;
-    thread *t = enter(MAY_YIELD);
-    if (t) {
-        end_copy(t);
-        put(t, operation, what, 0, caller);
-        give_turn(t);
-        leave(t);
-    }
-    errno = saved;
+    note(operation, what, caller);
+    let_others_run();
 }
 
 void note_transfer(enum operation operation, int f, uint64_t caller) {

@@ -32,12 +32,8 @@ typedef const struct timespec *deadline;
 /* ENDS: recorded before it; it may wait for those who still use the object. */
 #define ENDS(type, name, parameter) \
     PUBLIC type name(parameter *object) { \
-        thread *t = others ? enter(MAY_YIELD) : 0; \
-        if (t) { \
-            if (!tells_its_own_order(CALLER)) put(t, OP_DESTROY, object, 0, CALLER); \
-            give_turn(t); \
-            leave(t); \
-        } \
+        if (others && !tells_its_own_order(CALLER)) note(OP_DESTROY, object, CALLER); \
+        let_others_run(); \
         return REAL(name)(object); \
     }
 #define LOCKS(name, operation, quick, parameters, arguments) \
@@ -187,11 +183,9 @@ static int real_acquire(char *byte) { return REAL(__cxa_guard_acquire) ? REAL(__
 static int real_release(char *byte) { return REAL(__cxa_guard_release) ? REAL(__cxa_guard_release)(byte) : plain_release(byte); }
 static int real_abort(char *byte) { return REAL(__cxa_guard_abort) ? REAL(__cxa_guard_abort)(byte) : plain_abort(byte); }
 PUBLIC int __cxa_guard_acquire(char *byte) {
-    thread *t = enter(MAY_YIELD);
-    if (!t) return real_acquire(byte);
-    int r = BLOCKING(t, real_acquire(byte));
-    if (others) put(t, OP_ATOMIC_LOAD, byte, 1 | __ATOMIC_ACQUIRE << ATOMIC_SIZE_BITS, CALLER);
-    leave(t);
+    let_others_run();
+    int r = real_acquire(byte);
+    note_atomic(OP_ATOMIC_LOAD, byte, 1, CALLER);
     return r;
 }
 /* What was done for the variable until here comes before what the next thread does for it, also where it threw. */

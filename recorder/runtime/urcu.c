@@ -13,12 +13,10 @@ static char readers, writers;
 #define ENDS_READING(name) GIVES_BY(void, name, OP_POST, &readers, 0, DONE(REAL(name)()), (void))
 #define WAITS_FOR_READERS(name) \
     PUBLIC void name(void) { \
-        thread *t = enter(MAY_YIELD); \
-        if (!t) return REAL(name)(); \
-        put(t, OP_POST, &writers, 0, CALLER); \
-        BLOCKING(t, DONE(REAL(name)())); \
-        put(t, OP_WAIT, &readers, 0, CALLER); \
-        leave(t); \
+        note(OP_POST, &writers, CALLER); \
+        let_others_run(); \
+        REAL(name)(); \
+        note(OP_WAIT, &readers, CALLER); \
     }
 /* The thread that calls the function waits for readers before. It may begin here. */
 #define CALLS_LATER(name) \
