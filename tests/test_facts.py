@@ -1,6 +1,5 @@
 """The facts of the view, read again by facts_reader.py: of made traces, and of programs with a line to blame where the recorder is built."""
 
-import argparse
 import collections
 import os
 import tempfile
@@ -10,7 +9,7 @@ import facts_reader
 import facts_traces
 import program
 import shb
-from viewing import QUIET
+from viewing import QUIET, asked
 
 from shb_common.report import Counts
 from shb_common.result import text
@@ -33,16 +32,14 @@ def facts_of(trace, stacks, written=None):
         for one in (file, report, beside):
             one.flush()
         report.seek(0)
-        given = view.Given("report", report, Verdict(None, ""), None)
+        given = view.Given((), report, Verdict(None, ""), None)
         counts, gathered = Counts(*shb.counts_of(shb.read_trace(trace)[0])), Gathered()
-        view.read_report(given, counts, gathered, QUIET)
-        its = Stacks(beside.name, counts.events)
-        gathered.name_locals(its)
-        kinds = view.Kinds(gathered, its)
-        options = argparse.Namespace(html=False, all=False, unseen={}, shb=program.PATH)
+        view.read_report(given, gathered, QUIET)
+        kinds = view.Kinds(gathered, Stacks(beside.name, counts.events))
         shown = types.SimpleNamespace(kinds=kinds, gathered=gathered)
-        made = view.Subject(given, counts, 0, 0, "", counts.events, None)
-        for section in view.make_sections(options, kinds, made, Trace(file, QUIET), gathered.groups())[1]:
+        made = view.Subject(given, counts, 0, False, counts.events)
+        how = asked()._replace(has_windows=False)
+        for section in view.make_sections(how, kinds, made, Trace(file, QUIET), gathered.groups())[1]:
             yield result.group_entry(shown, section), [tuple(map(text, pair.locations)) for pair in section.group.pairs]
 
 

@@ -117,11 +117,6 @@ places.std: 6 races at 3 places, in 1 group (4 events, 4 threads, 0 locks, 1 var
 """
 
 
-def noted(text, note):
-    """A text with a note behind its groups."""
-    return f"{text}\n{note}\n"
-
-
 class Text(program.Case):
     def test_examples_by_hand(self):
         for name, said, options in (("fork-join", FORK_JOIN, []), ("fork-join", FORK_JOIN_ALL, ["--all"]),
@@ -138,46 +133,6 @@ class Text(program.Case):
         with tempfile.NamedTemporaryFile(suffix=".std") as empty:
             name = pathlib.Path(empty.name).name
             self.expect(run([empty.name]), 0, f"{name}: 0 races (0 events, 0 threads, 0 locks, 0 variables)\nThe trace has no events.\n".encode())
-
-    def test_a_report_that_is_given(self):
-        """It isn't checked unless that is asked for, and its counts are its own."""
-        words = [EXAMPLES / "fork-join.std", EXAMPLES / "fork-join.report"]
-        self.expect(run(words), 0, noted(FORK_JOIN, "The report wasn't checked (--check does it).").encode())
-        self.expect(run(["--check", *words]), 0, noted(FORK_JOIN, "shb check: ok 1").encode())
-        self.assertEqual(run(["--all", "--check", *words]).out.decode().splitlines()[-9:-6], [
-            "     In this trace no lock is held at any access; 2 threads write, at start.c:6 and worker.c:3.",
-            "     Remedy: make it atomic if it is a flag or a counter; else hold one lock at start.c:6 and worker.c:3.",
-            "     `shb check` found the schedule of race 1 good: after its 3 events both accesses can execute next."])
-        said = run(["--all", *words]).out.decode()
-        self.assertIn("     No schedule of this race is at hand: events are shown in the order of the trace.\n", said)
-        self.assertNotIn("come next", said)
-
-    def test_a_report_on_standard_input(self):
-        with open(EXAMPLES / "fork-join.report", "rb") as report:
-            answer = run(["--check", EXAMPLES / "fork-join.std", "-"], stdin=report)
-        self.expect(answer, 0, noted(FORK_JOIN, "shb check: ok 1").encode())
-        read_end, write_end = os.pipe()
-        os.write(write_end, (EXAMPLES / "fork-join.report").read_bytes())
-        os.close(write_end)
-        with open(read_end, "rb") as report:
-            self.expect(run(["--check", EXAMPLES / "fork-join.std", "-"], stdin=report), 0, noted(FORK_JOIN, "shb check: ok 1").encode())
-
-    def test_a_bad_report_is_said_first(self):
-        bad = (EXAMPLES / "places.report").read_bytes().replace(b"schedule 0:", b"schedule 1: 1", 1)
-        answer = run(["--all", "--check", EXAMPLES / "places.std", self.file(bad, "t.report")])
-        self.assertEqual((answer.status, answer.err), (1, b""))
-        said = answer.out.decode().splitlines()
-        self.assertEqual(said[0], "`shb check` finds the report bad: bad race 1. What follows rests on this report alone.")
-        self.assertEqual(said[1], "places.std: 6 races at 3 places, in 1 group (4 events, 4 threads, 0 locks, 1 variable)")
-        self.assertIn("     No schedule of this race is at hand: events are shown in the order of the trace.", said)
-        self.assertNotIn("come next", answer.out.decode())
-
-    def test_a_report_without_schedules(self):
-        trace = (EXAMPLES / "fork-join.std").read_bytes()
-        words = [EXAMPLES / "fork-join.std", self.file(shb.report(trace, False), "t.report")]
-        said = noted(FORK_JOIN, "The report has no schedules, so `shb check` can't judge it.")
-        for options in ([], ["--check"]):
-            self.expect(run([*options, *words]), 0, said.encode())
 
     def test_colours_on_a_terminal_alone(self):
         words = [EXAMPLES / "fork-join.std"]
@@ -528,16 +483,6 @@ class Groups(program.Case):
         out = run_here([self.file(trace_of(*events))])[1]
         self.assertIn("   Variables: first and served\n", out)
 
-    def test_a_report_of_some_races(self):
-        """The report of `places` has one race of each place."""
-        with open(self.folder / "t.report", "wb") as report:
-            program_said = program.run(["places", EXAMPLES / "places.std"]).out
-            report.write(program_said)
-        said = run_here([EXAMPLES / "places.std", self.folder / "t.report"])[1].splitlines()
-        self.assertEqual(said[0], "places.std: 3 of 6 races at 3 places, in 1 group (4 events, 4 threads, 0 locks, 1 variable)")
-        self.assertEqual([said[-3], said[-1], said[2]], ["", "The report doesn't list all races of the trace; the counts are the report's.",
-                                     "1. total: Counter.java:12 writes, Report.java:30 reads without a lock (3 races, 3 places)"])
-
     def test_two_hundred_groups_are_shown_whole(self):
         more = "201. x200: f.c:400 and f.c:401 write without a lock (1 race, 1 place)\n" \
                "202. x201: f.c:402 and f.c:403 write without a lock (1 race, 1 place)\n"
@@ -739,14 +684,15 @@ class Waiting(program.Case):
         self.assertEqual(said.out.getvalue(), "\r\x1b[Kshb-view: reading 25%\r\x1b[K")
 
     def test_words_go_away_before_a_refusal(self):
-        report = (EXAMPLES / "places.report").read_bytes().replace(b"end\n", b"")
+        fake = self.file(b'#!/bin/sh\nif [ $1 = places ]; then %b "$@" | sed "\$d"; else exec %b "$@"; fi\n' % ((bytes(program.PATH),) * 2), "shb")
+        fake.chmod(0o755)
         wait, progress.WAIT = progress.WAIT, 0.0
         self.addCleanup(setattr, progress, "WAIT", wait)
         terminal = self.terminal()
         with contextlib.redirect_stderr(terminal):
-            status = command.main([str(EXAMPLES / "places.std"), str(self.file(report, "t.report"))], program.PATH)
-        self.assertEqual(status, 1)
-        self.assertRegex(terminal.getvalue(), r"\A\r\x1b\[Kshb-view: reading the report \d+%.*\r\x1b\[Kshb-view: line 38 of the report is "
+            status = command.main([str(EXAMPLES / "places.std")], fake)
+        self.assertEqual(status, 2)
+        self.assertRegex(terminal.getvalue(), r"\A\r\x1b\[Kshb-view: reading the report \d+%.*\r\x1b\[Kshb-view: line 26 of the report is "
                                               r"missing; it should be `end`\n\Z")
 
     def test_words_go_away_before_the_text(self):

@@ -7,17 +7,14 @@ import shutil
 import signal
 import subprocess
 import sys
-import threading
 from unittest import mock
 
 import program
-import shb
 from viewing import EXAMPLES, PYTHON, run, run_here, settings
 
 from shb_common import files, standard
 
 TRACE = EXAMPLES / "fork-join.std"
-REPORT = EXAMPLES / "fork-join.report"
 
 
 class Fake(program.Case):
@@ -53,18 +50,6 @@ exec REAL "$@"
                          "fork-join.std: 900,000,000 races at 1 place, in 1 group (7 events, 2 threads, 0 locks, 2 variables)")
         self.assertIn("\n1. count: start.c:6 and worker.c:3 write without a lock (900,000,000 races, 1 place)\n", out)
         self.assertIn("     races with worker.c:3 (900,000,000 races)", out)
-
-    def test_notes_stand_below_the_title(self):
-        words = ["--note", "The trace is cut <b>here</b>.", "--note", "Two\x1b\nlines.", TRACE]
-        out = run_here(words)[1]
-        title, first, second = out.splitlines()[:3]
-        self.assertTrue(title.startswith("fork-join.std: 1 race "), title)
-        self.assertEqual(first, "The trace is cut <b>here</b>.")
-        self.assertRegex(second, r"\ATwo[^\x1b]+lines\.\Z")
-        page = self.folder / "page.html"
-        self.assertEqual(run_here(["--html", page, *words])[0], 0)
-        self.assertIn('</h1><p class="verdict bad">The trace is cut &lt;b&gt;here&lt;/b&gt;.</p><p class="verdict bad">Two',
-                      page.read_text())
 
     def test_no_schedules_where_they_would_be_long(self):
         """A thousand places and 20,000 events: 140 MB. The program is asked for no schedule."""
@@ -106,13 +91,13 @@ exec REAL "$@"
         """The page has all groups."""
         trace, page = EXAMPLES / "unlocked-read.std", self.folder / "page.html"
         only = {(b"main.c:12", b"queue.c:29"): {b"closed"}}
-        status, out, err = run_here(["--text", "--html", page, trace], only=only)
+        status, out, err = run_here(["--text", "--html", page, trace], new=only)
         self.assertEqual((status, err), (0, ""))
         self.assertIn("\nOf 2 groups 1 are shown, those with a place that is asked for.\n\n2. closed: ", out)
         self.assertNotIn("items", out)
         self.assertIn("items", page.read_text())
         only = {(b"main.c:12", b"queue.c:29"): {b"items"}}
-        self.assertIn("\nOf 2 groups 0 are shown", run_here([trace], only=only)[1])
+        self.assertIn("\nOf 2 groups 0 are shown", run_here([trace], new=only)[1])
 
     def test_what_is_said_of_the_recorder(self):
         """Text, page and the result for programs have it; it is escaped."""
@@ -129,7 +114,7 @@ exec REAL "$@"
                          [("start.c:6", {"write": 1}, {"main": 1}), ("worker.c:3", {"write": 1}, {"worker": 1})])
         self.assertEqual((place["places"], place["races"], place["variables"]), (1, 1, [{"name": "count", "races": 1}]))
 
-    def test_a_fault_of_the_view_itself_is_no_bad_report(self):
+    def test_a_fault_of_the_view_itself(self):
         with mock.patch("shb_view.command.make_view", lambda *_: None):
             status, out, err = run_here([TRACE])
         self.assertEqual((status, out, err.startswith("shb-view: Traceback ")), (2, "", True))
@@ -143,7 +128,7 @@ exec REAL "$@"
         trace = os.fsencode(self.folder) + b"/\xff.std"
         with open(trace, "wb") as file:
             file.write(TRACE.read_bytes())
-        answer = run(["--check", trace, REPORT])
+        answer = run([trace])
         self.assertEqual((answer.status, answer.err), (0, b""))
         self.assertTrue(answer.out.startswith(b"\\xff.std: 1 race "))
 
@@ -183,14 +168,10 @@ exec REAL "$@"
         self.assertEqual(self.said(["--shb", self.fake("kill -9 $$\n"), TRACE]), "`shb races --list` was ended by signal 9")
         script = "[ $1 = places ] && kill -9 $$; exec REAL \"$@\"\n"
         self.assertEqual(self.said(["--shb", self.fake(script), TRACE]), "`shb places` was ended by signal 9")
-        script = "[ $1 = check ] && kill -9 $$; exec REAL \"$@\"\n"
-        self.assertEqual(self.said(["--check", "--shb", self.fake(script), TRACE, REPORT]), "`shb check` was ended by signal 9")
 
     def test_a_program_that_fails(self):
         script = "[ $1 = places ] && { echo 'out of memory' >&2; exit 4; }; exec REAL \"$@\"\n"
         self.assertEqual(self.said(["--shb", self.fake(script), TRACE]), "`shb places` ended with status 4: out of memory")
-        script = "[ $1 = check ] && { echo 'out of memory' >&2; exit 4; }; exec REAL \"$@\"\n"
-        self.assertEqual(self.said(["--check", "--shb", self.fake(script), TRACE, REPORT]), "`shb check` ended with status 4: out of memory")
         self.assertEqual(self.said(["--shb", self.fake("exit 4\n"), TRACE]), "`shb races --list` ended with status 4")
         self.assertEqual(self.said(["--shb", self.fake("printf 'a\\033[31m\\nb' >&2; exit 4\n"), TRACE]),
                          "`shb races --list` ended with status 4: a\\x1b[31m\\x0ab")
@@ -198,20 +179,6 @@ exec REAL "$@"
                          f"`shb races --list` ended with status 4: {'x' * 99}…{'x' * 100}")
         self.assertEqual(self.said(["--shb", self.fake("echo hello\n"), TRACE]),
                          "`shb races --list` wrote no report: line 1 of the report is `hello`; it should be `shb-report 2`")
-
-    def test_a_verdict_without_words(self):
-        script = "[ $1 = check ] && exit 5; exec REAL \"$@\"\n"
-        status, out, _ = run_here(["--check", "--shb", self.fake(script), TRACE, REPORT])
-        self.assertEqual((status, out.splitlines()[0]), (
-            1, "`shb check` finds the report bad: it ended with status 5 and no word. What follows rests on this report alone."))
-
-    def test_a_verdict_of_many_words(self):
-        """Also where the program writes more than a pipe holds, to both."""
-        script = "[ $1 = check ] && { yes bad | head -c 300000; yes 'line' | head -c 300000 >&2; exit 5; }; exec REAL \"$@\"\n"
-        status, out, _ = run_here(["--check", "--shb", self.fake(script), TRACE, REPORT])
-        self.assertEqual(status, 1)
-        self.assertLess(len(out.splitlines()[0]), 400)
-        self.assertTrue(out.startswith("`shb check` finds the report bad: bad\\x0abad"))
 
     def test_no_such_program(self):
         none = self.folder / "no\nne"
@@ -244,29 +211,13 @@ class Files(Fake):
         none = self.folder / "no\x1bne"
         shown = f"{self.folder}/no\\x1bne"
         self.assertEqual(self.said([none]), f"{shown}: No such file or directory")
-        self.assertEqual(self.said([TRACE, none]), f"{shown}: No such file or directory")
         self.assertEqual(self.said([self.folder]), f"{self.folder} isn't a regular file: the trace is read more than once, so save it to a file")
-        self.assertEqual(self.said([TRACE, self.folder]), f"{self.folder}: Is a directory")
-        self.assertEqual(self.said([TRACE, "/proc/self/mem"]), "/proc/self/mem: Input/output error")
         self.assertEqual(self.said(["--source", none, TRACE]), f"--source: {shown} isn't a folder")
 
     def test_a_pipe_is_no_trace(self):
         os.mkfifo(self.folder / "pipe")
         self.assertEqual(self.said(["-"]), "- isn't a regular file: the trace is read more than once, so save it to a file")
         self.assertEqual(self.said([self.folder / "pipe"]), f"{self.folder}/pipe isn't a regular file: the trace is read more than once, so save it to a file")
-
-    def test_a_pipe_may_be_a_report(self):
-        pipe = self.folder / "pipe"
-        os.mkfifo(pipe)
-        writer = threading.Thread(target=lambda: pipe.write_bytes(REPORT.read_bytes()))
-        writer.start()
-        status, out, _ = run_here(["--check", TRACE, pipe])
-        writer.join()
-        self.assertEqual((status, out.splitlines()[-1]), (0, "shb check: ok 1"))
-
-    def test_what_has_no_end_is_no_report(self):
-        said = self.said([TRACE, "/dev/zero"], 1)
-        self.assertTrue(said.startswith("line 1 of the report is too long: `\\x00\\x00"), said)
 
     def test_places_that_cannot_be_written(self):
         self.assertEqual(self.said(["--html", self.folder, TRACE]), f"{self.folder} isn't a regular file")
@@ -279,13 +230,13 @@ class Files(Fake):
         self.assertFalse((self.folder / "ran").exists())
 
     def test_the_page_never_takes_the_place_of_an_input(self):
-        trace, report = self.file(TRACE.read_bytes()), self.file(REPORT.read_bytes(), "t.report")
+        trace = self.file(TRACE.read_bytes())
         hard, soft = self.folder / "hard", self.folder / "soft"
         os.link(trace, hard)
-        soft.symlink_to(report)
-        for path, at in ((trace, trace), (report, report), (hard, trace), (soft, report)):
+        soft.symlink_to(trace)
+        for path in (trace, hard, soft):
             before = path.read_bytes()
-            self.assertEqual(self.said(["--html", path, trace, report]), f"the page would take the place of {at}")
+            self.assertEqual(self.said(["--html", path, trace]), f"the page would take the place of {trace}")
             self.assertEqual(path.read_bytes(), before)
 
     def test_the_old_page_stays_where_a_new_one_fails(self):
@@ -334,7 +285,7 @@ class Statuses(Fake):
     def test_words(self):
         self.assertEqual(run([]).status, 3)
         self.assertEqual(run(["--help"]).status, 0)
-        answer = run(["a", "b", "c\x1b[31m"])
+        answer = run(["a", "c\x1b[31m"])
         self.assertEqual((answer.status, answer.out), (3, b""))
         self.assertTrue(answer.err.endswith(b"shb-view: unrecognized arguments: c\\x1b[31m\n"))
         self.assertNotIn(b"\x1b", answer.err)
@@ -373,7 +324,6 @@ class Statuses(Fake):
         answer = closed('"$@" <&- >&- 2>&-', "--html", page, TRACE)
         self.assertEqual(answer.returncode, 0)
         self.assertTrue(page.read_bytes().endswith(b"</html>\n"))
-        self.assertEqual(closed('"$@" <&-', TRACE, "-").returncode, 1)  # an empty report
 
     def test_stopped(self):
         """By the signal of a terminal, while `shb` runs. A test that runs in the background may have been told to ignore it."""

@@ -1,16 +1,18 @@
 """The page of python/shb-view, parsed: what it has, that names stay names, and that no line crosses a text."""
 
 import base64
+import contextlib
 import hashlib
 import html.parser
+import io
 import json
 import re
 
 import program
 import shb
-from viewing import EXAMPLES, MADE, made, run_here, windows
+from viewing import EXAMPLES, MADE, asked, made, recorded_run, run_here, windows
 
-from shb_view import names, picture
+from shb_view import command, names, picture
 
 VOID = {"br", "meta"}
 HOSTILE = [b"<script>alert(1)</script>", b'"><img src=x onerror=alert(1)>', b"' onload='alert(1)", b"&lt;b&gt;&amp;&#60;",
@@ -113,7 +115,7 @@ class Pages(program.Case):
 
     def test_known_groups_are_folded_behind_the_others(self):
         only = {(b"main.c:11", b"queue.c:22"): {b"items"}}
-        self.assertEqual([(attributes["class"], text) for attributes, text in self.page(self.example("unlocked-read"), only=only).all("span", "tag")],
+        self.assertEqual([(attributes["class"], text) for attributes, text in self.page(self.example("unlocked-read"), new=only).all("span", "tag")],
                          [("tag new", "new"), ("tag known", "known")])
 
     def test_commands_that_run_it_again(self):
@@ -192,19 +194,34 @@ class Pages(program.Case):
         self.assertEqual(page.all("title")[0][1], "<b>&\"\\x1b.std: 1 race at 1 place, in 1 group")
 
     def test_what_is_said_of_schedules_and_verdicts(self):
-        trace, report = self.example("places"), (EXAMPLES / "places.report").read_bytes()
-        own = self.page(trace)
+        own = self.page(self.example("places"))
         self.assertEqual(own.all("p", "verdict"), [])
         self.assertIn("`shb places` has a schedule of it, race 1: after its 0 events both accesses can execute next.",
                       "".join(text for _, text in own.all("details")))
-        good = self.page(trace, self.file(report, "t.report"), "--check")
-        self.assertEqual([text for _, text in good.all("p", "verdict")], ["shb check: ok 6"])
-        self.assertEqual([attributes["class"] for attributes, _ in good.all("p", "verdict")], ["verdict good"])
-        self.assertIn("good: after its 0 events both accesses can execute next.", "".join(text for _, text in good.all("details")))
-        unchecked = self.page(trace, self.file(report, "t.report"))
-        self.assertEqual(unchecked.all("p", "verdict"), [])
-        self.assertIn("The report wasn't checked (--check does it).", [text for _, text in unchecked.all("p")])
-        self.assertNotIn("come next", "".join(text for _, text in unchecked.all("body")))
+        good, said = self.of_run(program.PATH)
+        verdict = "Each race that the page shows has a schedule in the page's trace: shb places --variables page.std | shb check page.std finds them good."
+        self.assertEqual([(attributes["class"], re.sub(r"\S+/page.std", "page.std", text)) for attributes, text in good.all("p", "verdict")],
+                         [("verdict good", verdict)])
+        self.assertIn("good: after its 0 events of the page's trace both accesses can execute next.", "".join(text for _, text in good.all("details")))
+        self.assertEqual(said, "")
+
+    def of_run(self, shb):
+        """The page of a recorded run whose schedules this program makes and judges, and what else was said."""
+        trace, uses, stacks, path = (self.folder / name for name in ("page.std", "uses", "stacks", "page.html"))
+        trace.write_bytes((EXAMPLES / "places.std").read_bytes())
+        used = re.findall(rb"(.*)\|([rw])\((.*)\)\|(.*)\n", trace.read_bytes())
+        uses.write_bytes(b"".join(b"use\t1\t%b\t%b\t\t%b\t%b\t0\nevent\t%d\t%d\n" % (word, name, thread, at, number, number)
+                                  for number, (thread, word, name, at) in enumerate(used, 1)) + b"events\t4\n")
+        stacks.write_bytes(b"shb-stacks 1 %020d\n" % 4 + bytes(16))
+        with contextlib.redirect_stderr(io.StringIO()) as said:
+            command.explain(command.show_run, recorded_run(trace, uses, stacks), asked(shb), path, io.TextIOWrapper(io.BytesIO(), "utf-8"))
+        return Page(path.read_text(encoding="utf-8")), said.getvalue()
+
+    def judged(self, script):
+        """The same if `shb check` is this script."""
+        fake = self.file(b"#!/bin/sh\nif [ $1 = check ]; then %b; fi\nexec %b \"$@\"\n" % (script, bytes(program.PATH)), "shb")
+        fake.chmod(0o755)
+        return self.of_run(fake)
 
     def test_commands_in_sentences_are_code(self):
         """They are between backticks in the text for an issue and in the data alone."""
@@ -213,27 +230,24 @@ class Pages(program.Case):
         self.assertEqual([text for _, text in page.all("p") if "`" in text], [])
 
     def test_a_bad_verdict_comes_first_and_is_red(self):
-        path = self.folder / "page.html"
-        report = (EXAMPLES / "places.report").read_bytes().replace(b"schedule 0:", b"schedule 1: 1", 1)
-        words = ["--html", path, "--check", EXAMPLES / "places.std", self.file(report, "t.report")]
-        self.assertEqual(run_here(words), (1, "", ""))
-        page = Page(path.read_text(encoding="utf-8"))
-        said = "shb check finds the report bad: bad race 1. What follows rests on this report alone."
+        page, _ = self.judged(b"printf 'ok <b>\\033[31m\\n'; exit 5")
+        said = "shb check finds the schedules of this page bad: ok <b>\\x1b[31m. None is shown."
         self.assertEqual(page.all("p")[0], ({"class": "verdict bad"}, said))
         self.assertTrue(page.all("header")[0][1].startswith(said))
-        self.assertNotIn("come next", page.all("body")[0][1])
+        self.assertEqual((page.all("b"), "come next" in page.all("body")[0][1]), ([], False))
 
-    def test_the_verdict_of_another_program_is_escaped_and_coloured_by_its_status(self):
-        """This `check` says `ok <b>` and ends with the status of a bad report."""
-        path = self.folder / "page.html"
-        fake = self.file(b"#!/bin/sh\nif [ $1 = check ]; then printf 'ok <b>\\033[31m\\n'; exit 5; fi\nexec %b \"$@\"\n"
-                         % bytes(program.PATH), "shb")
-        fake.chmod(0o755)
-        self.assertEqual(run_here(["--html", path, "--check", "--shb", fake, EXAMPLES / "places.std", EXAMPLES / "places.report"])[0], 1)
-        page = Page(path.read_text(encoding="utf-8"))
-        self.assertEqual(page.all("p")[0][0], {"class": "verdict bad"})
-        self.assertIn("ok <b>\\x1b[31m. What", page.all("p")[0][1])
-        self.assertEqual(page.all("b"), [])
+    def test_a_verdict_without_words_or_of_many(self):
+        """Also if the program writes more than a pipe holds, to both."""
+        said = self.judged(b"exit 5")[0].all("p")[0][1]
+        self.assertEqual(said, "shb check finds the schedules of this page bad: it ended with status 5 and no word. None is shown.")
+        said = self.judged(b"yes bad | head -c 300000; yes line | head -c 300000 >&2; exit 5")[0].all("p")[0][1]
+        self.assertTrue(said.startswith("shb check finds the schedules of this page bad: bad\\x0abad"), said)
+        self.assertLess(len(said), 400)
+
+    def test_a_judge_that_fails(self):
+        for script, how in ((b"kill -9 $$", "was ended by signal 9"), (b"echo 'out of memory' >&2; exit 4", "ended with status 4: out of memory")):
+            page, _ = self.judged(script)
+            self.assertIn(f"No schedules were made: shb check {how}", [text for _, text in page.all("p")])
 
     def test_no_races(self):
         page = self.page(self.example("hidden-by-lock"))

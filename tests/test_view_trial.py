@@ -2,17 +2,15 @@
 
 import array
 import collections
-import json
 import re
 import unittest.mock
 
 import facts_reader
 import program
-import viewing  # puts the view's packages on the path
+from viewing import QUIET, asked, recorded_run
 
-from shb_common.uses import Uses
-from shb_view import trial
-from shb_view.command import asked, explain
+from shb_view import result, trial
+from shb_view.view import view_of_run
 
 HANDED = ["main|fork(A)|f.c:1", "main|fork(B)|f.c:1", "A|w(x)|f.c:2", "B|r(x)|f.c:6"]
 FLAG = ["use 4\tflag\tA\tf.c:3\tstore relaxed", "use 4\tflag\tB\tf.c:5\tload relaxed"]
@@ -29,10 +27,9 @@ class Trials(program.Case):
     def group(self, lines, beside=(), more=(), stacks=(), held=()):
         """The only group of a run with these lines, which are the page's trace too; and its remedy. Pairs in
         `held` are locations with the lock that is held there."""
-        paths = {name: self.folder / f"page.{name}" for name in ("std", "places", "stacks", "uses", "json")}
+        paths = {name: self.folder / f"page.{name}" for name in ("std", "stacks", "uses")}
         trace = "".join(f"{line}\n" for line in lines).encode()
         paths["std"].write_bytes(trace)
-        paths["places"].write_bytes(program.run(["places", "--list", "--variables"], trace).out)
         numbers = array.array("I", stacks or [0] * len(lines))
         stacks = b"shb-stacks 1 %020d\n" % len(lines) + numbers.tobytes()
         stacks += "".join(f"{line}\n" for line in beside).encode()
@@ -44,13 +41,11 @@ class Trials(program.Case):
         events = [f"event\t{number}\t{number}" for number in range(1, len(lines) + 1)]
         whole = [*kinds, *events, *more, f"events\t{len(lines)}"]
         paths["uses"].write_text("".join(f"{line}\n" for line in whole))
-        options = asked(str(paths["std"]), listed=str(paths["places"]), uses=Uses(paths["uses"]),
-                        stacks=str(paths["stacks"]), json=str(paths["json"]), shb=str(program.PATH))
-        status, _ = explain(options, None)
-        document = json.loads(paths["json"].read_text())
+        run = recorded_run(*(paths[name] for name in ("std", "uses", "stacks")))
+        document = result.document(view_of_run(run, asked()._replace(has_windows=False), QUIET))
         [group], [remedy] = document["groups"], {place["remedy"] for place in document["places"]}
         self.reader = facts_reader.Reader(trace, stacks, paths["uses"].read_bytes())
-        self.assertEqual((status, self.faults(group)), (0, []))
+        self.assertEqual(self.faults(group), [])
         return group, remedy
 
     def faults(self, group, **more):

@@ -1,6 +1,5 @@
 """Runs python/shb-view, as a command and in this process, on texts."""
 
-import argparse
 import contextlib
 import io
 import os
@@ -8,6 +7,7 @@ import random
 import subprocess
 import sys
 import tempfile
+from unittest import mock
 
 import made_traces
 import program
@@ -17,8 +17,9 @@ PYTHON = program.HERE.parent / "python"
 EXAMPLES = program.HERE.parent / "examples"
 sys.path.insert(0, str(PYTHON))
 
-from shb_common.report import Counts
+from shb_common.report import Counts, Report
 from shb_common import progress
+from shb_common.uses import Uses
 from shb_view import command, view
 from shb_view.analyser import Verdict
 from shb_view.groups import Gathered
@@ -35,13 +36,24 @@ def sections(text, report, is_good=True):
         written.write(report)
         file.flush()
         written.seek(0)
-        given = view.Given("report", written, Verdict(is_good, ""), None)
+        given = view.Given((), written, Verdict(is_good, ""), None)
         counts, gathered = Counts(*shb.counts_of(shb.read_trace(text)[0])), Gathered()
-        view.read_report(given, counts, gathered, QUIET)
-        options = argparse.Namespace(html=True, all=False, unseen={}, shb=program.PATH)
+        view.read_report(given, gathered, QUIET)
         kinds = view.Kinds(gathered, view.Stacks())
-        made = view.Subject(given, counts, 0, 0, "", counts.events, None)
-        return view.make_sections(options, kinds, made, Trace(file, QUIET), gathered.groups())[1]
+        made = view.Subject(given, counts, 0, False, counts.events)
+        return view.make_sections(asked(), kinds, made, Trace(file, QUIET), gathered.groups())[1]
+
+
+def asked(shb=None):
+    """That all is to be shown, but sources."""
+    return view.Asked(shb or program.PATH, True, [], False, None)
+
+
+def recorded_run(trace, uses, stacks, **more):
+    """A run that was recorded: paths of its page's trace, which is the whole run, of its uses and of its stacks."""
+    listed = Report(io.BytesIO(program.run(["places", "--list", "--variables"], trace.read_bytes()).out))
+    uses = Uses(uses)
+    return view.RecordedRun(trace, listed.counts, list(listed.races()), uses, view.Stacks(stacks, uses.count), **more)
 
 
 def windows(text, report, is_good=True):
@@ -61,13 +73,12 @@ def run(words, command=PYTHON / "shb-view", **how):
 
 
 def run_here(words, **more):
-    """The same in this process: what isn't answered ends the test. `more` is what `shb-record` hands over besides."""
+    """The same in this process: what isn't answered ends the test. `more` is what `shb-record` hands over."""
     out, err = io.TextIOWrapper(io.BytesIO(), "utf-8"), io.StringIO()
     words, shb = [str(word) for word in words], os.environ.get("SHB") or program.PATH
     with contextlib.redirect_stdout(out), contextlib.redirect_stderr(err):
-        if more:
-            status, _ = command.explain(argparse.Namespace(**{**vars(command.arguments(words, shb)), **more}), out)
-        else:
+        of_run = view.RecordedRun(*[None] * 5, **more)
+        with mock.patch("shb_view.command.make_view", lambda *words: view.with_run(view.make_view(*words), of_run)) if more else contextlib.nullcontext():
             status = command.main(words, shb)
     out.flush()
     return status, out.buffer.getvalue().decode(), err.getvalue()

@@ -83,11 +83,11 @@ def words_in(said):
     return " ".join(without_note(said)[:MOST_WORDS].decode("utf-8", "backslashreplace").split())
 
 
-def places_in(report):
-    """The places of a `Report` that has one race of each variable at each place, as `places --list
+def places_in(races):
+    """The places of the races of a `Report` that has one race of each variable at each place, as `places --list
     --variables` writes it: each with its first so many variables."""
     found, more = {}, set()
-    for race, accesses in report.races():
+    for race, accesses in races:
         place, name = tuple(access.location for access in accesses), accesses[0].name
         by_variable = found.setdefault(place, {})
         if name in by_variable:

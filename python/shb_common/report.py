@@ -41,6 +41,11 @@ class Race(collections.namedtuple("Race", "number first second first_line second
     """A race of a report. `schedule` is where its schedule begins in the file, or None."""
 
 
+def race_of(events, accesses):
+    """A race without a number that has these events and their accesses."""
+    return Race(0, *events, *(b"%b|%b(%b)|%b" % access for access in accesses), None)
+
+
 class Schedule(collections.namedtuple("Schedule", "length events")):
     """How many events a schedule has, and which; None of more than MOST_EVENTS."""
 

@@ -10,23 +10,23 @@ from shb_common.printable import printable
 WORDS = b"r", b"w", b"a", b"f"
 MOST_DIGITS = 18
 
+# `word` is r, w, a (written atomically) or f (freed); `local` the local that a variable on a stack was then,
+# or nothing; `stack` the number of its call stack, or 0; `locks` are those held, the oldest first.
+Use = collections.namedtuple("Use", "count word variable local thread location stack locks")
+
 
 class BadUses(Exception):
     """The words say what is wrong with a file of uses."""
 
 
-class Use(collections.namedtuple("Use", "count word variable local thread location stack locks")):
-    """`word` is r, w, a (written atomically) or f (freed); `local` the local that a variable on a stack was then, or nothing;
-    `stack` the number of its call stack, or 0; `locks` are those held, the oldest first."""
-
-
 class Uses:
-    """`events` has for an event of the run that of the page's trace; `count` is how many that trace has. `parts` are those of its events
-    before which some of the run may be missing; `repeated` are those that stand for repeats before them. `sights` are a variable, and where it was
-    written and then read by another thread, in the run."""
+    """`events` has for an event of the run that of the page's trace, and `in_run` the other way; `count` is how many
+    that trace has. `parts` are those of its events before which some of the run may be missing; `repeated` are those
+    that stand for repeats before them; `sights` are a variable, and where it was written and then read by another
+    thread, in the run."""
 
     def __init__(self, path):
-        self.uses, self.events, self.parts, self.count = [], {}, [], None
+        self.uses, self.events, self.in_run, self.parts, self.count = [], {}, {}, [], None
         self.repeated, self.sights = set(), set()
         with open_regular(path) as file:
             for number, line in enumerate(file, 1):
@@ -47,7 +47,7 @@ class Uses:
             self.uses.append(Use(number_of(count), word, *where, number_of(stack), tuple(fields[8:])))
         elif kind == b"event":
             in_page, in_run = map(number_of, fields[1:])
-            self.events[in_run] = in_page
+            self.events[in_run], self.in_run[in_page] = in_page, in_run
         elif kind == b"repeated":
             self.repeated.update(map(number_of, fields[1:]))
         elif kind == b"seen":

@@ -38,7 +38,7 @@ def listed(work, trace):
             return told(end, trace), []
         try:
             report = report_in(out)
-            places = list(map(place_of, analyser.places_in(report)))
+            places = list(map(place_of, analyser.places_in(report.races())))
         except BadReport as fault:
             return not_whole(fault), []
         return End("report", "; ".join([words_of(report.counts), *notes_of(trace, report.counts)])), places
@@ -56,7 +56,7 @@ def kept(work, name, trace):
         if end.kind != "report":
             return told(end, trace)
         if work.view and is_full:
-            put_found(work, trace, new, name)
+            put_found(work, trace, name)
         size = os.fstat(out.fileno()).st_size
         put_file(new, passes.kept_path(work.out, name))
         return End("report", str(size))
@@ -113,12 +113,13 @@ def place_of(place):
     return place._replace(variables=by_name)
 
 
-def put_found(work, trace, report, name):
-    """Has the view say what is known of the places of a report. Where it fails, that is left out."""
+def put_found(work, trace, name):
+    """Has the view say what is known of the places of a trace. If it fails, that is left out."""
     stacks = calls.file_of(work.traces, name, work.links)
     path = passes.found_path(work.out, name)
     path.parent.mkdir(parents=True, exist_ok=True)
-    words = [*started_by(work.view), "--shb", work.shb, "--json", str(path), *(["--stacks", stacks] if stacks else []), f"/dev/fd/{trace.fileno()}", report]
+    beside = ["--stacks", stacks] if stacks else []
+    words = [*started_by(work.view), "--shb", work.shb, "--json", str(path), *beside, f"/dev/fd/{trace.fileno()}"]
     with open(os.devnull, "wb") as out:
         running.run(work, words, trace, out, pass_fds=[trace.fileno()])
 

@@ -11,6 +11,8 @@ import tempfile
 
 from shb_common.children import apart
 from shb_common.faults import Refused
+from shb_common.stacks import BadStacks, Stacks
+from shb_common.sums import sha256
 from shb_common.uses import BadUses, Uses
 from shb_common.words import counted
 from shb_record.parts import CONVERTER
@@ -45,7 +47,6 @@ def processes(folder, number):
 
 
 def process_of(record, name, base):
-    """The process that a record is of, or a segment of one."""
     with open(record, "rb") as file:
         header = file.read(HEADER_BYTES)
     command = re.search(rb"^command (.*)$", header, re.M)
@@ -75,9 +76,9 @@ def check_room(process, most_events):
 
 
 class Conversion:
-    """Turns a record into the run's trace, for `shb places --list`, and where that finds races into the trace
-    of their page. `trace`, `uses` and `stacks` are of that trace, `place_list` is the list of places; `numbers` has
-    for the events of a race those of that trace, if it has both in one part."""
+    """Turns a record into the run's trace, for `shb places --list`, and if that finds races into the trace of their page.
+    `trace`, `uses` and `stacks` are the files of that trace, `place_list` is the list of places; `numbers` has for the events
+    of a race those of that trace, if it has both in one part."""
 
     def __init__(self, process, options):
         self.process = process
@@ -91,8 +92,8 @@ class Conversion:
         self.words = [CONVERTER, "--list", "--only", "/dev/stdin", "--page", self.trace, "--uses", self.uses, "--stacks", self.stacks,
                       *(["--left", self.left] if options.live else []), *self.page_words]
         self.size, self.notes, self.cuts = "", [], []  # known at the end: how much there is, what is said of it, what makes it a part
-        self.numbers, self.used = {}, None  # `used`: what the file of uses has, once there is a page's trace
-        self.found = []  # the places of the run, once they are listed
+        self.numbers, self.used, self.called = {}, None, None  # `used` and `called` have what the files of a page's trace have
+        self.found, self.races, self.counts = [], [], None  # of the run, once they are listed
 
     def places(self, listed, choose):
         """Finds the places of the run. The page's trace then has those that `choose` returns of them."""
@@ -103,6 +104,7 @@ class Conversion:
                 chosen, fault = [], None
                 try:
                     self.found = listed.places()
+                    self.races, self.counts = listed.races, listed.counts
                     chosen = choose(self.process, self.found)
                 except Refused as its:
                     fault = its
@@ -124,8 +126,11 @@ class Conversion:
         """The page's trace is there: its events that are those of races of the run have the same lines."""
         try:
             uses = Uses(self.uses)
+            self.called = Stacks(self.stacks, uses.count)
         except BadUses as fault:
             raise Contradiction(f"{self.process.name}: the file of uses {fault}") from None
+        except BadStacks as fault:
+            raise Refused(f"{self.stacks} {fault}") from None
         races = [race for place in places for race in place.variables.values()]
         asked = {event for race in races for event in race.events}
         has_all = uses.count < self.window and max(asked) - min(asked) <= self.window  # else some may have given way
@@ -173,8 +178,7 @@ def lines_of(places):
 
 def order_of(record):
     """A sum of the threads and operations of a record, in their order: of two runs that do the same in other orders they differ."""
-    import hashlib  # takes its time, and most calls are of one run
-    found = hashlib.sha256()
+    found = sha256()
     with open(record, "rb") as file:
         file.seek(HEADER_BYTES)
         for part in iter(lambda: file.read(1 << 20), b""):

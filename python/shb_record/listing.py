@@ -21,7 +21,7 @@ class Listing:
 
     def __init__(self, room):
         self.text = tempfile.TemporaryFile(dir=room)
-        self.events = 0  # of the run, when all is read
+        self.races, self.counts = [], None  # of the run, when all is read, as a `Report` has them
         reading, self.descriptor = os.pipe()
         with open(reading, "rb") as pipe:
             self.run = analyser.Run([ANALYSER, *analyser.LIST_VARIABLES], pipe, self.text, **apart())
@@ -45,8 +45,8 @@ class Listing:
         self.text.seek(0)
         try:
             report = Report(self.text)
-            self.events = report.counts.events
-            return analyser.places_in(report)
+            self.races, self.counts = list(report.races()), report.counts
+            return analyser.places_in(self.races)
         except BadReport as fault:
             raise Contradiction(f"`shb places --list` wrote no whole report: {fault}") from None
 

@@ -6,7 +6,7 @@ import sys
 from shb_common.faults import Refused
 from shb_common.printable import printable
 from shb_common.programs import Origin
-from shb_common.stacks import BadStacks, Tables
+from shb_common.report import race_of
 from shb_common.standard import words_of
 from shb_common.words import counted
 from shb_record.converting import CRASHED, KILLED, Conversion, check_room, order_of, processes
@@ -28,7 +28,7 @@ class Looked:
         self.process, self.conversion = process, Conversion(process, options)
         self.places, self.new, self.named, self.events = [], [], [], 0
         self.behind = []  # what a second look found behind known races
-        self.sources, self.has_files = None, False  # the paths of its source files; are those of its page among the results?
+        self.has_files = False  # are those of its page among the results?
 
 
 class Look:
@@ -61,8 +61,7 @@ class Look:
             say(f"run {number}: {counted(len(found), 'recorded process', 'recorded processes')}, none with a second thread")
 
     def look_at(self, found):
-        """Analyses processes and shows them: only when the source files of all programs are known it is known which names they share.
-        Returns for each what was found in it, None if something failed."""
+        """Analyses, then shows processes, as names depend on all. Returns what was found in each, or None."""
         looked = [self.tried(self.analyse, Looked(process, self.options)) for process in found]
         if self.options.known_path:
             looked = [one and self.tried(self.look_again, one) for one in looked]
@@ -98,7 +97,6 @@ class Look:
         say(f"the record is kept: {self.results.keep(process.record, process.base + '.rec')}")
 
     def interleavings(self):
-        """How many different ones were seen."""
         return len({tuple(sorted(orders)) for orders in self.runs})
 
     def stale(self):
@@ -121,11 +119,10 @@ class Look:
         self.is_contradicted = self.is_contradicted or isinstance(fault, Contradiction)
 
     def analyse(self, looked):
-        """Converts and analyses a process."""
         check_room(looked.process, self.options.window)
         with listing(self.results.work) as listed:
             looked.conversion.places(listed, self.choose)
-            looked.places, looked.events = looked.conversion.found, listed.events
+            looked.places, looked.events = looked.conversion.found, looked.conversion.counts.events
         if looked.events:
             self.modules.add(looked.process.modules)
         looked.new, looked.named = self.add_new(looked, looked.places)
@@ -136,10 +133,8 @@ class Look:
         process = looked.process
         origin = Origin(None, process.program)
         if places:
-            tables = tables_in(looked.conversion.stacks)
-            self.modules.callers |= tables.files
-            looked.sources = tables.sources
-            origin = Origin(tables, process.program)
+            self.modules.callers |= looked.conversion.called.files
+            origin = Origin(looked.conversion.called, process.program)
             origin.add_modules(process.modules)
         return self.places.add_new(process, self.results.folder / f"{process.base}.std", origin, places, looked.conversion.numbers, is_behind)
 
@@ -163,20 +158,19 @@ class Look:
         accesses, races = self.places.known_in(looked.named)
         if not accesses:
             return
-        from shb_record.second import Second, add_races, besides  # takes its time, and most calls do without
+        from shb_record.second import Second, besides  # takes its time, and most calls do without
         second = Second(accesses, races)
         looked.behind = besides(looked.places, second.places(looked.conversion, self.results.work))
         self.passed_over.update(dict.fromkeys((one.location, other.location) for one, other in second.seen))
         if looked.behind:
             looked.places = [*looked.places, *looked.behind]
             looked.conversion.write_page(looked.places)
-            add_races(looked.conversion.place_list, looked.behind)
+            looked.conversion.races += [(race_of(*race), race.accesses) for place in looked.behind for race in place.variables.values()]
             new, _ = self.add_new(looked, looked.behind, True)
             looked.new = [*looked.new, *new]
             self.keep_files(looked)
 
     def show(self, looked):
-        """Shows a process, and says how much it has."""
         process, conversion, unknown = looked.process, looked.conversion, self.places.unknown_of(looked.new)
         if unknown:
             self.show_places(looked, unknown)
@@ -218,19 +212,20 @@ class Look:
             return
         first = [note for note in conversion.notes if note.startswith(CRASHED)] + conversion.cuts
         notes = [f"{note[0].upper()}{note[1:]}." for note in [*first, *[process.replay] * bool(process.replay)]]
-        turns = self.results.folder / f"{process.base}.turns" if process.record.with_suffix(".turns").exists() else None
+        turns = self.results.folder / f"{process.base}.turns" if process.record.with_suffix(".turns").exists() else ""
         page = self.results.path(f"{process.base}.html")
-        from shb_view.command import asked, explain  # takes its time, and a run without a place does without
+        from shb_view.command import explain, show_run  # takes its time, and a run without a place does without
         from shb_view.result import document
+        from shb_view.view import Asked, RecordedRun
         from shb_view.words import bad_words
-        _, view = explain(asked(
-            conversion.trace, title=f"{process.command} ({process.name}, {self.started})", note=notes,
-            about=list(self.meaning()), has_notes=False, recorded_source=True, source=self.options.source,
-            stacks=conversion.stacks, listed=conversion.place_list, uses=conversion.used, text=True, html=page,
-            only=variables_at(unknown),
-            behind=variables_at(one for one in unknown if one.place in looked.behind),
-            unseen=self.modules.calls(process.modules), turns=turns, shb=ANALYSER,
-            command=shlex.join([self.options.program, *self.options.arguments])), sys.stderr)
+        run = RecordedRun(
+            conversion.trace, conversion.counts, conversion.races, conversion.used, conversion.called,
+            new=variables_at(unknown), behind=variables_at(one for one in unknown if one.place in looked.behind),
+            about=list(self.meaning()), unseen=self.modules.calls(process.modules), turns=turns,
+            command=shlex.join([self.options.program, *self.options.arguments]))
+        title = f"{process.command} ({process.name}, {self.started})"
+        asked = Asked(ANALYSER, True, self.options.source, True, title, notes)
+        _, view = explain(show_run, run, asked, page, sys.stderr)
         if not view:
             say_places((one.place, one.variables) for one in unknown)
             return
@@ -238,12 +233,11 @@ class Look:
             self.fail(Contradiction(f"{process.name}: {bad_words(view)}"))
         self.pages.append(page)
         self.found[process.name, conversion.trace] = found = document(view)
-        self.sources[process.name, conversion.trace] = looked.sources
+        self.sources[process.name, conversion.trace] = conversion.called.sources
         self.notes.update(dict.fromkeys(note for note in found["notes"] if note not in notes))
 
 
 def show_apart(unknown):
-    """Says which places of the run no page shows."""
     if unknown:
         say(f"{counted(len(unknown), 'place')} of the run without a page, since their accesses are too far apart:")
     say_places((new.place, new.variables) for new in unknown)
@@ -263,11 +257,3 @@ def variables_at(new):
     for one in new:
         found.setdefault(tuple(sorted((one.place.first, one.place.second))), set()).update(one.variables)
     return found
-
-
-def tables_in(stacks):
-    try:
-        return Tables(stacks)
-    except BadStacks as fault:
-        raise Refused(f"{stacks} {fault}") from None
-

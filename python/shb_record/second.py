@@ -75,28 +75,3 @@ def besides(first, second):
         if its:
             found.append(Place(place.first, place.second, its, place.has_more))
     return found
-
-
-def add_races(path, places):
-    """Adds the races of some places to a list report in a file."""
-    lines = path.read_bytes().split(b"\n")
-    at = next(number for number, line in enumerate(lines) if line.startswith(b"races "))
-    start = next((number for number, line in enumerate(lines) if line.startswith(b"race ")), len(lines) - 2)
-    races, count = lines[start:-2], int(lines[at + 1][len(b"places "):])
-    number = int(lines[at][len(b"races "):])
-    listed = {tuple(lines[k + 1:k + 3]): k for k in range(at + 2, start, 3)}
-    for place in places:
-        names = b"at " + place.first, b"and " + place.second
-        if names in listed:
-            k = listed[names]
-            head, _, many = lines[k].partition(b": ")
-            lines[k] = b"%b: %d" % (head, int(many) + len(place.variables))
-        else:
-            count += 1
-            lines[start:start] = [b"place %d: %d" % (count, len(place.variables)), *names]
-            start += 3
-        for race in place.variables.values():
-            number += 1
-            texts = [b"%b %b|%b(%b)|%b" % (word, *access) for word, access in zip((b"first", b"second"), race.accesses)]
-            races += [b"race %d: %d %d" % (number, *race.events), *texts]
-    path.write_bytes(b"\n".join([*lines[:at], b"races %d" % number, b"places %d" % count, *lines[at + 2:start], *races, b"end", b""]))

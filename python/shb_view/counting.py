@@ -4,7 +4,6 @@ the accesses that may be shown, the events right before them."""
 import collections
 
 from shb_common.faults import Refused
-from shb_common.report import BadReport
 from shb_common.variables import without_end
 from shb_view.facts import Sites, sites_in
 from shb_view.groups import name_parts
@@ -14,28 +13,26 @@ from shb_view.trace import CHANGED, OPENS
 BEFORE = 6  # events of a thread right before its access
 MOST_KINDS = 200_000  # accesses that are told apart: by group, line, thread, word and locks held
 
+# What is known of an access: the events of its thread right before it, and the newest locks held, each with
+# its acquire.
+Noted = collections.namedtuple("Noted", "before locks")
 
-class Noted(collections.namedtuple("Noted", "before locks")):
-    """What is known of an access: the events of its thread right before it, and the newest locks held, each with its acquire."""
+# An event that was counted. `free` is the number of the free that it is of, or None.
+Access = collections.namedtuple("Access", "number variable kind free")
 
+# The event of a thread in which it creates or joins another one.
+Step = collections.namedtuple("Step", "thread event line")
 
-class Access(collections.namedtuple("Access", "number variable kind free")):
-    """An event that was counted. `free` is the number of the free that it is of, or None."""
-
-
-class Step(collections.namedtuple("Step", "thread event line")):
-    """The event of a thread in which it creates or joins another one."""
-
-
-class Repeated(collections.namedtuple("Repeated", "thread word since event")):
-    """An event that stands for repeats between the last one alike (`since`, or 0) and itself."""
+# An event that stands for repeats between the last one alike (`since`, or 0) and itself.
+Repeated = collections.namedtuple("Repeated", "thread word since event")
 
 
 class Kinds:
     """What an access is, where the trace has it as reads and writes."""
 
     def __init__(self, gathered, stacks):
-        """`gathered` has the atomic of a variable that stands for what a thread wrote to it, and names of locals."""
+        """`gathered` has the atomic of a variable that stands for what a thread wrote to it; the stacks name locals."""
+        gathered.name_locals(stacks)
         self.gathered, self.stacks, self.locks = gathered, stacks, stacks.lasting_locals
         self.atomics, self.locals = gathered.atomics, gathered.locals
         self.racing = set(map(self.in_trace, gathered.races))
@@ -73,10 +70,10 @@ class Kinds:
 
 
 class Counting:
-    def __init__(self, groups, wanted, kinds, uses=None, repeated=frozenset(), sights=()):
-        """`groups` has a number for each racing variable; `wanted` are the accesses to be noted, `kinds` says what an access is; `uses`
-        are those of the whole run where the trace is a part of it; `repeated` events stand for omitted ones; `sights` are the run's."""
-        self.uses = uses
+    def __init__(self, groups, wanted, kinds, uses=None):
+        """`groups` has a number for each racing variable; `wanted` are the accesses to be noted, `kinds` says what an
+        access is; `uses` are those of the whole run if the trace is a part of it."""
+        self.uses = uses and uses.uses
         self.groups, self.wanted, self.access_kinds = groups, wanted, kinds
         self.lines = kinds.gathered.lines
         self.reads, self.racing_reads = racing_reads(kinds.gathered.races)
@@ -93,11 +90,11 @@ class Counting:
         self.writes = {}  # by variable: its last write, and the location of that
         # By variable and location: the stacks of the racing accesses, or of a run of all accesses, each with whether no lock is held.
         self.callers = collections.defaultdict(collections.Counter)
-        self.seen = {sight[1:] for sight in self.racing_reads.intersection(sights)}  # where races write and read
+        self.seen = {sight[1:] for sight in self.racing_reads.intersection(uses.sights if uses else ())}  # where races write and read
         self.joined = {}  # by a join its thread's last event
         self.lockers = collections.defaultdict(set)  # by lock: the threads that use it
         self.begins, self.ends = {}, {}  # by thread: where it is created and joined, as `Step`
-        self.repeated, self.alike = repeated, {}  # `alike`: by kind of access its last event
+        self.repeated, self.alike = uses.repeated if uses else (), {}  # `alike`: by kind of access its last event
         self.again = collections.defaultdict(list)  # by variable: its events that stand for repeats
 
     def read(self, trace, events):
@@ -105,10 +102,8 @@ class Counting:
         self.take_all(trace)
         if self.uses is not None:
             self.take_uses()
-        if trace.count() != events:
+        if trace.count() != events or self.found != len(self.lines):
             raise Refused(CHANGED)
-        if self.found != len(self.lines):
-            raise BadReport("the report belongs to another trace: it names events that aren't accesses to its variables")
 
     def take_all(self, trace):
         groups = {word + name + b")": group for name, group in self.groups.items() for word in (b"r(", b"w(")}
@@ -135,12 +130,11 @@ class Counting:
             of_part.clear()
 
     def access(self, number, thread, operation, line, group):
-        """Takes an access to a variable of the group."""
         word, variable, location = operation[:1], operation[2:-1], line[len(thread) + len(operation) + 2:]
         if number in self.lines:
             self.found += 1
             if self.lines[number] != line:
-                raise BadReport(f"the report belongs to another trace: it has another line for event {number}")
+                raise Refused(CHANGED)
         if word == b"w":
             self.writes[variable] = number, location
         elif variable in self.writes:
@@ -214,13 +208,11 @@ class Counting:
                 if lock.startswith(b"stack.") and len(threads) == 1}
 
     def uses_of(self, group):
-        """How the variables of a group are used, by its number."""
         return sites_in(self.counts[group]) if self.uses is None else self.used[group]
 
 
 def racing_reads(races):
-    """Of races by variable and place: the pairs of events whose second one reads; and the locations of each variable's writes and reads,
-    whichever comes first."""
+    """Pairs of events whose second one reads; and by variable the locations of writes and reads, as pairs."""
     found = [(variable, place, race) for variable, its in races.items() for place, races in its.items() for race in races]
     return ({race[:2] for _, _, race in found if race.words[1] == b"r"},
             {(variable, *(place if race.words[0] == b"w" else place[::-1])) for variable, place, race in found if b"r" in race.words})

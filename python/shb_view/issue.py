@@ -63,7 +63,8 @@ def stack_lines(frames):
 
 def order_text(view, window):
     """After what the two accesses can execute next, as far as it is known."""
-    numbers = [f"{view.made.in_run[access]:,}" for access in window.accesses if access in view.made.in_run]
+    in_run = view.made.uses.in_run if view.of_run else {}
+    numbers = [f"{in_run[access]:,}" for access in window.accesses if access in in_run]
     of_run = f"In the run the accesses are events {' and '.join(numbers)}" if numbers else ""
     if window.schedule is None:
         of_run = of_run or "No schedule of this race is at hand"

@@ -109,27 +109,22 @@ def summary(view):
     size = ", ".join(counted(count, name[:-1]) for name, count in view.made.counts._asdict().items())
     if view.of_run:
         return f"{counted(view.pairs, 'place')} with races, in {counted(view.groups, 'group')}", size
-    races = counted(view.made.races, "race") if view.made.listed == view.made.races else f"{view.made.listed:,} of {counted(view.made.races, 'race')}"
     lines = f" at {counted(view.pairs, 'place')}, in {counted(view.groups, 'group')}" if view.groups else ""
-    return f"{races}{lines}", size
+    return counted(view.made.races, "race") + lines, size
 
 
 def bad_words(view):
-    """What is said of a report that `shb check` finds bad."""
-    if view.of_run:
-        return f"`shb check` finds the schedules of this page bad: {view.verdict.words}. None is shown."
-    return f"`shb check` finds the report bad: {view.verdict.words}. What follows rests on this report alone."
+    """What is said of schedules that `shb check` finds bad."""
+    return f"`shb check` finds the schedules of this page bad: {view.verdict.words}. None is shown."
 
 
 def notes_of(view):
     """What the reader has to know of the report."""
-    if view.verdict.is_good and view.of_run:
+    if view.verdict.is_good:
         races = [section.window.schedule for section in view.sections if section.window]
         has = f"{len(races) - races.count(None):,} of {counted(len(races), 'race')} on the page have"
         has = has if None in races else "Each race that the page shows has"
         yield f"{has} a schedule in the page's trace: `{view.judge}` finds them good."
-    elif view.verdict.is_good:
-        yield f"shb check: {view.verdict.words}"
     elif view.verdict.is_good is None and view.made.races and view.verdict.words:
         yield view.verdict.words
     if not view.made.counts.events:
@@ -140,8 +135,6 @@ def notes_of(view):
         yield ("Numbers as 6 of 7 are of the accesses recorded in the whole run: repeats are omitted."
                if view.of_run else
                "Counts are those of the trace. The recorder omits repeats: a loop may count as two accesses.")
-    if view.made.listed < view.made.races:
-        yield "The report doesn't list all races of the trace; the counts are the report's."
     if view.made.is_sample:
         yield "The trace has too many races to look at each. Call stacks are those of one race of each variable at each place."
     if view.sections:

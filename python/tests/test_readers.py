@@ -107,7 +107,7 @@ def read_report(text):
 
 def read_listed(text):
     try:
-        analyser.places_in(Report(io.BytesIO(text)))
+        analyser.places_in(Report(io.BytesIO(text)).races())
     except BadReport as fault:
         assert "\n" not in str(fault)
 

@@ -21,7 +21,7 @@ class Asked(side_by_side.Case):
     def test_all_variables_of_each_place(self):
         text = b"T1|w(x)|a:1\nT1|w(y)|a:1\r\n\nT2|w(x)|a:2|b\nT2|r(y)|a:2|b\nT2|w(q)\nT1|w(q)"
         found = {(place.first, place.second): {name: race.events for name, race in place.variables.items()}
-                 for place in analyser.places_in(asked(analyser.LIST_VARIABLES, text))}
+                 for place in analyser.places_in(asked(analyser.LIST_VARIABLES, text).races())}
         self.assertEqual(found, {(b"a:1", b"a:2|b"): {b"x": (1, 3), b"y": (2, 4)}, (b"", b""): {b"q": (5, 6)}})
 
     def test_the_same_as_in_the_list_of_all_races(self):
@@ -40,13 +40,13 @@ class Asked(side_by_side.Case):
             text, wanted = "".join(lines).encode(), {}
             for _, (one, other) in asked(["races", "--list"], text).races():
                 wanted.setdefault((one.location, other.location), set()).add(one.name)
-            found = {(place.first, place.second): set(place.variables) for place in analyser.places_in(asked(analyser.LIST_VARIABLES, text))}
+            found = {(place.first, place.second): set(place.variables) for place in analyser.places_in(asked(analyser.LIST_VARIABLES, text).races())}
             self.assertEqual(found, wanted, text)
 
     def test_more_than_are_kept(self):
         many = variables.MOST_VARIABLES
         text = b"".join(b"%s|w(x%d)|%s\n" % (thread, number, thread) for thread in (b"A", b"B") for number in range(many + 1))
-        [place] = analyser.places_in(asked(analyser.LIST_VARIABLES, text))
+        [place] = analyser.places_in(asked(analyser.LIST_VARIABLES, text).races())
         self.assertEqual((len(place.variables), place.has_more), (many, True))
 
     def test_a_variable_that_is_there_twice(self):
@@ -54,10 +54,10 @@ class Asked(side_by_side.Case):
             races = b"".join(RACE % (number, number, name, name) for number, name in enumerate(names, 1))
             report = Report(io.BytesIO(HEAD + races + b"end\n"))
             if len(set(names)) == 2:
-                self.assertEqual([place.variables.keys() for place in analyser.places_in(report)], [{b"x", b"y"}])
+                self.assertEqual([place.variables.keys() for place in analyser.places_in(report.races())], [{b"x", b"y"}])
                 continue
             with self.assertRaises(BadReport) as refused:
-                analyser.places_in(report)
+                analyser.places_in(report.races())
             self.assertEqual(str(refused.exception), "race 2 of the report: its variable has a race at this place already")
 
 

@@ -8,9 +8,7 @@ import recorder
 
 sys.path.insert(0, str(recorder.PYTHON))
 from shb_record import second
-from shb_common.analyser import Place
-from shb_common.report import Access, Report
-from shb_common.variables import Found
+from shb_common.report import Access
 
 # A read of balance without the lock sees what the other thread wrote under it, and so hides the race of tries behind it.
 PAY = """#include <pthread.h>
@@ -90,17 +88,3 @@ class Rest(recorder.Case):
             its = second.Second({(b"1", b"x"), (b"2", b"x")}, [((1, len(lines)), (one, other))])
             its.write_rest(lines, io.BytesIO())
             self.assertEqual(its.seen, [(one, other)] * seen)
-
-    def test_races_are_added_to_a_report(self):
-        def found(first, second, name, at, to):
-            return Found((first, second), (Access(b"A", b"w", name, at), Access(b"B", b"r", name, to)))
-
-        path = self.folder / "app.places"
-        path.write_bytes(b"shb-report 2\nevents 9 threads 2 locks 0 variables 3\nraces 1\nplaces 1\nplace 1: 1\nat 1\nand 2\nrace 1: 1 2\n"
-                         b"first A|w(x)|1\nsecond B|r(x)|2\nend\n")
-        second.add_races(path, [Place(b"1", b"2", {b"y": found(3, 4, b"y", b"1", b"2")}, False), Place(b"3", b"4", {b"z": found(5, 6, b"z", b"3", b"4")}, False)])
-        with open(path, "rb") as file:
-            report = Report(file)
-            self.assertEqual([(race.number, race.first, race.second, one.name) for race, (one, _) in report.races()],
-                             [(1, 1, 2, b"x"), (2, 3, 4, b"y"), (3, 5, 6, b"z")])
-            self.assertEqual(report.places, {(b"1", b"2"): 2, (b"3", b"4"): 1})

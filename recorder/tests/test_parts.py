@@ -1,12 +1,16 @@
 """A page's trace of several parts: what a page shows of one has nothing of another."""
 
 import io
-import json
 import re
 
 import recorder
 from shb_common.uses import Uses
-from shb_view.command import asked, explain
+from shb_common.progress import Progress
+from shb_common.report import Report
+from shb_common.stacks import Stacks
+from shb_view.result import document
+from shb_view.text import Colours, text_lines
+from shb_view.view import Asked, RecordedRun, view_of_run
 from test_open import planted
 from test_record import HEADER, LOCK, entry
 
@@ -60,12 +64,13 @@ class Parts(recorder.Case):
 
     def explained(self, entries, *options):
         """The view's document and text of such a page."""
-        page, found = self.page_of(entries, *options), self.folder / "found.json"
-        out = io.TextIOWrapper(io.BytesIO(), "utf-8", write_through=True)
-        status, _ = explain(asked(page, listed=page.with_suffix(".places"), uses=self.uses, all=True, text=True, json=found,
-                                  shb=recorder.SHB), out)
-        self.assertEqual(status, 0)
-        return json.loads(found.read_text()), re.split(r"(?m)^(?=\d+\. )", out.buffer.getvalue().decode())
+        page = self.page_of(entries, *options)
+        with open(page.with_suffix(".places"), "rb") as listed:
+            report = Report(listed)
+            run = RecordedRun(page, report.counts, list(report.races()), self.uses, Stacks())
+        view = view_of_run(run, Asked(recorder.SHB, True, [], False, None), Progress("shb-view", io.StringIO()))
+        text = "".join(f"{line}\n" for line in text_lines(view, Colours(False), True))
+        return document(view), re.split(r"(?m)^(?=\d+\. )", text)
 
     def test_nothing_of_another_part_is_shown(self):
         _, sections = self.explained(READ_ALONE)
