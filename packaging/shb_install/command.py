@@ -102,7 +102,6 @@ def write_package(path, content):
 
 
 def main(words):
-    """Does what the words ask for; returns the status."""
     options = arguments(words)
     os.umask(0o022)
     try:

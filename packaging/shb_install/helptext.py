@@ -10,6 +10,10 @@ import re
 OPTION = re.compile(r" {2,8}(-\S(?:\S| (?! ))*)(?: {2,}(\S.*))?$")
 COMMAND = re.compile(r" {2}([a-z][a-z-]*) {2,}(\S.*)$")
 
+# The `command` as `shb races`, what it is about in one sentence, its usage; `parts` are a heading (first
+# none) and its lines, `commands` are subcommands, each with its sentence.
+Help = collections.namedtuple("Help", "command about usage parts options commands")
+
 
 class Option(collections.namedtuple("Option", "names value text")):
     """`names` as `-h` and `--help`, and what its value is called, or nothing."""
@@ -20,13 +24,7 @@ class Option(collections.namedtuple("Option", "names value text")):
         return re.split(r"[.;:](?: |$)", self.text)[0]
 
 
-class Help(collections.namedtuple("Help", "command about usage parts options commands")):
-    """The `command` as `shb races`, what it is about in one sentence, its usage; `parts` are a heading (first none) and its lines, `commands`
-    are subcommands, each with its sentence."""
-
-
 def parse(command, text):
-    """The parts of a help text."""
     usage, parts = "", [("", [])]
     lines = text.expandtabs().splitlines()
     while lines:

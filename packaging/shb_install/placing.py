@@ -22,9 +22,8 @@ FOLDER = "/"                # the last sign of a line that names a folder
 NEW = ".shb-new"            # the end of the name of a file that isn't in place yet
 MOST_NAMES = 5              # that a refusal shows
 
-
-class Listed(collections.namedtuple("Listed", "files folders")):
-    """The files and folders of an installation, as paths below the prefix; folders above it begin with `..`."""
+# The files and folders of an installation, as paths below the prefix; folders above it begin with `..`.
+Listed = collections.namedtuple("Listed", "files folders")
 
 
 NOTHING = Listed(frozenset(), frozenset())
@@ -66,7 +65,6 @@ def refuse_elsewhere(place, name):
 
 
 def write_list(place, listed):
-    """Replaces the list by this one, whole."""
     lines = [*sorted(listed.files), *(folder + FOLDER for folder in sorted(listed.folders))]
     new = place / (LISTED + NEW)
     remove(new)

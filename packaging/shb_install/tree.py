@@ -47,7 +47,6 @@ def make(tree, shb, prefix, library, files, version, date):
 
 
 def build_recorder(folder, library, version):
-    """Compiles the recorder where its sources are."""
     flags = f"{RECORDER_FLAGS} -DSHB_VERSION='\"{version}\"'"
     ran = subprocess.run(["make", "-s", "-C", folder, f"CFLAGS={flags}", f"SONAME={library}"])
     if ran.returncode:
@@ -73,7 +72,6 @@ def put_commands(folder, tree):
 
 
 def helps_of(tree, prefix):
-    """The help of each command and subcommand, by its words."""
     helps = {}
     for command in sorted(path.name for path in (tree / "bin").iterdir()):
         helps.update(read_help(tree, prefix, [command]))

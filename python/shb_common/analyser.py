@@ -15,6 +15,10 @@ HEAD, FULL, LIST = ["races", "--list"], ["places"], ["places", "--list"]
 VARIABLES, LIST_VARIABLES = [*FULL, "--variables"], [*LIST, "--variables"]
 REFUSED = 2         # the status of `shb` for a refused trace
 
+# A place of a trace: its two locations, that of the first access first; by variable a race of it, as
+# `variables.Found`; and whether it has more variables than these.
+Place = collections.namedtuple("Place", "first second variables has_more")
+
 
 class Answer(collections.namedtuple("Answer", "status said seconds kib", defaults=(0.0, 0))):
     """How a run of the program ended: its status, what it said, the seconds of processor time and the KiB of memory that it took."""
@@ -22,11 +26,6 @@ class Answer(collections.namedtuple("Answer", "status said seconds kib", default
     @property
     def words(self):
         return words_in(self.said)
-
-
-class Place(collections.namedtuple("Place", "first second variables has_more")):
-    """A place of a trace: its two locations, that of the first access first; by variable a race of it, as `variables.Found`; and
-    whether it has more variables than these."""
 
 
 class Run:
@@ -57,7 +56,6 @@ class Run:
         self.close()
 
     def close(self):
-        """Ends the command where it still runs."""
         if self.out:
             self.out.close()
         if self.process.returncode is None:
@@ -79,7 +77,6 @@ def call(words, given, out, **how):
 
 
 def words_in(said):
-    """What a command said, as words in one line."""
     return " ".join(without_note(said)[:MOST_WORDS].decode("utf-8", "backslashreplace").split())
 
 

@@ -18,8 +18,6 @@ def filled(text):
 
 
 class Version(argparse.Action):
-    """Prints the version and ends."""
-
     def __call__(self, parser, *_):
         print(parser.prog, version())
         parser.exit()
@@ -44,7 +42,6 @@ class Parser(argparse.ArgumentParser):
         self.exit(self.status)
 
     def parsed(self, words):
-        """The options of these words."""
         self.add_argument("--version", action=Version, nargs=0, help="print the version and exit")
         if any("\0" in word for word in words):
             self.error("a word has a NUL")
@@ -52,7 +49,6 @@ class Parser(argparse.ArgumentParser):
 
 
 def number(least):
-    """Reads a number from `least` on."""
     def read(text):
         if not text.isdecimal() or len(text) > 18 or int(text) < least:
             raise argparse.ArgumentTypeError(f"it takes a number from {least}")

@@ -53,7 +53,6 @@ def put(path, text, room=None):
 
 
 def put_file(new, path):
-    """Puts a finished file in place."""
     mask = os.umask(0)
     os.umask(mask)
     os.chmod(new, 0o666 & ~mask)

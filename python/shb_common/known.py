@@ -37,6 +37,10 @@ ADDRESS = re.compile(rb"(.+)~(?:0x)?[0-9a-f]+((?:[.+\[].*)?)", re.S)
 RAW = re.compile(rb"0x[0-9a-f]+((?:\+[0-9]+)?)")    # memory without a name
 OFFSET = re.compile(rb"\+[0-9]+$")
 
+# A line of the file. `sides` has of each side whether it is a function, and its pieces; `variable` the pieces
+# of the third field, None where there is none.
+Line = collections.namedtuple("Line", "number text sides variable")
+
 
 class BadLine(Refused):
     """A line of the file of known places that is none."""
@@ -50,17 +54,11 @@ class Side(collections.namedtuple("Side", "names functions", defaults=((),))):
         return [*((False, name) for name in self.names), *((True, name) for names in self.functions for name in names)]
 
     def field(self):
-        """The location as a field of the file."""
         return location_field(self.names[0])
 
     def function(self):
         """The function as a field; None where it isn't known, or one of several."""
         return function_field(self.functions[0][0]) if len(self.functions) == 1 else None
-
-
-class Line(collections.namedtuple("Line", "number text sides variable")):
-    """A line of the file. `sides` has of each side whether it is a function, and its pieces; `variable` the pieces of the third field, None
-    where there is none."""
 
 
 def written(name):
@@ -69,7 +67,6 @@ def written(name):
 
 
 def pair_of(first, second):
-    """Two locations as tables have them, whichever comes first."""
     return tuple(sorted((written(first), written(second))))
 
 
@@ -79,7 +76,6 @@ def side_of(location, functions=()):
 
 
 def location_field(location):
-    """A location as a field."""
     return (location[:-2] + b"\\()" if location.endswith(CALL) else location).replace(b"*", b"\\*")
 
 
@@ -267,5 +263,4 @@ class Known:
         return self.found[key]
 
     def stale(self):
-        """The lines that nothing matched so far."""
         return [line for number, line in enumerate(self.lines) if number not in self.used]

@@ -19,7 +19,6 @@ class Row(collections.namedtuple("Row", "key names texts sides places variables 
         return "known" if self.is_known else "behind" if self.is_behind else "unknown"
 
     def unknown(self):
-        """The variables that aren't known."""
         return [name for name, is_known in self.variables if not is_known]
 
 
@@ -72,7 +71,6 @@ class Places:
 
 
 def in_order(rows):
-    """Rows by their names."""
     return sorted(rows, key=lambda row: (row.names, *map(sorting, row.key)))
 
 

@@ -12,19 +12,16 @@ from shb_common.stacks import Tables
 
 MOST_PARTS = 12     # folders of a path that a name may have
 
-
-class Location(collections.namedtuple("Location", "path rest functions sum", defaults=(frozenset(), b""))):
-    """A location of a program: the path of its file, what follows it (the line, or an offset), the functions that it lies in, and
-    a sum of the line's text, nothing where it isn't known."""
+# A location of a program: the path of its file, what follows it (the line, or an offset), the functions that
+# it lies in, and a sum of the line's text, nothing where it isn't known.
+Location = collections.namedtuple("Location", "path rest functions sum", defaults=(frozenset(), b""))
 
 
 def sorting(location):
-    """What locations are sorted by."""
     return location.path, location.rest, sorted(location.functions), location.sum
 
 
 def pair_of(order):
-    """Two locations, whichever comes first."""
     return tuple(sorted(order, key=sorting))
 
 

@@ -13,7 +13,6 @@ class Progress:
         self.said = False
 
     def step(self, doing, done, whole):
-        """Says what is done and how much of it, where it is time to."""
         now = time.monotonic()
         if now < self.next:
             return
@@ -23,7 +22,6 @@ class Progress:
         self.out.flush()
 
     def clear(self):
-        """Takes the words away again."""
         if self.said:
             self.out.write("\r\x1b[K")
             self.out.flush()

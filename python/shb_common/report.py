@@ -23,31 +23,25 @@ END = re.compile(rb"end\n")
 MOST_EVENTS = 1_000     # of a schedule that is given as a list
 LONGEST = 60        # columns of a line that a refusal shows
 MOST_KNOWN = 10_000  # lines of accesses that are kept
+Counts = collections.namedtuple("Counts", "events threads locks variables")  # what a trace has
+
+# The fields of an access's line. `name` is that of the variable.
+Access = collections.namedtuple("Access", "thread word name location")
+
+# A race of a report. `schedule` is where its schedule begins in the file, or None.
+Race = collections.namedtuple("Race", "number first second first_line second_line schedule")
+
+# How many events a schedule has, and which; None of more than MOST_EVENTS.
+Schedule = collections.namedtuple("Schedule", "length events")
 
 
 class BadReport(Exception):
     """The words say what is wrong with a report."""
 
 
-class Counts(collections.namedtuple("Counts", "events threads locks variables")):
-    """What a trace has."""
-
-
-class Access(collections.namedtuple("Access", "thread word name location")):
-    """The fields of an access's line. `name` is that of the variable."""
-
-
-class Race(collections.namedtuple("Race", "number first second first_line second_line schedule")):
-    """A race of a report. `schedule` is where its schedule begins in the file, or None."""
-
-
 def race_of(events, accesses):
     """A race without a number that has these events and their accesses."""
     return Race(0, *events, *(b"%b|%b(%b)|%b" % access for access in accesses), None)
-
-
-class Schedule(collections.namedtuple("Schedule", "length events")):
-    """How many events a schedule has, and which; None of more than MOST_EVENTS."""
 
 
 class Lines:
@@ -76,7 +70,6 @@ class Lines:
         return found.groups()
 
     def numbers(self, pattern, form):
-        """The numbers of the next line."""
         return [int(digits) for digits in self.next(pattern, form)]
 
     def numbered(self, pattern, form, number):
@@ -96,7 +89,6 @@ class Lines:
         return (first_line, one), (second_line, other)
 
     def access(self, pattern, form):
-        """The line of an access, and its fields."""
         line, known = self.line, self.known[pattern]
         if line in known:
             self.number += 1
@@ -129,7 +121,6 @@ class Lines:
 
 
 def said(line):
-    """What a refusal says of a line."""
     if not line:
         return "missing"
     if line.endswith(b"\n"):

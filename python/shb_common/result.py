@@ -44,12 +44,10 @@ def entries_of(trace, places):
 
 
 def entry_of(entries, row):
-    """The entry of a row among these; nothing if there is none."""
     return entries.get((row.example, frozenset(map(text, row.texts))), {})
 
 
 def stale_of(lines):
-    """Lines of known places that matched nothing."""
     return [{"line": line.number, "text": text(line.text)} for line in lines]
 
 
@@ -61,5 +59,4 @@ def document(command, summary, places, **more):
 
 
 def in_bytes(found):
-    """A document of this form or another as bytes of ASCII."""
     return (json.dumps(found) + "\n").encode()

@@ -33,6 +33,13 @@ FOUND, RELATIVE, ABSOLUTE, NAME = range(4)      # what is known of a location, f
 OTHERS = {1: "The other access.", 2: "An access."}   # what is related to a result
 MOST_NAMED = 3          # variables in a message
 
+# An access of a race: its thread, what it does, its stack, the innermost frame first, and the path of each
+# source file by its name in locations.
+Access = collections.namedtuple("Access", "thread operation frames files")
+
+# A location: its text, what is known of it, its file and line, and the text of this line or None.
+Place = collections.namedtuple("Place", "text kind path line code")
+
 
 class Alert(collections.namedtuple("Alert", "row facts seen example accesses properties blamed",
                                    defaults=(None,))):
@@ -42,13 +49,7 @@ class Alert(collections.namedtuple("Alert", "row facts seen example accesses pro
     that the facts name first, and the path of its file, or None."""
 
     def variables(self):
-        """Those that race there."""
         return [name for name, _ in self.row.variables]
-
-
-class Access(collections.namedtuple("Access", "thread operation frames files")):
-    """An access of a race: its thread, what it does, its stack, the innermost frame first, and the path of each source file by its name
-    in locations."""
 
 
 class Here:
@@ -65,10 +66,6 @@ class Here:
     def line(self, source, number):
         lines, _, _ = read_lines(self.top + source)
         return lines[number - 1].strip() if number <= len(lines) else None
-
-
-class Place(collections.namedtuple("Place", "text kind path line code")):
-    """A location: its text, what is known of it, its file and line, and the text of this line or None."""
 
 
 def place_of(name, sources, compiled=b""):
@@ -148,7 +145,6 @@ def thread_flow(access, sources):
 
 
 def message_of(alert, blamed, others):
-    """The variables, the two locations, the locks, and where the place was seen."""
     links = [f"[{plain(named(place))}]({number})" for number, place in enumerate(others, 1)]
     sides = links if len(links) > 1 else [plain(named(blamed)), *links]
     variables = list(map(printable, variables_of(alert)))

@@ -28,13 +28,13 @@ MOST_LINE = 1 << 20  # bytes of a line
 NUMBER = re.compile(rb"[0-9]{1,18}")
 SUM = re.compile(rb"[0-9a-f]{16}")  # of a line's text
 
+# A function and the place in it. Where the location is empty, the function called code without hooks, which
+# called on.
+Frame = collections.namedtuple("Frame", "function location in_system")
+
 
 class BadStacks(Exception):
     """The words say what is wrong with a file of stacks."""
-
-
-class Frame(collections.namedtuple("Frame", "function location in_system")):
-    """A function and the place in it. Where the location is empty, the function called code without hooks, which called on."""
 
 
 class AtomicUse(collections.namedtuple("AtomicUse", "event name thread location kind order is_again")):
@@ -220,14 +220,12 @@ def fields_of(kind, rest):
 
 
 def whole(text):
-    """A number of the file."""
     if not NUMBER.fullmatch(text):
         raise ValueError
     return int(text)
 
 
 def sum_of(text):
-    """The sum of a line's text."""
     if not SUM.fullmatch(text):
         raise ValueError
     return text

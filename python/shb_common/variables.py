@@ -7,9 +7,8 @@ import re
 IN_BLOCK = re.compile(rb"(.+?) of .+(?::[0-9]+|\+0x[0-9a-f]+)#[0-9]+", re.S)
 MOST_VARIABLES = 1_000  # of a place, that are kept
 
-
-class Found(collections.namedtuple("Found", "events accesses")):
-    """A race of a place with this variable: its events, and their accesses."""
+# A race of a place with this variable: its events, and their accesses.
+Found = collections.namedtuple("Found", "events accesses")
 
 
 def without_end(line):
@@ -44,5 +43,4 @@ def local_name(variable, events, local_of):
 
 
 def name_of(found, local_of):
-    """The variable of a race as the program has it."""
     return local_name(variable_of(found), found.events, local_of)

@@ -17,8 +17,6 @@ MOST_FOUND = 64 << 20   # bytes of what the view says of a trace
 
 
 class Calls:
-    """What is known of the calls in the traces of a folder."""
-
     def __init__(self, folder, links):
         self.folder, self.links, self.damaged = folder, links, set()
 
@@ -27,7 +25,6 @@ class Calls:
         return file_of(self.folder, name, self.links, self.pass_over)
 
     def origin_of(self, name):
-        """Where the locations of a trace come from, as its own call stacks say."""
         path = self.path_of(name)
         try:
             return Origin(stacks.Tables(path)) if path else Origin()

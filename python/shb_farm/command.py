@@ -12,6 +12,7 @@ import traceback
 from shb_common import known
 from shb_common.commands import Parser, number
 from shb_common.faults import Refused
+from shb_common.parts import ANALYSER, NO_ANALYSER, part
 from shb_common.standard import open_standard_files, tell, words_of, write_texts
 from shb_common.words import counted
 from shb_farm import engines, limits, merging, outcomes, passes, since, tables, traces
@@ -74,10 +75,6 @@ Environment:
 """
 
 
-HOME = pathlib.Path(__file__).resolve().parents[1]
-ANALYSERS = "../bin/shb", "../../bin/shb"       # in a checkout, and installed
-
-
 def arguments(words):
     parser = Parser("shb-farm", ABOUT, NOTES)
     parser.add_argument("--known", metavar="FILE", help="places to skip")
@@ -108,7 +105,6 @@ def joined(words):
 
 
 def shell_words(text):
-    """Words as a shell parts them."""
     try:
         return shlex.split(text)
     except ValueError as fault:
@@ -127,27 +123,24 @@ def memory_of(engine):
     return [mib for mib in (256, 1024, 4096) if mib < most] + [most]
 
 
-def command_of(variable, *places):
-    """A command by the variable that names it, else the first that is there of these paths beside this package; or None."""
+def command_of(variable, path):
+    """A command by the variable that names it, else the one of this path, if there is one."""
     if os.environ.get(variable):
         found = shutil.which(os.environ[variable])
         if not found:
             raise Refused(f"{os.environ[variable]}: no such program")
         return os.path.realpath(found)
-    found = [HOME / place for place in places if (HOME / place).is_file()]
-    return os.path.realpath(found[0]) if found else None
+    return os.path.realpath(path) if os.path.isfile(path) else None
 
 
 def pass_of(options, room):
-    """What all passes of this farm share."""
-    shb = command_of("SHB", *ANALYSERS)
+    shb = command_of("SHB", ANALYSER)
     if not shb:
-        there = os.path.normpath(HOME / ANALYSERS[0])
-        raise Refused(f"there is no analyser at {there}; in a checkout `make build` makes it, and SHB=PROGRAM names another")
+        raise Refused(NO_ANALYSER(ANALYSER))
     with open(shb, "rb") as program:
         checksum = outcomes.checksum_of_file(program)
     traces, out = os.path.realpath(options.traces), os.path.realpath(options.out)
-    view = command_of("SHB_VIEW", "shb-view")
+    view = command_of("SHB_VIEW", part("shb-view"))
     return passes.Pass(shb, checksum, traces, out, str(room), view or "", options.links, seconds=options.seconds, size=options.size)
 
 
@@ -189,7 +182,6 @@ def report_of(work, name, ending):
 
 
 def run(options):
-    """Runs the farm, writes its tables, and returns the status."""
     if traces.is_below(os.path.realpath(options.traces), os.path.realpath(options.out)):
         raise Refused(f"{options.out}: TRACES is this folder or below it; name another OUT, which may be below TRACES")
     if options.source and not os.path.isdir(options.source):

@@ -42,7 +42,6 @@ def run_xargs(work, path, options):
 
 
 def run_slurm(work, path, options):
-    """Runs a pass as one job array, and waits for its end."""
     count = len(work.names)
     tasks = min(count, MOST_TASKS, max(100, count // TRACES_A_JOB))
     log = pathlib.Path(work.out) / "log"
@@ -155,7 +154,6 @@ def run_group(words, given, watch):
 
 
 def run_pass(work, options):
-    """Runs a pass to its end with the engine that was asked for."""
     path = passes.write(work)
     ENGINES[options.engine](work, path, options)
     os.unlink(path)

@@ -22,7 +22,6 @@ def memory_for(size):
 
 
 def memory_of_this_machine():
-    """The MiB that this machine has."""
     return os.sysconf("SC_PAGE_SIZE") * os.sysconf("SC_PHYS_PAGES") // MIB
 
 

@@ -9,10 +9,10 @@ from shb_common.places import Places, in_order
 from shb_common.variables import local_name
 from shb_farm import outcomes, passes, traces
 
-
-class Ending(collections.namedtuple("Ending", "kind words places size cost", defaults=(None,))):
-    """How a trace ended: the kind of its outcome or `missing`, its words, its places, its size in bytes, or None where it can't be
-    run, and what it cost. The size of a packed trace is that of its text, where this is known."""
+# How a trace ended: the kind of its outcome or `missing`, its words, its places, its size in bytes, or None
+# where it can't be run, and what it cost. The size of a packed trace is that of its text, where this is
+# known.
+Ending = collections.namedtuple("Ending", "kind words places size cost", defaults=(None,))
 
 
 def ending_of(work, name, outside=()):
@@ -65,7 +65,6 @@ def named(place, local_of):
 
 
 def facts_of(rows, endings, stale, damaged, since):
-    """What a farm found, as numbers by their names."""
     kinds = [ending.kind for ending in endings.values()]
     unknown = sum(row.places for row in rows if not row.is_known)
     places, reports = sum(row.places for row in rows), kinds.count("report")

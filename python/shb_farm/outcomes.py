@@ -28,13 +28,11 @@ from shb_common.known import written
 FIRST = b"shb-farm 2\n"
 HEAD = b"name", b"program", b"trace", b"stamp", b"cost"
 
+# What a run took, and how many bytes the trace's text has (`text`).
+Cost = collections.namedtuple("Cost", "seconds kib text")
 
-class Cost(collections.namedtuple("Cost", "seconds kib text")):
-    """What a run took, and how many bytes the trace's text has (`text`)."""
-
-
-class Outcome(collections.namedtuple("Outcome", "name program trace stamp cost kind words places")):
-    """`places` have by variable the events of one race."""
+# `places` have by variable the events of one race.
+Outcome = collections.namedtuple("Outcome", "name program trace stamp cost kind words places")
 
 
 def stamp_of(state):

@@ -19,17 +19,16 @@ TEMPORARY_SECONDS = 86_400      # a day: what no lock tells about is deleted the
 MOST_OF_NAME = 60               # characters of a trace's name that are in the name of its outcome
 OTHER = re.compile(r"[^A-Za-z0-9._-]+")
 
-
-class Pass(collections.namedtuple("Pass", "shb program traces out room view links form memory seconds size last names",
-                                  defaults=("", False, LIST, 0, 0, 0, True, []))):
-    """What a pass needs: the program and its checksum; the folders of the traces, of the outcomes, and for files of this run that aren't whole
-    yet (`room`); the command that says what is known of places, or nothing (`view`); whether links may lead out of the folder of the traces;
-    the MiB of address space (`memory`), the seconds of processor time, and the MiB of a report and of the text of a packed trace (`size`);
-    whether no pass with more memory comes after it (`last`); and the traces to run, below their folder (`names`)."""
+# What a pass needs: the program and its checksum; the folders of the traces, of the outcomes, and for files
+# of this run that aren't whole yet (`room`); the command that says what is known of places, or nothing
+# (`view`); whether links may lead out of the folder of the traces; the MiB of address space (`memory`), the
+# seconds of processor time, and the MiB of a report and of the text of a packed trace (`size`); whether no
+# pass with more memory comes after it (`last`); and the traces to run, below their folder (`names`).
+Pass = collections.namedtuple("Pass", "shb program traces out room view links form memory seconds size last "
+                              "names", defaults=("", False, LIST, 0, 0, 0, True, []))
 
 
 def write(work):
-    """Writes the file of a pass, and returns its path."""
     number, path = tempfile.mkstemp(prefix="pass-", dir=work.room)
     with open(number, "w", encoding="ascii") as file:
         json.dump(work._asdict(), file)

@@ -76,7 +76,6 @@ def written(work, form, trace, out):
 
 
 def report_in(out):
-    """The report in an open file."""
     out.seek(0)
     report = Report(out)
     if report.places is None:
@@ -98,7 +97,6 @@ def words_of(counts):
 
 
 def notes_of(trace, counts):
-    """What a reader must know of a trace that has a report."""
     if os.pread(trace.fileno(), len(refused.MARK), 0) == refused.MARK:
         yield MARKED
     if counts.events > MOST_EVENTS or counts.threads > MOST_THREADS or os.fstat(trace.fileno()).st_size > MOST_TEXT:

@@ -10,10 +10,7 @@ from shb_common.children import end_with
 from shb_farm.limits import MIB
 
 WORDS = {"list": analyser.LIST_VARIABLES, "full": [*analyser.FULL, "--workers", "1"]}
-
-
-class End(collections.namedtuple("End", "kind words")):
-    """How a run ended: the kind and the words of an outcome."""
+End = collections.namedtuple("End", "kind words")  # how a run ended: the kind and the words of an outcome
 
 
 class NotHere(Exception):
@@ -51,7 +48,6 @@ def check_machine(work):
 
 
 def set_limits(work, parent):
-    """What a child process of this parent does first."""
     end_with(parent)
     resource.setrlimit(resource.RLIMIT_CORE, (0, 0))
     for name, limit, _ in limits_of(work):

@@ -74,7 +74,6 @@ def side_of(access):
 
 
 def compared(name, earlier, rows):
-    """What is new in these rows since an earlier result."""
     before = set().union(*(keys for keys, _ in earlier))
     now = set().union(*map(keys_of_row, rows))
     gone = [words for keys, words in earlier if not keys & now]

@@ -12,10 +12,9 @@ from shb_farm import calls
 WIDEST = 60         # columns of the text's tables; a longer field moves what stands after it
 MOST_NAMED = 3      # variables in a table
 
-
-class Found(collections.namedtuple("Found", "rows endings facts stale since status")):
-    """What a farm has found: a row for each two locations, how each trace ended, the facts as numbers, the lines of the known places
-    that matched nothing, what is new since an earlier farm or None, and the status."""
+# What a farm has found: a row for each two locations, how each trace ended, the facts as numbers, the lines
+# of the known places that matched nothing, what is new since an earlier farm or None, and the status.
+Found = collections.namedtuple("Found", "rows endings facts stale since status")
 
 
 def field(text):
@@ -52,7 +51,6 @@ def traces_table(endings):
 
 
 def why(ending):
-    """Why a trace has no report, for a reader."""
     return {"memory": f"out of memory in {ending.words} MiB", "time": f"not done in {ending.words} s of processor time",
             "size": f"its report, or the text of a packed trace, is longer than {ending.words} MiB"}.get(ending.kind, ending.words)
 
@@ -95,7 +93,6 @@ def text(found):
 
 
 def document(found, entries):
-    """What programs read."""
     traces = [{"trace": result.text(os.fsencode(name)), "outcome": ending.kind, "words": ending.words,
                **({"seconds": ending.cost.seconds, "MiB": ending.cost.kib // 1024} if ending.cost else {})}
               for name, ending in found.endings.items()]

@@ -83,7 +83,6 @@ def repaired(trace, repairs):
 
 
 def fix(file, options, repairs):
-    """Writes a repaired trace, and returns the status."""
     other = lines.kind_of(file)
     trace = None if other else Trace(file, repairs)
     if other or repairs.counts and not trace.count:

@@ -50,7 +50,6 @@ class Repairs:
                 yield f"{count - self.MOST} more lines: {kind}"
 
     def summary(self):
-        """How much was done, in one line."""
         forms = ", ".join(counted(count, *what) for what, count in sorted(self.translated.items()))
         ordering = f", {self.ordering:,} of which {'adds' if self.ordering == 1 else 'add'} order"
         repairs = counted(sum(self.counts.values()), "repair") + ordering * bool(self.ordering)

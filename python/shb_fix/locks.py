@@ -109,7 +109,6 @@ class Sections:
         self.begun = []
 
     def released(self, lock, location):
-        """The releases that weren't logged."""
         thread, count = self.holder.pop(lock), self.depth.pop(lock)
         return [Event(0, thread, b"rel", lock, location)] * count
 
@@ -136,7 +135,6 @@ class Sections:
         return []
 
     def note(self, event):
-        """Notes an acquire or a release."""
         lock = event.name
         self.known.add(lock)
         self.holder[lock] = event.thread

@@ -99,7 +99,6 @@ class Plan:
         self.forked = {event.name for event in events if event.word == b"fork"}
 
     def followed(self, events):
-        """The events with each fork and join where the plan has it."""
         for event in events:
             yield from self.before.get(event.line, ())
             if event.line not in self.gone:

@@ -20,7 +20,6 @@ from shb_record.running import WATCHED, Run, adopt_orphans, children
 
 
 def jobs_of(options):
-    """How many runs are made at once."""
     most = options.jobs or (1 if is_input_given() else len(os.sched_getaffinity(0)))
     return 1 if options.live or options.replay else min(most, options.runs)
 

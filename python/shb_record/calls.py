@@ -14,10 +14,7 @@ CALL = re.compile(rb"[\xe8\xe9](?=(.{4}))", re.S)  # call or jmp ADDRESS
 BY_SLOT = re.compile(rb"\xff[\x15\x25](?=(.{4}))", re.S)  # call or jmp *SLOT(%rip)
 BEFORE_STUB = 0, 4, 5  # bytes: endbr64, also with a prefix of the jump
 MANGLED = re.compile(rb"_ZL?(?:N[KVr]*)?((?:[0-9]+[A-Za-z_]\w*)+)")
-
-
-class Symbol(collections.namedtuple("Symbol", "value size name kind is_here")):
-    pass
+Symbol = collections.namedtuple("Symbol", "value size name kind is_here")
 
 
 def part(content, section):
@@ -26,7 +23,6 @@ def part(content, section):
 
 
 def symbols_of(content, sections, table, texts):
-    """The symbols of a table of an ELF file."""
     texts = part(content, sections.get(texts, (0, 0, 0)))
     for name, info, _, place, value, size in struct.iter_unpack("<IBBHQQ", part(content, sections.get(table, (0, 0, 0)))):
         yield Symbol(value, size, texts[name:texts.find(b"\0", name)], info & 15, place != 0)

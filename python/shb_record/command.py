@@ -100,7 +100,6 @@ def parser_of_words():
 
 
 def arguments(words):
-    """The options of these words."""
     parser = parser_of_words()
     found = parser.parsed(words)
     if found.words[:1] == ["--"]:
@@ -197,7 +196,6 @@ def record(options):
 
 
 def run_all(look):
-    """Runs the program as often as it is to be run, and looks at each run."""
     options = look.options
     with contextlib.closing(outcomes(options, look.results.work, look.next_one if options.live else None)) as ended:
         for number, run in enumerate(ended, 1):
@@ -235,7 +233,6 @@ def status_of(look, rows):
 
 
 def conclude(look, rows, status):
-    """Says what was found, and what that means."""
     unknown = count(row for row in rows if not row.is_known)
     passed_over, behind = count(rows) - unknown, count(row for row in rows if row.state() == "behind")
     for words in known.words_of_stale(look.stale(), look.places.names):

@@ -51,7 +51,6 @@ class Listing:
             raise Contradiction(f"`shb places --list` wrote no whole report: {fault}") from None
 
     def copy(self, path):
-        """Puts what it wrote into a file."""
         self.text.seek(0)
         with open(path, "wb") as out:
             for part in iter(lambda: self.text.read(1 << 20), b""):

@@ -23,6 +23,10 @@ MOST_NAMED = 6
 NEEDED, MOST_NAME = 1, 256  # of a section .dynamic; bytes
 LOADER = "/lib64/ld-linux-x86-64.so.2"
 
+# Whether a module has hooks, whether it has debug information or says where that is, the names of the modules
+# that it calls, and whether it has Rust's library as that is distributed.
+Kind = collections.namedtuple("Kind", "has_hooks has_names needs has_bare_rust")
+
 
 class Modules:
     """What is known of the modules of all processes that had a second thread."""
@@ -82,11 +86,6 @@ class Modules:
         files = {path: files_in(path) for path in known if not self.kinds[path].has_hooks}
         others = set().union(*(files_in(path) for path in known if path not in files)) if any(files.values()) else set()
         return {(file, name) for path in files for name in [os.path.basename(path)] for file in {name, *files[path] - others}}
-
-
-class Kind(collections.namedtuple("Kind", "has_hooks has_names needs has_bare_rust")):
-    """Whether a module has hooks, whether it has debug information or says where that is, the names of the modules that it calls, and
-    whether it has Rust's library as that is distributed."""
 
 
 def named(paths, called):
@@ -155,7 +154,6 @@ def sections_of(content):
 
 
 def needs_of(content, sections):
-    """The names of the modules that an ELF file says it needs."""
     (_, start, size), (_, texts, _) = sections.get(b".dynamic", (0, 0, 0)), sections.get(b".dynstr", (0, 0, 0))
     for tag, value in struct.iter_unpack("<QQ", content[start:start + size // 16 * 16]):
         if tag == NEEDED:

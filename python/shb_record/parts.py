@@ -5,31 +5,23 @@ import pathlib
 import shutil
 import time
 
+from shb_common import parts
 from shb_common.faults import Refused
 from shb_common.printable import printable
 from shb_common.standard import tell
 
-HERE = pathlib.Path(__file__).resolve().parents[1]
-
-
-def part(*paths):
-    """Where a part of the project is: in a checkout, or installed (then all but `shb` is in one folder)."""
-    places = [pathlib.Path(os.path.normpath(HERE / path)) for path in paths]
-    return next((place for place in places if place.exists()), places[0])
-
-
-LIBRARY = part("../recorder/lib/libtsan.so", "libtsan.so").parent
-CONVERTER = part("../recorder/shb-std", "shb-std")
-ANALYSER = pathlib.Path(os.environ.get("SHB") or part("../bin/shb", "../../bin/shb"))
+LIBRARY = pathlib.Path(parts.part("../recorder/lib/libtsan.so", "libtsan.so")).parent
+CONVERTER = parts.part("../recorder/shb-std", "shb-std")
+ANALYSER = os.environ.get("SHB") or parts.ANALYSER
 
 
 def check_parts():
     """Fails where something is missing that is needed after the program ran."""
     for path in (LIBRARY / "libtsan.so", CONVERTER):
-        if not path.exists():
+        if not os.path.exists(path):
             raise Refused(f"{path} isn't there; in a checkout `make recorder` builds the recorder")
     if not shutil.which(ANALYSER):
-        raise Refused(f"there is no analyser at {ANALYSER}; in a checkout `make build` makes it, and SHB=PROGRAM names another")
+        raise Refused(parts.NO_ANALYSER(ANALYSER))
 
 
 def say(line=""):

@@ -6,10 +6,9 @@ import os
 from shb_common import known, places
 from shb_common.variables import name_of
 
-
-class New(collections.namedtuple("New", "key place variables")):
-    """What of a place of a process nothing before had: the key of its two locations, the place, and of its new variables the names in
-    the trace and on the page."""
+# What of a place of a process nothing before had: the key of its two locations, the place, and of its new
+# variables the names in the trace and on the page.
+New = collections.namedtuple("New", "key place variables")
 
 
 class Places(places.Places):

@@ -69,7 +69,6 @@ class Results:
         return kept
 
     def keep_records(self):
-        """Keeps the records that are still there."""
         for record in sorted(self.work.glob("*.rec")):
             say(f"the record is kept: {self.keep(record, record.name)}")
 

@@ -73,7 +73,6 @@ def without_numbers(found):
 
 
 def access_of(one, sources):
-    """An access of an entry, with one of its stacks."""
     frames = [Frame(*(frame[name].encode() for name in ("function", "location")), frame.get("in_system", False)) for frame in one["stacks"][0]["frames"]]
     return sarif.Access(one["thread"].encode(), one["operation"].encode(), frames, sources)
 

@@ -10,10 +10,7 @@ from shb_common.faults import Refused
 
 HEADER_BYTES, ENTRY_BYTES, MOST_BYTES = 4096, 8, 128 << 20
 HEADER = re.compile(rb"shb-turns 3\ncommand (?P<command>[^\n]*)\n(?:whole (?P<count>[0-9a-f]+) (?P<sum>[0-9a-f]+)\n)?\0*")
-
-
-class List(collections.namedtuple("List", "content command")):
-    pass
+List = collections.namedtuple("List", "content command")
 
 
 def read(path):

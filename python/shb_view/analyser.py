@@ -16,9 +16,8 @@ MOST_SAID, MOST_SHOWN = 200, 100  # columns of the program's words and of a refu
 MOST_LISTED = 100_000  # races of a list that is read to its end
 BAD = 5  # the status of `shb check` for a bad report
 
-
-class Verdict(collections.namedtuple("Verdict", "is_good words")):
-    """What is known of a report. `is_good` is None where it wasn't judged."""
+# What is known of a report. `is_good` is None where it wasn't judged.
+Verdict = collections.namedtuple("Verdict", "is_good words")
 
 
 class Analyser:
@@ -75,7 +74,6 @@ class Analyser:
                 take(race, *accesses)
 
     def write(self, words, file):
-        """Writes the report of a command to an open file."""
         with self.started(words, self.trace, file) as run:
             self.ended(words, run)
         file.seek(0)

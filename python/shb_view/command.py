@@ -6,6 +6,7 @@ import sys
 from shb_common.commands import Parser
 from shb_common.faults import Refused
 from shb_common.files import put, temporary_file
+from shb_common.parts import ANALYSER
 from shb_common.progress import Progress
 from shb_common.report import BadReport
 from shb_common.result import in_bytes
@@ -119,7 +120,7 @@ def explain(make, *words):
     return status, None
 
 
-def main(words, program=None):
+def main(words, program=ANALYSER):
     is_open = open_standard_files()
     try:
         return explain(show, arguments(words, program), sys.stdout if is_open else None)[0]

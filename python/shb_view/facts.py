@@ -71,7 +71,6 @@ class Site:
         return self.guarded(lock) < self.total()
 
     def held(self):
-        """The locks that each access holds."""
         total = self.total()
         return sorted(lock for lock in {*self.locks, *self.reading} if self.guarded(lock) == total)
 
@@ -174,7 +173,6 @@ class Sites:
 
 
 def sites_in(counts):
-    """The sites of a group's counted accesses."""
     found = Sites()
     for kind, count in counts.items():
         if count:
@@ -448,7 +446,6 @@ def scope_of(others, lacking, holding):
 
 
 def verb_of(sites):
-    """What these lines do with the variable."""
     does = "read" if not any(site.writes() for site in sites) else "write" if not any(site.reads() for site in sites) else "use"
     return does + "s" * (len(sites) == 1) + " it" * (does == "use")
 

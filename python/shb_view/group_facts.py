@@ -12,14 +12,13 @@ from shb_view.words import Code, listed
 
 MOST_NAMED = 3  # variables in a sentence
 
-
-class Section(collections.namedtuple("Section", "group uses sites fact window callers seen unseen is_behind "
-                                     "is_asked_for", defaults=(None, {}, (), (), False, True))):
-    """A group with its uses, its lines and its fact, and what else is shown of it: a race with what comes
-    before it (`window`); by racing line the stacks of its racing accesses, as `callers_of` returns them, each
-    with how many have it; the pairs of lines of races where the second reads what the first wrote (`seen`);
-    the modules without hooks that may order its accesses (`unseen`). `is_behind` says that it was found
-    behind known races; groups that aren't asked for are in the page alone."""
+# A group with its uses, its lines and its fact, and what else is shown of it: a race with what comes before
+# it (`window`); by racing line the stacks of its racing accesses, as `callers_of` returns them, each with how
+# many have it; the pairs of lines of races where the second reads what the first wrote (`seen`); the modules
+# without hooks that may order its accesses (`unseen`). `is_behind` says that it was found behind known races;
+# groups that aren't asked for are in the page alone.
+Section = collections.namedtuple("Section", "group uses sites fact window callers seen unseen is_behind "
+                                 "is_asked_for", defaults=(None, {}, (), (), False, True))
 
 
 class Facts:

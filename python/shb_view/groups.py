@@ -13,6 +13,10 @@ INSIDE = rb"(?P<inside>(?:\.[A-Za-z_]\w*|\[[0-9]+\])*(?:\+[0-9]+)?)"
 IN_BLOCK = re.compile(rb"(?P<base>.+?)" + INSIDE + rb"(?P<of> of .+(?::[0-9]+|\+0x[0-9a-f]+))(?P<block>#[0-9]+)", re.S)
 NAME = re.compile(rb"(?P<base>.*?)(?P<block>#[0-9]+)?" + INSIDE + rb"(?P<of>(?: of .+)?)", re.S)
 
+# A race that was read: its events, the threads of the first and the second, its variable, and whether each
+# reads or writes.
+Between = collections.namedtuple("Between", "first second giver taker variable words")
+
 
 class Pair:
     """Two lines that race, whichever comes first. `orders` has how many races each of its places has, and `closest` is the listed one
@@ -54,10 +58,6 @@ class Group(collections.namedtuple("Group", "pairs variables names")):
 
 def shown_first(race):
     return race.schedule is None, race.second - race.first, race.first
-
-
-class Between(collections.namedtuple("Between", "first second giver taker variable words")):
-    """A race that was read: its events, the threads of the first and the second, its variable, and whether each reads or writes."""
 
 
 class Gathered:

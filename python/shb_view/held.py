@@ -49,7 +49,6 @@ class Held:
         self.kept_names = self.kept_newest = None  # answers, until the locks change
 
     def take(self, is_acquire, lock, event):
-        """Takes an acquire or a release."""
         if lock in self.locks and (is_acquire or not self.is_last_release(lock)):
             self.locks[lock][1] += 1 if is_acquire else -1
             return

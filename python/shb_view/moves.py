@@ -8,10 +8,9 @@ from shb_view.words import listed, place
 
 MOST_NAMED = 3  # lines in a remedy
 
-
-class Change(collections.namedtuple("Change", "names before moved remedy", defaults=((), None))):
-    """What a remedy of some variables changes: `before` has by event the lines that come before it then, and
-    `moved` are events that stand elsewhere. `remedy` says it, as parts."""
+# What a remedy of some variables changes: `before` has by event the lines that come before it then, and
+# `moved` are events that stand elsewhere. `remedy` says it, as parts.
+Change = collections.namedtuple("Change", "names before moved remedy", defaults=((), None))
 
 
 def move_of(found, counting):

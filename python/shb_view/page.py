@@ -30,7 +30,6 @@ KNOWN = "known, or on an earlier page"
 
 
 def page_parts(view):
-    """The page, part by part."""
     style, script = ((HERE / name).read_text(encoding="utf-8") for name in ("page.css", "page.js"))
     head = [element("meta", charset="utf-8"), policy(style, script),
             element("meta", name="viewport", content="width=device-width, initial-scale=1"),

@@ -16,6 +16,13 @@ WORDS = {**VERBS, b"acq": "acquires", b"rel": "releases", b"fork": "starts", b"j
 ROW, HEAD, GAP, STEP, BAR, LETTER, ROUND, ACCESS = 38, 19, 16, 7, 16, 6.7, 5, 8
 BAND, LINE = 22 + ROW, 14  # from the band's top to the accesses; between lines of text
 
+# An arrow from an event to another one, by their places in the list of events. `is_seen`: the one reads what
+# the other wrote.
+Edge = collections.namedtuple("Edge", "first second is_seen")
+
+# A lock that a lane's thread holds, from a row to a row.
+Bar = collections.namedtuple("Bar", "lane name top bottom")
+
 
 def picture(window, kinds):
     """`x` has the place of each lane and `texts` that of all texts, `band` is the top of the band with both accesses."""
@@ -28,14 +35,6 @@ def picture(window, kinds):
             "events": [event_data(window, kinds, event, drawn, at) for at, event in enumerate(events)],
             "gaps": gaps(window, events), "edges": [[drawn.path(it), *drawn.head(it), int(edge.is_seen)] for it, edge in enumerate(edges)],
             "bars": [[*drawn.rectangle(it), bar.name, drawn.name(it)] for it, bar in enumerate(drawn.bars)]}
-
-
-class Edge(collections.namedtuple("Edge", "first second is_seen")):
-    """An arrow from an event to another one, by their places in the list of events. `is_seen`: the one reads what the other wrote."""
-
-
-class Bar(collections.namedtuple("Bar", "lane name top bottom")):
-    """A lock that a lane's thread holds, from a row to a row."""
 
 
 class Layout:

@@ -58,7 +58,6 @@ def group_entry(view, section):
 
 
 def schedule_entry(view, window):
-    """The schedule of the race that is shown."""
     if not window or not window.schedule:
         return {}
     is_checked = {"is_checked": bool(view.verdict.is_good)}

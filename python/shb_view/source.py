@@ -16,6 +16,10 @@ BEFORE, AFTER = 3, 2  # lines around one that is shown
 REACH = 12  # lines before one that is shown, back to the acquire of a lock
 HEAD = re.compile(rb"[A-Za-z_$]")  # what the first line of a function begins with
 
+# Lines around a place. `head` is the first line of its function, nothing if that is the place; `held` are the
+# numbers of the lines from the acquire of a lock to the place, if both are in one function.
+Excerpt = collections.namedtuple("Excerpt", "place head numbers held")
+
 
 class Place(collections.namedtuple("Place", "path number lines fault is_newer")):
     """What is known of a location's source: the path in its folder, the number of its line and the file's lines. `fault` says why
@@ -97,11 +101,6 @@ def function_head(place):
         if HEAD.match(line) and not line.rstrip().endswith(b":"):
             return number
     return 0
-
-
-class Excerpt(collections.namedtuple("Excerpt", "place head numbers held")):
-    """Lines around a place. `head` is the first line of its function, nothing if that is the place; `held` are the numbers of the
-    lines from the acquire of a lock to the place, if both are in one function."""
 
 
 def excerpt(place, acquire):

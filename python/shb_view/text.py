@@ -17,8 +17,6 @@ MOST_ORIGINS = 4  # threads and blocks of a group
 
 
 class Colours:
-    """Colours of a terminal, or none."""
-
     def __init__(self, is_coloured):
         self.bold, self.red = (f"\x1b[{code}m{{}}\x1b[0m".format if is_coloured else str for code in ("1", "31"))
 
@@ -71,7 +69,6 @@ def section_lines(view, number, section, colours):
 
 
 def site_lines(view, section, site, colours):
-    """A line that uses the variables."""
     location = "(further lines)" if site.location is None else flat([place(site.location)])
     by = flat([" by ", *thread_parts(site)]) if site.location is not None else ""
     location = colours.red(location) if site.partners else location

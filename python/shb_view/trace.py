@@ -14,9 +14,11 @@ ALONE = re.compile(rb"\r[^\n]")
 OPENS = ord("(")  # the second byte of `r(X)` and `w(X)` alone
 CHANGED = "the trace isn't the one that `shb` read: it was changed in between"
 
+# The fields of a line. `name` is what stands in the parentheses, nothing for a mark.
+Event = collections.namedtuple("Event", "thread word name location")
 
-class Event(collections.namedtuple("Event", "thread word name location")):
-    """The fields of a line. `name` is what stands in the parentheses, nothing for a mark."""
+# A line that was looked up, without its end; `row` is its number in the text, counted from 1.
+Found = collections.namedtuple("Found", "row line")
 
 
 def fields_of(line):
@@ -48,10 +50,6 @@ def warnings(path):
         yield "The trace begins with a byte order mark, which is a part of the first thread's name."
     if ALONE.search(start):
         yield f"In the trace {CARRIAGE_RETURNS}."
-
-
-class Found(collections.namedtuple("Found", "row line")):
-    """A line that was looked up, without its end; `row` is its number in the text, counted from 1."""
 
 
 class Trace:

@@ -7,22 +7,19 @@ from shb_view.trace import OPENS, event_of, line_of
 
 SOURCES = {b"acq": b"rel", b"r": b"w"}  # what an operation waits for or sees
 
+# An event that is shown. `named` is the event with the program's name for its variable or lock, and `line`
+# its line with that. `previous` is the event before it in its thread, or 0. `source` is the event of another
+# thread that it waits for or sees: for an acquire the last release of the lock, for a read the last write,
+# for a join the thread's last event; or 0. `locks` and `held` are as `Held.newest` has them; `freed` is the
+# lock that it makes free, or None.
+Shown = collections.namedtuple("Shown", "number row line event named previous source locks held freed")
 
-class Shown(collections.namedtuple("Shown", "number row line event named previous source locks held freed")):
-    """An event that is shown. `named` is the event with the program's name for its variable or lock, and `line` its line with that.
-    `previous` is the event before it in its thread, or 0. `source` is the event of another thread that
-    it waits for or sees: for an acquire the last release of the lock, for a read the last write, for a join the thread's last
-    event; or 0. `locks` and `held` are as `Held.newest` has them; `freed` is the lock that it makes free, or None."""
+Moment = collections.namedtuple("Moment", "previous locks held freed")  # what the pass notes at an event
 
-
-class Moment(collections.namedtuple("Moment", "previous locks held freed")):
-    """What the pass notes at an event."""
-
-
-class Window(collections.namedtuple("Window", "race accesses before edges forks events schedule")):
-    """A race with what comes before it. `before` are the events before the accesses in the order of its schedule or of the trace;
-    `edges` are pairs of events of different threads, the earlier first; `forks` has the fork of each access's thread, or 0;
-    `schedule` is a `report.Schedule`, or None."""
+# A race with what comes before it. `before` are the events before the accesses in the order of its schedule
+# or of the trace; `edges` are pairs of events of different threads, the earlier first; `forks` has the fork
+# of each access's thread, or 0; `schedule` is a `report.Schedule`, or None.
+Window = collections.namedtuple("Window", "race accesses before edges forks events schedule")
 
 
 class Moments:

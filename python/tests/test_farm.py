@@ -169,8 +169,8 @@ class Tables(farm.Case):
         self.assertEqual(self.farm(), (4, "", f"shb-farm: {self.traces}: No such file or directory\n"))
 
     def test_a_program_that_is_not_there(self):
-        with mock.patch.object(command, "HOME", self.folder / "farm"), self.assertRaisesRegex(Refused, rf"^there is no analyser at {self.folder}/bin/shb; "
-                                                                                              r".* `make build` makes it, and SHB=PROGRAM names another$"):
+        said = rf"^there is no analyser at {self.folder}/bin/shb; .* `make build` makes it, and SHB=PROGRAM names another$"
+        with mock.patch.object(command, "ANALYSER", f"{self.folder}/bin/shb"), self.assertRaisesRegex(Refused, said):
             command.pass_of(command.arguments([str(self.traces), str(self.out)]), "room")
 
     def test_an_engine_that_is_not_there(self):
