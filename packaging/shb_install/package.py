@@ -90,8 +90,7 @@ def is_built_here(shb):
 
 
 def proved_text(tree, shb, name, commit, seconds):
-    """By which commit and kit the program was proved, as far as that is known, and what the commands need. `shb` is what the tree's
-    program was made of."""
+    """By which commit and kit the program was proved, as far as that is known, and what the commands need."""
     origin = (BUILT if is_built_here(shb) else NAMED).format(logic=LOGIC.search((TOP / "build.sh").read_text())[1])
     paths = [tree / name for name in files_in(tree)]
     return PROVED.format(version=name, commit=commit, date=day(seconds), checksum=checksum_of(tree / "bin/shb"), origin=origin,

@@ -81,8 +81,7 @@ def words_in(said):
 
 
 def places_in(races):
-    """The places of the races of a `Report` that has one race of each variable at each place, as `places --list
-    --variables` writes it: each with its first so many variables."""
+    """The places of races of each variable at each place, each with its first so many variables."""
     found, more = {}, set()
     for race, accesses in races:
         place, name = tuple(access.location for access in accesses), accesses[0].name

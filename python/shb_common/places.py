@@ -38,8 +38,7 @@ class Places:
         self.given, self.names, self.seen = given, Names(), {}
 
     def add(self, trace, origin, places):
-        """Takes the places of a trace: the two locations of each, by the names of its variables what is known of a race, and whether
-        there are more. Returns the key of each."""
+        """Takes the places of a trace, each as `analyser.Place` has it. Returns the key of each."""
         orders = [(origin.location(first), origin.location(second)) for first, second, _, _ in places]
         self.names.add_all(origin)
         return [self.add_place(trace, order, *place) for order, place in zip(orders, places)]

@@ -1,4 +1,11 @@
-"""Bytes of a trace or of a file's name as a reader sees them."""
+"""Bytes of a trace or of a file's name as a reader sees them, and texts as HTML has them."""
+
+SIGNS = str.maketrans({"&": "&amp;", "<": "&lt;", ">": "&gt;", '"': "&quot;", "'": "&#x27;"})
+
+
+def in_html(text):
+    """As `html.escape`, whose module takes its time."""
+    return text.translate(SIGNS)
 
 
 def printable(text, most=None):

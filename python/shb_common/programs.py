@@ -1,14 +1,13 @@
-"""Whose a location is. A trace names a source file by the shortest end of its path that no other file of its program has, so two
-programs may both have a `w.c`. Here a location belongs to a file by its whole path and to the text that its line had, and over all
-traces each file has one name.
-"""
+"""Whose a location is. A trace names a source file by the shortest end of its path that no other file of its
+program has, so two programs may both have a `w.c`. Here a location belongs to a file by its whole path and to
+the text that its line had, and over all traces each file has one name."""
 
 import collections
 import posixpath
 
 from shb_common.known import CALL, Side, written
 from shb_common.locations import parts_of
-from shb_common.stacks import Tables
+from shb_common.stacks import Stacks
 
 MOST_PARTS = 12     # folders of a path that a name may have
 
@@ -30,7 +29,7 @@ class Origin:
     the program, if it is known."""
 
     def __init__(self, tables=None, program=b""):
-        self.tables, self.program, self.modules = tables or Tables(), program, {}
+        self.tables, self.program, self.modules = tables or Stacks(), program, {}
         self.called = {}    # by a file's path: its name in the trace
 
     def add_modules(self, paths):

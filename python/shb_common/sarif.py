@@ -12,6 +12,7 @@ from shb_common.printable import printable
 from shb_common.result import in_bytes
 from shb_common.sources import read_lines
 from shb_common.stacks import bare
+from shb_common.sums import blake2b
 
 SCHEMA = "https://docs.oasis-open.org/sarif/sarif/v2.1.0/errata01/os/schemas/sarif-schema-2.1.0.json"
 RULE = {
@@ -114,13 +115,11 @@ def variables_of(alert):
 
 
 def fingerprint(parts, between=b"\t", size=16):
-    import hashlib  # takes its time, and a run without a place does without
-    return hashlib.blake2b(between.join(parts), digest_size=size).hexdigest()
+    return blake2b(between.join(parts), digest_size=size).hexdigest()
 
 
 def line_fingerprint(first, second, alert):
-    """Names a place by the texts of its lines and its variables, so it stays when they move; nothing where the first line isn't
-    known."""
+    """Names a place by the texts of its lines and its variables, so it stays when they move."""
     if first.code is None:
         return None
     parts = [first.path, first.code, *((second.text,) if second.code is None else (second.path, second.code)), *variables_of(alert)]

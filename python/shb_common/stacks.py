@@ -59,61 +59,15 @@ class AtomicUse(collections.namedtuple("AtomicUse", "event name thread location 
                 "order": self.order.decode()}
 
 
-class Tables:
-    """What names places in a file of stacks; nothing without a path."""
+class Stacks:
+    """What a file of stacks has, with the stacks of so many events; nothing without a path."""
 
-    def __init__(self, path=None):
+    def __init__(self, path=None, events=0):
         self.functions = {}  # by location those that it lies in, without parameters and arguments of templates
         self.files = set()  # those of locations: files of source, and modules with code that has no lines
         self.sources, self.sums = {}, {}  # by the name in a location: the file's path; by location: a sum of its line's text
         self.locals = {}  # by variable on a stack: events, each with the name of the local that it is from there on
-        if path:
-            with open_regular(path) as file:
-                self.read(file, events_in(file))
-
-    def read(self, file, count):
-        """Takes the lines of an open file with so many events."""
-        for kind, fields in entries_in(file, count):
-            take = getattr(self, f"take_{kind}", None)
-            if take:
-                take(*fields)
-        for names in self.locals.values():
-            names.sort(key=lambda it: it[0])  # of several at one event the last one holds
-
-    def take_frame(self, function, location):
-        if function and line_of(location):
-            self.functions.setdefault(location, set()).add(bare(function))
-        self.files.add(parts_of(location)[0])
-
-    take_system_frame = take_frame
-
-    def take_source(self, name, path):
-        self.sources[name] = path
-
-    def take_line(self, location, sum):
-        self.sums[location] = sum
-
-    def take_local(self, event, variable, name):
-        self.locals.setdefault(variable, []).append((event, name))
-
-    def local_of(self, variable, event):
-        """The local that a variable on a stack is at an event, or the member that one in a block is; or nothing."""
-        names = self.locals.get(variable, ())
-        number = bisect.bisect(names, (event + 1,))
-        return names[number - 1][1] if number else b""
-
-    def lasting(self, variable, event):
-        """What a variable is at all events, whatever trace of the run they are of: a member that one in a block is; or nothing."""
-        return self.local_of(variable, 0)
-
-
-class Stacks(Tables):
-    """The stacks of a trace with so many events, by their numbers, and what is told beside them. Without a path nothing is known of it."""
-
-    def __init__(self, path=None, events=0):
-        super().__init__()
-        self.numbers = ()
-        self.frames, self.calls, self.threads, self.blocks = [None], {}, {}, {}
+        self.numbers, self.frames, self.calls, self.threads, self.blocks = (), [None], {}, {}, {}
         self.uses = []  # of atomics, as they happened
         self.free_starts, self.free_ends = array.array("Q"), array.array("Q")
         if path:
@@ -124,28 +78,41 @@ class Stacks(Tables):
                     raise BadStacks(OTHER)
                 self.read(file, count)
 
-    def take_frame(self, function, location, in_system=False):
+    def read(self, file, count):
+        """Takes the lines of an open file with so many events."""
+        tables = {b"source": self.sources, b"line": self.sums, b"thread": self.threads, b"block": self.blocks}
+        for kind, fields in entries_in(file, count):
+            if kind in tables:
+                tables[kind][fields[0]] = fields[1]
+            elif kind in FRAMES:
+                self.take_frame(*fields, kind == FRAMES[1])
+            elif kind == b"stack":
+                self.calls[fields[0]] = fields[1], tuple(self.frames[frame] for frame in fields[2:])
+            elif kind == b"local":
+                self.locals.setdefault(fields[1], []).append((fields[0], fields[2]))
+            elif kind == b"free":
+                self.free_starts.append(fields[0])
+                self.free_ends.append(fields[1])
+            else:
+                self.uses.append(AtomicUse(*fields[:4], *fields[4]))
+        for names in self.locals.values():
+            names.sort(key=lambda it: it[0])  # of several at one event the last one holds
+
+    def take_frame(self, function, location, in_system):
         self.frames.append(Frame(function, location, in_system))
-        super().take_frame(function, location)
+        if function and line_of(location):
+            self.functions.setdefault(location, set()).add(bare(function))
+        self.files.add(parts_of(location)[0])
 
-    def take_system_frame(self, function, location):
-        self.take_frame(function, location, True)
+    def local_of(self, variable, event):
+        """The local that a variable on a stack is at an event, or the member that one in a block is; or nothing."""
+        names = self.locals.get(variable, ())
+        number = bisect.bisect(names, (event + 1,))
+        return names[number - 1][1] if number else b""
 
-    def take_stack(self, number, outer, *frames):
-        self.calls[number] = outer, tuple(self.frames[frame] for frame in frames)
-
-    def take_thread(self, name, number):
-        self.threads[name] = number
-
-    def take_block(self, block, number):
-        self.blocks[block] = number
-
-    def take_free(self, first, last):
-        self.free_starts.append(first)
-        self.free_ends.append(last)
-
-    def take_use(self, event, name, thread, location, how):
-        self.uses.append(AtomicUse(event, name, thread, location, *how))
+    def lasting(self, variable, event):
+        """What a variable is at all events, whatever trace of the run they are of: a member that one in a block is; or nothing."""
+        return self.local_of(variable, 0)
 
     def stack(self, number):
         """The frames of a stack, the innermost first."""
@@ -205,7 +172,7 @@ def entries_in(file, count):
             raise BadStacks(f"is damaged in line {number}: `{printable(line[:80].rstrip())}`") from None
         frames += kind in FRAMES
         if fields is not None:
-            yield kind.decode().replace("-", "_"), fields
+            yield kind, fields
 
 
 def fields_of(kind, rest):

@@ -8,8 +8,7 @@ from shb_common.printable import printable
 
 
 def open_standard_files():
-    """Opens those of standard input, output and error that are closed, here and for what is started, so that no other file takes
-    their place. Says whether standard output was open."""
+    """Opens those standard files that are closed, so that no other takes their place. Was output open?"""
     is_open = sys.stdout is not None
     for number in range(3):
         try:

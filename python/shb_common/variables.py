@@ -36,8 +36,7 @@ def without_block(name):
 
 
 def local_name(variable, events, local_of):
-    """A variable as the program has it: the local of a function, or the member of a block's type, that it is at all these events, as
-    `local_of` returns it for one."""
+    """A variable as the program has it: the local or the member that it is at all these events."""
     names = {local_of(variable, event) for event in events}
     return without_block(names.pop()) or variable if len(names) == 1 else variable
 

@@ -27,7 +27,7 @@ class Calls:
     def origin_of(self, name):
         path = self.path_of(name)
         try:
-            return Origin(stacks.Tables(path)) if path else Origin()
+            return Origin(stacks.Stacks(path)) if path else Origin()
         except (stacks.BadStacks, OSError) as fault:
             self.pass_over(path, fault)
             return Origin()

@@ -18,12 +18,12 @@ the limit that didn't suffice (MiB, seconds of processor time, MiB); or `failed`
 """
 
 import collections
-import hashlib
 import os
 import pathlib
 
 from shb_common.analyser import Place
 from shb_common.known import written
+from shb_common.sums import blake2b
 
 FIRST = b"shb-farm 2\n"
 HEAD = b"name", b"program", b"trace", b"stamp", b"cost"
@@ -41,12 +41,12 @@ def stamp_of(state):
 
 
 def checksum_of(text):
-    return hashlib.blake2b(text, digest_size=32).hexdigest()
+    return blake2b(text, digest_size=32).hexdigest()
 
 
 def checksum_of_file(file):
     """The checksum of what is left of an open file."""
-    found = hashlib.blake2b(digest_size=32)
+    found = blake2b(digest_size=32)
     for part in iter(lambda: file.read(1 << 20), b""):
         found.update(part)
     return found.hexdigest()

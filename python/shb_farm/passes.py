@@ -3,7 +3,6 @@
 import collections
 import contextlib
 import fcntl
-import hashlib
 import json
 import os
 import pathlib
@@ -11,6 +10,8 @@ import re
 import shutil
 import tempfile
 import time
+
+from shb_common.sums import blake2b
 
 LIST, FULL = "list", "full"     # the places of a trace; its report with schedules
 FOLDER_OF = {LIST: "outcomes", FULL: "reports"}
@@ -80,7 +81,7 @@ def is_left(path):
 def key_of(name):
     """What the files of a trace are named by: the end of its name as far as it is plain, and a sum of the whole."""
     plain = OTHER.sub("_", name.rpartition("/")[2])[:MOST_OF_NAME]
-    return f"{plain}-{hashlib.blake2b(os.fsencode(name), digest_size=10).hexdigest()}"
+    return f"{plain}-{blake2b(os.fsencode(name), digest_size=10).hexdigest()}"
 
 
 def outcome_path(out, form, name):

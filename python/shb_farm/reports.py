@@ -18,8 +18,7 @@ MARKED = "a byte order mark before the first line is part of the first thread's 
 
 
 def analysed(work, name, trace):
-    """How the program ended on a trace, which is an open file of this name, and the places that it found. A full report is put
-    in place."""
+    """How the program ended on an open trace, and the places that it found. A full report is put in place."""
     try:
         with traces.unpacked(trace, name, work) as text:
             METER.text = os.fstat(text.fileno()).st_size

@@ -80,7 +80,6 @@ def end_of(work, status, said, written):
 
 
 def analyse(work, form, given, out):
-    """Runs the program on an open trace, its report to an open file. The trace is its standard input, since it takes no file
-    name that isn't UTF-8."""
+    """Runs the program on an open trace as its standard input: it takes no file name that isn't UTF-8."""
     answer = run(work, [work.shb, *WORDS[form]], given, out)
     return end_of(work, answer.status, answer.words, os.fstat(out.fileno()).st_size)

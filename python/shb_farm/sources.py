@@ -19,8 +19,7 @@ class Sources:
         return Index([self.folder])
 
     def find(self, path, compiled=b""):
-        """The file that a path of a location names: the one that was compiled, the path itself, or the only file whose path ends with
-        it; else None."""
+        """The file that a path names: the compiled one, itself, or the only one that ends so; else None."""
         if not self.folder:
             return None
         return (self.find_path(compiled) if compiled else None) or self.find_path(path)

@@ -30,8 +30,7 @@ def variables_of(row):
 
 
 def places_table(found):
-    """A line for each two locations: how many traces have them, whether they are known, one of the traces, its report, in how many
-    orders they race, their variables, and whether that is new."""
+    """A line for each two locations; FARM.md has its fields."""
     lines = [b"traces\tstate\tfirst\tsecond\texample\treport\tplaces\tvariables\tsince\n"]
     for row in found.rows:
         fields = [b"%d" % row.traces, field(row.state()), *row.names, field(row.example), field(row.report), b"%d" % row.places,

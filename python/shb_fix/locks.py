@@ -62,8 +62,7 @@ def with_volatiles(events, uses, repairs):
 
 
 def with_waits(events, repairs):
-    """A wait releases its lock, and has it again before the next event of its thread. A notification orders nothing by
-    itself."""
+    """A wait releases its lock, and has it before its thread's next event. A notification orders nothing."""
     waiting = {}
     for event in events:
         if event.thread in waiting:

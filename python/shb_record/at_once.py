@@ -5,7 +5,6 @@ import contextlib
 import io
 import itertools
 import os
-import pickle
 import select
 import shutil
 import signal
@@ -54,6 +53,7 @@ class Worker:
                     answer = Run(options, self.number, folder, blocked=blocked).outcome()
                 except (Refused, OSError) as fault:
                     answer = fault
+            import pickle  # takes its time, and one run does without
             pickle.dump((answer, said.getvalue()), self.answer)
             self.answer.flush()
         finally:
@@ -66,6 +66,7 @@ class Worker:
         for descriptor, file in self.written.items():
             with contextlib.suppress(OSError), open(descriptor, "wb", closefd=False) as to:
                 shutil.copyfileobj(file, to)
+        import pickle  # the same
         try:
             answer, said = pickle.load(self.answer)
         except EOFError:
@@ -98,8 +99,7 @@ def outcomes(options, folder, look=None):
 
 
 def wait_for_first(workers):
-    """Waits until the first of them has ended, and passes signals on to all: a terminal has told all by itself. Returns the last signal
-    and when the first one came, or None twice."""
+    """Waits until the first has ended, and passes on signals. Returns the last, and when one came first."""
     before, stop, stopped = signal.pthread_sigmask(signal.SIG_BLOCK, WATCHED), None, None
     try:
         while os.waitpid(workers[0].process, os.WNOHANG) == (0, 0):

@@ -80,8 +80,7 @@ class Modules:
         return found
 
     def stand_for(self, paths):
-        """What stands in locations for modules without hooks, with their names: each itself, and its source files that no module with hooks
-        has too."""
+        """What stands in locations for modules without hooks: these, and source files of theirs alone."""
         known = [path for path in paths if self.kinds.get(path)]
         files = {path: files_in(path) for path in known if not self.kinds[path].has_hooks}
         others = set().union(*(files_in(path) for path in known if path not in files)) if any(files.values()) else set()

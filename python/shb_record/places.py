@@ -33,8 +33,7 @@ class Places(places.Places):
         return [one for one in new if one.variables], [(key, place, names) for key, place, (_, names) in zip(keys, found, in_run)]
 
     def known_in(self, named):
-        """Of places as `add_new` returns them all: the accesses at known places, each a location and a variable of the trace; and the known
-        races."""
+        """The accesses at known places, each a location and a variable of the trace; and the known races."""
         accesses, races = set(), []
         for key, place, names in named:
             sides = tuple(map(self.names.side, key))
@@ -84,8 +83,7 @@ def count(rows):
 
 
 def table(rows):
-    """A line for each two locations: in how many orders they race, their variables, the numbers of the first race's events in the
-    whole run, and where that was."""
+    """A line for each two locations, below the names of the columns."""
     yield b"first\tsecond\tplaces\tvariables\tstate\tevent\tand event\tprocess\ttrace\n"
     for row in rows:
         process, trace = row.example

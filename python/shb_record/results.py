@@ -122,8 +122,7 @@ def is_same(path, other):
 
 
 def remove(path):
-    """Deletes a file or folder of ours. A folder of work that isn't marked as ours stays, since anybody could have listed it. Returns whether
-    a file was there."""
+    """Deletes a file, or a folder of work that is marked as ours. Returns whether a file was there."""
     if path.is_symlink() or path.is_file():
         path.unlink()
         return True

@@ -1,6 +1,5 @@
 """The tables of the results: places as tab-separated values, for programs, for code review, and as a file of known places."""
 
-import html
 import os
 import pathlib
 import re
@@ -10,6 +9,7 @@ import urllib.parse
 import shb_view
 from shb_common import result, sarif
 from shb_common.places import unknown_places
+from shb_common.printable import in_html
 from shb_common.programs import pair_of
 from shb_common.stacks import Frame
 from shb_common.words import counted
@@ -83,10 +83,10 @@ def index(look, rows):
     text = ["<!doctype html>", '<html lang="en"><meta charset="utf-8">',
             '<meta name="viewport" content="width=device-width, initial-scale=1">',
             f"<title>Data races</title><style>{style}</style>",
-            f"<h1>{html.escape(shlex.join([look.options.program, *look.options.arguments]))}</h1>",
+            f"<h1>{in_html(shlex.join([look.options.program, *look.options.arguments]))}</h1>",
             f"<p>{counted(count(row for row in rows if not row.is_known), 'unknown place')} with races</p>"]
     for (process, trace), found in look.found.items():
-        text.append(f'<h2><a href="{urllib.parse.quote(trace.with_suffix(".html").name)}">{html.escape(process)}</a></h2><ul>')
+        text.append(f'<h2><a href="{urllib.parse.quote(trace.with_suffix(".html").name)}">{in_html(process)}</a></h2><ul>')
         heads = dict.fromkeys(f"{place['variables'][0]['name']}: {place['headline']}" for place in found["places"] if place["variables"])
-        text += [f"<li>{html.escape(head)}</li>" for head in heads] + ["</ul>"]
+        text += [f"<li>{in_html(head)}</li>" for head in heads] + ["</ul>"]
     return "\n".join([*text, "</html>", ""]).encode(errors="backslashreplace")

@@ -53,8 +53,7 @@ class Analyser:
         return f"\n  {short(line, MOST_SHOWN)}" + (f"\n  hint: {hint}" if hint else "")
 
     def head(self, take=None):
-        """The report of `races --list` of the trace. The accesses of its races are given to `take`, if there is one and the races are
-        few; else the rest isn't read."""
+        """The report of `races --list`. The accesses of its races are given to `take`, if they are few."""
         with self.started(HEAD, self.trace, subprocess.PIPE) as run:
             try:
                 report = Report(run.out)

@@ -181,8 +181,7 @@ def sites_in(counts):
 
 
 def joined(uses):
-    """The uses of several groups of one object as those of one group. A free is a free of all its
-    variables."""
+    """The uses of several groups of one object as those of one. A free is one of all variables."""
     found = Sites()
     for one in uses:
         found.variables.update(one.variables)
@@ -244,8 +243,7 @@ def sites_of(group, uses, private):
 
 
 def fact_of(sites, locks, whole, published=()):
-    """The first fact that holds. `whole` is what the sites are counted in, a trace or a run; `published` is what
-    `handed.published` returns of the group."""
+    """The first fact that holds. `whole` is a trace or a run, `published` as `handed.published` has it."""
     racing = [site for site in sites if site.partners]
     used = [site for site in sites if site.accesses[b"f"] < site.total()]  # a line that frees alone says nothing of locks
     of_locks = uncounted(used, whole) if any(site.unknown for site in used) else lock_fact(used, racing, locks, whole)
@@ -363,8 +361,7 @@ def by_weight(sites, locks):
 
 
 def lock_fact(sites, racing, locks, whole):
-    """What is held at the lines, by the first rule that a lock fits: of each rule those alone are tried that
-    it can be about."""
+    """What is held at the lines, by the first rule that a lock fits, of locks that the rule can be about."""
     names, holding = by_weight(sites, locks)
     wrong = {lock for site in racing for lock, count in site.wrong.items() if count}
     for rule, its in ((under_read_lock, wrong), (without, holding), (sometimes, set(names))):
@@ -437,8 +434,7 @@ def is_rule(lacking, holding, variables, lock, is_member):
 
 
 def scope_of(others, lacking, holding):
-    """What holds the lock: every write, every read, all accesses at other lines, or those at the lines that hold it. `others` lack it
-    too, and don't race."""
+    """What holds the lock: each write or read, all other lines, or these; `others` lack it and don't race."""
     for scope, does in (("writes", Site.writes), ("reads", Site.reads)):
         if not any(map(does, [*others, *lacking])) and any(map(does, holding)):
             return scope
@@ -465,8 +461,7 @@ def sometimes(sites, racing, lock, locks, whole):
 
 
 def holds_another(site, lock):
-    """Whether the accesses of a line that don't hold a lock hold others whose names differ from it by numbers
-    alone, as each object's or each call's own."""
+    """Whether the accesses without a lock hold others that differ by numbers alone, as each object's own."""
     kind = DIGITS.sub(b"", lock)
     alike = [one for one in {*site.locks, *site.reading} if DIGITS.sub(b"", one) == kind]
     return len(alike) > 1 and sum(map(site.guarded, alike)) >= site.total()

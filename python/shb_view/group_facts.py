@@ -100,8 +100,7 @@ class Facts:
         return sorted(together if are_alike else alone.values(), key=lambda one: RANKS[one.fact.form])
 
     def alone(self, found, variable, names):
-        """What holds of one of a group's variables, in this group and in one that it becomes a part of: only
-        frees are of all variables."""
+        """What holds of one variable, in each group that it is in: only frees are of all variables."""
         if found.uses.frees or variable not in self.known:
             part = part_of(found.group, names, self.kinds)
             self.known[variable] = self.of_all(part, found.uses.of(variable))

@@ -47,8 +47,7 @@ class Group(collections.namedtuple("Group", "pairs variables names")):
         return {location for pair in self.pairs for location in pair.locations}
 
     def closest(self):
-        """The listed race whose events are closest in the trace, the first of these; one with a schedule if
-        there is one."""
+        """The listed race whose events are closest in the trace; one with a schedule if there is one."""
         return min((pair.closest for pair in self.pairs), key=shown_first)
 
     def places(self):
@@ -143,8 +142,7 @@ def name_parts(variable):
 
 
 def object_of(group):
-    """The block of memory, or the named object, that all variables of a group are in; None where there is no one such thing, and of
-    stacks, which have many."""
+    """The block or the named object that all variables of a group are in, or None. Stacks have many."""
     parts = [name_parts(variable) for variable in group.variables]
     things = {part["base"] + (part["block"] or b"") + part["of"] for part in parts}
     is_known = len(things) == 1 and not parts[0]["base"].startswith(b"stack.")

@@ -44,8 +44,7 @@ def handed(uses, has_frees, locals):
 
 
 def stores_of(uses):
-    """By atomic and location: its stores and updates, each the thread and the two events between which it is. One
-    that stands for omitted ones may come after the last one alike."""
+    """By atomic and location its stores and updates: the thread, and the two events between which each is."""
     found, last = collections.defaultdict(list), {}
     for use in uses:
         if use.kind in (b"store", b"update"):

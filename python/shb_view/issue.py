@@ -13,8 +13,7 @@ flat = flat_in(NAME)
 
 
 def issue_lines(view, section):
-    """The group's closest race with its threads, locks and lines of code, and what the trace says of the
-    group; of one that isn't shown whole that alone."""
+    """The group's closest race, and what is said of the group; of one that isn't shown whole that alone."""
     window = section.window
     if not window:
         yield from (flat(parts) for parts in told_of(section))

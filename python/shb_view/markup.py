@@ -1,7 +1,6 @@
 """HTML, escaped by type: text becomes markup in one way alone."""
 
-import html
-
+from shb_common.printable import in_html
 from shb_view.names import short
 from shb_view.words import Code
 
@@ -13,7 +12,7 @@ class Markup(str):
 
 
 def escaped(part):
-    return part if isinstance(part, Markup) else Markup(html.escape(str(part)))
+    return part if isinstance(part, Markup) else Markup(in_html(str(part)))
 
 
 def joined(parts, between=""):

@@ -26,8 +26,7 @@ def short(name, most):
 
 
 def code_line(line, most):
-    """A line of code, short in the same way. Its tabs are blanks, and its backslashes stay as they are. Of a long one the middle isn't
-    looked at."""
+    """A line of code, short in the same way. Its tabs are blanks, and its backslashes stay as they are."""
     room = most * MOST_BYTES
     ends = line if len(line) <= 2 * room else line[:room] + line[-room:]
     return fitted([part if part != "\\\\" else "\\" for part in characters(ends.expandtabs(8))], most)

@@ -2,13 +2,13 @@
 page.js draws a group from stands in one element, as JSON: names in there never become markup."""
 
 import base64
-import hashlib
 import json
 import pathlib
 import shlex
 
 from shb_common.locations import line_of
 from shb_common.stacks import bare
+from shb_common.sums import sha256
 from shb_common.words import counted
 from shb_view.facts import RANKS, blamed_of
 from shb_view.groups import common_name
@@ -51,7 +51,7 @@ def page_parts(view):
 
 def policy(style, script):
     """What the browser may run and load: this style and this script, whatever a name says."""
-    style, script = (base64.b64encode(hashlib.sha256(text.encode()).digest()).decode() for text in (style, script))
+    style, script = (base64.b64encode(sha256(text.encode()).digest()).decode() for text in (style, script))
     allowed = f"default-src 'none'; base-uri 'none'; form-action 'none'; style-src 'sha256-{style}'; script-src 'sha256-{script}'"
     return element("meta", http_equiv="Content-Security-Policy", content=allowed)
 
@@ -156,8 +156,7 @@ def function_words(head, frames, location):
 
 
 def again(view, section):
-    """Commands that run the interleaving again, alone and in a debugger that stops at the accesses; and the
-    one that makes its schedule again and judges it. Each with what it is."""
+    """Commands that run the interleaving again, alone and in a debugger, and that judge its schedule."""
     has_schedule = bool(view.judge and section.window.schedule)
     judged = [["its schedule, made again and judged", view.judge]] * has_schedule
     if not view.turns:

@@ -71,8 +71,7 @@ class Source:
         return found.line().strip() if found and found.line() is not None else None
 
     def missing(self, locations):
-        """How many files of these locations are found and how many are newer than the trace, in words; nothing where all are as they
-        should be, or no sources are asked for."""
+        """How many files of these locations are found, and newer than the trace, unless all is well."""
         if not self.folders and not self.recorded:
             return
         places = {found[0]: self.place(location) for location in locations for found in [line_of(location)] if found}
@@ -94,8 +93,7 @@ def best(path, candidates):
 
 
 def function_head(place):
-    """The number of the line that the function of a place begins with, or 0: the last line up to it that begins with a letter,
-    labels left out."""
+    """The number of the line that a place's function begins with, or 0: the last one with a letter first."""
     for number in range(place.number, 0, -1):
         line = place.lines[number - 1]
         if HEAD.match(line) and not line.rstrip().endswith(b":"):

@@ -18,8 +18,7 @@ class Damaged(Exception):
 
 
 def perhaps_ordered(sites, callers, stacks, calls):
-    """The modules without hooks that may order the accesses: of each racing line some function in whose call it was come to calls them or is
-    theirs, or they started a thread."""
+    """The modules without hooks that both sides of the races call, are called by, or were started by."""
     found = []
     for site in [site for site in sites if site.partners]:
         frames = {frame for (its, _), _ in callers.get(site.location, ()) for frame in its}

@@ -25,8 +25,7 @@ flat = flat_in(NAME)
 
 
 def text_lines(view, colours, is_whole, has_notes=True):
-    """The lines of the whole text, with its notes behind the groups. `is_whole` adds the report for an issue and the events before the
-    accesses."""
+    """The lines of the text. `is_whole` adds the report for an issue and the events before the accesses."""
     if view.verdict.is_good is False:
         yield colours.red(bad_words(view))
     races, size = summary(view)

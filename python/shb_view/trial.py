@@ -78,8 +78,7 @@ def write_copies(file, trace, changes):
 
 
 def copy(trace, change):
-    """Each event of the trace with the lines that there are at it after the change, without accesses of other
-    variables."""
+    """The lines at each event after the change, without accesses of other variables."""
     number = 0
     for number, _, operation, line in trace.events("trying remedies"):
         is_there = number not in change.moved and (operation[1] != OPENS or operation[2:-1] in change.names)

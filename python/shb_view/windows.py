@@ -66,8 +66,7 @@ class Moments:
 
 
 def make_windows(trace, races, counting, order):
-    """A window for each race. `order` returns some events in the order of a race's schedule, and
-    that schedule."""
+    """A window for each race. `order` returns events in the order of a race's schedule, and that schedule."""
     accesses = {access: event_of(line).thread for race in races
                 for access, line in ((race.first, race.first_line), (race.second, race.second_line))}
     before = {event for access in accesses for event in counting.noted[access].before}

@@ -86,8 +86,7 @@ def lock_words(site):
 
 
 def accesses_text(site, is_counted):
-    """How often a line reads, writes and frees; of a recorded run, whose repeats are omitted, that it
-    does."""
+    """How often a line reads, writes and frees; of a run, whose repeats are omitted, that it does."""
     kinds = [word for word in KINDS if site.accesses[word]]
     words = [counted(site.accesses[word], KINDS[word]) if is_counted else f"{KINDS[word]}s" for word in kinds]
     return "".join(listed([[its] for its in words], len(KINDS)))

@@ -2,11 +2,11 @@
 
 import side_by_side
 from shb_common.programs import Location, Names, Origin, pair_of
-from shb_common.stacks import Tables
+from shb_common.stacks import Stacks
 
 
 def origin(sources, program=b"", functions=()):
-    tables = Tables()
+    tables = Stacks()
     tables.sources, tables.functions = dict(sources), dict(functions)
     return Origin(tables, program)
 

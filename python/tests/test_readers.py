@@ -16,7 +16,7 @@ from shb_common.files import NotRegular, open_regular, put, read_at_most
 from shb_common.known import BadLine, Known
 from shb_common.refused import explained
 from shb_common.report import BadReport, Report, in_order
-from shb_common.stacks import BadStacks, Stacks, Tables
+from shb_common.stacks import BadStacks, Stacks
 from shb_fix import lines
 from shb_fix.command import Trace, repaired
 from shb_fix.events import Repairs
@@ -88,7 +88,7 @@ def read_stacks(text):
         except BadStacks as fault:
             assert "\n" not in str(fault)
         try:
-            Tables(file.name).local_of(b"stack.main-0x20", 2)
+            Stacks(file.name).local_of(b"stack.main-0x20", 2)
         except BadStacks:
             pass
 
@@ -209,7 +209,7 @@ class Readers(side_by_side.Case):
         for number, line in enumerate(LINES.splitlines(True), 2):
             path = self.folder / "a.stacks"
             path.write_bytes(STACKS.replace(line, line[:-1] + b"\tx y z\n" if line.startswith((b"stack", b"block", b"free", b"use")) else line.replace(b"\t", b" ")))
-            for read in (lambda: Stacks(path, 3), lambda: Tables(path)):
+            for read in (lambda: Stacks(path, 3), lambda: Stacks(path)):
                 with self.assertRaises(BadStacks) as refused:
                     read()
                 self.assertIn(f"is damaged in line {number}: `", str(refused.exception))
@@ -226,7 +226,7 @@ class Readers(side_by_side.Case):
         os.mkfifo(self.folder / "pipe")
         for path in (self.folder / "pipe", "/dev/zero", self.folder):
             with self.assertRaises(OSError):
-                Tables(path)
+                Stacks(path)
         with self.assertRaises(NotRegular):
             open_regular("/dev/zero")
         with self.assertRaises(OSError) as refused:

@@ -53,7 +53,7 @@ class Packed(farm.Case):
         shb = self.counting()
         self.assertEqual(self.farm("--memory", "70,2000", shb=shb).status, 1)
         self.assertEqual(self.ends()["a.std.gz"][0], "report")
-        self.assertEqual(self.runs(), 3)    # a list, a full report, the view's
+        self.assertEqual(self.runs(), 4)    # a list, a full report, the view's two
 
 
 class Variables(farm.Case):

@@ -10,7 +10,7 @@ import recorder
 from test_record import BLOCK, HEADER, entry, late
 
 sys.path.insert(0, str(recorder.PYTHON))
-from shb_common.stacks import Stacks, Tables  # noqa: E402
+from shb_common.stacks import Stacks  # noqa: E402
 
 
 def plain(thread, operation, address, caller, depth):
@@ -112,7 +112,7 @@ class Texts(recorder.Case):
     def sums(self):
         stacks = self.folder / "app.stacks"
         recorder.must(recorder.convert(self.path, "--stacks", stacks))
-        return {place.decode(): text for place, text in Tables(stacks).sums.items()}
+        return {place.decode(): text for place, text in Stacks(stacks).sums.items()}
 
     def change(self, old, new):
         source = self.sources[1]
