@@ -525,7 +525,8 @@ class Windows(program.Case):
     def test_nothing_after_an_access_is_shown_before_it(self):
         """The second thread's acquire waits for a release that comes after the first access."""
         trace = b"A|acq(l)\nA|w(x)\nA|rel(l)\nB|acq(l)\nB|w(x)\n"
-        report = b"shb-report 1\nevents 5 threads 2 locks 1 variables 1\nraces 1\nrace 1: 2 5\nfirst A|w(x)\nsecond B|w(x)\nend\n"
+        report = (b"shb-report 2\nevents 5 threads 2 locks 1 variables 1\nraces 1\nplaces 1\nplace 1: 1\nat \nand \n"
+                  b"race 1: 2 5\nfirst A|w(x)\nsecond B|w(x)\nend\n")
         [window] = windows(trace, report, None)
         self.assertEqual((window.before, window.edges), ([1, 4], []))
 

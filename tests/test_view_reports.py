@@ -22,10 +22,9 @@ class Taken(program.Case):
             for (one, other), count in races.items():
                 pair = tuple(sorted((one, other)))
                 wanted[pair] = wanted.get(pair, 0) + count
-            for version in (1, 2):
-                for schedules in (False, True):
-                    found = sections(text, shb.report(text, schedules, version), schedules or None)
-                    self.assertEqual({pair.locations: pair.races for section in found for pair in section.group.pairs}, wanted)
+            for schedules in (False, True):
+                found = sections(text, shb.report(text, schedules), schedules or None)
+                self.assertEqual({pair.locations: pair.races for section in found for pair in section.group.pairs}, wanted)
 
     def test_leading_races_alone(self):
         trace = (EXAMPLES / "places.std").read_bytes()
@@ -43,7 +42,7 @@ class Taken(program.Case):
         """A good report is shown, and one whose form, counts or places are wrong is refused; `check` judges schedules."""
         shown = refused = 0
         for pick, text, _ in made(MADE):
-            good = shb.report(text, True, pick.choice([1, 2]))
+            good = shb.report(text, True)
             for report in [made_traces.changed(pick, good) for _ in range(5)]:
                 verdict = judge.verdict(text, report).decode()
                 try:

@@ -24,8 +24,7 @@ class Version(argparse.Action):
 
 
 class Parser(argparse.ArgumentParser):
-    """The words of a command: what it is about, its options, and notes below these, with what is installed. Wrong words end it with
-    `status`."""
+    """The words of a command: what it is about, its options, and notes. Wrong words end it with `status`."""
 
     def __init__(self, command, about, notes, status=3, **more):
         super().__init__(prog=command, formatter_class=argparse.RawDescriptionHelpFormatter,

@@ -45,8 +45,7 @@ def without_note(said):
 
 
 def explained(words, file):
-    """The words of a refusal, `line N: REASON`, with the line of the trace, an open file, and a hint where there is one. Other
-    words stay as they are."""
+    """The words of a refusal, `line N: REASON`, with that line of the open trace, and a hint if any."""
     found = line_and_hint(words, file)
     if not found:
         return words

@@ -1,4 +1,4 @@
-"""A report of races, read line by line: of version 1 or 2, with schedules or without. docs/FORMATS.md has the form.
+"""A report of races, read line by line, with schedules or without. docs/FORMATS.md has the form.
 
 A report is accepted only whole: its numbers count up, its places are those of its races, and it ends with `end`.
 """
@@ -10,7 +10,7 @@ from shb_common.limits import LINE_ROOM, MOST_LINE
 from shb_common.printable import printable
 
 NUMBER = rb"(0|[1-9][0-9]{0,19})"
-VERSION = re.compile(rb"shb-report ([12])\n")
+VERSION = re.compile(rb"shb-report 2\n")
 COUNTS = re.compile(rb"events %b threads %b locks %b variables %b\n" % ((NUMBER,) * 4))
 RACES = re.compile(rb"races %b\n" % NUMBER)
 PLACES = re.compile(rb"places %b\n" % NUMBER)
@@ -130,15 +130,14 @@ def said(line):
 
 class Report:
     """A report in an open file. Its head is read at once: `counts` of the trace, the number of races, and `places`, how many
-    races each pair of locations has, which is None in version 1."""
+    races each pair of locations has."""
 
     def __init__(self, file):
         self.lines = Lines(file)
-        [version] = self.lines.numbers(VERSION, "shb-report 2")
+        self.lines.next(VERSION, "shb-report 2")
         self.counts = Counts(*self.lines.numbers(COUNTS, "events E threads T locks L variables V"))
         [self.count] = self.lines.numbers(RACES, "races R")
-        self.places = self.read_places() if version == 2 else None
-        self.has_schedules = None       # known once its races were read; a report without races lacks none
+        self.places, self.has_schedules = self.read_places(), False     # the latter is known when the first race is read
 
     def read_places(self):
         [count] = self.lines.numbers(PLACES, "places P")
@@ -158,9 +157,8 @@ class Report:
             place = accesses[0].location, accesses[1].location
             places[place] = places.get(place, 0) + 1
             yield race, accesses
-        self.has_schedules = self.has_schedules is not False
         self.lines.end()
-        if self.places is not None and self.places != places:
+        if list(self.places.items()) != list(places.items()):
             raise BadReport("the places that the report begins with aren't those of its races")
 
     def read_race(self, number):

@@ -26,8 +26,7 @@ def access(name, location, in_trace, event=None, read=None):
 
 
 def entry(row, found, reads=((), ()), **more):
-    """A row as an entry. `found` is the view's entry of it, nothing where it has none; `reads` are of each access its event and its
-    fields there."""
+    """A row as an entry: `found` is the view's, `reads` are of each access its event and its fields."""
     there = {one["in_trace"]: one for one in found.get("accesses", ())}
     races = {one["name"]: {"races": one["races"]} for one in found.get("variables", ()) if "races" in one}
     accesses = [{**there.get(text(in_trace), {}), **access(name, location, in_trace, *read)}

@@ -43,8 +43,7 @@ def read(path):
 
 @contextlib.contextmanager
 def room_in(out):
-    """A folder for files that aren't whole yet. It is locked as long as the run lasts, and goes with it; what a killed run left goes
-    first."""
+    """A locked folder for files that aren't whole yet. It goes with the run, and killed runs' before."""
     tmp = pathlib.Path(out) / "tmp"
     tmp.mkdir(parents=True, exist_ok=True)
     clean(tmp)

@@ -76,10 +76,7 @@ def written(work, form, trace, out):
 
 def report_in(out):
     out.seek(0)
-    report = Report(out)
-    if report.places is None:
-        raise BadReport("it has no places")
-    return report
+    return Report(out)
 
 
 def not_whole(fault):

@@ -8,8 +8,7 @@ OWN = "#"   # a repaired name is the old one, this sign and a word
 
 
 class Event(collections.namedtuple("Event", "line thread word name location")):
-    """One event: its line in the file that was read, and its fields. `name` is what stands in the parentheses, None where
-    there are none."""
+    """One event: its line in the file that was read, and its fields. `name` is None without parentheses."""
 
     def text(self):
         operation = self.word if self.name is None else b"%s(%s)" % (self.word, self.name)

@@ -29,8 +29,7 @@ RANKS = {"published": 0, "freed": 0, "plain": 1, "uncounted": 3, "read-lock": 1,
 
 
 class Counts(dict):
-    """Numbers by what they are of; 0 of what isn't there. `collections.Counter` takes ten times as long to be
-    made, and there are many."""
+    """Numbers by what they are of; 0 of what isn't there. `collections.Counter` takes ten times as long."""
 
     def __missing__(self, key):
         return 0
@@ -143,8 +142,7 @@ def blamed_of(fact, locations):
 
 
 class Sites:
-    """How a group's variables are used: of each variable its sites by their locations, and how often which
-    frees are of all of them."""
+    """How a group's variables are used: the sites of each by location, and how often frees are of all."""
 
     def __init__(self, variables=(), frees=()):
         self.variables, self.frees = dict(variables), dict(frees)

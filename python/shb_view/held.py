@@ -41,8 +41,7 @@ class Operations(dict):
 
 
 class Held:
-    """The locks that one thread holds, oldest first, but for those that the program doesn't have. Of nested acquires of a lock the
-    outermost counts."""
+    """The program's locks that a thread holds, oldest first. Of nested acquires the outermost counts."""
 
     def __init__(self):
         self.locks = {}  # by name: the acquire since which it is held, and how often it was acquired since

@@ -26,8 +26,7 @@ class Moments:
     """Notes the wanted events, and of some operations the last one before each wanted event."""
 
     def __init__(self, wanted, sources, locals):
-        """`sources` has for an event the operation that it waits for or sees, `w(X)` or `rel(L)`; `locals` the names of locks on
-        stacks."""
+        """`sources` has for an event what it waits for or sees, `w(X)` or `rel(L)`; `locals` name locks."""
         self.wanted, self.sources = wanted, sources
         self.tracked = set(sources.values())
         self.latest = {}  # of a tracked operation: its last event, its thread and its moment
