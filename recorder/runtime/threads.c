@@ -11,7 +11,7 @@
 #include <threads.h>
 #include <time.h>
 #include <unistd.h>
-#include "runtime.h"
+#include "hold.h"
 
 typedef const struct timespec *deadline;
 enum { CELL_MEGABYTES = 1024 };        /* without SHB_CELLS */
@@ -270,6 +270,7 @@ static int create(thread start, pthread_t *handle, const pthread_attr_t *attribu
     if (!t) tell_of_child();
     int error = t ? create_in_hook(t, start, handle, attributes, caller) : NOT_STARTED;
     if (t) leave(t);
+    if (!error && instrumented(caller)) hook(OP_WRITE, (uint64_t)handle, sizeof *handle, caller);
     return error;
 }
 
