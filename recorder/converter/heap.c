@@ -176,7 +176,7 @@ static void write_names_of_type(FILE *to, const in_block *first, const in_block 
         if (is_double) continue;
         const block *b = block_of(i->block);
         part variable = variable_name(i->at, b);
-        fprintf(to, "local 0\t%.*s\t%s", (int)variable.length, variable.at, i->name);
+        fprintf(to, "local 0\t%.*s\t%.*s", (int)variable.length, variable.at, own_length(i->name), i->name);
         if (with_block) {
             part origin = variable_name(b->at, b);
             fprintf(to, " of %.*s", (int)origin.length, origin.at);

@@ -239,6 +239,11 @@ void symbol_name(u64 address, char *buffer, size_t size) {
     else if (address > s->at) snprintf(buffer + n, size - n, "+%lu", address - s->at);
 }
 
+int own_length(const char *name) {
+    const char *end = strstr(name, "._M_");
+    return end ? end - name : (int)strlen(name);
+}
+
 /* Is there a variable that is named as a type is? */
 int is_variable(const char *name, size_t length) {
     u64 text[NAME_BYTES / sizeof(u64) + 1] = {0};

@@ -17,7 +17,7 @@
                                                      which is in a block of the heap, is at all events this member of the
                                                      block's type, as "Account.balance"; with " of FILE:LINE#NUMBER", the
                                                      block's name, where several blocks of the trace have this type,
-                                                     or a static variable has its name
+                                                     or a static variable has its name; or the program's part of a static's
        use EVENT TAB NAME TAB THREAD TAB LOCATION TAB KIND ORDER       a use before this event of an atomic that several threads use,
                                                      whether or not it is an event: a load, store or update with the order
                                                      relaxed, acquire, release or both. In the order in which they happened
@@ -91,7 +91,9 @@ static INTERNED(named) named_places;
 static void write_local(u64 event, named *n, const char *name) {
     n->name = name;
     part variable = variable_name(n->at, block_of(n->block));
-    fprintf(lines, "local %lu\t%.*s\t%s\n", event, (int)variable.length, variable.at, name);
+    const int length = own_length(name);
+    const char *of = strstr(name + length, " of ");
+    fprintf(lines, "local %lu\t%.*s\t%.*s%s\n", event, (int)variable.length, variable.at, length, name, of ? of : "");
 }
 
 /* The thread has left functions since its last record, nobody knows when: what others accessed in them meanwhile has no name. */
@@ -305,8 +307,19 @@ const char *local_now(u64 at, const block *b) {
     return local_at(&threads[b->thread].calls, at, next_cut(at, at + MOST_LENGTH) - at, &depth);
 }
 
+/* Of what isn't the program's own in a variable. */
+static void note_own_name(u64 at) {
+    static map met;
+    u64 count = met.count;
+    if (map_number(&met, at, 0) <= count) return;
+    part name = variable_name(at, 0);
+    int length = own_length(name.at);
+    if (name.at[length]) fprintf(lines, "local 0\t%.*s\t%.*s\n", (int)name.length, name.at, length, name.at);
+}
+
 void note_name(u64 at, u32 block_number, u64 event, u32 t) {
     const block *b = block_of(block_number);
+    if (with_stacks && !b) note_own_name(at);
     if (!with_stacks || !b) return;
     if (!b->stack) {
         u64 end = b->at + b->size;

@@ -1,6 +1,5 @@
 /* The type of what a call in the program's own code allocates, by the text of its line: one `new NAME`, or one `sizeof(NAME)`, where a type
    of that name and size is in the unit. Debug information doesn't tell it. */
-#include <ctype.h>
 #include <fcntl.h>
 #include <stdio.h>
 #include <stdlib.h>
@@ -59,8 +58,6 @@ int read_line(const char *path, int number, char *line) {
     }
     return 1;
 }
-
-static int is_of_word(char c) { return isalnum((unsigned char)c) || c == '_'; }
 
 /* What is behind the only one of a word in a line; null where there is none, or several. */
 static const char *behind_only(const char *line, const char *word) {

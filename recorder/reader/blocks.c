@@ -20,12 +20,7 @@ static int first_argument(Dwarf_Die *of, Dwarf_Die *type) {
 }
 
 static int origin_of(Dwarf_Die *function) {
-    Dwarf_Attribute a;
-    Dwarf_Die to;
-    if (!dwarf_attr(function, DW_AT_abstract_origin, &a) && !dwarf_attr(function, DW_AT_specification, &a)) return 0;
-    if (!dwarf_formref_die(&a, &to)) return 0;
-    *function = to;
-    return 1;
+    return follow(function, DW_AT_abstract_origin) || follow(function, DW_AT_specification);
 }
 
 /* What a function of the C++ library's gives so many bytes for: T of `T *allocate(size_t)` and of `make_unique<T>()`; 0 of any other. */
@@ -188,6 +183,11 @@ static named_part part_of(struct debug *d, Dwarf_Die type, u64 offset, u64 lengt
     return d->parts[number - 1];
 }
 
+static size_t add_part(named_part part, const char *index, char *buffer, size_t size) {
+    if (part.type) snprintf(buffer, size, "%s%s%s", part.type, index, part.rest);
+    return part.type ? strlen(part.type) : 0;
+}
+
 static size_t add_bits(const place_in_block *at, char *buffer, size_t size) {
     static const char type[] = "std::vector<bool>";
     snprintf(buffer, size, "%s[%lu..%lu]", type, 8 * at->offset, 8 * (at->offset + at->length) - 1);
@@ -205,22 +205,16 @@ size_t add_in_block(struct debug *d, place_in_block at, char *buffer, size_t siz
     if (!all.size || at.offset < all.begin) return 0;
     u64 offset = (at.offset - all.begin) % all.size;
     if (at.length > all.size - offset) return 0;
-    named_part part = part_of(d, type, offset, at.length);
-    if (!part.type) return 0;
     char index[24] = "";
     if (at.size - all.begin > all.size) snprintf(index, sizeof index, "[%lu]", (at.offset - all.begin) / all.size);
-    snprintf(buffer, size, "%s%s%s", part.type, index, part.rest);
-    return strlen(part.type);
+    return add_part(part_of(d, type, offset, at.length), index, buffer, size);
 }
 
 size_t add_by_use(struct debug *d, const object_in_block *object, u64 offset, u64 length, char *buffer, size_t size) {
     char index[24] = "";
     u64 begin = object->begin;
     if (offset < begin || offset - begin >= object->size || length > object->size - (offset - begin)) return 0;
-    named_part part = part_of(d, object->type, offset - begin, length);
-    if (!part.type) return 0;
     if (object->is_element && begin % object->size == 0) snprintf(index, sizeof index, "[%lu]", begin / object->size);
     else if (begin) snprintf(index, sizeof index, "+%lu", begin);
-    snprintf(buffer, size, "%s%s%s", part.type, index, part.rest);
-    return strlen(part.type);
+    return add_part(part_of(d, object->type, offset - begin, length), index, buffer, size);
 }

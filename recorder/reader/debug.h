@@ -1,4 +1,5 @@
 /* Debug information of a module, and its symbols, as libdw of the elfutils reads them. Addresses are those of the module's file. */
+#include <ctype.h>
 #include <dwarf.h>
 #include <elfutils/libdw.h>
 #include <elfutils/libdwfl.h>
@@ -56,7 +57,7 @@ char *demangled(const char *name);     /* a copy, also of a name that isn't mang
 const symbol *symbol_from(struct debug *d, u64 address);     /* that is there, or the first one behind it, with its name; null where there is none */
 int is_variable(struct debug *d, const char *name);          /* has one this name? */
 
-/* Is it a name of Rust, Fortran or D? The debug information has the program's own. */
+/* Is it a name of Rust, Fortran or D, or one with a tag, as "x[abi:cxx11]"? The debug information has the program's own. */
 int is_of_other(const char *linked);
 char *told_name(const Dwarf_Die *of);  /* "next_id::last", of a function or variable; null if there is none */
 
@@ -88,6 +89,8 @@ void each_source(struct debug *d, void (*give)(const char *path));
 u32 variable_at(struct debug *d, u64 address);
 /* The same type without typedefs and qualifiers; 0 where there is none. */
 int plain_type(Dwarf_Die *type);
+int follow(Dwarf_Die *die, unsigned attribute);              /* to the entry that the attribute names; 0 if there is none */
+int named_type(Dwarf_Die *of, Dwarf_Die *type);
 int type_of(Dwarf_Die *of, Dwarf_Die *type);                 /* plain */
 u64 size_of_type(Dwarf_Die *type);     /* in bytes; 0 where it isn't known */
 /* The member, or the base class, that has all of these bytes, and where it begins; 0 where there is none. */
@@ -107,6 +110,7 @@ void add_member(struct debug *d, u64 address, u64 offset, u64 length, char *buff
 typedef struct { u64 pc, below, above, length; } place_of_local;
 const char *add_local(struct debug *d, place_of_local at, char *buffer, size_t size);
 
+static inline int is_of_word(char c) { return isalnum((unsigned char)c) || c == '_'; }
 /* allocated.c: a line of a file; 0 if there is none that fits. What is in texts and behind `//` is blanked. */
 enum { LINE_BYTES = 512 };
 int read_line(const char *path, int number, char *line);

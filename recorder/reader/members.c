@@ -53,7 +53,7 @@ u32 variable_at(struct debug *d, u64 address) {
 }
 
 /* ---- what lies at an offset of a type ---- */
-static int follow(Dwarf_Die *die, unsigned attribute) {
+int follow(Dwarf_Die *die, unsigned attribute) {
     Dwarf_Attribute a;
     Dwarf_Die to;
     if (!dwarf_attr_integrate(die, attribute, &a) || !dwarf_formref_die(&a, &to)) return 0;
@@ -73,10 +73,12 @@ int plain_type(Dwarf_Die *type) {
     return 0;
 }
 
-int type_of(Dwarf_Die *of, Dwarf_Die *type) {
+int named_type(Dwarf_Die *of, Dwarf_Die *type) {
     *type = *of;
-    return follow(type, DW_AT_type) && plain_type(type);
+    return follow(type, DW_AT_type);
 }
+
+int type_of(Dwarf_Die *of, Dwarf_Die *type) { return named_type(of, type) && plain_type(type); }
 
 /* The first index where none is told, as the language has it; 1 in Fortran. */
 static Dwarf_Sword default_first(Dwarf_Die *of) {
@@ -227,6 +229,13 @@ static void add_bits(Dwarf_Die *of, u64 offset, u64 length, text *to) {
     }
 }
 
+/* Of a union without a name in a class of the library's; null of another one. */
+static const char *first_own_name(Dwarf_Die *of) {
+    Dwarf_Die e;
+    const char *name = dwarf_child(of, &e) ? 0 : dwarf_diename(&e);
+    return name && dwarf_tag(of) == DW_TAG_union_type && is_reserved(name) ? name : 0;
+}
+
 void add_members(Dwarf_Die type, u64 offset, u64 length, text *to) {
     for (int steps = 0; steps < MOST_STEPS && plain_type(&type); steps++) {
         Dwarf_Die member;
@@ -247,6 +256,7 @@ void add_members(Dwarf_Die type, u64 offset, u64 length, text *to) {
         if (is_own && !to->rest) return;
         offset -= place;
         if (!type_of(&member, &type)) return;
+        if (!name) name = first_own_name(&type);
         if (name && *name && !is_wrapped) add_name(to, ".", name, offset);
     }
 }

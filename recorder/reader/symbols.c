@@ -1,5 +1,4 @@
 /* A module's symbols, and what their names are in the program's source. */
-#include <ctype.h>
 #include <dlfcn.h>
 #include <stdlib.h>
 #include <string.h>
@@ -20,13 +19,13 @@ char *demangled(const char *name) {
     return text;
 }
 
-/* Rust's two forms, "_R.." and "_ZN..17h" with 16 digits and "E"; "__m_MOD_x" of Fortran; "_D1m1x.." of D. */
+/* Rust's two forms, "_R.." and "_ZN..17h" with 16 digits and "E"; "__m_MOD_x" of Fortran; "_D1m1x.." of D; gcc's "_Z1xB5cxx11". */
 int is_of_other(const char *linked) {
     enum { HASH = 20 };
     size_t length = strlen(linked);
     int is_older = length > HASH && !strncmp(linked, "_ZN", 3) && !strncmp(linked + length - HASH, "17h", 3);
     int is_of_d = !strncmp(linked, "_D", 2) && isdigit((unsigned char)linked[2]);
-    return is_older || is_of_d || !strncmp(linked, "_R", 2) || strstr(linked, "_MOD_");
+    return is_older || is_of_d || !strncmp(linked, "_R", 2) || strstr(linked, "_MOD_") || strstr(linked, "B5cxx11");
 }
 
 /* As gcc links "last" of a function in C: "last.0". */

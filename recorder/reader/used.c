@@ -1,7 +1,6 @@
 /* The type of an object in a block by its uses: the source text at an access's column, as `j->done`, is a member of
    what a pointer points to, whose type the debug information tells. So an object of that type lies there, if it has
    the member's bytes at the access. What isn't certain by text and types has no meaning. */
-#include <ctype.h>
 #include <stdio.h>
 #include <stdlib.h>
 #include <string.h>
@@ -16,11 +15,6 @@ static int has_name(Dwarf_Die *e, const char *name) {
 }
 
 /* ---- types, with the names that typedefs give them ---- */
-static int named_type(Dwarf_Die *of, Dwarf_Die *type) {
-    Dwarf_Attribute a;
-    return dwarf_attr_integrate(of, DW_AT_type, &a) && dwarf_formref_die(&a, type);
-}
-
 static int tag_of_type(Dwarf_Die type) { return plain_type(&type) ? dwarf_tag(&type) : 0; }
 static int target_of(Dwarf_Die type, Dwarf_Die *to) { return plain_type(&type) && named_type(&type, to); }
 
@@ -71,11 +65,9 @@ static void look_in(view *v, search *s, Dwarf_Die *in, int inner, int depth) {
 static search local_named(view *v, const char *name) {
     search s = {.name = name};
     Dwarf_Die function = v->function;
-    Dwarf_Attribute a;
     look_in(v, &s, &function, DW_TAG_lexical_block, 0);
     s.last = 0;
-    if (dwarf_attr(&v->function, DW_AT_abstract_origin, &a) && dwarf_formref_die(&a, &function))
-        look_in(v, &s, &function, DW_TAG_lexical_block, 0);
+    if (follow(&function, DW_AT_abstract_origin)) look_in(v, &s, &function, DW_TAG_lexical_block, 0);
     return s;
 }
 
@@ -144,7 +136,6 @@ static int means_name(view *v, const char *word, meaning *m) {
     return type.addr && means_type(m, type);
 }
 
-static int is_of_word(char c) { return isalnum((unsigned char)c) || c == '_'; }
 static const char *skip(const char *at) { return at + strspn(at, " \t"); }
 static int is_arrow(const char *at) { return at[0] == '-' && at[1] == '>'; }
 

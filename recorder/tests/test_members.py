@@ -43,6 +43,30 @@ class Members(recorder.Case):
         self.check("members.cc")
 
 
+class Own(recorder.Case):
+    """What lies in a class of the C++ library is named by the program's own member."""
+
+    def found(self, option):
+        """By line, what texts name the variables that the thread writes there."""
+        record, path, found = self.folder / "app.rec", self.folder / "app.stacks", {}
+        recorder.build(recorder.PROGRAMS / "own_members.cc", option, self.folder / "app")
+        recorder.must(recorder.call(self.folder / "app", env=recorder.settings(record, SHB_CELLS="0")))
+        trace = recorder.must(recorder.convert(record, "-a", "--stacks", path)).stdout.splitlines()
+        stacks = Stacks(path, len(trace))
+        for event, line in enumerate(trace, 1):
+            access = re.fullmatch(rb"T1[^|]*\|w\((.*?)\)\|(.*)", line)
+            if access:
+                found.setdefault(access[2].decode(), set()).add((stacks.local_of(access[1], event) or access[1]).decode())
+        return found
+
+    def test_members_of_the_cxx_library(self):
+        wanted = recorder.marked(recorder.PROGRAMS / "own_members.cc", "IS")
+        for option in ("-O0", "-Og", "-O1", "-O2"):
+            with self.subTest(option=option):
+                found = self.found(option)
+                self.assertEqual({place: found.get(place) for place in wanted}, wanted)
+
+
 class Elements(recorder.Case):
     """Those of an array are asked for many at once."""
 
@@ -114,6 +138,19 @@ class Blocks(recorder.Case):
     def test_by_uses(self):
         self.check(recorder.PROGRAMS / "used.c", 19)
         self.check(recorder.PROGRAMS / "used.cc", 9)
+
+
+    def test_what_malloc_gave(self):
+        """An object that races is named, in whatever way it comes from there."""
+        source, record, path = recorder.PROGRAMS / "heap_objects.c", self.folder / "app.rec", self.folder / "app.stacks"
+        for form, wanted in enumerate(re.findall(rb" IS (\S+) \*/", source.read_bytes()), 1):
+            words = ["-w", "-g", "-Og", f"-DFORM={form}", "-fsanitize=thread", "-pthread", f"-B{recorder.BUILT}/lib/", source]
+            recorder.must(recorder.call("gcc", *words, "-o", self.folder / "app"))
+            recorder.must(recorder.call(self.folder / "app", env=recorder.settings(record)))
+            trace = recorder.must(recorder.convert(record, "--stacks", path)).stdout
+            names = Stacks(path, len(trace.splitlines())).lasting_locals
+            with self.subTest(form=form):
+                self.assertEqual({names.get(name) for name in re.findall(rb"\|w\((.*?)\)\|", trace)}, {wanted})
 
 
 class Damaged(recorder.Case):

@@ -56,7 +56,7 @@ def load_tests(loader, tests, pattern):
               "ways_out.c", "status.c", "loop.c", "copies.c", "long_race.c", "calls.c", "contexts.c", "both_orders.c",
               "calls_cxx.cc", "inlined.cc", "headers.cc", "filled.cc", "own_files.c", "own_limits.c", "versions.c", "news.cc", "no_proc.c", "many_in_turn.c", "sigev_thread.c",
               "spin.c", "short_threads.c", "in_turn.c", "library_unchanged.c", "fibers.c", "thread_names.c", "members.c", "members.cc", "elements.c", "blocks.cc", "allocated.cc", "allocator.c", "replaced.cc", "pretended.c", "rights.c", "forms.cc", "locals.c", "waits.c", "starves.c", "unseen_threads.c", "crash.c", "private_memory.c", "rare.c", "asleep.c", "room.c"}
-    others |= {"container_uses.cc", "vector_bits.cc", "used.c", "used.cc"}
+    others |= {"container_uses.cc", "vector_bits.cc", "own_members.cc", "heap_objects.c", "used.c", "used.cc"}
     suite = unittest.TestSuite()
     for source in sources:
         if source.name not in others:
