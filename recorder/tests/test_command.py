@@ -898,7 +898,7 @@ int main(int count, char **words) {
         """Sends signals to the command when it begins a page, which does this then."""
         command = self.folder / "command"
         command.write_text("#!/usr/bin/env python3\nimport os, runpy, signal, sys\n"
-                           f"sys.path.insert(0, {str(recorder.PYTHON)!r})\n"
+                           f"sys.path.insert(0, {str(recorder.COMMAND.parent)!r})\n"
                            "import shb_view.command\nmade = shb_view.command.explain\n"
                            "def explain(*words, **how):\n"
                            f"    for name in {numbers!r}:\n        os.kill(os.getpid(), getattr(signal, name))\n    {then}\n    return made(*words, **how)\n"
