@@ -104,6 +104,7 @@ const char *function_name(u64 address, char *buffer, size_t size);       /* "" w
 int own_function_name(u64 address, char *buffer, size_t size);
 void symbol_name(u64 address, char *buffer, size_t size);
 int own_length(const char *name);      /* without members of the C++ library's classes: of "box.mail._M_finish" that of "box.mail" */
+void write_own_name(FILE *to, const char *name);         /* of a local: "box.mail of main" */
 /* The local of a function at `pc` that lies so many bytes below the end of its return address, and above its stack pointer:
    "x.head of main"; 0 where none is known. */
 int local_name(u64 function, u64 pc, u64 below, u64 above, u64 length, char *buffer, size_t size);

@@ -244,6 +244,12 @@ int own_length(const char *name) {
     return end ? end - name : (int)strlen(name);
 }
 
+void write_own_name(FILE *to, const char *name) {
+    const int length = own_length(name);
+    const char *of = strstr(name + length, " of ");
+    fprintf(to, "%.*s%s", length, name, of ? of : "");
+}
+
 /* Is there a variable that is named as a type is? */
 int is_variable(const char *name, size_t length) {
     u64 text[NAME_BYTES / sizeof(u64) + 1] = {0};

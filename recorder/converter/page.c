@@ -251,8 +251,9 @@ static void write_sight(const sight *s) {
 static void write_use(const use *u) {
     const piece *p = piece_of(u->piece);
     part name = variable_name(p->at, block_of(p->block)), place = place_of(u->caller);
-    fprintf(uses_file, "use\t%lu\t%c\t%.*s\t%s\t%s\t%.*s\t%u", u->count, u->word, (int)name.length, name.at, u->local, thread_name(u->thread),
-            (int)place.length, place.at, u->stack);
+    fprintf(uses_file, "use\t%lu\t%c\t%.*s\t", u->count, u->word, (int)name.length, name.at);
+    write_own_name(uses_file, u->local);
+    fprintf(uses_file, "\t%s\t%.*s\t%u", thread_name(u->thread), (int)place.length, place.at, u->stack);
     keep_stack(u->stack);
     for (u64 k = 0; k < sets.at[u->set].count; k++) {
         part lock = name_of_held(keys_of_sets.at[sets.at[u->set].first + k], u->thread);

@@ -91,9 +91,9 @@ static INTERNED(named) named_places;
 static void write_local(u64 event, named *n, const char *name) {
     n->name = name;
     part variable = variable_name(n->at, block_of(n->block));
-    const int length = own_length(name);
-    const char *of = strstr(name + length, " of ");
-    fprintf(lines, "local %lu\t%.*s\t%.*s%s\n", event, (int)variable.length, variable.at, length, name, of ? of : "");
+    fprintf(lines, "local %lu\t%.*s\t", event, (int)variable.length, variable.at);
+    write_own_name(lines, name);
+    fputc('\n', lines);
 }
 
 /* The thread has left functions since its last record, nobody knows when: what others accessed in them meanwhile has no name. */
