@@ -330,7 +330,7 @@ while True:
         draw, end = random.Random(7), struct.pack("<QQII", 0, 0, 0x7fffffff, 0)
         numbers = (0, 1, 2, 7, 1 << 32, (1 << 64) - 1, 0x4000, 0x40 << 2)
         file, wrong = self.folder / "answers", 0
-        for _ in range(60):
+        for _ in range(90):
             answers = b""
             for _ in range(draw.randrange(1, 40)):
                 texts = [draw.choice((b"", b"st", b"/a/b.c", b"a|b\n)", b"\0", bytes(draw.randrange(300)))) for _ in range(2)]

@@ -13,14 +13,14 @@ static box all;
 static std::string banner;
 static void work(box *heap, box *local) {
     all.mail.pop_back();                   // IS all.mail
-    banner.clear();                        // IS banner
+    banner[0] = 'b';                       // IS banner
     heap->mail.pop_back();                 // IS box.mail
-    heap->title.clear();                   // IS box.title
+    heap->title[0] = 't';                  // IS box.title
     local->mail.pop_back();                // IS local.mail of main
     local->id++;                           // IS local.id of main
 }
 int main() {
-    box local = {1, std::vector<int>(9), ""};
+    box local = {1, std::vector<int>(9), "title"};
     auto heap = std::make_unique<box>(local);
     all = local;
     banner += "a text";
