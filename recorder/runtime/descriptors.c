@@ -44,7 +44,7 @@ static void know_by_key(int f, uint64_t key) {
         if (key_of[other] == key && other != f) pair_of[f] = first_of(other) + 1;
     key_of[f] = key;
     atomic_store(&busy, 0);
-    if (t) leave(t);
+    if (t) end_inside(t);
 }
 
 static void know_file(int f);

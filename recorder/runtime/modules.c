@@ -97,7 +97,7 @@ void *next_symbol(const char *name) {
     if (t) begin_inside(t);
     if (begins_with(name, "pthread_cond_")) p = dlvsym(RTLD_NEXT, name, "GLIBC_2.3.2");   /* not the older interface */
     if (!p) p = dlsym(RTLD_NEXT, name);
-    if (t) leave(t);
+    if (t) end_inside(t);
     return p;
 }
 
@@ -130,7 +130,7 @@ void *library_symbol(const char *name) {
     if (t) begin_inside(t);
     if (!p) dl_iterate_phdr(add_name, &names);
     for (int i = 0; i < names.count && !p; i++) p = found_in(names.at[i], name);
-    if (t) leave(t);
+    if (t) end_inside(t);
     return p;
 }
 

@@ -114,7 +114,7 @@ thread *enter(enum yields yields);
 thread *enter_access(enum yields yields);                    /* to put one record, and nothing before */
 void leave(thread *t);
 void begin_inside(thread *t);          /* no signal is handled, nor the thread cancelled, until it has left the hook */
-void end_inside(thread *t);
+void end_inside(thread *t);            /* what isn't a hook ends with this alone: quick ones before it may go on */
 void deliver_deferred(thread *t);      /* the signals that came in its hook */
 void give_turn(thread *t);
 void take_turn(thread *t);
