@@ -41,5 +41,5 @@ int main(void) {
     pthread_create(&u, 0, work_with_another, 0);
     pthread_join(t, 0);
     pthread_join(u, 0);
-    return count != THREADS || racy != 2;
+    return count != THREADS;
 }
