@@ -2,7 +2,8 @@
    symbols, of the library's present layout, which its programs have in them. An insertion or removal writes the
    ends of a tree, whichever node it is of, for by the C++ standard it changes the container: a search or walk
    that nothing orders with it is a race. A step reads the node's own links; those of the nodes that it passes
-   aren't recorded. A node that is put in is new, and one that is taken out is freed. */
+   aren't recorded. A node that is put in is new, and one that is taken out is freed.
+   The symbols are hidden from linkers: a C++ library that is linked into a program has its own. */
 #include "hold.h"
 #include "libraries.h"
 
@@ -14,9 +15,10 @@ static __attribute__((noinline)) void note_link(enum operation operation, const 
 }
 #define READS_LINK(link) note_link(OP_READ, &(link), caller)
 #define WRITES_LINK(link) note_link(OP_WRITE, &(link), caller)
-#define HOOKED(type, name, parameters, arguments, ...) \
+#define HOOKED(version, type, name, parameters, arguments, ...) \
     type name parameters; \
-    PUBLIC type name parameters { \
+    __asm__(".symver hooked_" #name ", " #name "@" #version); \
+    PUBLIC type hooked_##name parameters { \
         uint64_t caller = CALLER; \
         if (others && instrumented(caller)) { __VA_ARGS__; } \
         return REAL(name) arguments; \
@@ -24,7 +26,7 @@ static __attribute__((noinline)) void note_link(enum operation operation, const 
 
 /* ---- trees ---- */
 #define STEP(name) \
-    HOOKED(tree_node *, name, (tree_node *x), (x), READS_LINK(x->right); if (!x->right) READS_LINK(x->parent))
+    HOOKED(GLIBCXX_3.4, tree_node *, name, (tree_node *x), (x), READS_LINK(x->right); if (!x->right) READS_LINK(x->parent))
 STEP(_ZSt18_Rb_tree_incrementPSt18_Rb_tree_node_base)
 STEP(_ZSt18_Rb_tree_incrementPKSt18_Rb_tree_node_base)
 /* Before the end is the last one, as it has it in the place of a right one. */
@@ -34,7 +36,7 @@ static void steps_back(tree_node *x, uint64_t caller) {
     else READS_LINK(x->left);
     if (!is_end && !x->left) READS_LINK(x->parent);
 }
-#define STEP_BACK(name) HOOKED(tree_node *, name, (tree_node *x), (x), steps_back(x, caller))
+#define STEP_BACK(name) HOOKED(GLIBCXX_3.4, tree_node *, name, (tree_node *x), (x), steps_back(x, caller))
 STEP_BACK(_ZSt18_Rb_tree_decrementPSt18_Rb_tree_node_base)
 STEP_BACK(_ZSt18_Rb_tree_decrementPKSt18_Rb_tree_node_base)
 
@@ -44,11 +46,11 @@ static void writes_ends(tree_node *end, uint64_t caller) {
     WRITES_LINK(end->right);
 }
 
-HOOKED(void, _ZSt29_Rb_tree_insert_and_rebalancebPSt18_Rb_tree_node_baseS0_RS_,
+HOOKED(GLIBCXX_3.4, void, _ZSt29_Rb_tree_insert_and_rebalancebPSt18_Rb_tree_node_baseS0_RS_,
        (_Bool is_left, tree_node *x, tree_node *above, tree_node *end), (is_left, x, above, end),
        writes_ends(end, caller);
        if (above != end) WRITES_LINK(*(is_left ? &above->left : &above->right)))
-HOOKED(tree_node *, _ZSt28_Rb_tree_rebalance_for_erasePSt18_Rb_tree_node_baseRS_,
+HOOKED(GLIBCXX_3.4, tree_node *, _ZSt28_Rb_tree_rebalance_for_erasePSt18_Rb_tree_node_baseRS_,
        (tree_node *x, tree_node *end), (x, end),
        tree_node *above = x->parent, *left = x->left, *right = x->right;
        writes_ends(end, caller);
@@ -58,7 +60,7 @@ HOOKED(tree_node *, _ZSt28_Rb_tree_rebalance_for_erasePSt18_Rb_tree_node_baseRS_
 
 /* ---- lists ---- */
 #define LIST(name, parameters, arguments, ...) \
-    HOOKED(void, _ZNSt8__detail15_List_node_base##name, parameters, arguments, __VA_ARGS__)
+    HOOKED(GLIBCXX_3.4.15, void, _ZNSt8__detail15_List_node_base##name, parameters, arguments, __VA_ARGS__)
 LIST(7_M_hookEPS0_, (list_node *x, list_node *p), (x, p),
      WRITES_LINK(p->previous); WRITES_LINK(p->previous->next))
 LIST(9_M_unhookEv, (list_node *x), (x),

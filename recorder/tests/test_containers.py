@@ -7,11 +7,15 @@ SEEDS = range(1, 6)
 
 
 class Containers(recorder.Case):
+    def build(self, *how):
+        program = self.folder / "app"
+        words = ["-w", "-g", "-O1", "-fsanitize=thread", "-pthread", f"-B{recorder.BUILT}/lib/", PROGRAM, "-o", program]
+        recorder.must(recorder.call("g++", *words, *how))
+        return program
+
     def places_of(self, *defined):
         """In each seed's run: the pairs of racing lines."""
-        program, record = self.folder / "app", self.folder / "app.rec"
-        words = ["-w", "-g", "-O1", "-fsanitize=thread", "-pthread", f"-B{recorder.BUILT}/lib/", PROGRAM, "-o", program]
-        recorder.must(recorder.call("g++", *words, *(f"-D{name}" for name in defined)))
+        program, record = self.build(*(f"-D{name}" for name in defined)), self.folder / "app.rec"
         for seed in SEEDS:
             recorder.must(recorder.call(program, env=recorder.settings(record, seed, recorder.OWN_SLICES)))
             yield recorder.places(recorder.must(recorder.convert(record)).stdout)
@@ -35,3 +39,9 @@ class Containers(recorder.Case):
 
     def test_lists(self):
         self.check("LIST")
+
+    def test_linked_into_the_program(self):
+        """The C++ library's functions are the program's own, and it runs as before."""
+        for container in ("MAP", "LIST"):
+            program = self.build("-static-libstdc++", f"-D{container}", "-DINSERTS")
+            recorder.must(recorder.call(program, env=recorder.settings(self.folder / "app.rec")))
