@@ -16,7 +16,7 @@ COMMANDS = {"shb-view": TOP / "python/shb-view", "shb-farm": TOP / "python/shb-f
 class Regressions(program.Case):
     def test_each_case(self):
         cases = sorted(CASES.iterdir())
-        self.assertGreater(len(cases), 12)
+        self.assertGreater(len(cases), 11)
         for case in cases:
             with self.subTest(case.name):
                 self.run_case(case)
