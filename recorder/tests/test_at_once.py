@@ -30,7 +30,7 @@ class AtOnce(recorder.Case):
     def shown(self, jobs, *words):
         """The same and the files of the results, without numbers of processes and times."""
         answer = self.record("-o", "out", "--jobs", jobs, *words)
-        files = {path.name: path.read_text() if path.suffix in (".tsv", ".places") else "" for path in (self.folder / "out").glob("*")}
+        files = {path.name: path.read_text() if path.name.endswith((".tsv", "known.places")) else "" for path in (self.folder / "out").glob("*")}
         shutil.rmtree(self.folder / "out")
         return re.sub(r"\d{2,}", "N", repr((answer, sorted(files.items()))))
 
