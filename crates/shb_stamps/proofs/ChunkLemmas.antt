@@ -1,9 +1,7 @@
 -- Rows in one memory, to which more are added.
 use Rattle.std.proofs.Common.{◌≤◌, ◌≡◌, ℕ, zero, suc, ◌+◌, ◌*◌, ◌<◌, inl, inr, ◌^◌, List, [], ◌∷◌, ◌++◌, length, get_or, take, drop, refl, ap, subst, sym, ◌∙◌, arith, length-append, length-drop, length-take, append-nil, append_assoc}
-use Rattle.std.proofs.lemmas.Bool.{cases_lt}
-use Rattle.std.proofs.lemmas.List.{drop-append-le, drop_at, get_or-drop, get_or-take, get_or_append_left, get_or_past, get_or_push, length_push, map-append, take-append-le, take-append-drop, take_all, take_at}
+use Rattle.shb_stamps.proofs.Words.{AreChunks, AreInside, AreNumbers, IsInside, IsLonger, cases_lt, drop-append-le, drop_at, get_or-drop, get_or-take, get_or_append_left, get_or_past, get_or_push, length_push, map-append, numbers_in, row_by, row_in, rows_in, take-append-drop, take-append-le, take_all, take_at}
 use Rattle.std.proofs.lemmas.List.Concat.{flat_map-append}
-use Rattle.shb_stamps.specs.Chunks.{AreChunks, AreInside, AreNumbers, IsInside, IsLonger, numbers_in, row_by, row_in, rows_in}
 use Rattle.shb_stamps.specs.declared.row_list.Span.{Span}
 use Rattle.shb_stamps.proofs.RowLemmas.{chunked, take_piece}
 

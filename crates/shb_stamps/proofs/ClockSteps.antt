@@ -1,29 +1,10 @@
 -- What is kept of the order of a trace, an event more.
 use Rattle.std.proofs.Common.{◌≡◌, ◌≢◌, ℕ, ◌+◌, ◌-◌, ◌<◌, ◌≤◌, ◌^◌, ◌⊎◌, inl, inr, Bool, true, false, List, [], ◌∷◌, ◌++◌, Some, length, get_or, take, arith, refl, sym, subst, ◌∙◌, ap, get_or-set_same, get_or-set_other}
 use Rattle.std.specs.Prelude.{◌↔◌, count_by, max, slice_get, replicate}
-use Rattle.std.proofs.Math.ListN.{set, length-replicate, get_or-replicate}
-use Rattle.std.proofs.lemmas.Bool.{cases_Bool, cases_eq, cases_lt}
-use Rattle.std.proofs.lemmas.List.{get_or_past, get_or_push, length-append, length_push}
-use Rattle.shb_lines.specs.Growing.{IsPut}
-use Rattle.shb_lines.specs.declared.event.Event.{Event}
-use Rattle.shb_lines.specs.declared.event.Op.{Op}
-use Rattle.shb_lines.specs.declared.event.Op.TheVariants.{Acquire, Fork, Join, Read, Release, Write}
-use Rattle.shb_lines.specs.events.Discipline.{IsDisciplined, is_of, local_time}
-use Rattle.shb_lines.specs.events.Events.{thread_at, op_at}
-use Rattle.shb_lines.specs.events.Order.{BelowPred, ShbBelow}
+use Rattle.shb_stamps.proofs.Words.{Acquire, AreAlike, AreClocks, AreMore, BelowPred, Covers, Event, Fork, HasMoved, HasRowAfter, IsDisciplined, IsFront, IsFrontBut, IsKnown, IsLatestBefore, IsLatestStamp, IsMovedRow, IsMovedStamp, IsNext, IsPut, IsRowFor, IsSource, IsStampOf, Join, KeepsWrite, KnowsStamp, Learns, MovesRow, OfThread, Op, Read, Release, ReleasesLock, ShbBelow, Stamp, Write, cases_Bool, cases_eq, cases_lt, count_gap, counted_before, empty_stamp, event_of_thread, from_event, get_or-replicate, get_or_past, get_or_push, is_of, is_of_thread, is_of_true, length-append, length-replicate, length_push, local_time, nothing_new, of_event, of_none, op_at, set, thread_at, thread_is}
 use Rattle.shb_lines.specs.events.Reach.{of_thread}
-use Rattle.shb_lines.proofs.events.Counts.{count_gap, counted_before}
-use Rattle.shb_lines.proofs.events.Events.{event_of_thread, is_of_true, thread_is}
-use Rattle.shb_lines.proofs.events.Prefix.{is_of_thread}
 use Rattle.shb_lines.proofs.events.Search.{IsLatest, latest_below, of_thread_at, of_thread_true}
-use Rattle.shb_links.specs.Latest.{IsLatestBefore, OfThread, ReleasesLock}
-use Rattle.shb_stamps.specs.Clocks.{AreClocks, Covers, HasRowAfter, IsNext, KeepsWrite}
-use Rattle.shb_stamps.specs.Fronts.{IsFront, IsFrontBut, Learns}
-use Rattle.shb_stamps.specs.Moved.{AreAlike, HasMoved, IsMovedRow, IsMovedStamp, MovesRow}
-use Rattle.shb_stamps.specs.Rows.{AreMore}
-use Rattle.shb_stamps.specs.Stamps.{IsKnown, IsLatestStamp, of_event, of_none, IsRowFor, IsSource, from_event, nothing_new, IsStampOf, KnowsStamp, empty_stamp}
 use Rattle.shb_stamps.specs.declared.clocks.AfterSource.{AfterSource}
-use Rattle.shb_stamps.specs.declared.stamp.Stamp.{Stamp}
 use Rattle.shb_stamps.proofs.Fronts.{front_whole, thread_in_range, thread_same, zero_entry}
 use Rattle.shb_stamps.proofs.Locals.{time_at}
 use Rattle.shb_stamps.proofs.MovedLemmas.{latest_moved, row_moved}

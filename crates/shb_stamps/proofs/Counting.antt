@@ -1,14 +1,7 @@
 -- What the order answers for the own thread and for another, from the row before an event.
 use Rattle.std.proofs.Common.{◌≡◌, ◌≢◌, ℕ, ◌+◌, ◌≤◌, inl, inr, List, [], Some, get_or, arith, subst, ap, sym, ◌∙◌}
 use Rattle.std.specs.Prelude.{count_by}
-use Rattle.std.proofs.lemmas.Bool.{cases_lt, cases_eq}
-use Rattle.shb_lines.specs.declared.event.Event.{Event}
-use Rattle.shb_lines.specs.events.Events.{thread_at}
-use Rattle.shb_lines.specs.events.Discipline.{IsDisciplined, is_of, local_time}
-use Rattle.shb_lines.specs.events.Order.{BelowPred, IsBelowPredCount, IsNumberOf}
-use Rattle.shb_lines.proofs.events.Listed.{number_same}
-use Rattle.shb_lines.proofs.events.Schedulable.{below_pred_earlier, thread_below_pred}
-use Rattle.shb_stamps.specs.Stamps.{IsRowFor}
+use Rattle.shb_stamps.proofs.Words.{BelowPred, Event, IsBelowPredCount, IsDisciplined, IsNumberOf, IsRowFor, below_pred_earlier, cases_eq, cases_lt, is_of, local_time, number_same, thread_at, thread_below_pred}
 use Rattle.shb_stamps.proofs.Fronts.{number_up_to, thread_in_range}
 use Rattle.shb_stamps.proofs.Locals.{time_rises, time_within}
 

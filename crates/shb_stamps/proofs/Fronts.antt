@@ -1,20 +1,7 @@
 -- Clocks as fronts of threads: an own entry, and the number that an entry is.
 use Rattle.std.proofs.Common.{◌≡◌, ◌≢◌, ℕ, zero, suc, ◌+◌, ◌<◌, ◌≤◌, ◌⊎◌, inl, inr, true, false, List, Some, length, get_or, take, arith, subst, ap, sym, ◌∙◌, add-one, get_or-set_same, get_or-set_other}
 use Rattle.std.specs.Prelude.{◌↔◌, count_by, min, replicate, slice_get}
-use Rattle.std.proofs.Math.ListN.{set, length-replicate, get_or-replicate}
-use Rattle.std.proofs.lemmas.Bool.{cases_lt, cases_eq, cases_Bool}
-use Rattle.std.proofs.lemmas.List.{take_all, get_or_past}
-use Rattle.std.proofs.lemmas.Option.{slice_get_cases, slice_get_within}
-use Rattle.shb_lines.specs.declared.event.Event.{Event}
-use Rattle.shb_lines.specs.events.Events.{thread_at}
-use Rattle.shb_lines.specs.events.Discipline.{is_of, local_time}
-use Rattle.shb_lines.specs.events.Order.{ShbBelow, IsNumberOf, here, step, same_thread, happens_before}
-use Rattle.shb_lines.proofs.events.Counts.{count_more_yes, count_more_no}
-use Rattle.shb_lines.proofs.events.Events.{event_of_thread, thread_is, is_of_true}
-use Rattle.shb_lines.proofs.events.Prefix.{is_of_thread}
-use Rattle.shb_lines.proofs.events.Listed.{number_none, number_same, number_more_yes, number_more_no}
-use Rattle.shb_lines.proofs.events.Schedulable.{path_forward}
-use Rattle.shb_stamps.specs.Fronts.{IsFront, IsFrontBut}
+use Rattle.shb_stamps.proofs.Words.{Event, IsFront, IsFrontBut, IsNumberOf, ShbBelow, cases_Bool, cases_eq, cases_lt, count_more_no, count_more_yes, event_of_thread, get_or-replicate, get_or_past, happens_before, here, is_of, is_of_thread, is_of_true, length-replicate, local_time, number_more_no, number_more_yes, number_none, number_same, path_forward, same_thread, set, slice_get_cases, slice_get_within, step, take_all, thread_at, thread_is}
 use Rattle.shb_stamps.proofs.Locals.{time_at, time_rises, time_order, time_within}
 
 pub thread_in_range : (trace : List Event) (k t : ℕ) → thread_at trace k ≡ Some t → k < length trace

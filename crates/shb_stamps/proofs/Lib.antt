@@ -13,3 +13,4 @@ pub mod ClockSteps
 pub mod Streaming
 pub mod TraceSteps
 pub mod Screening
+mod Words

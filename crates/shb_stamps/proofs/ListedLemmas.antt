@@ -4,19 +4,11 @@ use Rattle.std.specs.Prelude.{All, Contains, Err}
 use Rattle.std.proofs.Math.Dec.{eqb}
 use Rattle.std.specs.List.Sorted.{IsStrictlyIncreasing, IsNonDecreasing, IsBinarySearchResult}
 use Rattle.std.specs.Ordering.{nat_cmp}
-use Rattle.std.proofs.lemmas.Bool.{cases_lt, eqb-true}
+use Rattle.shb_stamps.proofs.Words.{AllPairs-from_increasing, AreMore, BelowPred, Event, IsRowFor, cases_lt, eqb-true, get_or_append_left, get_or_push, get_or_read, length_push, searched, thread_at}
 use Rattle.std.proofs.lemmas.Cmp.{nat_eq_equiv}
-use Rattle.std.proofs.lemmas.List.{get_or_read, get_or_push, get_or_append_left, length_push}
 use Rattle.std.proofs.lemmas.List.Elements.{All-contains, Contains-get_or, at_from_Contains}
-use Rattle.std.proofs.lemmas.List.Kept.{AllPairs-from_increasing}
-use Rattle.std.proofs.lemmas.List.Sorted.{searched}
 use Rattle.std.proofs.lemmas.Map.Views.{Contains-from_any, list_any-from_Contains}
-use Rattle.shb_lines.specs.declared.event.Event.{Event}
-use Rattle.shb_lines.specs.events.Events.{thread_at}
-use Rattle.shb_lines.specs.events.Order.{BelowPred}
 use Rattle.shb_stamps.specs.Listed.{HasListedRows, is_listed}
-use Rattle.shb_stamps.specs.Rows.{AreMore}
-use Rattle.shb_stamps.specs.Stamps.{IsRowFor}
 use Rattle.shb_stamps.proofs.Stamping.{row_more}
 
 -- numbers that rise don't fall

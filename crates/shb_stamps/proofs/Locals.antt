@@ -1,13 +1,7 @@
 -- The local time of an event rises along the thread.
 use Rattle.std.proofs.Common.{◌≡◌, ℕ, ◌+◌, ◌<◌, ◌≤◌, ◌⊎◌, inl, inr, List, Some, length, take, arith, subst, ap}
 use Rattle.std.specs.Prelude.{count_by}
-use Rattle.std.proofs.lemmas.Bool.{cases_lt}
-use Rattle.std.proofs.lemmas.List.{take_all}
-use Rattle.shb_lines.specs.declared.event.Event.{Event}
-use Rattle.shb_lines.specs.events.Events.{thread_at}
-use Rattle.shb_lines.specs.events.Discipline.{is_of, local_time}
-use Rattle.shb_lines.proofs.events.Counts.{count_more_yes, count_mono}
-use Rattle.shb_lines.proofs.events.Events.{event_of_thread, is_of_true}
+use Rattle.shb_stamps.proofs.Words.{Event, cases_lt, count_mono, count_more_yes, event_of_thread, is_of, is_of_true, local_time, take_all, thread_at}
 
 module _ (trace : List Event) (t : ℕ) where
   pub time_at : (k : ℕ) → thread_at trace k ≡ Some t → local_time trace t k ≡ count_by (is_of t) (take k trace) + 1

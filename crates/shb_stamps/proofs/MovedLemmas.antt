@@ -1,18 +1,9 @@
 -- Rows that are moved: the numbers that they get, the new rows, and what tables mean among them.
 use Rattle.std.proofs.Common.{◌≡◌, ℕ, suc, ◌+◌, ◌-◌, ◌<◌, ◌≤◌, ◌⊎◌, inl, inr, List, [], ◌∷◌, ◌++◌, Some, length, get_or, arith, subst, ap, sym, refl, ◌∙◌, get_or-set_same, get_or-set_other}
 use Rattle.std.specs.Prelude.{replicate, sum_by}
-use Rattle.std.proofs.Math.ListN.{set, length-set, length-replicate, get_or-replicate}
-use Rattle.std.proofs.lemmas.Bool.{cases_eq, cases_lt}
-use Rattle.std.proofs.lemmas.List.{get_or_append_left, get_or_past, get_or_push, get_or_read, length_push}
+use Rattle.shb_stamps.proofs.Words.{AreAlike, AreKept, AreMoved, Event, HasMoved, HasMovedOn, IsFrontBut, IsLatestStamp, IsMovedRow, IsMovedStamp, IsNewNumber, IsRowFor, MovesRow, ShbBelow, Stamp, cases_eq, cases_lt, empty_stamp, get_or-le-sum_by, get_or-replicate, get_or_append_left, get_or_past, get_or_push, get_or_read, length-replicate, length-set, length_push, local_time, of_event, of_none, set, sum_by-set}
 use Rattle.std.proofs.lemmas.List.Folds.{sum_by-replicate}
-use Rattle.std.proofs.lemmas.List.Sums.{get_or-le-sum_by, sum_by-set}
-use Rattle.shb_stamps.specs.Moved.{AreAlike, AreKept, AreMoved, HasMoved, HasMovedOn, IsMovedRow, IsMovedStamp, IsNewNumber, MovesRow, unmoved}
-use Rattle.shb_stamps.specs.declared.stamp.Stamp.{Stamp}
-use Rattle.shb_lines.specs.declared.event.Event.{Event}
-use Rattle.shb_lines.specs.events.Discipline.{local_time}
-use Rattle.shb_lines.specs.events.Order.{ShbBelow}
-use Rattle.shb_stamps.specs.Fronts.{IsFrontBut}
-use Rattle.shb_stamps.specs.Stamps.{IsLatestStamp, of_event, of_none, IsRowFor, empty_stamp}
+use Rattle.shb_stamps.specs.Moved.{unmoved}
 
 -- no row is kept
 pub moved_start : (count : ℕ) (kept moved : List ℕ) → kept ≡ [] → moved ≡ replicate count 0 → AreMoved kept moved

@@ -1,9 +1,7 @@
 -- A clock that is raised to another.
 use Rattle.std.proofs.Common.{◌≡◌, ℕ, zero, suc, ◌+◌, ◌<◌, ◌≤◌, inl, inr, List, [], ◌∷◌, ◌++◌, length, get_or, take, arith, refl, sym, subst, ◌∙◌, ap, get_or-set_same, get_or-set_other, ◌-◌, ◌*◌, drop, length-set, length-take}
 use Rattle.std.specs.Prelude.{max, replicate}
-use Rattle.std.proofs.Math.ListN.{set}
-use Rattle.std.proofs.lemmas.Bool.{cases_eq, cases_lt}
-use Rattle.std.proofs.lemmas.List.{get_or_past, take_all}
+use Rattle.shb_stamps.proofs.Words.{cases_eq, cases_lt, get_or_past, set, take_all}
 use Rattle.shb_stamps.proofs.Fronts.{zero_entry}
 use Rattle.shb_stamps.proofs.RowLemmas.{piece_entry}
 

@@ -2,9 +2,7 @@
 use Rattle.std.proofs.Common.{◌≡◌, ℕ, zero, suc, ◌+◌, ◌-◌, ◌*◌, ◌<◌, ◌≤◌, inl, inr, List, [], ◌∷◌, ◌++◌, length, get_or, take, drop, length-drop, arith, refl, sym, ◌∙◌, ap, length-append, append_assoc}
 use Rattle.std.specs.Prelude.{min}
 use Rattle.std.specs.List.{flat_map}
-use Rattle.std.proofs.lemmas.Bool.{cases_lt}
-use Rattle.std.proofs.lemmas.List.{drop-drop, drop-take, drop_at, get_or-append_right, get_or-drop, get_or-take, get_or_past, take-append-drop, take-take, take_all, take_at, take_min}
-use Rattle.shb_stamps.specs.Chunks.{AreChunks, AreNumbers, row_by}
+use Rattle.shb_stamps.proofs.Words.{AreChunks, AreNumbers, cases_lt, drop-drop, drop-take, drop_at, get_or-append_right, get_or-drop, get_or-take, get_or_past, row_by, take-append-drop, take-take, take_all, take_at, take_min}
 
 -- the entries of the chunks with these numbers
 abbrev pub chunked : List (List ℕ) → List ℕ → List ℕ

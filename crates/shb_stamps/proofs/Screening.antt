@@ -1,14 +1,8 @@
 -- What is kept of a variable, an access at a time.
 use Rattle.std.proofs.Common.{◌≡◌, ℕ, ◌+◌, ◌<◌, inl, inr, Bool, false, List, [], ◌∷◌, ◌++◌, Some, length, arith, refl, sym, ap, subst, ◌∙◌}
 use Rattle.std.specs.Prelude.{option_and_then}
-use Rattle.std.proofs.lemmas.Bool.{cases_eq}
-use Rattle.shb_lines.specs.declared.event.Event.{Event}
-use Rattle.shb_lines.specs.declared.event.Op.TheVariants.{Write}
-use Rattle.shb_lines.specs.events.Discipline.{IsDisciplined}
-use Rattle.shb_lines.specs.events.Events.{op_at, variable_of}
-use Rattle.shb_lines.specs.events.Order.{BelowPred, ShbBelow, here}
+use Rattle.shb_stamps.proofs.Words.{BelowPred, Event, IsDisciplined, ShbBelow, Write, below_longer, cases_eq, here, op_at, op_longer, race_longer, thread_longer, time_longer, variable_of}
 use Rattle.shb_lines.specs.events.Race.{Race, variable_at}
-use Rattle.shb_lines.proofs.events.Longer.{below_longer, op_longer, race_longer, thread_longer, time_longer}
 use Rattle.shb_stamps.specs.Screen.{HasLatest, IsAccess, IsEpoch, IsMarked, IsPast, IsScreened, is_unknown}
 use Rattle.shb_stamps.specs.declared.screen.Epoch.{Epoch}
 use Rattle.shb_stamps.specs.declared.screen.Latest.{Latest}

@@ -1,18 +1,8 @@
 -- What is below an event comes from itself, from its predecessor, or from what the event learns of other threads.
 use Rattle.std.proofs.Common.{◌≡◌, ℕ, ◌<◌, ◌≤◌, ◌⊎◌, inl, inr, List, Some, length, arith, subst, sym, ◌∙◌, refl}
 use Rattle.std.specs.Prelude.{◌↔◌}
-use Rattle.std.proofs.lemmas.Bool.{cases_lt}
-use Rattle.shb_lines.specs.declared.event.Event.{Event}
-use Rattle.shb_lines.specs.declared.event.Op.{Op}
-use Rattle.shb_lines.specs.declared.event.Op.TheVariants.{Read, Acquire, Join}
-use Rattle.shb_lines.specs.events.Events.{thread_at, op_at}
-use Rattle.shb_lines.specs.events.Discipline.{IsDisciplined}
-use Rattle.shb_lines.specs.events.Order.{LastWrite, HbRule, same_thread, lock_passed, forked, joined, BelowPred, ShbEdge, happens_before, read_from, here, step, ShbBelow, IsPred, in_thread, by_fork}
+use Rattle.shb_stamps.proofs.Words.{Acquire, BelowLastWrite, BelowPred, BelowRelease, BelowThread, Event, HbRule, IsDisciplined, IsLatestBefore, IsPred, Join, LastWrite, Learns, OfThread, Op, Read, ShbBelow, ShbEdge, StrictlyBelow, by_acquire, by_fork, by_join, by_read, cases_lt, fork_below_pred, forked, happens_before, here, in_thread, join_later, joined, lock_passed, op_at, pred_earlier, read_from, same_thread, step, thread_at, thread_below_pred}
 use Rattle.shb_lines.proofs.events.Decide.{last_write_unique}
-use Rattle.shb_lines.proofs.events.Events.{join_later}
-use Rattle.shb_lines.proofs.events.Schedulable.{thread_below_pred, fork_below_pred, pred_earlier}
-use Rattle.shb_links.specs.Latest.{IsLatestBefore, OfThread}
-use Rattle.shb_stamps.specs.Fronts.{BelowRelease, BelowThread, BelowLastWrite, Learns, by_acquire, by_join, by_read, StrictlyBelow}
 use Rattle.shb_stamps.proofs.Fronts.{thread_in_range}
 
 -- two paths in a row

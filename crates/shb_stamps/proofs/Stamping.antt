@@ -1,26 +1,8 @@
 -- What an event learns of others, and the row and the stamps after it.
-use Rattle.std.proofs.lemmas.Grind.{common_steps}
+use Rattle.shb_stamps.proofs.Words.{Acquire, AreMore, BelowPred, BelowRelease, Event, Fork, IsDisciplined, IsFrontBut, IsKnown, IsLatestBefore, IsLatestStamp, IsPred, IsRowFor, IsShared, IsSource, IsStampOf, KeepsWrite, Learns, MayDo, OfThread, Op, Read, Release, ReleasesLock, ShbBelow, Stamp, StrictlyBelow, Write, acquires, by_fork, cases_Bool, cases_eq, cases_lt, cases_order, common_steps, count_mono, counted_before, eqb-true, event_of_op, fork_allowed, fork_below_pred, fork_earlier, forked, from_event, get_or_append_left, get_or_push, happens_before, here, in_thread, is_acquire, is_acquire_parts, is_fork, is_fork_true, is_release, length_push, lock_passed, ne_eqb, nothing_new, of_event, of_none, only, op_at, op_is, pred_earlier, releases, same_thread, step, thread_at, thread_below_pred, thread_is, variable_of}
 use Rattle.std.proofs.Common.{◌≡◌, length, ◌≢◌, ℕ, ◌+◌, ◌<◌, ◌≤◌, ◌⊎◌, inl, inr, Bool, true, false, List, [], ◌∷◌, ◌++◌, Option, Some, get_or, take, arith, subst, ap, sym, ◌∙◌, refl}
 use Rattle.std.specs.Prelude.{◌↔◌, ◌==◌, option_and_then, slice_get}
-use Rattle.std.proofs.lemmas.Bool.{cases_lt, cases_eq, cases_order, cases_Bool, eqb-true, ne_eqb}
-use Rattle.std.proofs.lemmas.List.{get_or_append_left, get_or_push, length_push}
-use Rattle.shb_lines.specs.declared.event.Event.{Event}
-use Rattle.shb_lines.specs.declared.event.Op.{Op}
-use Rattle.shb_lines.specs.declared.event.Op.TheVariants.{Read, Write, Acquire, Release, Fork}
-use Rattle.shb_lines.specs.events.Events.{thread_at, op_at, variable_of}
-use Rattle.shb_lines.specs.events.Discipline.{IsDisciplined, MayDo, acquires, releases, only, is_acquire, is_release, is_fork}
-use Rattle.shb_lines.specs.events.Order.{ShbBelow, here, step, same_thread, lock_passed, forked, happens_before, BelowPred, IsPred, in_thread, by_fork}
-use Rattle.shb_lines.proofs.events.Counts.{count_mono, counted_before}
-use Rattle.shb_lines.proofs.events.Events.{thread_is, op_is, event_of_op, fork_allowed, fork_earlier, is_fork_true, is_acquire_parts}
-use Rattle.shb_lines.proofs.events.Schedulable.{thread_below_pred, fork_below_pred, pred_earlier}
-use Rattle.shb_links.specs.Latest.{IsLatestBefore, OfThread, ReleasesLock}
 use Rattle.shb_links.proofs.Balance.{HasHolder, IsPassing, balanced, disciplined_below, holder_after, some_counted}
-use Rattle.shb_links.specs.Sharing.{IsShared}
-use Rattle.shb_stamps.specs.Clocks.{KeepsWrite}
-use Rattle.shb_stamps.specs.Fronts.{BelowRelease, Learns, StrictlyBelow, IsFrontBut}
-use Rattle.shb_stamps.specs.Rows.{AreMore}
-use Rattle.shb_stamps.specs.Stamps.{IsKnown, IsLatestStamp, of_event, of_none, IsRowFor, IsSource, from_event, nothing_new, IsStampOf}
-use Rattle.shb_stamps.specs.declared.stamp.Stamp.{Stamp}
 use Rattle.shb_stamps.proofs.Fronts.{front_but_same, thread_same}
 use Rattle.shb_stamps.proofs.Sources.{acquire_learns, learns_read, read_learns, path_append, edge_path, strictly_below_below, below_cases}
 

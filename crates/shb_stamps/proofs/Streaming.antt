@@ -1,20 +1,7 @@
 -- The clocks of a stream, an event more.
 use Rattle.std.proofs.Common.{◌≡◌, ◌≢◌, ℕ, ◌+◌, ◌<◌, ◌≤◌, ◌^◌, ◌⊎◌, inl, inr, Bool, true, false, List, [], ◌∷◌, ◌++◌, Some, length, get_or, take, arith, refl, sym, subst, ◌∙◌, ap}
 use Rattle.std.specs.Prelude.{◌-◌, cond, count_by, min, slice_get}
-use Rattle.std.proofs.lemmas.Bool.{cases_Bool, cases_eq}
-use Rattle.std.proofs.lemmas.List.{get_or_push, take_all, take-append-le}
-use Rattle.std.proofs.lemmas.List.Sums.{count_by-le-length}
-use Rattle.std.proofs.lemmas.Option.{slice_get-get_or}
-use Rattle.shb_lines.specs.Growing.{IsPut}
-use Rattle.shb_lines.specs.declared.event.Event.{Event}
-use Rattle.shb_lines.specs.declared.event.Op.{Op}
-use Rattle.shb_lines.specs.declared.event.Op.TheVariants.{Join}
-use Rattle.shb_lines.specs.events.Discipline.{IsDisciplined, is_of, local_time}
-use Rattle.shb_lines.specs.events.Events.{thread_at}
-use Rattle.shb_lines.specs.events.Order.{IsBelowPredCount}
-use Rattle.shb_lines.proofs.events.Events.{is_of_true, op_is, thread_is}
-use Rattle.shb_lines.proofs.events.Prefix.{is_of_thread}
-use Rattle.shb_stamps.specs.Clocks.{IsBefore, IsNext}
+use Rattle.shb_stamps.proofs.Words.{Event, IsBefore, IsBelowPredCount, IsDisciplined, IsNext, IsPut, Join, Op, cases_Bool, cases_eq, count_by-le-length, get_or_push, is_of, is_of_thread, is_of_true, local_time, op_is, slice_get-get_or, take-append-le, take_all, thread_at, thread_is}
 use Rattle.shb_stamps.specs.StreamClocks.{IsStreamed}
 use Rattle.shb_stamps.specs.declared.stream_clocks.StreamClocks.{StreamClocks}
 use Rattle.shb_stamps.proofs.ClockSteps.{row_at}

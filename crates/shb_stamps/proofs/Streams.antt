@@ -1,19 +1,7 @@
 -- What is kept of the events so far says the same of them when an event more comes.
 use Rattle.std.proofs.Common.{◌≡◌, ◌≢◌, ℕ, ◌+◌, ◌<◌, ◌≤◌, ◌⊎◌, inl, inr, true, List, [], ◌∷◌, ◌++◌, Some, length, get_or, arith, length-append, refl, sym, subst, ◌∙◌, ap}
 use Rattle.std.specs.Prelude.{◌↔◌, cond, count_by}
-use Rattle.std.proofs.lemmas.Bool.{cases_lt}
-use Rattle.std.proofs.lemmas.List.{take-append-le, take_all}
-use Rattle.std.proofs.lemmas.List.Sums.{sum_by_push}
-use Rattle.shb_lines.specs.declared.event.Event.{Event}
-use Rattle.shb_lines.specs.events.Events.{thread_at}
-use Rattle.shb_lines.specs.events.Discipline.{is_of, local_time}
-use Rattle.shb_lines.specs.events.Order.{ShbBelow}
-use Rattle.shb_lines.proofs.events.Longer.{below_longer, op_longer, thread_longer, time_longer}
-use Rattle.shb_lines.proofs.events.Schedulable.{path_forward}
-use Rattle.shb_links.specs.Latest.{ReleasesLock}
-use Rattle.shb_stamps.specs.Clocks.{AreClocks, KeepsWrite}
-use Rattle.shb_stamps.specs.Stamps.{IsKnown, IsLatestStamp, of_event, of_none, IsRowFor, IsStampOf, empty_stamp}
-use Rattle.shb_stamps.specs.declared.stamp.Stamp.{Stamp}
+use Rattle.shb_stamps.proofs.Words.{AreClocks, Event, IsKnown, IsLatestStamp, IsRowFor, IsStampOf, KeepsWrite, ReleasesLock, ShbBelow, Stamp, below_longer, cases_lt, empty_stamp, is_of, local_time, of_event, of_none, op_longer, path_forward, sum_by_push, take-append-le, take_all, thread_at, thread_longer, time_longer}
 use Rattle.shb_stamps.proofs.Fronts.{thread_in_range}
 use Rattle.shb_stamps.proofs.Locals.{time_at}
 

@@ -1,20 +1,8 @@
 -- The clocks of a stored trace, an event more.
 use Rattle.std.proofs.Common.{◌≡◌, ℕ, ◌+◌, ◌<◌, ◌≤◌, inl, inr, Bool, false, List, Some, length, take, arith, refl, sym, ◌∙◌, ap, subst}
 use Rattle.std.specs.Prelude.{◌↔◌, IsTrue, count_by, slice_get}
-use Rattle.std.proofs.lemmas.Bool.{cases_Bool}
-use Rattle.std.proofs.lemmas.Option.{slice_get_cases}
-use Rattle.shb_lines.specs.declared.event.Event.{Event}
-use Rattle.shb_lines.specs.declared.event.Op.{Op}
-use Rattle.shb_lines.specs.declared.event.Op.TheVariants.{Join, Read, Write}
-use Rattle.shb_lines.specs.events.Discipline.{IsDisciplined, is_of, local_time}
-use Rattle.shb_lines.specs.events.Events.{thread_at, op_at}
+use Rattle.shb_stamps.proofs.Words.{Event, IsBefore, IsDisciplined, IsLatestBefore, IsNext, IsShared, Join, KeepsWrite, OfThread, Op, Read, Write, cases_Bool, count_gap, is_of, is_of_thread, local_time, op_at, slice_get_cases, thread_at, thread_is}
 use Rattle.shb_lines.specs.text.Limits.{most_events}
-use Rattle.shb_lines.proofs.events.Counts.{count_gap}
-use Rattle.shb_lines.proofs.events.Events.{thread_is}
-use Rattle.shb_lines.proofs.events.Prefix.{is_of_thread}
-use Rattle.shb_links.specs.Latest.{IsLatestBefore, OfThread}
-use Rattle.shb_links.specs.Sharing.{IsShared}
-use Rattle.shb_stamps.specs.Clocks.{IsBefore, IsNext, KeepsWrite}
 use Rattle.shb_stamps.specs.declared.clocks.Clocks.{Clocks}
 use Rattle.shb_stamps.proofs.ClockSteps.{passed_read, passed_write}
 use Rattle.shb_stamps.proofs.Fronts.{thread_in_range}

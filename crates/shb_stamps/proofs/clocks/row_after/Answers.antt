@@ -1,7 +1,5 @@
 use Rattle.std.proofs.Common.{List, [], ◌∷◌, ◌++◌, ℕ, inl, inr, refl, ap, subst, sym, arith, ◌≡◌, ◌∙◌, length, get_or}
-use Rattle.std.proofs.lemmas.Bool.{cases_Bool}
-use Rattle.std.proofs.lemmas.List.{length_push}
-use Rattle.shb_lines.specs.Growing.{IsPut}
+use Rattle.shb_stamps.proofs.Words.{IsPut, cases_Bool, length_push}
 use Rattle.shb_stamps.proofs.Stamping.{more_push, more_same, row_pushed}
 use Rattle.shb_stamps.proofs.clocks.row_after.Goals as goal
 

@@ -1,7 +1,5 @@
 use Rattle.std.proofs.Common.{ℕ, List, [], get_or, length, ap, arith, ◌∙◌}
-use Rattle.std.proofs.lemmas.List.{length_push}
-use Rattle.shb_lines.specs.declared.event.Event.{Event}
-use Rattle.shb_lines.specs.events.Order.{BelowPred}
+use Rattle.shb_stamps.proofs.Words.{BelowPred, Event, length_push}
 use Rattle.shb_stamps.proofs.ListedLemmas.{row_copied}
 use Rattle.shb_stamps.proofs.Stamping.{more_push, more_same, row_pushed}
 use Rattle.shb_stamps.proofs.kept_rows.keep.Goals as goal

@@ -1,6 +1,5 @@
 use Rattle.std.proofs.lemmas.List.Filters.{dedup_is}
-use Rattle.std.proofs.lemmas.List.Kept.{Contains-dedup_nat, Contains-from_dedup}
-use Rattle.std.proofs.lemmas.List.Sorted.{Contains-permutation, IsPermutation-sym}
+use Rattle.shb_stamps.proofs.Words.{Contains-dedup_nat, Contains-from_dedup, Contains-permutation, IsPermutation-sym}
 use Rattle.std.proofs.lemmas.Map.Keys.{IsStrictlyIncreasing-dedup}
 use Rattle.std.proofs.Common.{List, ℕ, subst, sym}
 use Rattle.std.specs.Prelude.{Contains}

@@ -1,5 +1,5 @@
 use Rattle.std.proofs.Common.{◌≡◌, ℕ, false, length, arith, subst}
-use Rattle.shb_stamps.specs.KeptRows.{AreListedRows}
+use Rattle.shb_stamps.proofs.Words.{AreListedRows}
 use Rattle.shb_stamps.proofs.ListedLemmas.{rising_order}
 use Rattle.shb_stamps.proofs.listed_rows.listed_rows.Goals as goal
 

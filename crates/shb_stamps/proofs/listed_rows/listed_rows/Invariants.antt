@@ -1,6 +1,5 @@
 use Rattle.std.proofs.Common.{ℕ, false, ◌<◌, ◌≤◌, length, get_or}
-use Rattle.shb_stamps.specs.Clocks.{IsBefore}
-use Rattle.shb_stamps.specs.KeptRows.{AreListedRows}
+use Rattle.shb_stamps.proofs.Words.{AreListedRows, IsBefore}
 use Rattle.shb_stamps.proofs.listed_rows.listed_rows.Given as goal
 
 abbrev pub invariant-loop-at : goal.invariant-loop-at

@@ -1,5 +1,5 @@
 use Rattle.std.proofs.Common.{◌<◌, ◌^◌, arith, ℕ, ◌≡◌, ◌*◌, ◌/◌, ◌∙◌, ap, drop, length, length-drop, length-take, refl, sym}
-use Rattle.std.proofs.lemmas.List.{take_all}
+use Rattle.shb_stamps.proofs.Words.{take_all}
 use Rattle.shb_stamps.proofs.ChunkLemmas.{longer_by, longer_still, part_inside, part_more, part_row}
 use Rattle.shb_stamps.proofs.row_list.add_cells.Goals as goal
 

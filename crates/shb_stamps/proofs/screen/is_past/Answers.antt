@@ -1,5 +1,5 @@
 use Rattle.std.proofs.Common.{get_or, arith, refl, sym, ◌∙◌}
-use Rattle.shb_lines.proofs.events.Schedulable.{thread_below_pred}
+use Rattle.shb_stamps.proofs.Words.{thread_below_pred}
 use Rattle.shb_stamps.proofs.ClockSteps.{row_at}
 use Rattle.shb_stamps.proofs.Locals.{time_at}
 use Rattle.shb_stamps.proofs.Screening.{past_where}

@@ -1,6 +1,5 @@
-use Rattle.std.proofs.lemmas.Grind.{common_steps}
+use Rattle.shb_stamps.proofs.Words.{Event, common_steps}
 use Rattle.std.proofs.Common.{ℕ, List, refl, arith}
-use Rattle.shb_lines.specs.declared.event.Event.{Event}
 use Rattle.shb_stamps.proofs.Locals.{local_is, time_at}
 use Rattle.shb_stamps.proofs.Counting.{count_other, count_own}
 use Rattle.shb_stamps.proofs.trace_clocks.count_below.Goals as goal

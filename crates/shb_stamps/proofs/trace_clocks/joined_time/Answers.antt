@@ -1,10 +1,6 @@
 use Rattle.std.proofs.Common.{◌≡◌, ℕ, ◌<◌, List, Some, length, subst, sym, ◌∙◌, take}
 use Rattle.std.specs.Prelude.{count_by}
-use Rattle.shb_lines.specs.declared.event.Event.{Event}
-use Rattle.shb_lines.specs.declared.event.Op.TheVariants.{Join}
-use Rattle.shb_lines.specs.events.Discipline.{is_of}
-use Rattle.shb_lines.proofs.events.Items.{op_known}
-use Rattle.shb_links.specs.Latest.{IsLatestBefore, OfThread}
+use Rattle.shb_stamps.proofs.Words.{Event, IsLatestBefore, Join, OfThread, is_of, op_known}
 use Rattle.shb_stamps.proofs.Locals.{local_is}
 use Rattle.shb_stamps.proofs.TraceSteps.{joined_last, joined_none}
 use Rattle.shb_stamps.proofs.trace_clocks.joined_time.Goals as goal

@@ -1,4 +1,4 @@
-use Rattle.shb_lines.proofs.events.Items.{op_known}
+use Rattle.shb_stamps.proofs.Words.{op_known}
 use Rattle.shb_stamps.proofs.TraceSteps.{passed_read_alone, passed_write_alone}
 use Rattle.shb_stamps.proofs.trace_clocks.pass.Goals as goal
 

@@ -1,5 +1,5 @@
 use Rattle.std.proofs.Common.{false, Some, ap, ◌∙◌}
-use Rattle.shb_lines.specs.declared.event.Op.{Op}
+use Rattle.shb_stamps.proofs.Words.{Op}
 use Rattle.shb_stamps.proofs.TraceSteps.{next_at}
 use Rattle.shb_stamps.proofs.trace_clocks.pass_other.Goals as goal
 

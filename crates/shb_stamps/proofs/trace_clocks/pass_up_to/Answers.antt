@@ -1,5 +1,5 @@
 use Rattle.std.proofs.Common.{◌≡◌, ℕ, false, arith, subst}
-use Rattle.shb_stamps.specs.Clocks.{IsBefore}
+use Rattle.shb_stamps.proofs.Words.{IsBefore}
 use Rattle.shb_stamps.proofs.trace_clocks.pass_up_to.Goals as goal
 
 pub returns : goal.returns

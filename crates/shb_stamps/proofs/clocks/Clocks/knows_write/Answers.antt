@@ -1,5 +1,5 @@
 use Rattle.std.proofs.Common.{[], get_or, inl, inr, refl, subst, arith}
-use Rattle.shb_stamps.specs.Stamps.{KnowsStamp}
+use Rattle.shb_stamps.proofs.Words.{KnowsStamp}
 use Rattle.shb_stamps.proofs.ClockSteps.{taken_known}
 use Rattle.shb_stamps.proofs.clocks.Clocks.knows_write.Goals as goal
 

@@ -1,5 +1,5 @@
 use Rattle.std.proofs.Common.{refl, subst, sym}
-use Rattle.shb_stamps.specs.Stamps.{IsSource}
+use Rattle.shb_stamps.proofs.Words.{IsSource}
 use Rattle.shb_stamps.proofs.ClockSteps.{acquire_source, join_source, no_source, read_source}
 use Rattle.shb_stamps.proofs.clocks.Clocks.source.Goals as goal
 

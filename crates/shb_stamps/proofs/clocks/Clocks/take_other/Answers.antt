@@ -1,6 +1,5 @@
 use Rattle.std.proofs.Common.{subst}
-use Rattle.shb_lines.specs.declared.event.Op.{Op}
-use Rattle.shb_stamps.specs.Clocks.{IsNext}
+use Rattle.shb_stamps.proofs.Words.{IsNext, Op}
 use Rattle.shb_stamps.proofs.clocks.Clocks.take_other.Goals as goal
 
 pub returns-in-Release : goal.returns-in-Release

@@ -1,8 +1,5 @@
-use Rattle.std.proofs.lemmas.Grind.{common_steps}
+use Rattle.shb_stamps.proofs.Words.{BelowPred, IsRowFor, common_steps, thread_at}
 use Rattle.std.proofs.Common.{◌≡◌, ℕ, Some, arith, subst, sym}
-use Rattle.shb_lines.specs.events.Events.{thread_at}
-use Rattle.shb_lines.specs.events.Order.{BelowPred}
-use Rattle.shb_stamps.specs.Stamps.{IsRowFor}
 use Rattle.shb_stamps.proofs.ListedLemmas.{rising_above, listed_more, listed_push}
 use Rattle.shb_stamps.proofs.kept_rows.KeptRows.note_listed.Goals as goal
 

@@ -1,5 +1,5 @@
 use Rattle.std.proofs.Common.{length}
-use Rattle.shb_stamps.specs.Moved.{HasMovedOn, IsNewNumber}
+use Rattle.shb_stamps.proofs.Words.{HasMovedOn, IsNewNumber}
 use Rattle.shb_stamps.proofs.MovedLemmas.{PartAlike}
 use Rattle.shb_stamps.proofs.moving.Moving.numbers.Given as goal
 

@@ -1,6 +1,5 @@
 use Rattle.std.proofs.Common.{length}
-use Rattle.shb_stamps.specs.Moved.{HasMovedOn, IsMovedStamp, IsNewNumber}
-use Rattle.shb_stamps.specs.Stamps.{empty_stamp}
+use Rattle.shb_stamps.proofs.Words.{HasMovedOn, IsMovedStamp, IsNewNumber, empty_stamp}
 use Rattle.shb_stamps.proofs.MovedLemmas.{PartAlike}
 use Rattle.shb_stamps.proofs.moving.Moving.stamps.Given as goal
 

@@ -1,4 +1,4 @@
-use Rattle.shb_stamps.specs.Moved.{AreKept}
+use Rattle.shb_stamps.proofs.Words.{AreKept}
 use Rattle.shb_stamps.proofs.row_list.RowList.kept.Given as goal
 
 abbrev pub invariant-loop-b : goal.invariant-loop-b

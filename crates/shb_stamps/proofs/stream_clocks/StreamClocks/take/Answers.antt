@@ -1,7 +1,6 @@
 -- The next event was taken.
 use Rattle.std.proofs.Common.{◌++◌, ◌∷◌, [], Some, true, inl, length, refl, ap, subst, ◌∙◌}
-use Rattle.shb_lines.specs.declared.event.Op.{Op}
-use Rattle.shb_stamps.specs.Clocks.{IsNext}
+use Rattle.shb_stamps.proofs.Words.{IsNext, Op}
 use Rattle.shb_stamps.proofs.Streaming.{streamed}
 use Rattle.shb_stamps.proofs.stream_clocks.StreamClocks.take.Goals as goal
 

@@ -1,4 +1,4 @@
-use Rattle.std.proofs.lemmas.Grind.{common_steps}
+use Rattle.shb_stamps.proofs.Words.{common_steps}
 use Rattle.std.proofs.Common.{◌<◌, arith, false, length, subst, sym}
 use Rattle.shb_stamps.specs.SweepData.{SweepData}
 use Rattle.shb_stamps.proofs.Locals.{local_is}
