@@ -1,18 +1,7 @@
 -- Accesses that come to the rivals.
 use Rattle.std.proofs.Common.{◌≡◌, ℕ, suc, ◌+◌, ◌<◌, ◌≤◌, ◌⊎◌, inl, inr, List, [], ◌∷◌, ◌++◌, Some, map, take, arith, get_or, refl, sym, ap, subst, ◌∙◌, get_or-set_same, get_or-set_other}
 use Rattle.std.specs.Prelude.{Contains, slice_get}
-use Rattle.std.proofs.Math.ListN.{set, length-set}
-use Rattle.std.proofs.Math.Seq.{take-suc}
-use Rattle.std.proofs.lemmas.Bool.{cases_eq}
-use Rattle.std.proofs.lemmas.List.{map-append}
-use Rattle.std.proofs.lemmas.List.Elements.{Contains-append_cases, Contains-append_left, Contains-append_right, Contains-push_cases}
-use Rattle.std.proofs.lemmas.Option.{get_or_from_slice_get, slice_get_within}
-use Rattle.shb_lines.proofs.events.Increasing.{contains_head, contains_none}
-use Rattle.shb_nearest.specs.declared.access.FoundAccess.{FoundAccess}
-use Rattle.shb_nearest.specs.declared.groups.Groups.{Groups}
-use Rattle.shb_nearest.specs.declared.groups.KeptAccess.{KeptAccess}
-use Rattle.shb_nearest.specs.Rivals.{HasAdded, IsCovered}
-use Rattle.shb_nearest.specs.Sites.{IsSettled}
+use Rattle.shb_nearest.proofs.Words.{Contains-append_cases, Contains-append_left, Contains-append_right, Contains-push_cases, FoundAccess, Groups, HasAdded, IsCovered, IsSettled, KeptAccess, cases_eq, contains_head, contains_none, get_or_from_slice_get, length-set, map-append, set, slice_get_within, take-suc}
 use Rattle.shb_nearest.proofs.Members.{member_at, member_set, stays_or_is}
 
 module _ (groups : Groups) (second : ℕ) where

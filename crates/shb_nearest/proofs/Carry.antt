@@ -1,32 +1,8 @@
 -- What is known of the accesses of a stream stays so when an event comes.
 use Rattle.std.proofs.Common.{◌≡◌, ℕ, zero, suc, ◌<◌, ◌≤◌, Bool, List, [], ◌∷◌, ◌++◌, Some, length, arith, refl, sym, ap, ◌∙◌}
 use Rattle.std.specs.Prelude.{option_and_then, reverse, slice_get}
-use Rattle.std.proofs.lemmas.List.Elements.{All-weaker}
-use Rattle.shb_lines.specs.declared.event.Event.{Event}
-use Rattle.shb_lines.specs.events.Discipline.{IsDisciplined}
-use Rattle.shb_lines.specs.events.Events.{op_at, thread_at, variable_of}
-use Rattle.shb_lines.specs.events.Race.{Race, variable_at}
+use Rattle.shb_nearest.proofs.Words.{Accesses, All-weaker, AreAccesses, AreGroups, AreLate, AreTables, Class, Entry, Event, FoundAccess, FoundRace, Group, Grouped, Groups, IsAtPlace, IsDisciplined, IsFoundAccess, IsGroup, IsKept, IsLastOf, IsLateIn, IsNearestAt, IsNewestOf, IsOfClass, KeptAccess, Late, Place, Race, Spot, Tables, Waiting, access_in, access_of, location_in, op_at, screened_longer, thread_at, variable_at, variable_of}
 use Rattle.shb_lines.proofs.events.Longer.{below_pred_longer, op_longer, race_longer, thread_longer, time_longer}
-use Rattle.shb_stamps.proofs.Screening.{screened_longer}
-use Rattle.shb_nearest.specs.declared.access.FoundAccess.{FoundAccess}
-use Rattle.shb_nearest.specs.declared.access.FoundRace.{FoundRace}
-use Rattle.shb_nearest.specs.declared.access.Spot.{Spot}
-use Rattle.shb_nearest.specs.declared.classes.Class.{Class}
-use Rattle.shb_nearest.specs.declared.groups.Group.{Group}
-use Rattle.shb_nearest.specs.declared.groups.Groups.{Groups}
-use Rattle.shb_nearest.specs.declared.groups.KeptAccess.{KeptAccess}
-use Rattle.shb_nearest.specs.declared.late.Late.{Late}
-use Rattle.shb_nearest.specs.declared.log.Accesses.{Accesses}
-use Rattle.shb_nearest.specs.declared.log.Accesses.TheVariants.{Grouped, Waiting}
-use Rattle.shb_nearest.specs.declared.log.Entry.{Entry}
-use Rattle.shb_nearest.specs.declared.places.Place.{Place}
-use Rattle.shb_nearest.specs.declared.tables.Tables.{Tables}
-use Rattle.shb_nearest.specs.Classes.{IsLastOf, IsNewestOf, IsOfClass}
-use Rattle.shb_nearest.specs.Found.{IsFoundAccess, location_in}
-use Rattle.shb_nearest.specs.Groups.{AreGroups, IsGroup, IsKept, access_of}
-use Rattle.shb_nearest.specs.Late.{AreAccesses, AreLate, IsLateIn, access_in}
-use Rattle.shb_nearest.specs.Places.{IsAtPlace, IsNearestAt}
-use Rattle.shb_nearest.specs.Searched.{AreTables}
 
 spot_longer : (spots more : List Spot) (k : ℕ) → k < length spots → slice_get (spots ++ more) k ≡ slice_get spots k
 spot_longer [] more k lt = absurd (omega arith)

@@ -1,23 +1,7 @@
 -- The accesses of each variable in the log.
 use Rattle.std.proofs.Common.{◌≡◌, ◌≢◌, ◌⊎◌, ℕ, ◌+◌, ◌<◌, ◌≤◌, inl, inr, List, [], ◌∷◌, ◌++◌, Some, length, arith, sym, ap, subst, ◌∙◌}
-use Rattle.std.proofs.Math.ListN.{get_or}
+use Rattle.shb_nearest.proofs.Words.{Accesses, All-contains, AreAccesses, AreLate, AreWaiting, Contains-append_left, Contains-append_right, Entry, Event, Grouped, Groups, HasPut, HasWritten, IsChain, IsEntryAt, IsInstead, IsInsteadOne, IsLate, IsLateIn, IsVariable, Late, Spot, StayWaiting, Variable, Waiting, access_in, append-nil, append_assoc, cases_lt, contains_cases, contains_head, contains_none, contains_tail, get_or, length-append, reverse-append, reverse-reverse, slice_get-get_or, slice_get_within, variable_at}
 use Rattle.std.specs.Prelude.{Contains, reverse, slice_get}
-use Rattle.std.proofs.lemmas.Bool.{cases_lt}
-use Rattle.std.proofs.lemmas.List.{append-nil, append_assoc, length-append, reverse-append, reverse-reverse}
-use Rattle.std.proofs.lemmas.List.Elements.{All-contains, Contains-append_left, Contains-append_right}
-use Rattle.std.proofs.lemmas.Option.{slice_get-get_or, slice_get_within}
-use Rattle.shb_lines.specs.declared.event.Event.{Event}
-use Rattle.shb_lines.specs.events.Race.{variable_at}
-use Rattle.shb_lines.proofs.events.Increasing.{contains_cases, contains_head, contains_none, contains_tail}
-use Rattle.shb_nearest.specs.declared.access.Spot.{Spot}
-use Rattle.shb_nearest.specs.declared.groups.Groups.{Groups}
-use Rattle.shb_nearest.specs.declared.late.Late.{Late}
-use Rattle.shb_nearest.specs.declared.log.Accesses.{Accesses}
-use Rattle.shb_nearest.specs.declared.log.Accesses.TheVariants.{Grouped, Waiting}
-use Rattle.shb_nearest.specs.declared.log.Entry.{Entry}
-use Rattle.shb_nearest.specs.declared.tables.Variable.{Variable}
-use Rattle.shb_nearest.specs.Searched.{IsVariable}
-use Rattle.shb_nearest.specs.Late.{AreAccesses, AreLate, AreWaiting, HasPut, HasWritten, IsChain, IsEntryAt, IsInstead, IsInsteadOne, IsLate, IsLateIn, StayWaiting, access_in}
 use Rattle.shb_nearest.proofs.LateLemmas.{late_push, late_without}
 use Rattle.shb_nearest.proofs.Members.{get_before, middle}
 use Rattle.shb_nearest.proofs.RivalLemmas.{variable_is}

@@ -1,26 +1,7 @@
 -- Classes: of each access one, and of each the newest access before an event.
 use Rattle.std.proofs.Common.{◌≡◌, ◌≢◌, ℕ, ◌+◌, ◌<◌, ◌≤◌, ◌⊎◌, inl, inr, Bool, true, false, List, None, Option, Some, arith, refl, sym, ap, subst, ◌∙◌}
 use Rattle.std.specs.Prelude.{option_and_then}
-use Rattle.std.proofs.lemmas.Bool.{cases_Bool, cases_eq, cases_lt}
-use Rattle.shb_lines.specs.declared.event.Event.{Event}
-use Rattle.shb_lines.specs.declared.event.Op.{Op}
-use Rattle.shb_lines.specs.declared.event.Op.TheVariants.{Read, Write}
-use Rattle.shb_lines.specs.events.Events.{op_at, thread_at, variable_of}
-use Rattle.shb_lines.specs.events.Discipline.{IsDisciplined}
-use Rattle.shb_lines.specs.events.Order.{BelowPred}
-use Rattle.shb_lines.specs.events.Race.{Conflict, Race, variable_at}
-use Rattle.shb_lines.specs.events.Reach.{is_race}
-use Rattle.shb_lines.proofs.events.Events.{thread_is}
-use Rattle.shb_lines.proofs.events.Reach.{event_at_access, reflect_race}
-use Rattle.shb_lines.proofs.events.Schedulable.{thread_below_pred}
-use Rattle.shb_stamps.proofs.Sources.{path_append, strictly_below_below}
-use Rattle.shb_lines.proofs.events.Listed.{Decided}
-use Rattle.shb_nearest.specs.declared.access.FoundAccess.{FoundAccess}
-use Rattle.shb_nearest.specs.declared.access.Spot.{Spot}
-use Rattle.shb_nearest.specs.declared.classes.Class.{Class}
-use Rattle.shb_nearest.specs.Classes.{IsLastOf, IsNewestOf, IsOfClass}
-use Rattle.shb_nearest.specs.Found.{IsFoundAccess, access_op, location_in}
-use Rattle.shb_nearest.specs.Groups.{class_of}
+use Rattle.shb_nearest.proofs.Words.{BelowPred, Class, Conflict, Decided, Event, FoundAccess, IsDisciplined, IsFoundAccess, IsLastOf, IsNewestOf, IsOfClass, Op, Race, Read, Spot, Write, access_op, cases_Bool, cases_eq, cases_lt, class_of, event_at_access, is_race, location_in, op_at, path_append, reflect_race, strictly_below_below, thread_at, thread_below_pred, thread_is, variable_at, variable_of}
 use Rattle.shb_nearest.proofs.NearestLaws.{greatest}
 
 -- the variable of an access, and whether it writes

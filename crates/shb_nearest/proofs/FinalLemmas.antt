@@ -1,32 +1,14 @@
 -- The races of the places, in order.
 use Rattle.std.proofs.Common.{◌≡◌, ℕ, ◌<◌, ◌≤◌, ◌⊎◌, inl, inr, Bool, true, false, ◌&&◌, List, [], ◌∷◌, Some, length, map, get_or, None, Option, arith, refl, sym, ap, subst, ◌∙◌}
 use Rattle.std.specs.Prelude.{AllPairs, Contains, nat_eq, option_and_then, if◌then◌else◌}
-use Rattle.std.specs.Cmp.{IsEquivalence, IsTotalOrder, decided}
-use Rattle.std.specs.List.{IsDistinct}
+use Rattle.shb_nearest.proofs.Words.{AreNearestRaces, ArePlaces, Contains-get_or, Contains-permutation, Decides-and, Decides-eqb, Event, FoundRace, IsAtPlace, IsDistinct, IsEquivalence, IsNearest, IsNearestAt, IsPermutation-sym, IsTotalOrder, ListedBefore, Place, PlaceEntry, Race, Spot, cases_Bool, cases_eq, decided, ends_of, event_at_access, get_or-map, is_lt, length-map, location_in, nat_cmp, ordering_then, ranks_by, same_place, site_in, slice_get-get_or, slice_get_within, sorted_far, variable_at, variable_part}
 use Rattle.std.specs.List.Sorted.{IsPermutation, IsSortedByKey}
 use Rattle.std.specs.Map.{keys_of}
-use Rattle.std.specs.Ordering.{is_lt, nat_cmp, ordering_then}
 use Rattle.std.specs.declared.cmp.Ordering.{Ordering}
-use Rattle.std.proofs.lemmas.Bool.{cases_Bool, cases_eq}
-use Rattle.std.proofs.lemmas.Bool.Decides.{Decides-and, Decides-eqb}
 use Rattle.std.proofs.lemmas.Cmp.{nat_cmp_total, on_total, then_total}
 use Rattle.std.proofs.lemmas.Grind.{common_steps}
-use Rattle.std.proofs.lemmas.List.{get_or-map, length-map}
-use Rattle.std.proofs.lemmas.List.Elements.{Contains-get_or}
-use Rattle.std.proofs.lemmas.List.Sorted.{Contains-permutation, IsPermutation-sym, ranks_by, sorted_far}
 use Rattle.std.proofs.lemmas.Map.Keys.{IsDistinct-IsPermutation, IsDistinct-from_apart, apart_from_distinct}
 use Rattle.std.proofs.lemmas.Map.Views.{Contains-from_lookup, lookup-from_Contains}
-use Rattle.std.proofs.lemmas.Option.{slice_get-get_or, slice_get_within}
-use Rattle.shb_lines.specs.declared.event.Event.{Event}
-use Rattle.shb_lines.specs.events.Race.{Race, variable_at}
-use Rattle.shb_lines.proofs.events.Reach.{event_at_access}
-use Rattle.shb_nearest.specs.declared.access.FoundRace.{FoundRace}
-use Rattle.shb_nearest.specs.declared.access.Spot.{Spot}
-use Rattle.shb_nearest.specs.declared.places.Place.{Place}
-use Rattle.shb_nearest.specs.Found.{ends_of, location_in, site_in}
-use Rattle.shb_nearest.specs.Nearest.{IsNearest, ListedBefore}
-use Rattle.shb_nearest.specs.Places.{ArePlaces, IsAtPlace, IsNearestAt, PlaceEntry, same_place, variable_part}
-use Rattle.shb_nearest.specs.Searched.{AreNearestRaces}
 use Rattle.shb_nearest.specs.Sorted.{IsInOrder, NotAfter}
 use Rattle.shb_nearest.proofs.Members.{member_map, member_of_map}
 use Rattle.shb_nearest.proofs.ClassLemmas.{location_of_access}

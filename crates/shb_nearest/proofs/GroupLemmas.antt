@@ -2,29 +2,10 @@
 use Rattle.std.proofs.Common.{◌≡◌, ℕ, suc, ◌+◌, ◌<◌, ◌≤◌, ◌⊎◌, inl, inr, Bool, true, false, cond, ◌&&◌, List, [], ◌∷◌, ◌++◌, None, Option, Some, length, take, filter, get_or, arith, refl, sym, ap, subst, ◌∙◌}
 use Rattle.std.specs.Bool.{beq}
 use Rattle.std.specs.Prelude.{All, AllPairs, Contains, nat_eq, slice_get}
-use Rattle.std.specs.List.{remove}
-use Rattle.std.proofs.Math.ListN.{set}
-use Rattle.std.proofs.Math.Seq.{take-suc}
-use Rattle.std.proofs.lemmas.Bool.{cases_Bool, cases_eq, cases_lt, eq-eqb, eqb-true}
-use Rattle.std.proofs.lemmas.List.Elements.{All-contains, All-nil, All-push, All-set, All-weaker, Contains-append_left, Contains-get_or, Contains-push, Contains-push_cases}
+use Rattle.shb_nearest.proofs.Words.{All-contains, All-nil, All-push, All-set, All-weaker, AreGroups, Class, Contains-append_left, Contains-get_or, Contains-push, Contains-push_cases, Event, FoundAccess, Group, HasGroupAt, HasKept, HasLast, HasLastOf, IsEarlier, IsFoundAccess, IsGroup, IsKept, IsLastOf, IsNewestOf, IsOfClass, IsOfGroup, IsRun, KeepsAccess, KeptAccess, Run, Spot, access_of, all_pairs_push, all_pairs_remove, cases_Bool, cases_eq, cases_lt, class_of, eq-eqb, eqb-true, get_or-take, get_or_append_left, get_or_from_slice_get, get_or_push, is_newest_in, is_newest_kept, length-take, length_push, local_time, newest_in, remove, remove-append_left, same_class, set, slice_get_read, slice_get_within, take-suc, thread_at}
 use Rattle.std.proofs.lemmas.List.Kept.{AllPairs-filter}
-use Rattle.std.proofs.lemmas.List.Quantifiers.{all_pairs_push, all_pairs_remove}
-use Rattle.std.proofs.lemmas.List.{get_or-take, get_or_append_left, get_or_push, length-take, length_push}
-use Rattle.std.proofs.lemmas.List.Edits.{remove-append_left}
-use Rattle.std.proofs.lemmas.Option.{get_or_from_slice_get, slice_get_read, slice_get_within}
 use Rattle.std.specs.List.Retain.{RetainsInTurn}
-use Rattle.shb_lines.specs.declared.event.Event.{Event}
-use Rattle.shb_lines.specs.events.Discipline.{local_time}
-use Rattle.shb_lines.specs.events.Events.{thread_at}
-use Rattle.shb_nearest.specs.declared.access.FoundAccess.{FoundAccess}
-use Rattle.shb_nearest.specs.declared.access.Spot.{Spot}
-use Rattle.shb_nearest.specs.declared.classes.Class.{Class}
-use Rattle.shb_nearest.specs.declared.groups.Group.{Group}
-use Rattle.shb_nearest.specs.declared.groups.KeptAccess.{KeptAccess}
-use Rattle.shb_nearest.specs.declared.groups.Run.{Run}
-use Rattle.shb_nearest.specs.Classes.{HasLastOf, HasPut, IsLastOf, IsNewestOf, IsOfClass, is_newest_in, newest_in, same_class}
-use Rattle.shb_nearest.specs.Found.{IsFoundAccess}
-use Rattle.shb_nearest.specs.Groups.{AreGroups, HasGroupAt, HasKept, HasLast, IsEarlier, IsGroup, IsKept, IsOfGroup, IsRun, KeepsAccess, access_of, class_of, is_newest_kept}
+use Rattle.shb_nearest.specs.Classes.{HasPut}
 use Rattle.shb_nearest.proofs.ClassLemmas.{class_own, last_before, one_class_at}
 use Rattle.shb_nearest.proofs.Members.{index_of, longer_cases, member_at, member_filter, member_of_filter, member_of_remove, member_remove, member_set, stays_or_is}
 

@@ -1,24 +1,7 @@
 -- Accesses that wait to be taken into the groups of their variable.
 use Rattle.std.proofs.Common.{◌≡◌, ℕ, zero, suc, ◌+◌, ◌<◌, ◌≤◌, inl, inr, Bool, false, List, [], ◌∷◌, ◌++◌, Some, length, drop, get_or, arith, refl, sym, ap, subst, ◌∙◌}
 use Rattle.std.specs.Prelude.{AllPairs, Contains, slice_get}
-use Rattle.std.proofs.lemmas.Bool.{cases_eq}
-use Rattle.std.proofs.lemmas.List.{drop_all, drop_more}
-use Rattle.std.proofs.lemmas.List.Elements.{All-contains, All-nil, All-push, All-weaker, Contains-append_left, Contains-append_right, Contains-push}
-use Rattle.std.proofs.lemmas.List.Quantifiers.{all_pairs_push, all_pairs_remove}
-use Rattle.std.proofs.lemmas.Option.{slice_get_within}
-use Rattle.std.specs.List.{remove}
-use Rattle.shb_lines.specs.declared.event.Event.{Event}
-use Rattle.shb_lines.specs.events.Order.{BelowPred}
-use Rattle.shb_lines.specs.events.Race.{variable_at}
-use Rattle.shb_lines.proofs.events.Increasing.{contains_cases, contains_none, contains_tail}
-use Rattle.shb_nearest.specs.declared.access.Spot.{Spot}
-use Rattle.shb_nearest.specs.declared.classes.Class.{Class}
-use Rattle.shb_nearest.specs.declared.groups.Group.{Group}
-use Rattle.shb_nearest.specs.declared.late.Late.{Late}
-use Rattle.shb_nearest.specs.Classes.{IsLastOf, IsOfClass}
-use Rattle.shb_nearest.specs.Found.{access_op}
-use Rattle.shb_nearest.specs.Groups.{AreGroups, class_of}
-use Rattle.shb_nearest.specs.Late.{AreLate, IsBefore, IsInstead, IsLate, IsLateIn, access_in}
+use Rattle.shb_nearest.proofs.Words.{All-contains, All-nil, All-push, All-weaker, AreGroups, AreLate, BelowPred, Class, Contains-append_left, Contains-append_right, Contains-push, Event, Group, IsBefore, IsInstead, IsLastOf, IsLate, IsLateIn, IsOfClass, Late, Spot, access_in, access_op, all_pairs_push, all_pairs_remove, cases_eq, class_of, contains_cases, contains_none, contains_tail, drop_all, drop_more, remove, slice_get_within, variable_at}
 use Rattle.shb_nearest.proofs.ClassLemmas.{class_own, class_variable, class_with, last_before, one_class_at}
 use Rattle.shb_nearest.proofs.GroupLemmas.{groups_until}
 use Rattle.shb_nearest.proofs.Members.{all_remove, index_of, member_at, member_remove, middle}

@@ -13,3 +13,4 @@ pub mod RivalLemmas
 pub mod SiteLemmas
 pub mod StepLemmas
 pub mod TableLemmas
+mod Words

@@ -1,14 +1,7 @@
 -- What follows from the definition of nearest races.
 use Rattle.std.proofs.Common.{◌≡◌, ◌≢◌, ℕ, zero, suc, ◌+◌, ◌<◌, ◌≤◌, ◌⊎◌, inl, inr, List, refl, arith, sym, subst, ◌∙◌}
 use Rattle.std.specs.Prelude.{Contains}
-use Rattle.std.proofs.lemmas.Bool.{cases_Bool, cases_eq, cases_lt}
-use Rattle.shb_lines.specs.declared.event.Event.{Event}
-use Rattle.shb_lines.specs.events.Race.{Race}
-use Rattle.shb_lines.specs.events.Reach.{is_race}
-use Rattle.shb_lines.proofs.events.Increasing.{same_in_order}
-use Rattle.shb_lines.proofs.events.Listed.{Decided}
-use Rattle.shb_lines.proofs.events.Reach.{reflect_race}
-use Rattle.shb_nearest.specs.Nearest.{AreNearest, IsNearest, ListedBefore}
+use Rattle.shb_nearest.proofs.Words.{AreNearest, Decided, Event, IsNearest, ListedBefore, Race, cases_Bool, cases_eq, cases_lt, is_race, reflect_race, same_in_order}
 
 not_both : (p q : ℕ × ℕ) → ListedBefore p q → ListedBefore q p → ⊥
 not_both p q (inl a) (inl b) = omega (arith, a, b)

@@ -1,28 +1,10 @@
 -- The places of the races so far, after an access more.
 use Rattle.std.proofs.Common.{◌≡◌, ℕ, ◌+◌, ◌<◌, ◌≤◌, ◌⊎◌, inl, inr, Bool, List, None, Some, get_or, arith, refl, sym, ap, subst, ◌∙◌}
 use Rattle.std.specs.Prelude.{All, option_and_then}
-use Rattle.std.proofs.lemmas.List.Elements.{Contains-get_or}
-use Rattle.std.proofs.lemmas.Bool.{cases_lt}
-use Rattle.shb_lines.specs.declared.event.Event.{Event}
-use Rattle.shb_lines.specs.events.Discipline.{IsDisciplined}
-use Rattle.shb_lines.specs.events.Events.{op_at, thread_at, variable_of}
-use Rattle.shb_lines.specs.events.Order.{BelowPred, ShbBelow, here, step}
-use Rattle.shb_lines.specs.events.Race.{Race, variable_at}
-use Rattle.shb_lines.proofs.events.Schedulable.{below_pred_closed, thread_below_pred}
-use Rattle.shb_stamps.proofs.Sources.{strictly_below_below}
-use Rattle.shb_nearest.specs.declared.access.FoundAccess.{FoundAccess}
-use Rattle.shb_nearest.specs.declared.access.FoundRace.{FoundRace}
-use Rattle.shb_nearest.specs.declared.access.Spot.{Spot}
-use Rattle.shb_nearest.specs.declared.groups.Groups.{Groups}
-use Rattle.shb_nearest.specs.declared.places.Place.{Place}
-use Rattle.shb_nearest.specs.Found.{IsFoundAccess, location_in}
-use Rattle.shb_nearest.specs.Groups.{IsSince}
-use Rattle.shb_nearest.specs.Places.{ArePlaces, IsAtPlace, IsKnown, IsNearestAt, PlaceEntry, offered_all, place_of, race_at, race_with, variable_part}
-use Rattle.shb_nearest.specs.Rivals.{AreRivals}
+use Rattle.shb_nearest.proofs.Words.{ArePlaces, AreRivals, BelowPred, Contains-get_or, Event, FoundAccess, FoundRace, Groups, HaveSites, IsAtPlace, IsDisciplined, IsFoundAccess, IsKnown, IsNearestAt, IsSince, Place, PlaceEntry, Race, ShbBelow, Spot, below_pred_closed, cases_lt, here, location_in, offered_all, op_at, place_at, place_of, race_at, race_with, step, strictly_below_below, thread_at, thread_below_pred, variable_at, variable_of, variable_part}
 use Rattle.shb_nearest.proofs.ClassLemmas.{location_of_access}
 use Rattle.shb_nearest.proofs.PlaceTable.{AreOffered, IsCome, offered_are, place_with}
 use Rattle.shb_nearest.proofs.RivalLemmas.{variable_is}
-use Rattle.shb_nearest.specs.Sites.{HaveSites, place_at}
 use Rattle.shb_nearest.proofs.SiteLemmas.{settled_known}
 
 below_pred_path : (trace : List Event) (a b e : ℕ) → ShbBelow trace a b → BelowPred trace b e → BelowPred trace a e

@@ -1,15 +1,8 @@
 -- The table of places, with the races of an access more.
 use Rattle.std.proofs.Common.{◌≡◌, ℕ, ◌<◌, ◌≤◌, ◌⊎◌, inl, inr, Bool, true, false, cond, ◌&&◌, List, [], ◌∷◌, ◌++◌, None, Option, Some, arith, refl, sym, ap, subst, ◌∙◌, append_assoc, append-nil}
 use Rattle.std.specs.Prelude.{Contains, nat_eq, nat_lt}
-use Rattle.std.proofs.lemmas.Bool.{cases_Bool, eq-eqb, eqb-true, ltb-true, ltb-false}
-use Rattle.std.proofs.lemmas.Bool.Decides.{Decides-and, Decides-eqb}
-use Rattle.std.proofs.lemmas.List.Elements.{Contains-append_left, Contains-push, Contains-push_cases}
+use Rattle.shb_nearest.proofs.Words.{Contains-append_left, Contains-push, Contains-push_cases, Decides-and, Decides-eqb, FoundAccess, FoundRace, Place, PlaceEntry, cases_Bool, contains_none, eq-eqb, eqb-true, is_nearer, ltb-false, ltb-true, offered, offered_all, place_of, race_at, race_with, same_place, variable_part}
 use Rattle.indexmap.specs.IndexMap.{insert_entry}
-use Rattle.shb_lines.proofs.events.Increasing.{contains_none}
-use Rattle.shb_nearest.specs.declared.access.FoundAccess.{FoundAccess}
-use Rattle.shb_nearest.specs.declared.access.FoundRace.{FoundRace}
-use Rattle.shb_nearest.specs.declared.places.Place.{Place}
-use Rattle.shb_nearest.specs.Places.{PlaceEntry, is_nearer, offered, offered_all, place_of, race_at, race_with, same_place, variable_part}
 
 abbrev pub place_with : ℕ → ℕ → ℕ → Place
 place_with first second variable = record { first = first; second = second; variable = variable }

@@ -1,32 +1,8 @@
 -- The accesses that race with the next one, from what the groups keep.
 use Rattle.std.proofs.Common.{◌≡◌, ◌≢◌, ℕ, suc, ◌+◌, ◌-◌, ◌<◌, ◌≤◌, ◌⊎◌, inl, inr, Bool, true, false, List, [], ◌∷◌, ◌++◌, Some, map, drop, take, get_or, arith, refl, sym, ap, subst, ◌∙◌}
-use Rattle.shb_numbers.specs.Numbers.{Numbers}
-use Rattle.std.specs.Global.{Global}
-use Rattle.shb_nearest.specs.declared.sites.Sites.{Sites}
+use Rattle.shb_nearest.proofs.Words.{All-contains, All-weaker, AreGroups, AreMarked, AreMet, AreRivals, BelowPred, CanRace, Contains-push_cases, Event, FoundAccess, Global, Group, Groups, HasMet, HasMetGroup, IsBelowPredCount, IsCovered, IsDisciplined, IsDone, IsFoundAccess, IsGroup, IsIn, IsKept, IsOver, IsRun, IsSettled, KeptAccess, Numbers, Race, Run, Sites, Spot, Write, access_of, access_op, below_pred_closed, cases_Bool, cases_eq, cases_lt, contains_none, get_or_from_slice_get, happens_before, location_in, of_group, of_kind, op_at, same_thread, slice_get-get_or, slice_get_within, take-suc, thread_at, variable_at, variable_of}
 use Rattle.std.specs.Prelude.{Box, Contains, option_and_then, slice_get}
-use Rattle.std.proofs.Math.Seq.{take-suc}
-use Rattle.std.proofs.lemmas.Bool.{cases_Bool, cases_eq, cases_lt}
-use Rattle.std.proofs.lemmas.List.Elements.{All-contains, All-weaker, Contains-push_cases}
-use Rattle.std.proofs.lemmas.Option.{get_or_from_slice_get, slice_get-get_or, slice_get_within}
-use Rattle.shb_lines.specs.declared.event.Event.{Event}
-use Rattle.shb_lines.specs.declared.event.Op.TheVariants.{Write}
-use Rattle.shb_lines.specs.events.Discipline.{IsDisciplined}
-use Rattle.shb_lines.specs.events.Events.{op_at, thread_at, variable_of}
-use Rattle.shb_lines.specs.events.Order.{BelowPred, IsBelowPredCount, happens_before, same_thread}
-use Rattle.shb_lines.specs.events.Race.{Race, variable_at}
-use Rattle.shb_lines.proofs.events.Increasing.{contains_none}
 use Rattle.shb_lines.proofs.events.Prefix.{below_from_local, local_from_below}
-use Rattle.shb_lines.proofs.events.Schedulable.{below_pred_closed}
-use Rattle.shb_nearest.specs.declared.access.FoundAccess.{FoundAccess}
-use Rattle.shb_nearest.specs.declared.access.Spot.{Spot}
-use Rattle.shb_nearest.specs.declared.groups.Group.{Group}
-use Rattle.shb_nearest.specs.declared.groups.Groups.{Groups}
-use Rattle.shb_nearest.specs.declared.groups.KeptAccess.{KeptAccess}
-use Rattle.shb_nearest.specs.declared.groups.Run.{Run}
-use Rattle.shb_nearest.specs.Found.{IsFoundAccess, access_op, location_in}
-use Rattle.shb_nearest.specs.Groups.{AreGroups, IsGroup, IsKept, IsRun, access_of}
-use Rattle.shb_nearest.specs.Sites.{AreMarked, IsDone, IsIn, IsSettled, of_group, of_kind}
-use Rattle.shb_nearest.specs.Rivals.{AreMet, AreRivals, CanRace, HasMet, HasMetGroup, IsCovered, IsOver}
 use Rattle.shb_nearest.proofs.ClassLemmas.{class_with, kind_at, last_rival, op_variable}
 use Rattle.shb_nearest.proofs.Members.{index_of, member_drop, member_map, member_of_drop, member_of_map}
 

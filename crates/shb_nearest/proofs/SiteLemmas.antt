@@ -2,29 +2,8 @@
 use Rattle.std.proofs.Common.{◌≡◌, ℕ, suc, ◌+◌, ◌^◌, ◌<◌, ◌≤◌, ◌⊎◌, inl, inr, Bool, true, false, not, ◌&&◌, ◌||◌, List, [], ◌∷◌, ◌++◌, None, Some, length, take, get_or, arith, refl, sym, ap, subst, ◌∙◌, get_or-set_same, get_or-set_other}
 use Rattle.std.specs.Prelude.{Box, Contains, slice_get, slice_index_or}
 use Rattle.std.specs.FinSet as fin
-use Rattle.std.specs.Global.{Global}
-use Rattle.std.specs.Ordering.{nat_cmp}
-use Rattle.std.specs.Cmp.{nat_cmp_total, unsigned_tied}
-use Rattle.std.proofs.Math.ListN.{length-set, set}
-use Rattle.std.proofs.Math.Seq.{take-suc}
-use Rattle.std.proofs.lemmas.List.Elements.{Contains-push_cases}
-use Rattle.std.proofs.lemmas.Bool.{cases_eq, cases_lt, eq-eqb, eqb-true}
-use Rattle.std.proofs.lemmas.List.{get_or_default, length_push}
-use Rattle.std.proofs.lemmas.Option.{get_or_from_slice_get, slice_get_within}
-use Rattle.shb_discipline.proofs.Steps.{set_cases}
-use Rattle.shb_lines.proofs.events.Increasing.{contains_none}
-use Rattle.shb_numbers.specs.Numbers.{Numbers}
-use Rattle.shb_nearest.specs.declared.groups.Group.{Group}
-use Rattle.shb_nearest.specs.declared.groups.Groups.{Groups}
-use Rattle.shb_nearest.specs.declared.groups.KeptAccess.{KeptAccess}
-use Rattle.shb_nearest.specs.declared.late.Late.{Late}
-use Rattle.shb_nearest.specs.declared.places.Place.{Place}
-use Rattle.shb_nearest.specs.declared.sites.Site.{Site}
-use Rattle.shb_nearest.specs.declared.sites.Sites.{Sites}
+use Rattle.shb_nearest.proofs.Words.{AreAllNoted, AreFew, AreNoted, ArePaired, Contains-push_cases, Global, Group, Groups, HasGroupAt, HasKept, HasNoted, HasSets, HasSetsOf, HasSite, HaveAllSites, HaveSites, IsAfter, IsDone, IsIn, IsKnown, IsNoted, IsPair, IsSettled, IsSite, KeptAccess, Late, Numbers, Place, PlaceEntry, Site, Sites, cases_eq, cases_lt, contains_none, eq-eqb, eqb-true, get_or_default, get_or_from_slice_get, length-set, length_push, nat_cmp, nat_cmp_total, of_group, of_kind, place_at, set, set_cases, slice_get_within, take-suc, unsigned_tied}
 use Rattle.shb_nearest.proofs.Members.{at_other, at_set, get_before, longer_cases, middle, one_at}
-use Rattle.shb_nearest.specs.Groups.{HasGroupAt, HasKept}
-use Rattle.shb_nearest.specs.Places.{IsKnown, PlaceEntry}
-use Rattle.shb_nearest.specs.Sites.{AreAllNoted, AreFew, AreNoted, ArePaired, HasSets, HasNoted, HasSetsOf, HasSite, HaveAllSites, HaveSites, IsAfter, IsDone, IsIn, IsNoted, IsPair, IsSettled, IsSite, of_group, of_kind, place_at}
 
 -- an access came to a site again
 module _ (all : List Site) (number event location newest : ℕ) (site : Site) (there : slice_get all number ≡ Some site) (is : IsSite all location number) (own : site.newest ≤ newest) (later : event ≤ newest) where

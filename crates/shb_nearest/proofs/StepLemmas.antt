@@ -1,17 +1,8 @@
 -- The next event of a stream, and what is known after it.
 use Rattle.std.proofs.Common.{◌≡◌, ℕ, Bool, true, false, List, [], ◌∷◌, ◌++◌, Some, length, refl, sym, ap, subst, ◌∙◌}
 use Rattle.std.specs.Prelude.{slice_get}
-use Rattle.shb_lines.specs.declared.event.Event.{Event}
-use Rattle.shb_lines.specs.declared.event.Op.{Op}
-use Rattle.shb_lines.specs.events.Events.{op_at, variable_of}
+use Rattle.shb_nearest.proofs.Words.{Event, FoundAccess, IsNextAccess, IsNextEvent, Op, Spot, StreamClocks, access_op, op_at, op_is, thread_is, variable_of}
 use Rattle.shb_lines.specs.events.Tests.{is_write}
-use Rattle.shb_lines.proofs.events.Events.{op_is, thread_is}
-use Rattle.shb_stamps.specs.declared.stream_clocks.StreamClocks.{StreamClocks}
-use Rattle.shb_nearest.specs.declared.access.FoundAccess.{FoundAccess}
-use Rattle.shb_nearest.specs.declared.access.Spot.{Spot}
-use Rattle.shb_nearest.specs.Found.{access_op}
-use Rattle.shb_nearest.specs.Rivals.{IsNextAccess}
-use Rattle.shb_nearest.specs.Searched.{IsNextEvent}
 use Rattle.shb_nearest.proofs.ClassLemmas.{access_kind}
 
 pub last_at : {X : Type 0} (xs : List X) (x : X) (n : ℕ) → length xs ≡ n → slice_get (xs ++ x ∷ []) n ≡ Some x

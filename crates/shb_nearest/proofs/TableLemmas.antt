@@ -1,44 +1,13 @@
 -- The tables after an access more, and after another event.
 use Rattle.std.proofs.Common.{◌≡◌, ◌≢◌, ℕ, ◌+◌, ◌-◌, ◌^◌, ◌<◌, ◌≤◌, inl, inr, Bool, true, false, cond, List, [], ◌∷◌, ◌++◌, None, Option, Some, length, take, arith, refl, sym, ap, subst, ◌∙◌}
 use Rattle.std.specs.Prelude.{All, min, option_and_then, reverse, slice_get, unwrap_or}
-use Rattle.std.proofs.Math.ListN.{length-set, set}
-use Rattle.std.proofs.lemmas.Bool.{cases_Bool, cases_lt}
-use Rattle.std.proofs.lemmas.List.Elements.{All-contains, All-nil}
-use Rattle.std.proofs.lemmas.List.{length-take}
+use Rattle.shb_nearest.proofs.Words.{Accesses, All-contains, All-nil, AreAccesses, AreClasses, AreGroups, AreMoreVariables, ArePlaces, AreTables, AreVariables, Class, Entry, Event, FoundAccess, Group, Grouped, Groups, HasGroupAt, HaveGroups, IsAccess, IsAt, IsBelowPredCount, IsDisciplined, IsFoundAccess, IsGroup, IsKept, IsNextAccess, IsNumberOf, IsOfClass, IsOfGroup, IsRun, IsScreened, IsSince, IsVariable, Op, PlaceEntry, Race, Run, Spot, StayGroups, StayWaiting, StreamClocks, Tables, Variable, Waiting, access_of, access_op, cases_Bool, cases_lt, class_of, increasing_equal, is_of, length-set, length-take, local_time, newest_in, op_at, same_class, screened_later, screened_never, set, set_cases, thread_at, variable_at, variable_of}
 use Rattle.std.proofs.lemmas.List.Sums.{count_by-le-length}
-use Rattle.shb_discipline.proofs.Steps.{set_cases}
-use Rattle.shb_lines.specs.declared.event.Event.{Event}
-use Rattle.shb_lines.specs.declared.event.Op.{Op}
-use Rattle.shb_lines.specs.events.Discipline.{IsDisciplined, is_of, local_time}
-use Rattle.shb_lines.specs.events.Events.{op_at, thread_at, variable_of}
-use Rattle.shb_lines.specs.events.Order.{IsBelowPredCount, IsNumberOf}
-use Rattle.shb_lines.specs.events.Race.{Race, variable_at}
-use Rattle.shb_lines.proofs.events.Increasing.{increasing_equal}
 use Rattle.shb_stamps.proofs.Counting.{count_own}
 use Rattle.shb_stamps.proofs.Locals.{time_at}
-use Rattle.shb_stamps.proofs.Screening.{screened_later, screened_never}
-use Rattle.shb_stamps.specs.Screen.{IsAccess, IsScreened}
 use Rattle.shb_stamps.specs.declared.screen.Epoch.{Epoch}
 use Rattle.shb_stamps.specs.declared.screen.Latest.{Latest}
-use Rattle.shb_stamps.specs.declared.stream_clocks.StreamClocks.{StreamClocks}
-use Rattle.shb_nearest.specs.declared.access.FoundAccess.{FoundAccess}
-use Rattle.shb_nearest.specs.declared.access.Spot.{Spot}
-use Rattle.shb_nearest.specs.declared.classes.Class.{Class}
-use Rattle.shb_nearest.specs.declared.groups.Group.{Group}
-use Rattle.shb_nearest.specs.declared.groups.Groups.{Groups}
-use Rattle.shb_nearest.specs.declared.groups.Run.{Run}
-use Rattle.shb_nearest.specs.declared.log.Accesses.{Accesses}
-use Rattle.shb_nearest.specs.declared.log.Accesses.TheVariants.{Grouped, Waiting}
-use Rattle.shb_nearest.specs.declared.log.Entry.{Entry}
-use Rattle.shb_nearest.specs.declared.tables.Tables.{Tables}
-use Rattle.shb_nearest.specs.declared.tables.Variable.{Variable}
-use Rattle.shb_nearest.specs.Classes.{AreClasses, HasPut, IsOfClass, newest_in, same_class}
-use Rattle.shb_nearest.specs.Found.{IsFoundAccess, access_op}
-use Rattle.shb_nearest.specs.Groups.{AreGroups, HasGroupAt, IsAt, IsGroup, IsKept, IsOfGroup, IsRun, IsSince, access_of, class_of}
-use Rattle.shb_nearest.specs.Late.{AreAccesses, HaveGroups, StayGroups, StayWaiting}
-use Rattle.shb_nearest.specs.Places.{ArePlaces, PlaceEntry}
-use Rattle.shb_nearest.specs.Rivals.{IsNextAccess}
-use Rattle.shb_nearest.specs.Searched.{AreMoreVariables, AreTables, AreVariables, IsVariable}
+use Rattle.shb_nearest.specs.Classes.{HasPut}
 use Rattle.shb_nearest.proofs.GroupLemmas.{class_self, group_empty, group_same, groups_next, groups_until, one_class}
 use Rattle.shb_nearest.proofs.ClassLemmas.{class_own, class_variable, class_with, op_variable}
 use Rattle.shb_nearest.proofs.LateLemmas.{late_none, late_skip}

@@ -1,5 +1,5 @@
 use Rattle.std.proofs.Common.{rules}
-use Rattle.shb_nearest.specs.Groups.{is_newest_kept}
+use Rattle.shb_nearest.proofs.Words.{is_newest_kept}
 use Rattle.shb_nearest.proofs.GroupLemmas.{retained_passing}
 use Rattle.shb_nearest.proofs.groups.forget.Goals as goal
 

@@ -1,8 +1,5 @@
 use Rattle.std.proofs.Common.{List, arith, refl, subst}
-use Rattle.std.proofs.lemmas.List.{take_all}
-use Rattle.std.proofs.lemmas.Option.{slice_get-get_or}
-use Rattle.shb_nearest.specs.Groups.{HasLast, access_of, class_of}
-use Rattle.shb_nearest.specs.declared.groups.KeptAccess.{KeptAccess}
+use Rattle.shb_nearest.proofs.Words.{HasLast, KeptAccess, access_of, class_of, slice_get-get_or, take_all}
 use Rattle.shb_nearest.proofs.GroupLemmas.{last_more}
 use Rattle.shb_nearest.proofs.groups.newest_of.Goals as goal
 

@@ -1,7 +1,7 @@
 -- The table has the last at each location of those so far.
 use Rattle.std.proofs.Common.{take}
 use Rattle.std.specs.Prelude.{AllPairs}
-use Rattle.shb_nearest.specs.Groups.{HasLast, IsEarlier}
+use Rattle.shb_nearest.proofs.Words.{HasLast, IsEarlier}
 use Rattle.shb_nearest.proofs.groups.newest_of.Given as goal
 
 abbrev pub invariant-loop-access : goal.invariant-loop-access

@@ -1,5 +1,5 @@
 use Rattle.std.proofs.Common.{get_or, sym}
-use Rattle.std.proofs.lemmas.List.{get_or_default}
+use Rattle.shb_nearest.proofs.Words.{get_or_default}
 use Rattle.shb_nearest.proofs.LateLemmas.{no_access}
 use Rattle.shb_nearest.proofs.late.is_among.Goals as goal
 

@@ -1,5 +1,5 @@
 use Rattle.std.proofs.Common.{length, refl}
-use Rattle.std.proofs.lemmas.Option.{slice_get_read}
+use Rattle.shb_nearest.proofs.Words.{slice_get_read}
 use Rattle.shb_nearest.proofs.Members.{member_at}
 use Rattle.shb_nearest.proofs.late.is_in.Goals as goal
 

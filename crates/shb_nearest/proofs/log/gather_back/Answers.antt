@@ -1,6 +1,5 @@
 use Rattle.std.proofs.Common.{inl, inr, Global, List, Vec, arith, ap, subst, ◌∙◌}
-use Rattle.shb_nearest.specs.Late.{IsInsteadOne}
-use Rattle.shb_nearest.specs.declared.late.Late.{Late}
+use Rattle.shb_nearest.proofs.Words.{IsInsteadOne, Late}
 use Rattle.shb_nearest.proofs.Chains.{gathered_all, gathered_more}
 use Rattle.shb_nearest.proofs.log.gather_back.Goals as goal
 use Rattle.shb_nearest.proofs.log.gather_back.Goals.{then-not-again+in_ok-push, else-not-again}

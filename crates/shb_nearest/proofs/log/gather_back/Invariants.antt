@@ -1,8 +1,6 @@
 -- Some are gathered, and the others are those from the place back.
 use Rattle.std.proofs.Common.{ℕ, List}
-use Rattle.shb_lines.specs.declared.event.Event.{Event}
-use Rattle.shb_nearest.specs.Late.{AreWaiting}
-use Rattle.shb_nearest.specs.declared.access.Spot.{Spot}
+use Rattle.shb_nearest.proofs.Words.{AreWaiting, Event, Spot}
 use Rattle.shb_nearest.proofs.Chains.{AreGathered}
 use Rattle.shb_nearest.proofs.log.gather_back.Given as goal
 

@@ -1,6 +1,5 @@
 use Rattle.std.proofs.Common.{List, arith, subst, sym}
-use Rattle.shb_nearest.specs.Late.{HasPut}
-use Rattle.shb_nearest.specs.declared.log.Entry.{Entry}
+use Rattle.shb_nearest.proofs.Words.{Entry, HasPut}
 use Rattle.shb_nearest.proofs.Chains.{put_behind}
 use Rattle.shb_nearest.proofs.log.put.Goals as goal
 

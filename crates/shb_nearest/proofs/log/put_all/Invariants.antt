@@ -1,8 +1,7 @@
 -- The accesses before the index came, and those of other variables stay.
 use Rattle.std.proofs.Common.{◌≤◌, ℕ, List, length, take}
 use Rattle.std.specs.Prelude.{reverse}
-use Rattle.shb_nearest.specs.Late.{IsChain}
-use Rattle.shb_nearest.specs.declared.late.Late.{Late}
+use Rattle.shb_nearest.proofs.Words.{IsChain, Late}
 use Rattle.shb_nearest.proofs.log.put_all.Given as goal
 
 abbrev pub invariant-loop-late : goal.invariant-loop-late

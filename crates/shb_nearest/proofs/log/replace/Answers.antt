@@ -1,6 +1,5 @@
 use Rattle.std.proofs.Common.{List, refl, subst}
-use Rattle.shb_nearest.specs.Late.{IsEntryAt}
-use Rattle.shb_nearest.specs.declared.log.Entry.{Entry}
+use Rattle.shb_nearest.proofs.Words.{Entry, IsEntryAt}
 use Rattle.shb_nearest.proofs.Chains.{newest_replaced, newest_waits, second_replaced, stay_second, stay_written}
 use Rattle.shb_nearest.proofs.log.replace.Goals as goal
 

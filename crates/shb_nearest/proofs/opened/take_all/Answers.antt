@@ -1,5 +1,5 @@
 use Rattle.std.proofs.Common.{◌<◌, ◌∙◌, arith, get_or, length}
-use Rattle.std.proofs.lemmas.List.{get_or_default}
+use Rattle.shb_nearest.proofs.Words.{get_or_default}
 use Rattle.shb_nearest.proofs.LateLemmas.{no_access, last_taken, late_first, late_taken}
 use Rattle.shb_nearest.proofs.opened.take_all.Goals as goal
 

@@ -1,12 +1,6 @@
 -- The groups and the table of classes have the accesses before the index.
 use Rattle.std.proofs.Common.{◌≡◌, ℕ, Bool, List}
-use Rattle.shb_lines.specs.declared.event.Event.{Event}
-use Rattle.shb_nearest.specs.Classes.{AreClasses}
-use Rattle.shb_nearest.specs.Groups.{AreGroups}
-use Rattle.shb_nearest.specs.Late.{AreLate}
-use Rattle.shb_nearest.specs.Places.{PlaceEntry}
-use Rattle.shb_nearest.specs.Sites.{HaveSites}
-use Rattle.shb_nearest.specs.declared.access.Spot.{Spot}
+use Rattle.shb_nearest.proofs.Words.{AreClasses, AreGroups, AreLate, Event, HaveSites, PlaceEntry, Spot}
 use Rattle.shb_nearest.proofs.LateLemmas.{HasTaken}
 use Rattle.shb_nearest.proofs.opened.take_all.Given as goal
 

@@ -1,5 +1,5 @@
 -- What was passed so far needs a look.
-use Rattle.shb_nearest.specs.Rivals.{NeedLook}
+use Rattle.shb_nearest.proofs.Words.{NeedLook}
 use Rattle.shb_nearest.proofs.rivals.index_after.Given as goal
 
 abbrev pub invariant-loop-from : goal.invariant-loop-from

@@ -1,9 +1,5 @@
 use Rattle.std.proofs.Common.{◌+◌, ℕ, [], ◌∷◌, ◌++◌, length, refl, subst, sym}
-use Rattle.std.proofs.lemmas.Option.{slice_get_read}
-use Rattle.shb_lines.specs.events.Order.{IsBelowPredCount}
-use Rattle.shb_nearest.specs.declared.groups.Group.{Group}
-use Rattle.shb_nearest.specs.Groups.{IsGroup}
-use Rattle.shb_nearest.specs.Rivals.{CanRace, HasMetGroup}
+use Rattle.shb_nearest.proofs.Words.{CanRace, Group, HasMetGroup, IsBelowPredCount, IsGroup, slice_get_read}
 use Rattle.shb_nearest.proofs.Members.{one_at}
 use Rattle.shb_nearest.proofs.RivalLemmas.{group_before, met_done, met_none, met_some}
 use Rattle.shb_nearest.proofs.rivals.meet_group.Goals as goal

@@ -1,9 +1,5 @@
 use Rattle.std.proofs.Common.{◌+◌, List, [], ◌∷◌, ◌++◌, arith, subst}
-use Rattle.std.proofs.lemmas.List.{take_all}
-use Rattle.std.proofs.lemmas.List.Elements.{All-contains}
-use Rattle.shb_nearest.specs.declared.groups.Group.{Group}
-use Rattle.shb_nearest.specs.Groups.{IsGroup}
-use Rattle.shb_nearest.specs.Rivals.{AreMet}
+use Rattle.shb_nearest.proofs.Words.{All-contains, AreMet, Group, IsGroup, take_all}
 use Rattle.shb_nearest.proofs.Members.{member_at, some_at}
 use Rattle.shb_nearest.proofs.RivalLemmas.{met_more, rivals_are}
 use Rattle.shb_nearest.proofs.rivals.rivals_among.Goals as goal

@@ -1,10 +1,6 @@
 -- The groups so far were met.
 use Rattle.std.proofs.Common.{ℕ, ◌+◌, List, [], ◌∷◌, ◌++◌, take}
-use Rattle.shb_lines.specs.declared.event.Event.{Event}
-use Rattle.shb_nearest.specs.Groups.{AreGroups}
-use Rattle.shb_nearest.specs.Rivals.{AreMet, IsNextAccess}
-use Rattle.shb_nearest.specs.Sites.{AreMarked}
-use Rattle.shb_nearest.specs.declared.access.Spot.{Spot}
+use Rattle.shb_nearest.proofs.Words.{AreGroups, AreMarked, AreMet, Event, IsNextAccess, Spot}
 use Rattle.shb_nearest.proofs.rivals.rivals_among.Given as goal
 
 abbrev pub invariant-loop-at : goal.invariant-loop-at

@@ -1,5 +1,5 @@
 use Rattle.std.proofs.Common.{rules}
-use Rattle.std.proofs.lemmas.List.Sorted.{answers_always}
+use Rattle.shb_nearest.proofs.Words.{answers_always}
 use Rattle.shb_nearest.proofs.FinalLemmas.{key_of, sorted_order}
 use Rattle.shb_nearest.proofs.search.in_order.Goals as goal
 

@@ -1,5 +1,5 @@
 use Rattle.std.proofs.Common.{arith, refl}
-use Rattle.std.proofs.lemmas.Option.{slice_get_within}
+use Rattle.shb_nearest.proofs.Words.{slice_get_within}
 use Rattle.shb_nearest.proofs.Members.{read_at}
 use Rattle.shb_nearest.proofs.SiteLemmas.{came_again}
 use Rattle.shb_nearest.proofs.sites.come_again.Goals as goal

@@ -1,4 +1,4 @@
-use Rattle.std.proofs.lemmas.Bool.{eqb-true}
+use Rattle.shb_nearest.proofs.Words.{eqb-true}
 use Rattle.shb_nearest.proofs.Members.{read_at}
 use Rattle.std.proofs.Common.{refl}
 use Rattle.shb_nearest.proofs.sites.is_at.Goals as goal

@@ -1,6 +1,6 @@
 -- Variables without an access were put behind those that were there.
 use Rattle.std.proofs.Common.{◌+◌, ◌-◌, length}
-use Rattle.shb_nearest.specs.Searched.{AreMoreVariables}
+use Rattle.shb_nearest.proofs.Words.{AreMoreVariables}
 use Rattle.shb_nearest.proofs.tables.make_space.Given as goal
 
 abbrev pub invariant-loop-variables : goal.invariant-loop-variables

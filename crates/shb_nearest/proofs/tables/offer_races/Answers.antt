@@ -1,8 +1,6 @@
 use Rattle.std.proofs.Common.{◌+◌, ℕ, List, [], ◌∷◌, ◌++◌, ◌∙◌, ap, refl, subst, sym}
 use Rattle.std.specs.Prelude.{All}
-use Rattle.shb_nearest.specs.declared.access.FoundAccess.{FoundAccess}
-use Rattle.shb_nearest.specs.Places.{ArePlaces, IsKnown, PlaceEntry, offered_all}
-use Rattle.shb_nearest.specs.Sites.{HaveSites, place_at}
+use Rattle.shb_nearest.proofs.Words.{ArePlaces, FoundAccess, HaveSites, IsKnown, PlaceEntry, offered_all, place_at}
 use Rattle.shb_nearest.proofs.PlaceLemmas.{placed, placed_rivals, placed_stay, since_known}
 use Rattle.shb_nearest.proofs.SiteLemmas.{sites_longer}
 use Rattle.shb_nearest.proofs.tables.offer_races.Goals as goal

@@ -1,7 +1,6 @@
 use Rattle.std.proofs.Common.{List, [], ◌∷◌, ◌++◌, ◌≡◌, ◌∙◌, Some, ap, inr, length, refl, subst, sym}
 use Rattle.std.specs.Prelude.{slice_get}
-use Rattle.std.proofs.lemmas.Option.{slice_get_read, slice_get_within}
-use Rattle.shb_nearest.specs.declared.groups.KeptAccess.{KeptAccess}
+use Rattle.shb_nearest.proofs.Words.{KeptAccess, slice_get_read, slice_get_within}
 use Rattle.shb_nearest.proofs.GroupLemmas.{kept_without}
 use Rattle.shb_nearest.proofs.Members.{member_at}
 use Rattle.shb_nearest.proofs.groups.Group.replace.Goals as goal

@@ -1,6 +1,5 @@
 use Rattle.std.proofs.Common.{subst}
-use Rattle.shb_nearest.specs.Sites.{IsDone}
-use Rattle.shb_nearest.specs.declared.sites.Sites.{Sites}
+use Rattle.shb_nearest.proofs.Words.{IsDone, Sites}
 use Rattle.shb_nearest.proofs.groups.Groups.are_done.Goals as goal
 
 pub returns-in-Some-clause-writes : goal.returns-in-Some-clause-writes

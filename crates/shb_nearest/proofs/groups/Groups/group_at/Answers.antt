@@ -1,6 +1,6 @@
 use Rattle.std.proofs.Common.{◌≡◌, ◌∙◌, List, Some, subst}
 use Rattle.std.specs.Prelude.{slice_get}
-use Rattle.shb_nearest.specs.declared.groups.Group.{Group}
+use Rattle.shb_nearest.proofs.Words.{Group}
 use Rattle.shb_nearest.proofs.GroupLemmas.{group_found, group_made}
 use Rattle.shb_nearest.proofs.groups.Groups.group_at.Goals as goal
 

@@ -1,6 +1,5 @@
 use Rattle.std.proofs.Common.{subst}
-use Rattle.shb_nearest.specs.Sites.{IsPair}
-use Rattle.shb_nearest.specs.declared.sites.Sites.{Sites}
+use Rattle.shb_nearest.proofs.Words.{IsPair, Sites}
 use Rattle.shb_nearest.proofs.groups.Groups.is_settled.Goals as goal
 
 pub returns-in-Some : goal.returns-in-Some

@@ -1,6 +1,5 @@
 use Rattle.std.proofs.Common.{refl, subst, sym}
-use Rattle.shb_nearest.specs.Sites.{ArePaired, IsAfter}
-use Rattle.shb_nearest.specs.declared.sites.Sites.{Sites}
+use Rattle.shb_nearest.proofs.Words.{ArePaired, IsAfter, Sites}
 use Rattle.shb_nearest.proofs.SiteLemmas.{sites_changed}
 use Rattle.shb_nearest.proofs.groups.Groups.learn.Goals as goal
 

@@ -1,7 +1,5 @@
 use Rattle.std.proofs.Common.{List, refl, subst, sym}
-use Rattle.shb_nearest.specs.declared.groups.Group.{Group}
-use Rattle.shb_nearest.specs.Sites.{AreAllNoted, ArePaired, IsAfter}
-use Rattle.shb_nearest.specs.declared.sites.Sites.{Sites}
+use Rattle.shb_nearest.proofs.Words.{AreAllNoted, ArePaired, Group, IsAfter, Sites}
 use Rattle.shb_nearest.proofs.SiteLemmas.{paired_none, sites_changed, sites_made}
 use Rattle.shb_nearest.proofs.groups.Groups.note.Goals as goal
 

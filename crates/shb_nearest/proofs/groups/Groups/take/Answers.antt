@@ -1,10 +1,7 @@
 use Rattle.std.proofs.Common.{◌∙◌, List, ap, length, refl, subst, sym}
-use Rattle.std.proofs.lemmas.Option.{slice_get_read, slice_get_within}
-use Rattle.shb_nearest.specs.Groups.{HasGroupAt}
-use Rattle.shb_nearest.specs.declared.groups.Group.{Group}
+use Rattle.shb_nearest.proofs.Words.{Group, HasGroupAt, access_in, slice_get_read, slice_get_within}
 use Rattle.shb_nearest.proofs.GroupLemmas.{group_same, noted}
 use Rattle.shb_nearest.proofs.SiteLemmas.{sites_found, sites_kept}
-use Rattle.shb_nearest.specs.Late.{access_in}
 use Rattle.shb_nearest.proofs.TableLemmas.{classes_put, since_is, since_kept}
 use Rattle.shb_nearest.proofs.groups.Groups.take.Goals as goal
 

@@ -1,7 +1,5 @@
 use Rattle.std.proofs.Common.{List, subst, sym}
-use Rattle.shb_nearest.specs.Late.{AreLate, AreWaiting}
-use Rattle.shb_nearest.specs.declared.late.Late.{Late}
-use Rattle.shb_nearest.specs.declared.log.Entry.{Entry}
+use Rattle.shb_nearest.proofs.Words.{AreLate, AreWaiting, Entry, Late}
 use Rattle.shb_nearest.proofs.log.Log.gather.Goals as goal
 
 pub returns-clause-gathered : goal.returns-clause-gathered

@@ -1,15 +1,6 @@
 use Rattle.std.proofs.Common.{◌≡◌, ◌∷◌, ◌≤◌, ℕ, Global, List, Some, Vec, [], ap, arith, length, subst, sym, ◌∙◌}
-use Rattle.std.proofs.lemmas.List.{length-append}
-use Rattle.std.proofs.Math.ListN.{get_or}
+use Rattle.shb_nearest.proofs.Words.{AreLate, AreVariables, AreWaiting, Entry, IsChain, IsVariable, Late, Log, Variable, Waiting, get_or, length-append, slice_get-get_or}
 use Rattle.std.specs.Prelude.{slice_get}
-use Rattle.std.proofs.lemmas.Option.{slice_get-get_or}
-use Rattle.shb_nearest.specs.declared.log.Entry.{Entry}
-use Rattle.shb_nearest.specs.declared.log.Log.{Log}
-use Rattle.shb_nearest.specs.declared.tables.Variable.{Variable}
-use Rattle.shb_nearest.specs.declared.late.Late.{Late}
-use Rattle.shb_nearest.specs.declared.log.Accesses.TheVariants.{Waiting}
-use Rattle.shb_nearest.specs.Late.{AreLate, AreWaiting, IsChain}
-use Rattle.shb_nearest.specs.Searched.{AreVariables, IsVariable}
 use Rattle.shb_nearest.proofs.Chains.{AreMoved, grouped_own, one_moved, waiting_own}
 use Rattle.shb_nearest.proofs.log.Log.make_room.Goals as goal
 use Rattle.shb_nearest.proofs.log.Log.make_room.Goals.{else-len, in-Waiting+in_ok-gather+in_ok-place, in_default, then-len}

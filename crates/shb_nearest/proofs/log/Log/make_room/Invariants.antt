@@ -1,9 +1,6 @@
 -- The accesses of the variables before the index are in the new log.
 use Rattle.std.proofs.Common.{◌≡◌, ◌≤◌, ℕ, List, length}
-use Rattle.shb_lines.specs.declared.event.Event.{Event}
-use Rattle.shb_nearest.specs.Searched.{AreVariables}
-use Rattle.shb_nearest.specs.declared.access.Spot.{Spot}
-use Rattle.shb_nearest.specs.declared.groups.Groups.{Groups}
+use Rattle.shb_nearest.proofs.Words.{AreVariables, Event, Groups, Spot}
 use Rattle.shb_nearest.proofs.Chains.{AreMoved}
 use Rattle.shb_nearest.proofs.log.Log.make_room.Given as goal
 

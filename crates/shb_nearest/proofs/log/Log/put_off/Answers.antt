@@ -1,7 +1,5 @@
 use Rattle.std.proofs.Common.{◌≡◌, ◌∷◌, List, ap, refl, subst, sym, ◌∙◌}
-use Rattle.shb_nearest.specs.Late.{IsChain}
-use Rattle.shb_nearest.specs.declared.log.Entry.{Entry}
-use Rattle.shb_nearest.specs.declared.log.Log.{Log}
+use Rattle.shb_nearest.proofs.Words.{Entry, IsChain, Log}
 use Rattle.shb_nearest.proofs.Chains.{late_newer}
 use Rattle.shb_nearest.proofs.log.Log.put_off.Goals as goal
 use Rattle.shb_nearest.proofs.log.Log.put_off.Goals.{then-thread-late+else-again, else-thread-late}

@@ -1,13 +1,9 @@
 use Rattle.std.proofs.Common.{◌≡◌, ℕ, ◌∷◌, ◌++◌, [], List, Some, arith, length, subst, sym, ◌∙◌}
 use Rattle.std.specs.Prelude.{slice_get}
-use Rattle.shb_nearest.specs.Late.{AreAccesses, AreLate}
-use Rattle.shb_nearest.specs.declared.groups.Groups.{Groups}
-use Rattle.shb_nearest.specs.declared.late.Late.{Late}
-use Rattle.shb_nearest.specs.declared.log.Accesses.{Accesses}
+use Rattle.shb_nearest.proofs.Words.{Accesses, AreAccesses, AreLate, Groups, HaveAllSites, HaveSites, Late}
 use Rattle.shb_nearest.proofs.Members.{get_before, middle}
 use Rattle.shb_nearest.proofs.SiteLemmas.{no_sites, sites_more}
 use Rattle.shb_nearest.proofs.TableLemmas.{none_grouped}
-use Rattle.shb_nearest.specs.Sites.{HaveAllSites, HaveSites}
 use Rattle.shb_nearest.proofs.opened.Opened.open.Goals as goal
 
 pub returns-clause-groups : goal.returns-clause-groups

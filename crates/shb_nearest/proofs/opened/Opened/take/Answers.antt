@@ -1,11 +1,8 @@
 use Rattle.std.proofs.Common.{◌≡◌, ℕ, ◌+◌, arith, subst, sym, ◌∙◌}
-use Rattle.std.proofs.lemmas.Option.{slice_get_within}
-use Rattle.shb_nearest.specs.Groups.{AreGroups}
-use Rattle.shb_nearest.specs.declared.groups.Groups.{Groups}
+use Rattle.shb_nearest.proofs.Words.{AreGroups, Groups, HaveSites, slice_get_within}
 use Rattle.shb_nearest.proofs.GroupLemmas.{groups_next}
 use Rattle.shb_nearest.proofs.Members.{at_set, one_there}
 use Rattle.shb_nearest.proofs.SiteLemmas.{sites_written}
-use Rattle.shb_nearest.specs.Sites.{HaveSites}
 use Rattle.shb_nearest.proofs.TableLemmas.{classes_later, stay_groups}
 use Rattle.shb_nearest.proofs.opened.Opened.take.Goals as goal
 

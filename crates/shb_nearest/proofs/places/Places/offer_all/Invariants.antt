@@ -1,6 +1,6 @@
 -- The rivals so far were offered.
 use Rattle.std.proofs.Common.{◌≡◌, take}
-use Rattle.shb_nearest.specs.Places.{offered_all}
+use Rattle.shb_nearest.proofs.Words.{offered_all}
 use Rattle.shb_nearest.proofs.places.Places.offer_all.Given as goal
 
 abbrev pub invariant-loop-first : goal.invariant-loop-first

@@ -1,9 +1,6 @@
 use Rattle.std.proofs.Common.{List, [], ◌∷◌, ◌++◌, ◌∙◌, ◌≡◌, ap, arith, refl, subst, sym}
 use Rattle.std.specs.Prelude.{slice_set}
-use Rattle.std.proofs.lemmas.List.{set-get_or}
-use Rattle.std.proofs.lemmas.Option.{slice_get_read}
-use Rattle.shb_nearest.specs.Rivals.{HasAdded}
-use Rattle.shb_nearest.specs.declared.access.FoundAccess.{FoundAccess}
+use Rattle.shb_nearest.proofs.Words.{FoundAccess, HasAdded, set-get_or, slice_get_read}
 use Rattle.shb_nearest.specs.declared.rivals.Rivals.{Rivals}
 use Rattle.shb_nearest.proofs.AddedLemmas.{added_known, added_push, added_set}
 use Rattle.shb_nearest.proofs.rivals.Rivals.add.Goals as goal

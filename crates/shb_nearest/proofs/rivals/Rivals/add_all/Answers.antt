@@ -1,7 +1,5 @@
 use Rattle.std.proofs.Common.{false, arith, get_or}
-use Rattle.std.proofs.lemmas.Option.{slice_get-get_or}
-use Rattle.shb_nearest.specs.declared.groups.KeptAccess.{KeptAccess}
-use Rattle.shb_nearest.specs.Groups.{access_of}
+use Rattle.shb_nearest.proofs.Words.{KeptAccess, access_of, slice_get-get_or}
 use Rattle.shb_nearest.proofs.AddedLemmas.{added_kept, added_none}
 use Rattle.shb_nearest.proofs.rivals.Rivals.add_all.Goals as goal
 

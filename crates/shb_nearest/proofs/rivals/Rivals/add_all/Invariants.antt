@@ -1,7 +1,6 @@
 -- The kept accesses so far came to the rivals, but for those whose place is known.
 use Rattle.std.proofs.Common.{map, take}
-use Rattle.shb_nearest.specs.Groups.{access_of}
-use Rattle.shb_nearest.specs.Rivals.{HasAdded}
+use Rattle.shb_nearest.proofs.Words.{HasAdded, access_of}
 use Rattle.shb_nearest.proofs.rivals.Rivals.add_all.Given as goal
 
 abbrev pub invariant-loop-access : goal.invariant-loop-access

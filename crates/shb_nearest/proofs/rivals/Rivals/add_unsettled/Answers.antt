@@ -1,4 +1,4 @@
-use Rattle.shb_nearest.specs.Groups.{access_of}
+use Rattle.shb_nearest.proofs.Words.{access_of}
 use Rattle.shb_nearest.proofs.AddedLemmas.{added_settled}
 use Rattle.shb_nearest.proofs.rivals.Rivals.add_unsettled.Goals as goal
 

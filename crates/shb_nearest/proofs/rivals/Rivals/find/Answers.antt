@@ -1,6 +1,5 @@
 use Rattle.std.proofs.Common.{List, [], ◌∷◌, ◌++◌, subst, sym}
-use Rattle.shb_nearest.specs.Rivals.{AreRivals}
-use Rattle.shb_nearest.specs.declared.access.FoundAccess.{FoundAccess}
+use Rattle.shb_nearest.proofs.Words.{AreRivals, FoundAccess}
 use Rattle.shb_nearest.proofs.RivalLemmas.{met_all, no_rivals, rivals_are}
 use Rattle.shb_nearest.proofs.rivals.Rivals.find.Goals as goal
 

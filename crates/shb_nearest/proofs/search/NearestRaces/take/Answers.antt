@@ -1,7 +1,5 @@
 use Rattle.std.proofs.Common.{ℕ, ◌+◌, ◌≡◌, [], ◌∷◌, ◌++◌, ◌∙◌, arith, length, subst, sym}
-use Rattle.std.proofs.lemmas.List.{length_push}
-use Rattle.shb_nearest.specs.declared.access.FoundAccess.{FoundAccess}
-use Rattle.shb_nearest.specs.Searched.{AreTables, IsNextEvent}
+use Rattle.shb_nearest.proofs.Words.{AreTables, FoundAccess, IsNextEvent, length_push}
 use Rattle.shb_nearest.proofs.Carry.{tables_longer}
 use Rattle.shb_nearest.proofs.StepLemmas.{last_at}
 use Rattle.shb_nearest.proofs.search.NearestRaces.take.Goals as goal

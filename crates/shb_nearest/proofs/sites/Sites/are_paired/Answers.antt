@@ -1,8 +1,6 @@
-use Rattle.std.proofs.Common.{List, subst}
-use Rattle.shb_nearest.specs.Sites.{IsSite}
-use Rattle.shb_nearest.specs.declared.sites.Site.{Site}
+use Rattle.std.proofs.Common.{List, subst, sym, ◌∙◌}
+use Rattle.shb_nearest.proofs.Words.{IsSite, Site}
 use Rattle.shb_nearest.proofs.Members.{read_at}
-use Rattle.std.proofs.Common.{sym, ◌∙◌}
 use Rattle.shb_nearest.proofs.sites.Sites.are_paired.Goals as goal
 
 pub returns-then-own-second : goal.returns-then-own-second

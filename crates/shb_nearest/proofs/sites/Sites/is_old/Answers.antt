@@ -1,4 +1,4 @@
-use Rattle.std.proofs.lemmas.Bool.{ltb-true}
+use Rattle.shb_nearest.proofs.Words.{ltb-true}
 use Rattle.shb_nearest.proofs.Members.{read_at}
 use Rattle.shb_nearest.proofs.sites.Sites.is_old.Goals as goal
 

@@ -1,9 +1,5 @@
 use Rattle.std.proofs.Common.{false, arith, get_or}
-use Rattle.std.proofs.lemmas.List.Elements.{Contains-get_or}
-use Rattle.std.proofs.lemmas.List.Elements.{All-contains}
-use Rattle.shb_nearest.specs.declared.access.FoundAccess.{FoundAccess}
-use Rattle.shb_nearest.specs.Places.{IsKnown}
-use Rattle.shb_nearest.specs.Sites.{place_at}
+use Rattle.shb_nearest.proofs.Words.{All-contains, Contains-get_or, FoundAccess, IsKnown, place_at}
 use Rattle.shb_nearest.proofs.SiteLemmas.{after_same, after_then}
 use Rattle.shb_nearest.proofs.sites.Sites.learn.Goals as goal
 

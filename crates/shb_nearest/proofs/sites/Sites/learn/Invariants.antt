@@ -1,9 +1,7 @@
 -- What was noted still is, and where the places are known, those of paired sites are.
 use Rattle.std.proofs.Common.{ℕ, Bool, List}
 use Rattle.std.specs.Prelude.{All}
-use Rattle.shb_nearest.specs.declared.access.FoundAccess.{FoundAccess}
-use Rattle.shb_nearest.specs.Places.{IsKnown, PlaceEntry}
-use Rattle.shb_nearest.specs.Sites.{ArePaired, IsAfter, place_at}
+use Rattle.shb_nearest.proofs.Words.{ArePaired, FoundAccess, IsAfter, IsKnown, PlaceEntry, place_at}
 use Rattle.shb_nearest.proofs.sites.Sites.learn.Given as goal
 
 abbrev pub invariant-loop-first : goal.invariant-loop-first

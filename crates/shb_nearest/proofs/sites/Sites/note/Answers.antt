@@ -1,8 +1,5 @@
 use Rattle.std.proofs.Common.{List, ap, subst, sym}
-use Rattle.std.proofs.Math.ListN.{set}
-use Rattle.shb_numbers.specs.Numbers.{Numbers}
-use Rattle.shb_nearest.specs.Sites.{ArePaired, HasSets}
-use Rattle.shb_nearest.specs.declared.sites.Site.{Site}
+use Rattle.shb_nearest.proofs.Words.{ArePaired, HasSets, Numbers, Site, set}
 use Rattle.shb_nearest.proofs.SiteLemmas.{note_after, note_there, paired_site}
 use Rattle.shb_nearest.proofs.sites.Sites.note.Goals as goal
 

@@ -1,6 +1,5 @@
 use Rattle.std.proofs.Common.{arith, inl, inr, length, refl}
-use Rattle.std.proofs.lemmas.Bool.{cases_lt}
-use Rattle.std.proofs.lemmas.Option.{slice_get_read, slice_get_within}
+use Rattle.shb_nearest.proofs.Words.{cases_lt, slice_get_read, slice_get_within}
 use Rattle.shb_nearest.proofs.SiteLemmas.{noted_after, one_noted}
 use Rattle.shb_nearest.proofs.sites.Sites.note_all.Goals as goal
 

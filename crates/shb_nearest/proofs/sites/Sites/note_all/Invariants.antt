@@ -1,9 +1,7 @@
 -- What the groups so far keep is noted.
 use Rattle.std.proofs.Common.{◌≡◌, ◌<◌, ℕ, Bool, List, Some}
 use Rattle.std.specs.Prelude.{slice_get}
-use Rattle.shb_nearest.specs.declared.groups.Group.{Group}
-use Rattle.shb_nearest.specs.Places.{PlaceEntry}
-use Rattle.shb_nearest.specs.Sites.{AreNoted, ArePaired}
+use Rattle.shb_nearest.proofs.Words.{AreNoted, ArePaired, Group, PlaceEntry}
 use Rattle.shb_nearest.proofs.sites.Sites.note_all.Given as goal
 
 abbrev pub invariant-loop-at : goal.invariant-loop-at

@@ -1,9 +1,6 @@
 use Rattle.std.proofs.Common.{◌≡◌, false, List, Some, ap, arith, get_or, length, subst}
-use Rattle.std.proofs.lemmas.List.{take_all}
-use Rattle.std.proofs.lemmas.Option.{slice_get-get_or}
+use Rattle.shb_nearest.proofs.Words.{AreNoted, KeptAccess, slice_get-get_or, take_all}
 use Rattle.std.specs.Prelude.{slice_get}
-use Rattle.shb_nearest.specs.declared.groups.KeptAccess.{KeptAccess}
-use Rattle.shb_nearest.specs.Sites.{AreNoted}
 use Rattle.shb_nearest.proofs.SiteLemmas.{after_then, noted_after, noted_more}
 use Rattle.shb_nearest.proofs.sites.Sites.note_group.Goals as goal
 

@@ -1,7 +1,6 @@
 -- The kept accesses so far are noted.
 use Rattle.std.proofs.Common.{ℕ, Bool, List, take}
-use Rattle.shb_nearest.specs.Places.{PlaceEntry}
-use Rattle.shb_nearest.specs.Sites.{AreNoted, ArePaired, IsAfter}
+use Rattle.shb_nearest.proofs.Words.{AreNoted, ArePaired, IsAfter, PlaceEntry}
 use Rattle.shb_nearest.proofs.sites.Sites.note_group.Given as goal
 
 abbrev pub invariant-loop-access : goal.invariant-loop-access

@@ -1,6 +1,5 @@
 use Rattle.std.proofs.Common.{List, subst}
-use Rattle.shb_nearest.specs.Sites.{IsSite}
-use Rattle.shb_nearest.specs.declared.sites.Site.{Site}
+use Rattle.shb_nearest.proofs.Words.{IsSite, Site}
 use Rattle.shb_nearest.proofs.sites.Sites.number.Goals as goal
 
 pub returns-then-found : goal.returns-then-found

@@ -1,7 +1,5 @@
 use Rattle.std.proofs.Common.{List, refl, subst}
-use Rattle.std.proofs.lemmas.Option.{slice_get_within}
-use Rattle.shb_nearest.specs.Sites.{IsSite}
-use Rattle.shb_nearest.specs.declared.sites.Site.{Site}
+use Rattle.shb_nearest.proofs.Words.{IsSite, Site, slice_get_within}
 use Rattle.shb_nearest.proofs.Members.{read_at}
 use Rattle.shb_nearest.proofs.SiteLemmas.{pair_after, pair_known, pair_long, pair_stay}
 use Rattle.shb_nearest.proofs.sites.Sites.pair.Goals as goal

@@ -1,17 +1,5 @@
 use Rattle.std.proofs.Common.{◌≡◌, ◌+◌, ◌∷◌, ◌++◌, [], ℕ, List, ap, arith, length, refl, subst, sym, ◌≤◌, ◌∙◌}
-use Rattle.std.proofs.lemmas.Option.{slice_get_read, slice_get_within}
-use Rattle.shb_lines.specs.events.Order.{IsBelowPredCount}
-use Rattle.shb_stamps.specs.Screen.{IsAfterAll, IsScreened}
-use Rattle.shb_nearest.specs.Groups.{AreGroups, IsRun, IsSince}
-use Rattle.shb_nearest.specs.Late.{AreAccesses}
-use Rattle.shb_nearest.specs.Rivals.{IsNextAccess}
-use Rattle.shb_nearest.specs.declared.groups.Groups.{Groups}
-use Rattle.shb_nearest.specs.declared.log.Entry.{Entry}
-use Rattle.shb_nearest.specs.declared.log.Accesses.{Accesses}
-use Rattle.shb_nearest.specs.declared.log.Accesses.TheVariants.{Waiting}
-use Rattle.std.proofs.Math.ListN.{length-set, set}
-use Rattle.shb_nearest.specs.declared.groups.Group.{Group}
-use Rattle.shb_nearest.specs.Sites.{HaveSites}
+use Rattle.shb_nearest.proofs.Words.{Accesses, AreAccesses, AreGroups, Entry, Group, Groups, HaveSites, IsAfterAll, IsBelowPredCount, IsNextAccess, IsRun, IsScreened, IsSince, Waiting, length-set, set, slice_get_read, slice_get_within}
 use Rattle.shb_nearest.proofs.SiteLemmas.{sites_all, sites_written}
 use Rattle.shb_nearest.proofs.TableLemmas.{beside_waiting, classes_later, places_later, stay_groups, taken_next, time_next, variables_grouped, variables_put, variables_space}
 use Rattle.shb_nearest.proofs.Members.{at_set, one_there}
