@@ -1,37 +1,9 @@
 -- The races that are kept of some variables, sorted, are those of the race list.
 use Rattle.std.proofs.Common.{◌≡◌, ◌≢◌, ℕ, zero, suc, ◌+◌, ◌<◌, ◌≤◌, ◌⊎◌, inl, inr, Bool, true, false, List, [], ◌∷◌, ◌++◌, Option, None, Some, IfSome, length, map, get_or, not, refl, arith, ap, sym, subst, ◌∙◌, append-nil}
 use Rattle.std.specs.Prelude.{All, AllPairs, Contains, flat_map, nat_lt, ◌↔◌}
-use Rattle.std.specs.List.Sorted.{IsPermutation, IsSorted}
-use Rattle.std.specs.Ordering.{is_lt}
-use Rattle.std.proofs.lemmas.Bool.{cases_Bool, cases_lt, le-ltb, lt-ltb}
-use Rattle.std.proofs.lemmas.List.{append_assoc, get_or-map, get_or_append_left, get_or_push, length-map}
-use Rattle.std.proofs.lemmas.List.Concat.{flat_map-append}
-use Rattle.std.proofs.lemmas.List.Elements.{Contains-get_or}
-use Rattle.std.proofs.lemmas.List.Kept.{AllPairs-from_increasing}
-use Rattle.std.proofs.lemmas.List.Sorted.{All-permutation, Contains-permutation, IsPermutation-map, IsPermutation-sym, ranks_by, sorted_far}
-use Rattle.std.proofs.lemmas.Map.Keys.{IsDistinct-IsPermutation}
+use Rattle.shb_lists.proofs.Words.{All-permutation, AllPairs-from_increasing, AreNarrowed, AreOpen, Contains-get_or, Contains-permutation, Event, IsBatch, IsDistinct-IsPermutation, IsListOf, IsNumberedByAccess, IsPermutation, IsPermutation-map, IsPermutation-sym, IsRaceList, IsSorted, IsWithin, ListedRace, PairBefore, Race, Sizes, accesses_at, accesses_in, accesses_open, all_is_race_list, append_assoc, before_then, cases_Bool, cases_lt, event_at_access, flat_map-append, flat_map_contains, flat_map_ordered, flat_map_parts, get_or-map, get_or_append_left, get_or_push, is_lt, is_open, le-ltb, length-map, lt-ltb, numbers_listed, numbers_more_yes, pair_in, piece_rises, race_cmp, race_contained, race_not_less, race_parts, race_total, races_before, races_below, races_between, races_on, races_on_parts, races_with, ranks_by, same_in_order, slice_get_within, sorted_far, test_from_access, variable_at, variable_sized, variable_within, variables_in}
 use Rattle.std.proofs.lemmas.Map.Made.{AllPairs-from_IsDistinct, IsDistinct-from_AllPairs}
-use Rattle.std.proofs.lemmas.Option.{slice_get_within}
-use Rattle.shb_lines.specs.declared.event.Event.{Event}
-use Rattle.shb_lines.specs.events.Race.{IsRaceList, Race, variable_at}
 use Rattle.shb_lines.specs.events.Reach.{numbers_where}
-use Rattle.shb_lines.specs.declared.event.Sizes.{Sizes}
-use Rattle.shb_lines.specs.events.Sizes.{IsNumberedByAccess, IsWithin}
-use Rattle.shb_lines.proofs.events.Increasing.{same_in_order}
-use Rattle.shb_lines.proofs.events.Reach.{event_at_access, numbers_listed}
-use Rattle.shb_links.proofs.Owners.{variable_sized}
-use Rattle.shb_stamps.specs.Open.{accesses_open, is_open}
-use Rattle.shb_pairs.specs.Accesses.{accesses_at, accesses_in, variables_in}
-use Rattle.shb_pairs.specs.Open.{AreOpen}
-use Rattle.shb_pairs.specs.Races.{PairBefore, races_with}
-use Rattle.shb_pairs.proofs.Counting.{numbers_more_yes, test_from_access, variable_within}
-use Rattle.shb_pairs.proofs.FlatMaps.{flat_map_contains, flat_map_ordered, flat_map_parts}
-use Rattle.shb_pairs.proofs.Listing.{all_is_race_list, piece_rises, race_contained, race_parts, races_on_parts}
-use Rattle.shb_lists.specs.Batches.{AreNarrowed, IsBatch, races_below, races_between, races_on}
-use Rattle.shb_pairs.specs.Listed.{pair_in}
-use Rattle.shb_lists.specs.Listed.{IsListOf, races_before}
-use Rattle.shb_pairs.specs.declared.listed.ListedRace.{ListedRace}
-use Rattle.shb_pairs.proofs.KeyOrder.{before_then, race_cmp, race_not_less, race_total}
 use Rattle.shb_lists.proofs.ListedLemmas.{flips, kept_differ, open_access, open_variable, same_decides, same_race}
 use Rattle.shb_lists.proofs.RankLemmas.{numbers_alike}
 

@@ -1,26 +1,10 @@
 -- Races that are counted, one by one or by the number of their earlier location.
 use Rattle.std.proofs.Common.{◌≡◌, ℕ, zero, suc, ◌+◌, ◌<◌, ◌≤◌, Bool, true, false, cond, List, [], ◌∷◌, ◌++◌, Some, length, get_or, map, take, All, IfSome, Option, refl, sym, ap, subst, ◌∙◌, append_assoc, inl, inr, arith}
 use Rattle.std.specs.Prelude.{◌==◌, sum}
-use Rattle.std.proofs.lemmas.Bool.{cases_Bool, cases_eq, eq-eqb, ne_eqb}
-use Rattle.std.proofs.lemmas.List.{length-append, length-map, length-take-le, map-append, map_push, take_all, take_more}
-use Rattle.std.proofs.lemmas.List.Sums.{sum_by-cons}
-use Rattle.std.proofs.lemmas.Option.{get_or_from_slice_get, slice_get_within}
-use Rattle.shb_lines.specs.declared.event.Event.{Event}
-use Rattle.shb_lines.specs.declared.event.Pair.{Pair}
-use Rattle.shb_lines.specs.events.Race.{variable_at}
-use Rattle.shb_lines.specs.events.Reach.{is_race, numbers_where}
-use Rattle.shb_lines.proofs.events.Reach.{reflect_race}
-use Rattle.shb_lists.specs.Occurs.{with_key}
+use Rattle.shb_lists.proofs.Words.{Accessed, AreOwnOf, AreRacingCounts, Event, HasCounted, IsCounted, Key, Keyed, Pair, PlaceCount, RaceCounter, by_number, cases_Bool, cases_eq, counted_of, eq-eqb, get_or_from_slice_get, is_race, length-append, length-map, length-take-le, location_number, locations_of, map-append, map_push, ne_eqb, number_in, numbers_all, numbers_where, only, pair_of, reflect_race, slice_get_within, sum_by-cons, take_all, take_more, times, variable_at, with_key, with_more, with_places}
 use Rattle.shb_pairs.specs.Races.{races_with}
-use Rattle.shb_pairs.proofs.Counting.{numbers_all}
 use Rattle.shb_lists.proofs.KeyCounts.{sum_more, sum_whole}
-use Rattle.shb_format.specs.Keyed.{Key, Keyed, counted_of, same_key, with_more}
-use Rattle.shb_format.specs.Report.{pair_of}
-use Rattle.shb_format.specs.declared.places.PlaceCount.{PlaceCount}
-use Rattle.shb_lists.specs.Counted.{HasCounted, IsCounted, by_number, only, times, with_places}
-use Rattle.shb_lists.specs.OwnNumbers.{AreOwnOf}
-use Rattle.shb_lists.specs.RacingCounts.{Accessed, AreRacingCounts, location_number, locations_of, number_in}
-use Rattle.shb_lists.specs.declared.counter.RaceCounter.{RaceCounter}
+use Rattle.shb_format.specs.Keyed.{same_key}
 use Rattle.shb_lists.proofs.CountsByPlace.{at_key, grown_at, grown_same, grown_zero, key_of, more_grown}
 use Rattle.shb_lists.proofs.LeadingPlaces.{places_differ, places_empty}
 

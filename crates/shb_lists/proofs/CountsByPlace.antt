@@ -1,17 +1,7 @@
 -- Places that grow, and why that is what counts each pair in its turn.
-use Rattle.std.proofs.lemmas.Grind.{common_steps}
+use Rattle.shb_lists.proofs.Words.{AllByRecursion, Differ, Key, Keyed, Pair, PlaceCount, cases_Bool, common_steps, counted_of, counting, eqb_tells, grown, insert_entry, key_in, keyed_after, map-append, only, put_last, times, with_keyed, with_more, with_new, with_one_more, with_places}
 use Rattle.std.proofs.Common.{◌≡◌, ℕ, ◌+◌, ◌&&◌, ◌++◌, Bool, true, false, cond, nat_eq, List, [], ◌∷◌, Option, None, Some, IfSome, is_some, refl, sym, ap, subst, ◌∙◌, inl, inr, arith, true≢false}
-use Rattle.std.specs.List.{AllByRecursion}
-use Rattle.std.proofs.lemmas.Bool.{cases_Bool}
-use Rattle.std.proofs.lemmas.Bool.Decides.{eqb_tells}
-use Rattle.std.proofs.lemmas.List.{map-append}
-use Rattle.indexmap.specs.IndexMap.{insert_entry}
-use Rattle.shb_lines.specs.declared.event.Pair.{Pair}
-use Rattle.shb_format.specs.Keyed.{Key, Keyed, counted_of, counting, same_key, with_keyed, with_more, with_new}
-use Rattle.shb_format.specs.Places.{with_one_more}
-use Rattle.shb_format.specs.declared.places.PlaceCount.{PlaceCount}
-use Rattle.shb_format.proofs.KeyedLemmas.{put_last}
-use Rattle.shb_lists.specs.Counted.{Differ, grown, key_in, keyed_after, only, times, with_places}
+use Rattle.shb_format.specs.Keyed.{same_key}
 
 abbrev pub key_of : ℕ → ℕ → Key
 key_of first second = (first, second)

@@ -1,30 +1,8 @@
 -- The races that are found, in the order of the race list, are the leading races.
-use Rattle.std.proofs.lemmas.Grind.{common_steps}
+use Rattle.shb_lists.proofs.Words.{All-contains_itself, All-permutation, AreLeading, Contains-get_or, Contains-permutation, Covers, Decides-and, Decides-eqb, FoundRace, HasVariable, IsDistinct, IsDistinct-IsPermutation, IsDistinct-from_apart, IsInListOrder, IsNumberedByAccess, LeadingRaces, Leads, ListedRace, NotAfter, Pair, Race, TraceData, all_is_race_list, all_races, apart_from_distinct, before_not_after, before_or_same, cases_Bool, cases_order, common_steps, ends, get_or_from_slice_get, map_contains, map_parts, not_before, option_map, pairs_back, place_at, places_of_pairs, race_in, race_of, same_in_order, slice_get-get_or, slice_get-map, slice_get_within, variable_at}
 use Rattle.std.proofs.Common.{◌≡◌, ◌&&◌, ℕ, inl, inr, Bool, true, false, nat_eq, List, [], ◌∷◌, Option, Some, map, get_or, All, refl, sym, ap, subst, ◌∙◌, arith}
 use Rattle.std.specs.Prelude.{AllPairs, Contains, slice_get}
-use Rattle.std.specs.List.{IsDistinct}
-use Rattle.std.specs.Option.{option_map}
-use Rattle.std.proofs.lemmas.Bool.{cases_Bool, cases_order}
-use Rattle.std.proofs.lemmas.Bool.Decides.{Decides-and, Decides-eqb}
-use Rattle.std.proofs.lemmas.List.Elements.{All-contains_itself, Contains-get_or}
-use Rattle.std.proofs.lemmas.List.Sorted.{All-permutation, Contains-permutation}
-use Rattle.std.proofs.lemmas.Map.Keys.{IsDistinct-IsPermutation, IsDistinct-from_apart, apart_from_distinct}
-use Rattle.std.proofs.lemmas.Option.{get_or_from_slice_get, slice_get-get_or, slice_get-map, slice_get_within}
-use Rattle.shb_lines.specs.declared.event.Pair.{Pair}
-use Rattle.shb_lines.specs.events.Race.{Race, ends, variable_at}
-use Rattle.shb_lines.specs.events.Sizes.{IsNumberedByAccess}
-use Rattle.shb_lines.specs.text.TraceData.{TraceData}
-use Rattle.shb_lines.proofs.events.Increasing.{same_in_order}
-use Rattle.shb_format.specs.Places.{place_at, places_of_pairs}
-use Rattle.shb_lists.specs.Leading.{AreLeading, LeadingRaces, Leads}
-use Rattle.shb_format.proofs.Blocks.{pairs_back}
 use Rattle.shb_lists.proofs.LeadingLemmas.{firsts, firsts_lead, led_once}
-use Rattle.shb_pairs.proofs.FlatMaps.{map_contains, map_parts}
-use Rattle.shb_pairs.proofs.Listing.{all_is_race_list, all_races}
-use Rattle.shb_pairs.specs.declared.listed.ListedRace.{ListedRace}
-use Rattle.shb_pairs.specs.Listed.{NotAfter, race_in, race_of}
-use Rattle.shb_lists.specs.PlaceRaces.{Covers, FoundRace, HasVariable, IsInListOrder}
-use Rattle.shb_pairs.proofs.KeyOrder.{before_not_after, before_or_same, not_before}
 use Rattle.shb_lists.proofs.LeadMembers.{at_contained, contained_at, lead_of, leading_ordered}
 use Rattle.shb_lists.proofs.Lists.{contains_get, same_entry}
 use Rattle.shb_lists.proofs.RacesByNumber.{IsBefore, listed_pairs, listed_race, pair_listed, pairs_ordered}

@@ -1,28 +1,8 @@
 -- Sums over the races of all events: those of the accesses of each variable are those of the accesses of open variables.
 use Rattle.std.proofs.Common.{◌≡◌, ◌≢◌, ℕ, zero, suc, ◌+◌, ◌<◌, ◌++◌, inl, inr, Bool, true, false, List, [], ◌∷◌, Option, None, Some, length, map, refl, arith, ap, sym, subst, ◌∙◌}
 use Rattle.std.specs.Prelude.{cond, flat_map, Contains}
-use Rattle.std.proofs.lemmas.Bool.{cases_Bool, cases_lt}
-use Rattle.std.proofs.lemmas.List.{length-append, map-append}
-use Rattle.std.proofs.lemmas.List.Concat.{flat_map-append}
-use Rattle.shb_lines.specs.declared.event.Event.{Event}
-use Rattle.shb_lines.specs.declared.event.Pair.{Pair}
-use Rattle.shb_lines.specs.declared.event.Sizes.{Sizes}
-use Rattle.shb_lines.specs.events.Race.{variable_at}
+use Rattle.shb_lists.proofs.Words.{AreOpen, Event, HasCounted, IsWithin, Key, Pair, RaceCounter, Sizes, access_from_test, accesses_at, accesses_open, cases_Bool, cases_lt, flat_map-append, is_open, length-append, map-append, pair_of, race_parts, races_before, races_below, races_on, races_with, test_from_access, times, variable_at, variable_sized, with_places}
 use Rattle.shb_lines.specs.events.Reach.{numbers_where}
-use Rattle.shb_lines.specs.events.Sizes.{IsWithin}
-use Rattle.shb_links.proofs.Owners.{variable_sized}
-use Rattle.shb_format.specs.Keyed.{Key}
-use Rattle.shb_format.specs.Report.{pair_of}
-use Rattle.shb_stamps.specs.Open.{accesses_open, is_open}
-use Rattle.shb_pairs.specs.Accesses.{accesses_at}
-use Rattle.shb_pairs.specs.Open.{AreOpen}
-use Rattle.shb_pairs.specs.Races.{races_with}
-use Rattle.shb_pairs.proofs.Counting.{access_from_test, test_from_access}
-use Rattle.shb_pairs.proofs.Listing.{race_parts}
-use Rattle.shb_lists.specs.Batches.{races_below, races_on}
-use Rattle.shb_lists.specs.Counted.{HasCounted, times, with_places}
-use Rattle.shb_lists.specs.Listed.{races_before}
-use Rattle.shb_lists.specs.declared.counter.RaceCounter.{RaceCounter}
 use Rattle.shb_lists.proofs.CountLemmas.{counted_same, times_append}
 use Rattle.shb_lists.proofs.RaceTotals.{few_below}
 

@@ -1,11 +1,8 @@
 -- How many races an access has, and several accesses.
 use Rattle.std.proofs.Common.{ℕ, suc, ◌*◌, ◌<◌, ◌≤◌, List, [], ◌∷◌, length, arith}
 use Rattle.std.specs.Prelude.{All, flat_map}
-use Rattle.std.proofs.lemmas.List.{length-append, length-map}
-use Rattle.shb_lines.specs.declared.event.Event.{Event}
-use Rattle.shb_lines.specs.events.Reach.{is_race, numbers_where}
+use Rattle.shb_lists.proofs.Words.{Event, is_race, length-append, length-map, numbers_few, numbers_where}
 use Rattle.shb_pairs.specs.Races.{races_with}
-use Rattle.shb_pairs.proofs.Counting.{numbers_few}
 
 with_few : (trace : List Event) (j : ℕ) → length (races_with trace j) ≤ j
 unfolding races_with

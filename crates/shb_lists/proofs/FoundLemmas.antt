@@ -1,25 +1,8 @@
 -- What is found of all rivals, sorted, are the events that race with the access.
 use Rattle.std.proofs.Common.{◌≡◌, ℕ, zero, inl, inr, Bool, true, false, List, [], ◌∷◌, Some, refl, arith, ap, sym, ◌∙◌, IsPermutation}
 use Rattle.std.specs.Prelude.{cond, ◌==◌, sum_by}
-use Rattle.std.specs.List.Sorted.{IsNonDecreasing}
-use Rattle.std.proofs.lemmas.Bool.{cases_Bool, cases_eq, cases_lt, eq-eqb}
-use Rattle.std.proofs.lemmas.List.Kept.{AllPairs-from_increasing}
-use Rattle.std.proofs.lemmas.List.Sorted.{sum_by-IsPermutation}
-use Rattle.std.proofs.lemmas.List.Sums.{sum_by-cons}
-use Rattle.shb_lines.specs.declared.event.Event.{Event}
-use Rattle.shb_lines.specs.declared.event.Op.TheVariants.{Write}
-use Rattle.shb_lines.specs.events.Events.{thread_at}
-use Rattle.shb_lines.specs.events.Race.{Race, variable_at}
-use Rattle.shb_lines.specs.events.Reach.{is_race, numbers_where}
-use Rattle.shb_lines.proofs.events.Events.{thread_is}
-use Rattle.shb_lines.proofs.events.Reach.{any_below_is, event_at_access, numbers_listed, reflect_race}
-use Rattle.shb_lists.specs.Occurs.{occurs}
+use Rattle.shb_lists.proofs.Words.{Access, AllPairs-from_increasing, Event, HasRivals, IsAccess, IsNonDecreasing, Race, Rival, Write, any_below_is, cases_Bool, cases_eq, cases_lt, eq-eqb, event_at_access, is_met, is_race, key_no, numbers_listed, numbers_where, occurs, racing_by, reflect_race, sum_by-IsPermutation, sum_by-cons, thread_at, thread_is, variable_at}
 use Rattle.shb_lists.proofs.OccursLemmas.{occurs_filter, occurs_none, occurs_once, sorted_same}
-use Rattle.shb_pairs.proofs.Counting.{key_no}
-use Rattle.shb_lists.specs.History.{IsAccess, racing_by}
-use Rattle.shb_lists.specs.Rivals.{HasRivals, is_met}
-use Rattle.shb_lists.specs.declared.rivals.Rival.{Rival}
-use Rattle.shb_lists.specs.declared.search.Access.{Access}
 use Rattle.shb_lists.proofs.MetLemmas.{IsMet, met_other_thread, test_from_met, test_from_write}
 
 -- sums of equal terms

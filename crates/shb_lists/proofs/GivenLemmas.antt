@@ -1,23 +1,11 @@
 -- The races of a report, given a part at a time.
 use Rattle.std.proofs.Common.{◌≡◌, ◌∙◌, ◌+◌, ◌-◌, ◌*◌, ◌<◌, ◌≤◌, ◌++◌, ℕ, All, List, [], ap, append-nil, arith, get_or, length, map, refl, subst, sym}
-use Rattle.std.proofs.lemmas.List.{append_assoc, get_or-map, length-map}
-use Rattle.std.proofs.lemmas.List.Elements.{Contains-get_or}
+use Rattle.shb_lists.proofs.Words.{BatchPlan, Contains-get_or, Event, HasGiven, IsPairOf, IsPartly, IsRaceList, Pair, Race, TraceData, append_assoc, ends, event_at_access, get_or-map, length-map, races_below, races_between, races_until, slice_get_within}
 use Rattle.std.proofs.Math.Nat.{mul_comm}
 use Rattle.std.proofs.lemmas.Nat.{mul-add-lt}
-use Rattle.std.proofs.lemmas.Option.{slice_get_within}
-use Rattle.shb_lines.specs.declared.event.Event.{Event}
-use Rattle.shb_lines.specs.declared.event.Pair.{Pair}
-use Rattle.shb_lines.specs.events.Race.{IsRaceList, Race, ends}
-use Rattle.shb_lines.specs.text.TraceData.{TraceData}
-use Rattle.shb_lines.proofs.events.Reach.{event_at_access}
-use Rattle.shb_format.specs.Places.{IsPairOf}
-use Rattle.shb_lists.specs.Batches.{races_below, races_between}
-use Rattle.shb_lists.specs.Given.{HasGiven}
-use Rattle.shb_lists.specs.Parts.{IsPartly, races_until}
 use Rattle.shb_lists.specs.declared.list.Rest.{Rest}
 use Rattle.shb_lists.specs.declared.list.Rest.TheVariants.{Kept, From, Within, Ended}
 use Rattle.shb_lists.specs.declared.parts.RaceParts.{RaceParts}
-use Rattle.shb_lists.specs.declared.plan.BatchPlan.{BatchPlan}
 use Rattle.shb_lists.proofs.BatchLemmas.{below_between, below_next}
 use Rattle.shb_lists.proofs.PartLemmas.{until_front, until_none}
 

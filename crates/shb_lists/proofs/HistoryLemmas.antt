@@ -1,19 +1,8 @@
 -- What is known of the accesses of open variables, an event at a time.
 use Rattle.std.proofs.Common.{◌≡◌, ℕ, ◌+◌, ◌<◌, inl, inr, Bool, true, false, List, [], ◌∷◌, ◌++◌, Option, Some, length, arith, ap, sym, subst, ◌∙◌}
 use Rattle.std.specs.Prelude.{All}
-use Rattle.std.specs.Option.{option_map_or}
-use Rattle.std.proofs.Math.ListN.{set}
-use Rattle.std.proofs.lemmas.List.{length-append, length-set}
-use Rattle.std.proofs.lemmas.Option.{get_or_from_slice_get, slice_get_within}
-use Rattle.shb_discipline.proofs.Steps.{set_cases}
-use Rattle.shb_lines.specs.declared.event.Event.{Event}
-use Rattle.shb_lines.specs.events.Events.{thread_at}
-use Rattle.shb_lines.specs.events.Race.{variable_at}
-use Rattle.shb_stamps.specs.Open.{accesses_open, is_open}
-use Rattle.shb_lists.specs.History.{AreChained, IsHistory}
-use Rattle.shb_lists.specs.Rivals.{HasRivals, IsNewest}
+use Rattle.shb_lists.proofs.Words.{AreChained, Event, HasRivals, IsHistory, IsNewest, Newest, accesses_open, get_or_from_slice_get, is_open, length-append, length-set, option_map_or, set, set_cases, slice_get_within, thread_at, variable_at}
 use Rattle.shb_lists.specs.declared.history.AccessHistory.{AccessHistory}
-use Rattle.shb_lists.specs.declared.rivals.Newest.{Newest}
 use Rattle.shb_lists.specs.declared.rivals.Rivals.{Rivals}
 use Rattle.shb_lists.proofs.Lists.{get_cases}
 use Rattle.shb_lists.proofs.RivalLemmas.{rivals_none, rivals_other}

@@ -1,13 +1,7 @@
 -- The members of the leading races of a list, and their order.
 use Rattle.std.proofs.Common.{◌≡◌, ◌≢◌, ℕ, ◌<◌, List, Option, Some, None, get_or, refl, sym, ap, subst, ◌∙◌, arith}
 use Rattle.std.specs.Prelude.{AllPairs, Contains, slice_get}
-use Rattle.std.specs.Option.{option_map}
-use Rattle.std.proofs.lemmas.List.Kept.{AllPairs-from_increasing}
-use Rattle.std.proofs.lemmas.Option.{get_or_from_slice_get, slice_get-get_or, slice_get-map, slice_get_within}
-use Rattle.shb_lines.specs.declared.event.Pair.{Pair}
-use Rattle.shb_lines.specs.text.TraceData.{TraceData}
-use Rattle.shb_format.specs.Places.{place_at}
-use Rattle.shb_lists.specs.Leading.{AreLeading, Leads}
+use Rattle.shb_lists.proofs.Words.{AllPairs-from_increasing, AreLeading, Leads, Pair, TraceData, get_or_from_slice_get, option_map, place_at, slice_get-get_or, slice_get-map, slice_get_within}
 
 pub contained_at : (pairs : List Pair) (k : ℕ) (p : Pair) → slice_get pairs k ≡ Some p → Contains pairs p
 contained_at pairs k p there = (k, slice_get_within pairs k p there, get_or_from_slice_get pairs k p p there)

@@ -1,24 +1,7 @@
 -- A race, or the races of an event, come to those that are found.
 use Rattle.std.proofs.Common.{◌≡◌, inl, inr, ◌+◌, ◌<◌, ℕ, Bool, true, false, cond, List, [], ◌∷◌, All, length, map, get_or, Some, slice_get, refl, sym, ap, subst, ◌∙◌, arith}
 use Rattle.std.specs.Prelude.{Contains}
-use Rattle.std.proofs.lemmas.Bool.{cases_Bool, cases_lt}
-use Rattle.std.proofs.lemmas.List.Elements.{Contains-get_or}
-use Rattle.std.proofs.lemmas.Option.{get_or_from_slice_get}
-use Rattle.shb_lines.specs.declared.event.Event.{Event}
-use Rattle.shb_lines.specs.declared.event.Pair.{Pair}
-use Rattle.shb_lines.specs.events.Race.{Race, ends, variable_at}
-use Rattle.shb_lines.specs.events.Reach.{is_race, numbers_where}
-use Rattle.shb_lines.specs.text.TraceData.{TraceData}
-use Rattle.shb_lines.proofs.events.Increasing.{contains_cases, contains_none}
-use Rattle.shb_lines.proofs.events.Reach.{numbers_listed, reflect_race}
-use Rattle.shb_stamps.specs.Open.{accesses_open}
-use Rattle.shb_pairs.specs.Open.{AreOpen}
-use Rattle.shb_pairs.specs.Listed.{race_of}
-use Rattle.shb_pairs.specs.declared.listed.ListedRace.{ListedRace}
-use Rattle.shb_pairs.proofs.FlatMaps.{map_contains, map_parts}
-use Rattle.shb_lists.specs.Counted.{AreNumbered}
-use Rattle.shb_lists.specs.PlaceRaces.{AreFound, AreOffered, AreRaces, FoundRace, HasAsked, HasGained, HasOffered, HaveNearest, IsCovered, IsFound}
-use Rattle.shb_lists.specs.RacingCounts.{number_in}
+use Rattle.shb_lists.proofs.Words.{AreFound, AreNumbered, AreOffered, AreOpen, AreRaces, Contains-get_or, Event, FoundRace, HasAsked, HasGained, HasOffered, HaveNearest, IsCovered, IsFound, ListedRace, Pair, Race, TraceData, accesses_open, cases_Bool, cases_lt, contains_cases, contains_none, ends, get_or_from_slice_get, is_race, map_contains, map_parts, number_in, numbers_listed, numbers_where, race_of, reflect_race, variable_at}
 use Rattle.shb_lists.proofs.BatchLemmas.{accessed_within}
 use Rattle.shb_lists.proofs.ListedLemmas.{open_access}
 use Rattle.shb_lists.proofs.Lists.{contains_get, same_entry}

@@ -1,22 +1,9 @@
 -- The first pairs of the places of a list of pairs are its leading races.
 use Rattle.std.proofs.Common.{◌≡◌, ◌⊎◌, inl, inr, ℕ, suc, ◌+◌, ◌<◌, ◌&&◌, Bool, true, false, cond, List, [], ◌∷◌, ◌++◌, length, map, fold, Option, None, Some, refl, sym, ap, subst, ◌∙◌, append_assoc, append-nil, arith}
 use Rattle.std.specs.Prelude.{slice_get, Contains}
-use Rattle.std.specs.List.{AllByRecursion}
-use Rattle.std.specs.Bool.{Decides}
-use Rattle.std.specs.Str.{bytes_eq}
-use Rattle.std.proofs.lemmas.Bool.{cases_lt}
-use Rattle.std.proofs.lemmas.Bool.Decides.{Decides-and}
-use Rattle.std.proofs.lemmas.List.{length_push, map_push}
-use Rattle.std.proofs.lemmas.List.Kept.{AllPairs-from_increasing}
-use Rattle.std.proofs.lemmas.Option.{get_or_from_slice_get, slice_get-map, slice_get-get_or, slice_get_within}
-use Rattle.std.specs.Option.{option_map}
+use Rattle.shb_lists.proofs.Words.{AllByRecursion, AllPairs-from_increasing, AreLeading, Decides, Decides-and, Leads, Pair, PlaceOf, TraceData, bytes_eq, cases_lt, get_or_from_slice_get, increasing_equal, length_push, location_at, map_push, option_map, place_at, places_of_pairs, slice_get-get_or, slice_get-map, slice_get_within, with_one_more, with_pair}
 use Rattle.std.proofs.lemmas.Slice.Eq.{bytes_eq-Decides}
-use Rattle.shb_lines.specs.declared.event.Pair.{Pair}
-use Rattle.shb_lines.specs.text.TraceData.{TraceData}
 use Rattle.shb_lines.proofs.events.Listed.{IsListed, listed_more_no, listed_more_yes, listed_none}
-use Rattle.shb_lines.proofs.events.Increasing.{increasing_equal}
-use Rattle.shb_format.specs.Places.{PlaceOf, location_at, place_at, places_of_pairs, with_one_more, with_pair}
-use Rattle.shb_lists.specs.Leading.{AreLeading, Leads}
 use Rattle.shb_format.proofs.EachLemmas.{each-weaker, each_at}
 
 -- the first pairs of places

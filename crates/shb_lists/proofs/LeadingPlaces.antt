@@ -1,17 +1,8 @@
 -- The places of the leading races are those of all races.
 use Rattle.std.proofs.Common.{◌≡◌, ℕ, suc, ◌+◌, ◌≤◌, ◌++◌, Bool, true, false, cond, List, [], ◌∷◌, map, Option, None, Some, is_some, All, refl, sym, ap, subst, ◌∙◌, append_assoc, append-nil, arith}
-use Rattle.std.specs.List.{AllByRecursion, IsDistinct}
-use Rattle.std.specs.Str.{bytes_eq}
-use Rattle.std.proofs.lemmas.List.{map_push}
-use Rattle.shb_lines.specs.declared.event.Pair.{Pair}
-use Rattle.shb_lines.specs.text.TraceData.{TraceData}
-use Rattle.shb_format.specs.Keyed.{AreKeyed, Key, Keyed, counted_of, same_key, with_keyed, with_new}
-use Rattle.shb_lists.specs.Leading.{AreLeading}
-use Rattle.shb_format.specs.Places.{PlaceOf, counts_in, location_at, places_after, places_of_pairs, with_pair}
-use Rattle.shb_format.specs.declared.places.PlaceCount.{PlaceCount}
-use Rattle.shb_format.proofs.KeyedLemmas.{keyed_counts, keyed_pair}
+use Rattle.shb_lists.proofs.Words.{AllByRecursion, AreKeyed, AreLeading, Differ, IsDistinct, IsLocated, Key, Keyed, Pair, PlaceCount, PlaceOf, TraceData, bytes_eq, counted_of, counts_in, grown, key_in, keyed_after, keyed_counts, keyed_pair, location_at, map_push, places_after, places_of_pairs, times, with_keyed, with_new, with_pair, with_places}
+use Rattle.shb_format.specs.Keyed.{same_key}
 use Rattle.shb_lists.proofs.LeadingLemmas.{firsts, firsts_lead, leading_unique}
-use Rattle.shb_lists.specs.Counted.{Differ, IsLocated, grown, key_in, keyed_after, times, with_places}
 use Rattle.shb_lists.proofs.CountsByPlace.{counted_at_once, differ_last, entry, grown_same, not_some, one_key, same_self}
 
 -- a pair as the first one of its place

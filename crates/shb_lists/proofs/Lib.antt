@@ -33,3 +33,4 @@ pub mod LimitLemmas
 pub mod PlanLemmas
 pub mod PartLemmas
 pub mod GivenLemmas
+mod Words

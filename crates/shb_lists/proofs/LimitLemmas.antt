@@ -1,8 +1,7 @@
 -- Races that are kept if and only if they are no more than a limit.
 use Rattle.std.proofs.Common.{◌≡◌, ℕ, ◌≤◌, Bool, true, false, List, Option, Some, None, length, refl, arith, sym, subst, ◌∙◌}
 use Rattle.std.specs.Prelude.{IfSome, IsTrue, ◌↔◌}
-use Rattle.std.proofs.lemmas.Option.{IfSome_then}
-use Rattle.shb_lists.specs.Batches.{AreKept}
+use Rattle.shb_lists.proofs.Words.{AreKept, IfSome_then}
 
 pub when_true : {P : Type 0} (b : Bool) → IsTrue b ↔ P → b ≡ true → P
 when_true b h is = h.0 is

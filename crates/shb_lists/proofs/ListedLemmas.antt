@@ -1,26 +1,9 @@
 -- The races in the order in which a sweep finds them, sorted, are the race list.
 use Rattle.std.proofs.Common.{◌≡◌, ◌≢◌, ℕ, zero, suc, ◌+◌, ◌<◌, inl, inr, Bool, true, false, List, [], ◌∷◌, ◌++◌, Option, Some, None, map, get_or, refl, arith, ap, sym, subst, ◌∙◌, append-nil}
 use Rattle.std.specs.Prelude.{All, AllPairs, cond, flat_map, ◌==◌, ◌&&◌}
-use Rattle.std.specs.Bool.{Decides}
-use Rattle.std.specs.Option.{option_map_or}
-use Rattle.std.proofs.lemmas.Bool.{cases_Bool}
-use Rattle.std.proofs.lemmas.Bool.Decides.{Decides-and, Decides-eqb, Decides-like}
-use Rattle.std.proofs.lemmas.List.{get_or-map, length-map, map-append}
-use Rattle.std.proofs.lemmas.List.Concat.{flat_map-append}
-use Rattle.std.proofs.lemmas.List.Elements.{All-append}
-use Rattle.std.proofs.lemmas.List.Kept.{AllPairs-from_increasing}
-use Rattle.shb_lines.specs.declared.event.Event.{Event}
-use Rattle.shb_lines.specs.events.Race.{variable_at}
-use Rattle.shb_lines.specs.events.Reach.{is_race, numbers_where}
-use Rattle.shb_lines.proofs.events.Reach.{numbers_listed}
-use Rattle.shb_stamps.specs.Open.{accesses_open, is_open}
-use Rattle.shb_pairs.specs.Races.{PairBefore, races_with}
-use Rattle.shb_pairs.proofs.Counting.{numbers_more_no, numbers_more_yes}
-use Rattle.shb_pairs.proofs.Listing.{piece_rises}
-use Rattle.shb_pairs.specs.Listed.{pair_in, race_of}
-use Rattle.shb_lists.specs.Listed.{IsListOf, races_before}
-use Rattle.shb_pairs.specs.declared.listed.ListedRace.{ListedRace}
-use Rattle.shb_pairs.proofs.KeyOrder.{same_fields}
+use Rattle.shb_lists.proofs.Words.{All-append, AllPairs-from_increasing, Decides, Decides-and, Decides-eqb, Decides-like, Event, IsListOf, ListedRace, PairBefore, accesses_open, cases_Bool, flat_map-append, get_or-map, is_open, is_race, length-map, map-append, numbers_listed, numbers_more_no, numbers_more_yes, option_map_or, pair_in, piece_rises, race_of, races_before, same_fields, variable_at}
+use Rattle.shb_lines.specs.events.Reach.{numbers_where}
+use Rattle.shb_pairs.specs.Races.{races_with}
 
 -- ---- the races of one event more
 

@@ -1,18 +1,10 @@
 -- The accesses of a variable by one thread that a later access conflicts with.
-use Rattle.std.proofs.lemmas.Grind.{common_steps}
+use Rattle.shb_lists.proofs.Words.{Event, Write, access_from_test, accesses_at, and_parts, cases_Bool, common_steps, eq-eqb, eqb-true, op_at, test_from_access, thread_at, variable_at, variable_of}
 use Rattle.std.proofs.Common.{◌≡◌, ◌≢◌, ℕ, inl, inr, Bool, true, false, List, Option, Some, None, refl, arith, sym, ◌∙◌}
 use Rattle.std.specs.Prelude.{◌==◌, ◌&&◌}
-use Rattle.std.proofs.lemmas.Bool.{cases_Bool, eqb-true, eq-eqb}
-use Rattle.shb_lines.specs.declared.event.Event.{Event}
 use Rattle.shb_lines.specs.declared.event.Op.{Op}
-use Rattle.shb_lines.specs.declared.event.Op.TheVariants.{Write}
-use Rattle.shb_lines.specs.events.Events.{thread_at, op_at, variable_of}
-use Rattle.shb_lines.specs.events.Race.{variable_at}
 use Rattle.shb_lines.specs.events.Reach.{of_thread, writes_at}
 use Rattle.shb_lines.specs.events.Tests.{is_write, writes_variable}
-use Rattle.shb_lines.proofs.events.Events.{and_parts}
-use Rattle.shb_pairs.specs.Accesses.{accesses_at}
-use Rattle.shb_pairs.proofs.Counting.{access_from_test, test_from_access}
 use Rattle.shb_lists.specs.Rivals.{is_met}
 
 -- the thread by its test

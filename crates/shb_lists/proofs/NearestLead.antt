@@ -1,24 +1,7 @@
 -- From the nearest race of each place and variable to races that stand for all.
 use Rattle.std.proofs.Common.{◌≡◌, inl, inr, ◌+◌, ◌<◌, ◌≤◌, ℕ, Bool, true, false, List, length, map, option_map, get_or, Option, Some, slice_get, sym, ap, subst, ◌∙◌, arith}
-use Rattle.std.specs.List.{IsDistinct}
-use Rattle.std.specs.Map.{keys_of}
-use Rattle.std.specs.Str.{bytes_eq}
-use Rattle.std.proofs.lemmas.Bool.{cases_Bool, cases_lt, cases_order}
-use Rattle.std.proofs.lemmas.Map.Keys.{apart_from_distinct}
-use Rattle.std.proofs.lemmas.Option.{get_or_from_slice_get, slice_get-map, slice_get_within}
-use Rattle.shb_lines.specs.declared.event.Event.{Event}
-use Rattle.shb_lines.specs.declared.event.Pair.{Pair}
-use Rattle.shb_lines.specs.events.Race.{Race, ends, variable_at}
-use Rattle.shb_lines.specs.text.TraceData.{TraceData}
+use Rattle.shb_lists.proofs.Words.{AreNumbered, AreOpen, AreTold, Covers, Event, FoundRace, HasAsked, HasGained, HasOffered, HaveNearest, Improves, IsCovered, IsDistinct, IsFound, IsOffered, NotAfter, Pair, Race, TraceData, apart_from_distinct, bytes_eq, cases_Bool, cases_lt, cases_order, ends, get_or_from_slice_get, is_open, keys_of, location_at, map_contains, map_parts, number_in, place_at, race_of, same_key, slice_get-map, slice_get_within, variable_at}
 use Rattle.shb_lines.proofs.text.Numbers.{one_number}
-use Rattle.shb_format.specs.Places.{location_at, place_at}
-use Rattle.shb_stamps.specs.Open.{is_open}
-use Rattle.shb_pairs.specs.Open.{AreOpen}
-use Rattle.shb_pairs.proofs.FlatMaps.{map_contains, map_parts}
-use Rattle.shb_pairs.specs.Listed.{NotAfter, race_of}
-use Rattle.shb_lists.specs.PlaceRaces.{AreTold, Covers, FoundRace, HasAsked, HasGained, HasOffered, HaveNearest, Improves, IsCovered, IsFound, IsOffered, same_key}
-use Rattle.shb_lists.specs.RacingCounts.{number_in}
-use Rattle.shb_lists.specs.Counted.{AreNumbered}
 use Rattle.shb_lists.proofs.BatchLemmas.{accessed_within}
 use Rattle.shb_lists.proofs.ListedLemmas.{open_access}
 use Rattle.shb_lists.proofs.Lists.{contains_get, get_contains, same_entry}

@@ -1,8 +1,7 @@
 -- The newest number below n that passes a test, and all that pass.
 use Rattle.std.proofs.Common.{◌≡◌, ℕ, zero, suc, ◌+◌, ◌<◌, ◌≤◌, ◌⊎◌, inl, inr, Bool, true, false, [], ◌∷◌, ◌++◌, refl, arith, ap, sym, ◌∙◌, add-one}
 use Rattle.std.specs.Prelude.{cond}
-use Rattle.std.proofs.lemmas.Bool.{cases_Bool, cases_lt}
-use Rattle.std.proofs.lemmas.List.{append-nil}
+use Rattle.shb_lists.proofs.Words.{append-nil, cases_Bool, cases_lt}
 use Rattle.shb_lines.specs.events.Reach.{numbers_where}
 use Rattle.shb_lists.specs.Rivals.{newest_where}
 

@@ -1,15 +1,7 @@
 -- Numbers of locations, one event more.
-use Rattle.std.proofs.lemmas.Grind.{common_steps}
+use Rattle.shb_lists.proofs.Words.{AreNumbered, IsNumbered, TraceData, accesses_open, bytes_eq, cases_Bool, cases_lt, common_steps, get_or_append_left, get_or_push, length_push, location_at, number_stays}
 use Rattle.std.proofs.Common.{◌≡◌, ℕ, ◌+◌, ◌<◌, ◌≤◌, inl, inr, Bool, true, List, [], ◌∷◌, ◌++◌, Some, length, get_or, slice_get, arith, ap, subst, ◌∙◌}
-use Rattle.std.specs.Str.{bytes_eq}
-use Rattle.std.proofs.lemmas.Bool.{cases_Bool, cases_lt}
-use Rattle.std.proofs.lemmas.List.{get_or_append_left, get_or_push, length_push}
 use Rattle.indexmap.specs.IndexSet.{insert_key}
-use Rattle.shb_lines.specs.text.TraceData.{TraceData}
-use Rattle.shb_format.specs.Places.{location_at}
-use Rattle.shb_format.proofs.KeyedLemmas.{number_stays}
-use Rattle.shb_stamps.specs.Open.{accesses_open}
-use Rattle.shb_lists.specs.Counted.{AreNumbered, IsNumbered}
 
 pub one_more_location : (locations : List (List ℕ)) (text : List ℕ) → length (insert_key bytes_eq locations text) ≤ length locations + 1
 one_more_location locations text = grind (arith, common_steps, length_push)

@@ -1,23 +1,7 @@
 -- The numbers of names among those of their variable, one event more.
 use Rattle.std.proofs.Common.{◌≡◌, ◌≢◌, ℕ, ◌+◌, ◌<◌, ◌⊎◌, inl, inr, Bool, true, false, List, [], ◌∷◌, ◌++◌, Option, Some, length, get_or, slice_get, arith, ap, sym, subst, ◌∙◌}
-use Rattle.std.proofs.Math.ListN.{set}
-use Rattle.std.proofs.lemmas.Bool.{cases_lt}
-use Rattle.std.proofs.lemmas.List.{get_or_append_left, get_or_push, length-set, length_push}
-use Rattle.std.proofs.lemmas.Option.{get_or_from_slice_get, slice_get_cases, slice_get_within}
+use Rattle.shb_lists.proofs.Words.{AreNumbersOf, AreOwn, AreOwnBefore, AreThreads, Event, HasOwn, IsWithin, Names, Own, OwnNumbers, Sizes, accesses_open, cases_lt, get_or_append_left, get_or_from_slice_get, get_or_push, is_open, length-set, length_push, number_in, option_map_or, set, set_cases, slice_get_cases, slice_get_within, variable_at, variable_sized}
 use Rattle.std.specs.Prelude.{All}
-use Rattle.std.specs.Option.{option_map_or}
-use Rattle.shb_discipline.proofs.Steps.{set_cases}
-use Rattle.shb_lines.specs.declared.event.Event.{Event}
-use Rattle.shb_lines.specs.declared.event.Sizes.{Sizes}
-use Rattle.shb_lines.specs.events.Race.{variable_at}
-use Rattle.shb_lines.specs.events.Sizes.{IsWithin}
-use Rattle.shb_links.proofs.Owners.{variable_sized}
-use Rattle.shb_stamps.specs.Open.{accesses_open, is_open}
-use Rattle.shb_lists.specs.OwnNumbers.{AreNumbersOf, AreOwn, AreOwnBefore, AreThreads, HasOwn}
-use Rattle.shb_lists.specs.RacingCounts.{number_in}
-use Rattle.shb_lists.specs.declared.own_numbers.Names.{Names}
-use Rattle.shb_lists.specs.declared.own_numbers.Own.{Own}
-use Rattle.shb_lists.specs.declared.own_numbers.OwnNumbers.{OwnNumbers}
 use Rattle.shb_lists.proofs.ListedLemmas.{open_access}
 
 module _ (trace : List Event) (flags : List Bool) (variables n : ℕ) (names : List ℕ) (old new : OwnNumbers) (number : ℕ) (h : AreOwnBefore trace flags variables n names old) (pushed : new.numbers.items ≡ old.numbers.items ++ number ∷ []) where

@@ -1,29 +1,10 @@
 -- The races of one variable that a sweep finds, one event after the other, and all variables' races as the race list.
 use Rattle.std.proofs.Common.{◌≡◌, ◌≢◌, ◌⊎◌, ℕ, zero, suc, ◌+◌, ◌-◌, ◌<◌, ◌≤◌, inl, inr, Bool, true, false, List, [], ◌∷◌, ◌++◌, Option, Some, None, length, map, max, refl, arith, ap, sym, subst, ◌∙◌, append-nil}
 use Rattle.std.specs.Prelude.{All, cond, drop, flat_map}
-use Rattle.std.specs.Option.{option_map_or}
-use Rattle.std.proofs.lemmas.Bool.{cases_Bool, cases_eq, cases_lt}
-use Rattle.std.proofs.lemmas.List.{append_assoc, drop_all, map-append}
-use Rattle.std.proofs.lemmas.List.Concat.{flat_map-append}
-use Rattle.std.proofs.lemmas.List.Elements.{All-drop, All-map}
+use Rattle.shb_lists.proofs.Words.{All-drop, All-map, AreNarrowed, Event, IsNumberedByAccess, IsPart, IsRaceList, IsWithin, ListedRace, Sizes, access_from_test, accesses_at, accesses_open, all_is_race_list, append_assoc, cases_Bool, cases_eq, cases_lt, drop_all, flat_map-append, is_open, is_race, map-append, option_map_or, pair_in, race_list_unique, race_of, races_before, races_below, races_on, races_until, races_with, test_from_access, variable_at, variable_sized, variable_within, variables_in}
 use Rattle.std.proofs.Math.Seq.{drop-append-add}
-use Rattle.shb_lines.specs.declared.event.Event.{Event}
-use Rattle.shb_lines.specs.declared.event.Sizes.{Sizes}
-use Rattle.shb_lines.specs.events.Race.{IsRaceList, variable_at}
-use Rattle.shb_lines.specs.events.Reach.{is_race, numbers_where}
-use Rattle.shb_lines.specs.events.Sizes.{IsNumberedByAccess, IsWithin}
-use Rattle.shb_lines.proofs.events.RaceLists.{race_list_unique}
-use Rattle.shb_links.proofs.Owners.{variable_sized}
-use Rattle.shb_stamps.specs.Open.{accesses_open, is_open}
-use Rattle.shb_pairs.specs.Accesses.{accesses_at, variables_before, variables_in}
-use Rattle.shb_pairs.specs.Races.{races_with}
-use Rattle.shb_pairs.proofs.Counting.{access_from_test, test_from_access, variable_within}
-use Rattle.shb_pairs.proofs.Listing.{all_is_race_list}
-use Rattle.shb_lists.specs.Batches.{AreNarrowed, races_below, races_on}
-use Rattle.shb_pairs.specs.Listed.{pair_in, race_of}
-use Rattle.shb_lists.specs.Listed.{races_before}
-use Rattle.shb_lists.specs.Parts.{IsPart, races_until}
-use Rattle.shb_pairs.specs.declared.listed.ListedRace.{ListedRace}
+use Rattle.shb_lines.specs.events.Reach.{numbers_where}
+use Rattle.shb_pairs.specs.Accesses.{variables_before}
 use Rattle.shb_lists.proofs.BatchLemmas.{accessed_within, below_next}
 use Rattle.shb_lists.proofs.ListedLemmas.{open_access, open_variable, pairs_of_kept, quiet_numbers, races_more}
 use Rattle.shb_lists.proofs.RankLemmas.{numbers_alike}

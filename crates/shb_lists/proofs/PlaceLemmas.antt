@@ -1,24 +1,7 @@
 -- What is counted of the race list is what the report says of its places.
 use Rattle.std.proofs.Common.{◌≡◌, ℕ, ◌<◌, inl, inr, Bool, true, List, length, map, get_or, All, subst, ap, ◌∙◌, arith}
-use Rattle.std.specs.List.{IsDistinct}
-use Rattle.std.proofs.lemmas.Bool.{cases_Bool}
-use Rattle.std.specs.Str.{bytes_eq}
-use Rattle.std.proofs.lemmas.List.Elements.{All-map, Contains-get_or}
-use Rattle.shb_lines.specs.declared.event.Pair.{Pair}
-use Rattle.shb_lines.specs.events.Race.{IsRaceList, ends}
-use Rattle.shb_lines.specs.text.TraceData.{TraceData}
-use Rattle.shb_lines.proofs.events.RaceLists.{race_list_unique}
-use Rattle.shb_format.specs.Keyed.{Keyed}
-use Rattle.shb_format.specs.Places.{IsPairOf, counts_in, places_of_pairs}
-use Rattle.shb_format.specs.Report.{pair_of}
-use Rattle.shb_lists.specs.Leading.{AreLeading, LeadingRaces}
-use Rattle.shb_format.specs.declared.places.PlaceCount.{PlaceCount}
-use Rattle.shb_format.proofs.Blocks.{pairs_back}
+use Rattle.shb_lists.proofs.Words.{All-map, AreLeading, AreNumbered, AreOpen, Contains-get_or, HasCounted, IsDistinct, IsLocated, IsPairOf, IsRaceList, Keyed, LeadingRaces, Pair, PlaceCount, RaceCounter, TraceData, bytes_eq, cases_Bool, counts_in, ends, is_open, pair_of, pairs_back, places_of_pairs, race_list_unique}
 use Rattle.shb_lists.proofs.LeadingLemmas.{leading_listed}
-use Rattle.shb_stamps.specs.Open.{is_open}
-use Rattle.shb_pairs.specs.Open.{AreOpen}
-use Rattle.shb_lists.specs.Counted.{AreNumbered, HasCounted, IsLocated}
-use Rattle.shb_lists.specs.declared.counter.RaceCounter.{RaceCounter}
 use Rattle.shb_lists.proofs.BatchLemmas.{accessed_within}
 use Rattle.shb_lists.proofs.ListedLemmas.{open_access}
 use Rattle.shb_lists.proofs.LeadingPlaces.{leading_counts}

@@ -1,18 +1,8 @@
 -- The races that are found, one more at a time.
-use Rattle.std.proofs.lemmas.Grind.{common_steps}
+use Rattle.shb_lists.proofs.Words.{AreFound, Decides-and, Decides-eqb, FoundRace, Improves, IsCovered, IsFound, IsOffered, ListedRace, NotAfter, TraceData, common_steps, contains_cases, contains_head, contains_none, contains_tail, insert_entry, location_at, lookup, place_at, race_then, same_key}
 use Rattle.std.proofs.Common.{◌≡◌, ℕ, ◌⊎◌, inl, inr, Bool, true, false, cond, List, [], ◌∷◌, Some, arith, refl, subst, ap, sym, ◌∙◌}
 use Rattle.std.specs.Prelude.{Contains, slice_get}
-use Rattle.std.specs.Map.{lookup}
-use Rattle.std.proofs.lemmas.Bool.Decides.{Decides-and, Decides-eqb}
 use Rattle.std.proofs.lemmas.Map.Views.{Contains-from_lookup}
-use Rattle.indexmap.specs.IndexMap.{insert_entry}
-use Rattle.shb_lines.specs.text.TraceData.{TraceData}
-use Rattle.shb_lines.proofs.events.Increasing.{contains_cases, contains_head, contains_none, contains_tail}
-use Rattle.shb_format.specs.Places.{location_at, place_at}
-use Rattle.shb_pairs.specs.declared.listed.ListedRace.{ListedRace}
-use Rattle.shb_pairs.specs.Listed.{NotAfter}
-use Rattle.shb_lists.specs.PlaceRaces.{AreFound, FoundRace, Improves, IsCovered, IsFound, IsOffered, same_key}
-use Rattle.shb_pairs.proofs.KeyOrder.{race_then}
 
 pub key_self : (a : ListedRace) → NotAfter a a
 key_self a = inr (refl, inr (refl, (omega arith)))

@@ -1,23 +1,7 @@
 -- How many races each variable has, counted event by event; and which variables are kept together.
 use Rattle.std.proofs.Common.{◌≡◌, ℕ, suc, ◌+◌, ◌*◌, ◌<◌, ◌≤◌, inl, inr, Bool, true, false, List, [], ◌∷◌, ◌++◌, Some, length, max, refl, arith, ap, sym, subst, ◌∙◌, append-nil}
 use Rattle.std.specs.Prelude.{Contains, flat_map, replicate}
-use Rattle.std.proofs.lemmas.Bool.{cases_Bool, cases_eq, cases_lt}
-use Rattle.std.proofs.lemmas.List.{length-append, length-replicate}
-use Rattle.std.proofs.lemmas.List.Concat.{flat_map-append}
-use Rattle.shb_lines.specs.declared.event.Event.{Event}
-use Rattle.shb_lines.specs.events.Race.{variable_at}
-use Rattle.shb_lines.specs.events.Reach.{numbers_where}
-use Rattle.shb_stamps.specs.Open.{accesses_open, is_open}
-use Rattle.shb_stamps.proofs.Fronts.{zero_entry}
-use Rattle.shb_pairs.specs.Accesses.{accesses_at}
-use Rattle.shb_pairs.specs.Open.{AreOpen}
-use Rattle.shb_pairs.specs.Races.{races_with}
-use Rattle.shb_pairs.proofs.Counting.{access_from_test, numbers_all, numbers_few, numbers_more_no, numbers_more_yes, test_from_access}
-use Rattle.shb_pairs.proofs.Listing.{races_on_parts}
-use Rattle.shb_lists.specs.Batches.{races_between, races_on}
-use Rattle.shb_lists.specs.Parts.{races_until}
-use Rattle.shb_lists.specs.Planned.{HasAdded, HasPlanned, IsPlan, planned}
-use Rattle.shb_lists.specs.declared.plan.BatchPlan.{BatchPlan}
+use Rattle.shb_lists.proofs.Words.{AreOpen, BatchPlan, Event, HasAdded, HasPlanned, IsPlan, access_from_test, accesses_at, accesses_open, cases_Bool, cases_eq, cases_lt, flat_map-append, is_open, length-append, length-replicate, numbers_all, numbers_few, numbers_more_no, numbers_more_yes, numbers_where, planned, races_between, races_on, races_on_parts, races_until, races_with, test_from_access, variable_at, zero_entry}
 use Rattle.shb_lists.proofs.BatchLemmas.{between_next, nothing_between}
 use Rattle.shb_lists.proofs.FewRaces.{races_few}
 use Rattle.shb_lists.proofs.PartLemmas.{until_none}

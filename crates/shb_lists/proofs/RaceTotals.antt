@@ -1,20 +1,11 @@
 -- The races of all variables, one after the other: how many there are.
-use Rattle.std.proofs.lemmas.Grind.{common_steps}
+use Rattle.shb_lists.proofs.Words.{Event, accesses_in, accesses_open, cases_Bool, common_steps, eqb-true, flat_map-append, is_race, length-append, length-map, numbers_all, numbers_more_no, numbers_more_yes, races_before, races_below, races_on, variable_at}
 use Rattle.std.proofs.Common.{◌≡◌, ℕ, zero, suc, ◌+◌, ◌-◌, ◌*◌, ◌<◌, ◌≤◌, inl, inr, Bool, true, false, List, [], ◌∷◌, ◌++◌, Option, Some, None, length, refl, arith, ap, sym, ◌∙◌, append-nil}
 use Rattle.std.specs.Prelude.{cond, ◌==◌, flat_map}
-use Rattle.std.proofs.lemmas.Bool.{cases_Bool, eqb-true}
-use Rattle.std.proofs.lemmas.List.{length-append, length-map}
-use Rattle.std.proofs.lemmas.List.Concat.{flat_map-append}
-use Rattle.shb_lines.specs.declared.event.Event.{Event}
-use Rattle.shb_lines.specs.events.Race.{variable_at}
-use Rattle.shb_lines.specs.events.Reach.{is_race, numbers_where}
-use Rattle.shb_stamps.specs.Open.{accesses_open}
-use Rattle.shb_pairs.specs.Accesses.{accesses_at, accesses_in}
+use Rattle.shb_lines.specs.events.Reach.{numbers_where}
+use Rattle.shb_pairs.specs.Accesses.{accesses_at}
 use Rattle.shb_pairs.specs.Races.{races_with}
-use Rattle.shb_pairs.proofs.Counting.{numbers_more_no, numbers_more_yes, numbers_all}
 use Rattle.shb_lists.proofs.FewRaces.{races_few}
-use Rattle.shb_lists.specs.Batches.{races_below, races_on}
-use Rattle.shb_lists.specs.Listed.{races_before}
 use Rattle.shb_lists.proofs.BatchLemmas.{below_next}
 
 -- ---- 64 bits count them: each access is one of a single variable, and has fewer races than there are numbers of 32 bits

@@ -1,19 +1,9 @@
 -- The race list, by the numbers of variables in place of their first accesses.
-use Rattle.std.proofs.lemmas.Grind.{common_steps}
+use Rattle.shb_lists.proofs.Words.{AllPairs-from_increasing, Contains-get_or, Event, KeyBefore, Pair, Race, access_member, accesses_at, accesses_in, all_member, all_races, common_steps, flat_map_ordered, is_race, map_contains, map_ordered, map_parts, numbers_below, numbers_listed, numbers_where, pair_of, race_parts, races_on_parts, variable_at, variables_in}
 use Rattle.std.proofs.Common.{◌≡◌, ℕ, ◌<◌, ◌⊎◌, inl, inr, true, List, Some, length, map, get_or, refl, subst, arith}
 use Rattle.std.specs.Prelude.{AllPairs, Contains}
-use Rattle.std.proofs.lemmas.List.Elements.{Contains-get_or}
-use Rattle.std.proofs.lemmas.List.Kept.{AllPairs-from_increasing}
-use Rattle.shb_lines.specs.declared.event.Event.{Event}
-use Rattle.shb_lines.specs.declared.event.Pair.{Pair}
-use Rattle.shb_lines.specs.events.Race.{KeyBefore, Race, variable_at}
-use Rattle.shb_lines.specs.events.Reach.{is_race, numbers_where}
-use Rattle.shb_lines.proofs.events.Reach.{numbers_listed}
-use Rattle.shb_format.specs.Report.{pair_of}
-use Rattle.shb_pairs.specs.Accesses.{accesses_at, accesses_in, variables_in}
 use Rattle.shb_pairs.specs.Races.{races_with}
-use Rattle.shb_pairs.proofs.FlatMaps.{flat_map_ordered, map_contains, map_ordered, map_parts}
-use Rattle.shb_pairs.proofs.Listing.{access_member, all_member, all_races, numbers_below, race_parts, races_on, races_on_parts}
+use Rattle.shb_pairs.proofs.Listing.{races_on}
 
 -- p stands before q
 abbrev pub IsBefore : List Event → Pair → Pair → Type 0

@@ -1,37 +1,14 @@
 -- What a thread doesn't know of some accesses of a variable: one access more, one that is passed, and what is left at its next access.
 use Rattle.std.proofs.Common.{◌≡◌, ◌≢◌, ℕ, ◌+◌, ◌<◌, ◌≤◌, ◌⊎◌, inl, inr, Bool, true, false, List, [], ◌∷◌, ◌++◌, Some, length, map, get_or, slice_get, not, refl, arith, ap, sym, subst, ◌∙◌}
 use Rattle.std.specs.Prelude.{All, cond, max, option_map, ◌==◌, ◌&&◌, nat_lt, replicate}
-use Rattle.std.proofs.lemmas.Bool.{cases_Bool, cases_eq, cases_lt, eq-eqb, eqb-true, le-ltb, lt-ltb, ne_eqb}
-use Rattle.std.proofs.lemmas.Grind.{get_or_default_zero}
-use Rattle.std.proofs.lemmas.List.{get_or-set_other, length-map, length-replicate, length-set}
-use Rattle.shb_lines.specs.declared.event.Event.{Event}
-use Rattle.shb_lines.specs.declared.event.Op.TheVariants.{Write}
-use Rattle.shb_lines.specs.events.Discipline.{IsDisciplined, local_time}
-use Rattle.shb_lines.specs.events.Events.{thread_at}
-use Rattle.shb_lines.specs.events.Order.{BelowPred, IsBelowPredCount}
-use Rattle.shb_lines.specs.events.Race.{Race, variable_at}
-use Rattle.shb_lines.specs.events.Reach.{is_race, numbers_where, writes_at}
-use Rattle.shb_pairs.specs.Accesses.{accesses_at}
-use Rattle.shb_lines.proofs.events.Events.{and_parts, thread_is}
+use Rattle.shb_lists.proofs.Words.{Access, Accessed, AreMet, AreOwnOf, AreRacingCounts, BelowPred, Event, HasCounts, HasOneMore, IsAccess, IsBelowPredCount, IsDisciplined, IsLearned, IsRacingCounts, IsSide, IsSideOf, Race, RacingCounts, Side, Write, access_from_test, accesses_at, and_parts, cases_Bool, cases_eq, cases_lt, eq-eqb, eqb-true, event_at_access, get_or-set_other, get_or_default_zero, get_or_from_slice_get, is_race, le-ltb, length-map, length-replicate, length-set, local_time, location_number, locations_of, lt-ltb, met_before, ne_eqb, number_in, numbers_few, numbers_more_no, numbers_more_yes, reflect_race, set, set_cases, slice_get-get_or, slice_get-map, slice_get_past, slice_get_within, test_from_access, thread_at, thread_is, thread_number, threads_of, times_rise, variable_at, with_key, writes_at, zero_entry}
+use Rattle.shb_lines.specs.events.Reach.{numbers_where}
 use Rattle.shb_lines.proofs.events.Prefix.{below_from_local, local_from_below}
-use Rattle.shb_lines.proofs.events.Reach.{event_at_access, reflect_race}
 use Rattle.shb_lines.proofs.events.Schedulable.{thread_below_pred}
-use Rattle.shb_stamps.proofs.Fronts.{zero_entry}
 use Rattle.shb_stamps.proofs.Sources.{chain_below}
-use Rattle.shb_lists.specs.Occurs.{HasCounts, with_key}
-use Rattle.shb_pairs.proofs.Counting.{access_from_test, numbers_few, numbers_more_no, numbers_more_yes, test_from_access}
 use Rattle.shb_lists.proofs.KeyCounts.{filter_few}
-use Rattle.shb_pairs.proofs.Times.{times_rise}
-use Rattle.shb_lists.specs.History.{IsAccess}
-use Rattle.shb_lists.specs.OwnNumbers.{AreOwnOf}
-use Rattle.shb_lists.specs.RacingCounts.{Accessed, AreMet, AreRacingCounts, HasOneMore, IsLearned, IsSide, IsSideOf, IsRacingCounts, is_by, is_unknown, location_number, locations_of, met_before, number_in, thread_number, threads_of}
-use Rattle.shb_lists.specs.declared.search.Access.{Access}
+use Rattle.shb_lists.specs.RacingCounts.{is_by, is_unknown}
 use Rattle.shb_lists.specs.declared.racing_counts.Met.{Met}
-use Rattle.shb_lists.specs.declared.racing_counts.Side.{Side}
-use Rattle.shb_lists.specs.declared.racing_counts.RacingCounts.{RacingCounts}
-use Rattle.shb_discipline.proofs.Steps.{set_cases}
-use Rattle.std.proofs.Math.ListN.{set}
-use Rattle.std.proofs.lemmas.Option.{get_or_from_slice_get, slice_get-get_or, slice_get-map, slice_get_past, slice_get_within}
 use Rattle.shb_lists.proofs.Lists.{get_cases}
 use Rattle.shb_lists.proofs.MetLemmas.{IsMet, test_from_write, write_accesses, write_from_test}
 use Rattle.shb_lists.proofs.RacingLemmas.{met_conflicts}

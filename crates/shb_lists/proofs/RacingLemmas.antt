@@ -1,22 +1,8 @@
 -- The accesses of a thread that race with a later access, from the newest one back.
 use Rattle.std.proofs.Common.{◌≡◌, ◌≢◌, ℕ, suc, ◌+◌, ◌<◌, ◌≤◌, ◌⊎◌, inl, inr, Bool, true, false, List, [], ◌∷◌, ◌++◌, Some, get_or, ◌-◌, arith, ap, sym, ◌∙◌}
 use Rattle.std.specs.Prelude.{cond, filter, ◌↔◌}
-use Rattle.std.proofs.lemmas.Bool.{cases_Bool, cases_lt}
-use Rattle.std.proofs.lemmas.List.Elements.{filter-append}
-use Rattle.std.proofs.lemmas.Option.{slice_get-get_or}
-use Rattle.shb_lines.specs.declared.event.Event.{Event}
-use Rattle.shb_lines.specs.events.Discipline.{local_time}
-use Rattle.shb_lines.specs.events.Order.{IsBelowPredCount}
-use Rattle.shb_lines.specs.events.Race.{Conflict, Race}
-use Rattle.shb_lines.specs.events.Reach.{is_race, numbers_where}
-use Rattle.shb_lines.proofs.events.Reach.{reflect_race}
-use Rattle.shb_lists.specs.Occurs.{occurs}
+use Rattle.shb_lists.proofs.Words.{Access, AreChained, Conflict, Event, IsAccess, IsBelowPredCount, Newest, Race, cases_Bool, cases_lt, filter-append, is_met, is_race, local_time, newest_for, newest_where, numbers_where, occurs, racing_by, reflect_race, rival_races, slice_get-get_or, times_rise}
 use Rattle.shb_lists.proofs.OccursLemmas.{occurs_append, occurs_filter, occurs_none}
-use Rattle.shb_pairs.proofs.Times.{rival_races, times_rise}
-use Rattle.shb_lists.specs.History.{AreChained, IsAccess, racing_by}
-use Rattle.shb_lists.specs.Rivals.{is_met, newest_for, newest_where}
-use Rattle.shb_lists.specs.declared.rivals.Newest.{Newest}
-use Rattle.shb_lists.specs.declared.search.Access.{Access}
 use Rattle.shb_lists.proofs.MetLemmas.{IsMet, met_from_test, write_from_test}
 use Rattle.shb_lists.proofs.NewestLemmas.{newest_is, newest_none}
 

@@ -1,11 +1,8 @@
 -- How many numbers before k pass a test: the index of k among those that pass; and one number less that passes.
 use Rattle.std.proofs.Common.{◌≡◌, ◌≢◌, ℕ, zero, suc, ◌+◌, ◌<◌, ◌≤◌, ◌⊎◌, inl, inr, Bool, true, false, List, [], ◌∷◌, ◌++◌, length, get_or, refl, arith, ap, sym, ◌∙◌}
 use Rattle.std.specs.Prelude.{cond, ◌==◌}
-use Rattle.std.proofs.lemmas.Bool.{cases_Bool, cases_eq, cases_lt}
-use Rattle.std.proofs.lemmas.List.{append-nil, get_or_append_left, get_or_push, length-append, length_push}
-use Rattle.std.proofs.lemmas.List.Elements.{filter-append}
+use Rattle.shb_lists.proofs.Words.{append-nil, cases_Bool, cases_eq, cases_lt, filter-append, get_or_append_left, get_or_push, length-append, length_push, with_key}
 use Rattle.shb_lines.specs.events.Reach.{numbers_where}
-use Rattle.shb_lists.specs.Occurs.{with_key}
 
 module _ (f : ℕ → Bool) where
   -- how many before k pass

@@ -1,21 +1,10 @@
 -- The threads that accessed a variable, an event at a time.
 use Rattle.std.proofs.Common.{◌≡◌, ◌≢◌, ℕ, zero, suc, ◌+◌, ◌<◌, ◌≤◌, inl, inr, Bool, true, false, List, [], ◌∷◌, ◌++◌, Some, get_or, slice_get, refl, arith, ap, sym, subst, ◌∙◌, add-one}
 use Rattle.std.specs.Prelude.{cond, ◌==◌, count_by}
-use Rattle.std.proofs.Math.ListN.{set}
-use Rattle.std.proofs.lemmas.Bool.{cases_Bool, cases_eq, cases_lt, eq-eqb}
-use Rattle.std.proofs.lemmas.List.Sums.{sum_by-append, sum_by-cons, sum_by-set}
-use Rattle.std.proofs.lemmas.Option.{get_or_from_slice_get, slice_get_within}
-use Rattle.shb_discipline.proofs.Steps.{set_cases}
-use Rattle.shb_lines.specs.declared.event.Event.{Event}
-use Rattle.shb_lines.specs.events.Events.{thread_at}
-use Rattle.shb_lines.specs.events.Race.{variable_at}
-use Rattle.shb_lines.specs.events.Reach.{any_below, writes_at}
-use Rattle.shb_lines.proofs.events.Reach.{any_below_is}
-use Rattle.shb_pairs.proofs.Counting.{key_no}
+use Rattle.shb_lists.proofs.Words.{Event, HasRivals, IsNewest, Newest, Rival, any_below_is, cases_Bool, cases_eq, cases_lt, eq-eqb, get_or_from_slice_get, is_met, key_no, newest_for, set, set_cases, slice_get_within, sum_by-append, sum_by-cons, sum_by-set, thread_at, variable_at, writes_at}
+use Rattle.shb_lines.specs.events.Reach.{any_below}
 use Rattle.shb_lists.proofs.Lists.{get_cases}
-use Rattle.shb_lists.specs.Rivals.{HasRivals, IsNewest, is_met, newest_for, newest_where}
-use Rattle.shb_lists.specs.declared.rivals.Newest.{Newest}
-use Rattle.shb_lists.specs.declared.rivals.Rival.{Rival}
+use Rattle.shb_lists.specs.Rivals.{newest_where}
 use Rattle.shb_lists.proofs.NewestLemmas.{newest_no, newest_yes}
 use Rattle.shb_lists.proofs.MetLemmas.{met_from_test, met_other_thread, met_other_variable, met_own, test_from_met}
 

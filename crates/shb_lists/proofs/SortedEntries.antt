@@ -1,17 +1,7 @@
 -- Entries that were sorted have their races in the order of the race list.
 use Rattle.std.proofs.Common.{◌≡◌, ℕ, ◌<◌, false, List, Some, length, map, get_or, All, sym, ap, subst, ◌∙◌, arith}
 use Rattle.std.specs.Prelude.{AllPairs}
-use Rattle.std.specs.Ordering.{is_lt}
-use Rattle.std.specs.List.Sorted.{IsPermutation, IsSorted}
-use Rattle.std.proofs.lemmas.List.Sorted.{All-permutation, IsPermutation-map, ranks_by, sorted_far}
-use Rattle.shb_lines.specs.declared.event.Event.{Event}
-use Rattle.shb_lines.specs.declared.event.Pair.{Pair}
-use Rattle.shb_lines.specs.events.Race.{variable_at}
-use Rattle.shb_pairs.proofs.FlatMaps.{map_ordered}
-use Rattle.shb_pairs.specs.declared.listed.ListedRace.{ListedRace}
-use Rattle.shb_pairs.specs.Listed.{race_in}
-use Rattle.shb_lists.specs.PlaceRaces.{HasVariable, IsInListOrder, IsNotAfter}
-use Rattle.shb_pairs.proofs.KeyOrder.{race_cmp, race_not_less, race_renamed, race_total}
+use Rattle.shb_lists.proofs.Words.{All-permutation, Event, HasVariable, IsInListOrder, IsNotAfter, IsPermutation, IsPermutation-map, IsSorted, ListedRace, Pair, is_lt, map_ordered, race_cmp, race_in, race_not_less, race_renamed, race_total, ranks_by, sorted_far, variable_at}
 
 -- so two entries that the sort left in this order have races in this order
 module _ (trace : List Event) (entries : List ListedRace) (variables : All (HasVariable trace) entries) (up : IsSorted race_cmp entries) where

@@ -1,22 +1,6 @@
 -- What races with the accesses of each variable, by location.
 use Rattle.std.proofs.Common.{◌≡◌, ◌≢◌, ℕ, ◌+◌, ◌<◌, inl, inr, Bool, true, false, List, Option, None, Some, IfSome, arith, subst, sym, ◌∙◌}
-use Rattle.std.proofs.Math.ListN.{set}
-use Rattle.std.proofs.lemmas.Bool.{cases_Bool}
-use Rattle.std.proofs.lemmas.List.{length-set}
-use Rattle.shb_discipline.proofs.Steps.{set_cases}
-use Rattle.shb_lines.specs.declared.event.Event.{Event}
-use Rattle.shb_lines.specs.declared.event.Sizes.{Sizes}
-use Rattle.shb_lines.specs.events.Race.{variable_at}
-use Rattle.shb_stamps.specs.Open.{accesses_open, is_open}
-use Rattle.shb_pairs.proofs.Counting.{test_from_access}
-use Rattle.shb_lists.specs.Counted.{AreRacing, AreTables, side_of}
-use Rattle.shb_lists.specs.History.{IsAccess}
-use Rattle.shb_lists.specs.RacingCounts.{Accessed, IsRacingCounts, accessed_by, is_by, thread_number}
-use Rattle.shb_lists.specs.declared.own_numbers.Own.{Own}
-use Rattle.shb_lists.specs.declared.racing.Racing.{Racing}
-use Rattle.shb_lists.specs.declared.search.Access.{Access}
-use Rattle.shb_lists.specs.declared.tables.Table.{Table}
-use Rattle.shb_lists.specs.declared.racing_counts.RacingCounts.{RacingCounts}
+use Rattle.shb_lists.proofs.Words.{Access, Accessed, AreRacing, AreTables, Event, IsAccess, IsRacingCounts, Own, Racing, RacingCounts, Sizes, Table, accessed_by, accesses_open, cases_Bool, is_by, is_open, length-set, set, set_cases, side_of, test_from_access, thread_number, variable_at}
 use Rattle.shb_lists.proofs.HistoryLemmas.{shut_event}
 use Rattle.shb_lists.proofs.RacingCountsLemmas.{by_from, by_parts, by_variable, unknown_other_event}
 

@@ -1,5 +1,5 @@
 use Rattle.std.proofs.Common.{arith, ap, length}
-use Rattle.std.proofs.lemmas.List.{length_push}
+use Rattle.shb_lists.proofs.Words.{length_push}
 use Rattle.shb_lists.proofs.BatchLemmas.{narrowed_more}
 use Rattle.shb_lists.proofs.batches.narrowed.Goals as goal
 

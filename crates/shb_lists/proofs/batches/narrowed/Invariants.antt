@@ -1,5 +1,5 @@
 use Rattle.std.proofs.Common.{◌≡◌, length}
-use Rattle.shb_lists.specs.Batches.{AreNarrowed}
+use Rattle.shb_lists.proofs.Words.{AreNarrowed}
 use Rattle.shb_lists.proofs.batches.narrowed.Given as goal
 
 abbrev pub invariant-loop-x : goal.invariant-loop-x

@@ -1,6 +1,5 @@
 use Rattle.std.proofs.Common.{Bool, List, length, subst, sym}
-use Rattle.shb_lists.specs.Batches.{AreNarrowed}
-use Rattle.shb_lists.specs.Listed.{IsListOf, races_before}
+use Rattle.shb_lists.proofs.Words.{AreNarrowed, IsListOf, races_before}
 use Rattle.shb_lists.proofs.BatchLemmas.{narrow_batch, when_some}
 use Rattle.shb_lists.proofs.batches.races_within.Goals as goal
 

@@ -1,8 +1,6 @@
 -- An event at a time.
 use Rattle.std.proofs.Common.{◌≡◌, ℕ, List, arith, length, rules, subst, sym}
-use Rattle.shb_lists.specs.Counted.{HasCounted}
-use Rattle.shb_lists.specs.Listed.{races_before}
-use Rattle.shb_lists.specs.Planned.{HasPlanned}
+use Rattle.shb_lists.proofs.Words.{HasCounted, HasPlanned, races_before}
 use Rattle.shb_lists.proofs.EventSums.{few_before}
 use Rattle.shb_lists.proofs.PlanLemmas.{planned_all, planned_none}
 use Rattle.shb_lists.proofs.RaceTotals.{before_next, before_none, next_room}

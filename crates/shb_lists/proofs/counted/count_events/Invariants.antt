@@ -1,8 +1,6 @@
 -- The races of the events so far are counted.
 use Rattle.std.proofs.Common.{◌≡◌, [], List}
-use Rattle.shb_lines.specs.declared.event.Pair.{Pair}
-use Rattle.shb_lists.specs.Counted.{HasCounted, IsCounting}
-use Rattle.shb_lists.specs.Listed.{races_before}
+use Rattle.shb_lists.proofs.Words.{HasCounted, IsCounting, Pair, races_before}
 use Rattle.shb_lists.proofs.counted.count_events.Given as goal
 
 abbrev pub invariant-loop-e : goal.invariant-loop-e

@@ -1,11 +1,6 @@
 -- The race list is counted, and its places are those of the leading races.
 use Rattle.std.proofs.Common.{◌∙◌, ℕ, List, ap, length, map, subst, sym}
-use Rattle.shb_lines.specs.declared.event.Event.{Event}
-use Rattle.shb_lines.specs.declared.event.Pair.{Pair}
-use Rattle.shb_lines.specs.events.Race.{IsRaceList, ends}
-use Rattle.shb_lists.specs.Leading.{LeadingRaces}
-use Rattle.shb_pairs.specs.Open.{AreOpen}
-use Rattle.shb_lists.specs.Counted.{AreNumbered, HasCounted}
+use Rattle.shb_lists.proofs.Words.{AreNumbered, AreOpen, Event, HasCounted, IsRaceList, LeadingRaces, Pair, ends}
 use Rattle.shb_lists.proofs.EventSums.{counted_below}
 use Rattle.shb_lists.proofs.PlaceLemmas.{counted_places, leading_within}
 use Rattle.shb_lists.proofs.PartLemmas.{list_is_below}

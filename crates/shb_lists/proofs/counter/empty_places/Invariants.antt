@@ -1,6 +1,6 @@
 -- The places of the first pairs.
 use Rattle.std.proofs.Common.{◌≡◌, [], take}
-use Rattle.shb_lists.specs.Counted.{with_places}
+use Rattle.shb_lists.proofs.Words.{with_places}
 use Rattle.shb_lists.proofs.counter.empty_places.Given as goal
 
 abbrev pub invariant-loop-pair : goal.invariant-loop-pair

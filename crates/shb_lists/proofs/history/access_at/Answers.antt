@@ -1,5 +1,5 @@
 use Rattle.std.proofs.Common.{refl, sym, ◌∙◌}
-use Rattle.shb_links.proofs.Owners.{variable_known}
+use Rattle.shb_lists.proofs.Words.{variable_known}
 use Rattle.shb_lists.proofs.MetLemmas.{writes_known}
 use Rattle.shb_lists.proofs.history.access_at.Goals as goal
 

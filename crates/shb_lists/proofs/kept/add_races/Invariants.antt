@@ -1,5 +1,5 @@
 use Rattle.std.proofs.Common.{◌≡◌, ◌++◌, map, take}
-use Rattle.shb_pairs.specs.Listed.{race_of}
+use Rattle.shb_lists.proofs.Words.{race_of}
 use Rattle.shb_lists.proofs.kept.add_races.Given as goal
 
 abbrev pub invariant-loop-first : goal.invariant-loop-first

@@ -1,9 +1,5 @@
 use Rattle.std.proofs.Common.{◌≡◌, ◌+◌, ◌≤◌, ◌++◌, ℕ, IfSome, List, ap, arith, length, map, rules, subst, sym, ◌∙◌}
-use Rattle.std.proofs.lemmas.List.{length-append, length-map}
-use Rattle.shb_links.proofs.Owners.{variable_sized}
-use Rattle.shb_pairs.specs.Listed.{race_of}
-use Rattle.shb_lists.specs.Listed.{IsListOf, races_before}
-use Rattle.shb_pairs.specs.Listed.{pair_in}
+use Rattle.shb_lists.proofs.Words.{IsListOf, length-append, length-map, pair_in, race_of, races_before, variable_sized}
 use Rattle.shb_lists.proofs.LimitLemmas.{fits_same, kept_fits, left_over, nothing_fits, when_true}
 use Rattle.shb_lists.proofs.RaceTotals.{next_found, next_room}
 use Rattle.shb_lists.proofs.ListedLemmas.{list_more, list_none, list_shut}

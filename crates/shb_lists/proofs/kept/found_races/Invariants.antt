@@ -1,6 +1,5 @@
 use Rattle.std.proofs.Common.{◌≡◌, ◌≤◌, IfSome, length}
-use Rattle.shb_lists.specs.Listed.{IsListOf, races_before}
-use Rattle.shb_lists.specs.History.{IsHistory}
+use Rattle.shb_lists.proofs.Words.{IsHistory, IsListOf, races_before}
 use Rattle.shb_lists.proofs.kept.found_races.Given as goal
 
 abbrev pub invariant-loop-e : goal.invariant-loop-e

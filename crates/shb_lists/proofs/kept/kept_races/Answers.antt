@@ -1,6 +1,5 @@
-use Rattle.shb_pairs.specs.Accesses.{variables_in}
+use Rattle.shb_lists.proofs.Words.{IsListOf, races_before, variables_in}
 use Rattle.std.proofs.Common.{length}
-use Rattle.shb_lists.specs.Listed.{IsListOf, races_before}
 use Rattle.shb_lists.proofs.BatchLemmas.{when_some, whole_batch, whole_list}
 use Rattle.shb_lists.proofs.EventSums.{same_length}
 use Rattle.shb_lists.proofs.LimitLemmas.{still_kept, still_left}

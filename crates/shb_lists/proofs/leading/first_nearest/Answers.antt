@@ -1,6 +1,5 @@
 use Rattle.std.proofs.Common.{◌∙◌, ℕ, zero, suc, arith, ap, length, refl, slice_index_or, sym}
-use Rattle.std.proofs.lemmas.Option.{slice_get-get_or}
-use Rattle.shb_lines.specs.declared.event.Pair.{Pair}
+use Rattle.shb_lists.proofs.Words.{Pair, slice_get-get_or}
 use Rattle.shb_lists.proofs.LeadSteps.{offered_more, offered_one, pair_within}
 use Rattle.shb_lists.proofs.leading.first_nearest.Goals as goal
 

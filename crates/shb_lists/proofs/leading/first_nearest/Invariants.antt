@@ -1,5 +1,5 @@
 -- The races before this one were offered.
-use Rattle.shb_lists.specs.PlaceRaces.{HasOffered}
+use Rattle.shb_lists.proofs.Words.{HasOffered}
 use Rattle.shb_lists.proofs.leading.first_nearest.Given as goal
 
 abbrev pub invariant-loop-pair : goal.invariant-loop-pair

@@ -1,6 +1,6 @@
 -- The later events of the races before this one are told.
 use Rattle.std.proofs.Common.{◌≡◌, ◌<◌, ℕ, true, Some, length, slice_get}
-use Rattle.shb_pairs.specs.declared.listed.ListedRace.{ListedRace}
+use Rattle.shb_lists.proofs.Words.{ListedRace}
 use Rattle.shb_lists.proofs.leading.later_events.Given as goal
 
 abbrev pub invariant-loop-race : goal.invariant-loop-race

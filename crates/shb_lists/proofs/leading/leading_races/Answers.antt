@@ -1,8 +1,5 @@
 use Rattle.std.proofs.Common.{◌∙◌, Bool, List, ap, length, map, subst, sym}
-use Rattle.shb_lines.specs.declared.event.Event.{Event}
-use Rattle.shb_lines.specs.events.Sizes.{IsNumberedByAccess}
-use Rattle.shb_pairs.specs.declared.listed.ListedRace.{ListedRace}
-use Rattle.shb_lists.specs.PlaceRaces.{AreTold, FoundRace, HasAsked}
+use Rattle.shb_lists.proofs.Words.{AreTold, Event, FoundRace, HasAsked, IsNumberedByAccess, ListedRace}
 use Rattle.shb_lists.proofs.LeadSteps.{lead_within, nearest_races, race_within}
 use Rattle.shb_lists.proofs.NearestLead.{covers_all}
 use Rattle.shb_lists.proofs.leading.leading_races.Goals as goal

@@ -1,7 +1,6 @@
 -- The races of the events before this one, that are told, were offered.
 use Rattle.std.proofs.Common.{◌≡◌}
-use Rattle.shb_lists.specs.History.{IsHistory}
-use Rattle.shb_lists.specs.PlaceRaces.{HasAsked}
+use Rattle.shb_lists.proofs.Words.{HasAsked, IsHistory}
 use Rattle.shb_lists.proofs.leading.offer_all.Given as goal
 
 abbrev pub invariant-loop-e : goal.invariant-loop-e

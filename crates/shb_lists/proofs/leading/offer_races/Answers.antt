@@ -1,6 +1,5 @@
 use Rattle.std.proofs.Common.{◌≡◌, ℕ, List, Some, arith, length, slice_get, slice_index_or, subst}
-use Rattle.std.proofs.lemmas.Option.{slice_get-get_or}
-use Rattle.shb_lists.specs.PlaceRaces.{HasGained}
+use Rattle.shb_lists.proofs.Words.{HasGained, slice_get-get_or}
 use Rattle.shb_lists.proofs.Lists.{get_contains}
 use Rattle.shb_lists.proofs.NearestLead.{gained_more}
 use Rattle.shb_lists.proofs.leading.offer_races.Goals as goal

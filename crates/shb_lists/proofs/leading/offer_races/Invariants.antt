@@ -1,7 +1,6 @@
 -- The races before this one were offered.
 use Rattle.std.proofs.Common.{ℕ, List}
-use Rattle.shb_lines.specs.text.TraceData.{TraceData}
-use Rattle.shb_lists.specs.PlaceRaces.{AreFound, AreOffered, HasGained}
+use Rattle.shb_lists.proofs.Words.{AreFound, AreOffered, HasGained, TraceData}
 use Rattle.shb_lists.proofs.leading.offer_races.Given as goal
 
 abbrev pub invariant-loop-first : goal.invariant-loop-first

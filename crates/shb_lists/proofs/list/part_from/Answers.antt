@@ -1,9 +1,5 @@
 use Rattle.std.proofs.Common.{◌≡◌, ◌∙◌, ◌++◌, ℕ, Global, List, Vec, ap, arith, length, map, refl, subst, sym}
-use Rattle.std.proofs.lemmas.Result.{IfOk-weaker}
-use Rattle.shb_pairs.specs.Listed.{pair_in}
-use Rattle.shb_pairs.specs.declared.listed.ListedRace.{ListedRace}
-use Rattle.shb_lists.specs.Batches.{races_below, races_between}
-use Rattle.shb_lists.specs.Given.{HasGiven, parts_left}
+use Rattle.shb_lists.proofs.Words.{HasGiven, IfOk-weaker, ListedRace, pair_in, parts_left, races_below, races_between}
 use Rattle.shb_lists.specs.declared.list.Part.{Part}
 use Rattle.shb_lists.proofs.BatchLemmas.{below_between, when_some}
 use Rattle.shb_lists.proofs.GivenLemmas.{from_start, start_less}

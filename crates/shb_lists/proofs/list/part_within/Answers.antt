@@ -1,6 +1,5 @@
 use Rattle.std.proofs.Common.{arith, map, rules}
-use Rattle.shb_pairs.specs.Listed.{pair_in}
-use Rattle.shb_lists.specs.Parts.{races_until}
+use Rattle.shb_lists.proofs.Words.{pair_in, races_until}
 use Rattle.shb_lists.proofs.GivenLemmas.{given_past, given_within}
 use Rattle.shb_lists.proofs.list.part_within.Goals as goal
 

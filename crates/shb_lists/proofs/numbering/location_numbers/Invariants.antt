@@ -1,4 +1,4 @@
-use Rattle.shb_lists.specs.Counted.{AreNumbered}
+use Rattle.shb_lists.proofs.Words.{AreNumbered}
 use Rattle.shb_lists.proofs.numbering.location_numbers.Given as goal
 
 abbrev pub invariant-loop-e : goal.invariant-loop-e

@@ -1,6 +1,5 @@
 use Rattle.std.proofs.Common.{◌≡◌, arith, length}
-use Rattle.std.proofs.lemmas.Option.{slice_get_within}
-use Rattle.shb_lines.proofs.events.Events.{event_of_thread}
+use Rattle.shb_lists.proofs.Words.{event_of_thread, slice_get_within}
 use Rattle.shb_lists.proofs.own_numbers.thread_of_each.Goals as goal
 
 pub returns : goal.returns

@@ -1,5 +1,5 @@
 use Rattle.std.proofs.Common.{◌≡◌, ◌<◌, ℕ, Some, get_or, length}
-use Rattle.shb_lines.specs.events.Events.{thread_at}
+use Rattle.shb_lists.proofs.Words.{thread_at}
 use Rattle.shb_lists.proofs.own_numbers.thread_of_each.Given as goal
 
 abbrev pub invariant-loop-e : goal.invariant-loop-e

@@ -1,9 +1,5 @@
 use Rattle.std.proofs.Common.{[], ◌∙◌, ap, arith, length, map, refl, subst, sym}
-use Rattle.std.proofs.lemmas.Option.{slice_get_read, slice_get_within}
-use Rattle.shb_format.specs.Report.{pair_of}
-use Rattle.shb_lists.specs.Counted.{times, with_places}
-use Rattle.shb_lists.specs.RacingCounts.{AreRacingCounts, accessed_by}
-use Rattle.shb_lists.specs.declared.racing_counts.Side.{Side}
+use Rattle.shb_lists.proofs.Words.{AreRacingCounts, Side, accessed_by, pair_of, slice_get_read, slice_get_within, times, with_places}
 use Rattle.shb_lists.proofs.CountLemmas.{racing_counted, sum_racing}
 use Rattle.shb_lists.proofs.Lists.{same_entry}
 use Rattle.shb_lists.proofs.racing.count_learned.Goals as goal

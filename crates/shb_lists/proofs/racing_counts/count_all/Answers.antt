@@ -1,6 +1,5 @@
 use Rattle.std.proofs.Common.{length, arith, refl, ◌∙◌}
-use Rattle.std.proofs.lemmas.List.{length-set}
-use Rattle.std.proofs.lemmas.Option.{slice_get_read, slice_get_within}
+use Rattle.shb_lists.proofs.Words.{length-set, slice_get_read, slice_get_within}
 use Rattle.shb_lists.proofs.RacingCountsLemmas.{one_more_after, one_more_next}
 use Rattle.shb_lists.proofs.racing_counts.count_all.Goals as goal
 

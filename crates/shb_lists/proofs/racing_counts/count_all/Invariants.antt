@@ -1,6 +1,5 @@
 use Rattle.std.proofs.Common.{◌≡◌, ◌<◌, ◌≤◌, ℕ, Some, length, slice_get}
-use Rattle.shb_lists.specs.RacingCounts.{HasOneMore}
-use Rattle.shb_lists.specs.declared.racing_counts.Side.{Side}
+use Rattle.shb_lists.proofs.Words.{HasOneMore, Side}
 use Rattle.shb_lists.proofs.racing_counts.count_all.Given as goal
 
 abbrev pub invariant-loop-s : goal.invariant-loop-s

@@ -1,6 +1,5 @@
 use Rattle.std.proofs.Common.{ℕ, inl, inr, arith, subst, sym}
-use Rattle.std.proofs.lemmas.Bool.{cases_eq}
-use Rattle.shb_lists.specs.RacingCounts.{IsLearned, accessed_by}
+use Rattle.shb_lists.proofs.Words.{IsLearned, accessed_by, cases_eq}
 use Rattle.shb_lists.proofs.racing_counts.learn_all.Goals as goal
 
 pub loop-t-preserved : goal.loop-t-preserved

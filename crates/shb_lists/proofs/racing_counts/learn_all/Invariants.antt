@@ -1,5 +1,5 @@
 use Rattle.std.proofs.Common.{◌<◌, ℕ}
-use Rattle.shb_lists.specs.RacingCounts.{IsLearned, IsSide, accessed_by}
+use Rattle.shb_lists.proofs.Words.{IsLearned, IsSide, accessed_by}
 use Rattle.shb_lists.proofs.racing_counts.learn_all.Given as goal
 
 abbrev pub invariant-loop-t : goal.invariant-loop-t

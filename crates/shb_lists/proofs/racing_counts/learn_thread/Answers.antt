@@ -1,12 +1,5 @@
 use Rattle.std.proofs.Common.{◌≡◌, ◌≢◌, ◌+◌, ◌<◌, ℕ, true, List, Some, length, get_or, arith, ap, refl, subst, sym, ◌∙◌}
-use Rattle.std.proofs.lemmas.Grind.{get_or_default_zero}
-use Rattle.std.proofs.lemmas.Option.{slice_get_within}
-use Rattle.shb_lines.specs.declared.event.Event.{Event}
-use Rattle.shb_lines.specs.events.Discipline.{local_time}
-use Rattle.shb_lines.specs.events.Events.{thread_at}
-use Rattle.shb_pairs.proofs.Counting.{numbers_few}
-use Rattle.shb_pairs.proofs.Times.{count_seen}
-use Rattle.shb_lists.specs.RacingCounts.{accessed_by, is_by, location_number, locations_of}
+use Rattle.shb_lists.proofs.Words.{Event, accessed_by, count_seen, get_or_default_zero, is_by, local_time, location_number, locations_of, numbers_few, slice_get_within, thread_at}
 use Rattle.shb_lists.proofs.RacingCountsLemmas.{by_thread, by_variable, met_at, passed_counted, side_passed, stopped_at_end, stopped_there}
 use Rattle.shb_lists.proofs.racing_counts.learn_thread.Goals as goal
 

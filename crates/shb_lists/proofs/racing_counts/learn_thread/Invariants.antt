@@ -1,5 +1,5 @@
 use Rattle.std.proofs.Common.{◌≡◌, ◌≢◌, ◌-◌, ℕ, length, get_or}
-use Rattle.shb_lists.specs.RacingCounts.{IsSide, accessed_by}
+use Rattle.shb_lists.proofs.Words.{IsSide, accessed_by}
 use Rattle.shb_lists.proofs.racing_counts.learn_thread.Given as goal
 
 abbrev pub invariant-loop-known : goal.invariant-loop-known

@@ -1,12 +1,7 @@
 use Rattle.std.proofs.Common.{◌≡◌, ◌-◌, ℕ, List, Some, ap, arith, length, refl, subst, ◌∙◌}
-use Rattle.shb_lines.specs.declared.event.Event.{Event}
-use Rattle.shb_lines.specs.events.Discipline.{local_time}
-use Rattle.shb_lines.specs.events.Events.{thread_at}
-use Rattle.shb_pairs.proofs.Times.{count_seen}
+use Rattle.shb_lists.proofs.Words.{Event, Newest, count_seen, is_met, local_time, thread_at}
 use Rattle.shb_lists.proofs.NewestLemmas.{newest_low}
 use Rattle.shb_lists.proofs.RacingLemmas.{IsWalked, chain_next, next_is, own_races_none, walk_ends, walk_goes, walk_next, walk_stops}
-use Rattle.shb_lists.specs.Rivals.{is_met}
-use Rattle.shb_lists.specs.declared.rivals.Newest.{Newest}
 use Rattle.shb_lists.proofs.search.add_racing.Goals as goal
 
 abbrev nothing : Newest

@@ -1,5 +1,5 @@
 use Rattle.std.proofs.Common.{ℕ}
-use Rattle.std.proofs.lemmas.List.Sorted.{IsNonDecreasingBy-from_sort}
+use Rattle.shb_lists.proofs.Words.{IsNonDecreasingBy-from_sort}
 use Rattle.shb_lists.proofs.FoundLemmas.{found_all}
 use Rattle.shb_lists.proofs.search.find_races.Goals as goal
 

@@ -1,11 +1,6 @@
 use Rattle.std.proofs.Common.{◌+◌, ℕ, List, ap, get_or, sym, ◌∙◌}
 use Rattle.std.specs.Prelude.{sum_by}
-use Rattle.std.proofs.lemmas.List.{take_all}
-use Rattle.std.proofs.lemmas.List.Sums.{sum_by_more}
-use Rattle.std.proofs.lemmas.Option.{slice_get-get_or}
-use Rattle.shb_lists.specs.Occurs.{occurs}
-use Rattle.shb_lists.specs.History.{racing_by}
-use Rattle.shb_lists.specs.declared.rivals.Rival.{Rival}
+use Rattle.shb_lists.proofs.Words.{Rival, occurs, racing_by, slice_get-get_or, sum_by_more, take_all}
 use Rattle.shb_lists.proofs.search.find_unsorted.Goals as goal
 
 abbrev nobody : Rival

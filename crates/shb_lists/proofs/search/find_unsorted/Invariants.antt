@@ -1,7 +1,6 @@
 use Rattle.std.proofs.Common.{◌≡◌, ℕ, take}
 use Rattle.std.specs.Prelude.{sum_by}
-use Rattle.shb_lists.specs.Occurs.{occurs}
-use Rattle.shb_lists.specs.History.{racing_by}
+use Rattle.shb_lists.proofs.Words.{occurs, racing_by}
 use Rattle.shb_lists.proofs.search.find_unsorted.Given as goal
 
 -- what is found are the races of the rivals so far

@@ -1,9 +1,5 @@
 use Rattle.std.proofs.Common.{◌+◌, IfSome, Option, arith, length, refl, subst, sym}
-use Rattle.std.proofs.lemmas.Option.{slice_get_read}
-use Rattle.std.proofs.lemmas.Result.{on_ok_weaker}
-use Rattle.shb_links.proofs.Owners.{variable_sized}
-use Rattle.shb_lists.specs.Counted.{AreRacing}
-use Rattle.shb_lists.specs.declared.racing.Racing.{Racing}
+use Rattle.shb_lists.proofs.Words.{AreRacing, Racing, on_ok_weaker, slice_get_read, variable_sized}
 use Rattle.shb_lists.proofs.BatchLemmas.{when_some}
 use Rattle.shb_lists.proofs.TableLemmas.{other_racing, tables_set}
 use Rattle.shb_lists.proofs.tables.note_tabled.Goals as goal

@@ -1,7 +1,5 @@
 use Rattle.std.proofs.Common.{◌≡◌, ℕ, List, IfSome, Some, length, slice_get}
-use Rattle.shb_lines.specs.declared.event.Event.{Event}
-use Rattle.shb_lists.specs.Counted.{AreRacing}
-use Rattle.shb_lists.specs.declared.tables.Table.{Table}
+use Rattle.shb_lists.proofs.Words.{AreRacing, Event, Table}
 use Rattle.shb_lists.proofs.tables.tables_of.Given as goal
 
 abbrev pub invariant-loop-x : goal.invariant-loop-x

@@ -1,8 +1,7 @@
 -- Each number in its turn.
 use Rattle.std.proofs.Common.{◌≡◌, ◌+◌, ◌^◌, ℕ, List, arith, get_or, length, subst, take, ap, sym}
 use Rattle.std.specs.Prelude.{sum}
-use Rattle.std.proofs.lemmas.List.{take_all}
-use Rattle.shb_lists.specs.Counted.{IsCounted, by_number}
+use Rattle.shb_lists.proofs.Words.{IsCounted, by_number, take_all}
 use Rattle.shb_lists.proofs.CountLemmas.{counted_same, number_counted, number_room, number_skipped}
 use Rattle.shb_lists.proofs.counter.RaceCounter.count_numbered.Goals.{then-more-gt0, else-more-gt0}
 use Rattle.shb_lists.proofs.counter.RaceCounter.count_numbered.Goals as goal

@@ -1,8 +1,7 @@
 -- The numbers so far are counted.
 use Rattle.std.proofs.Common.{◌+◌, ℕ, List, take}
 use Rattle.std.specs.Prelude.{sum}
-use Rattle.shb_format.specs.Keyed.{Key, Keyed}
-use Rattle.shb_lists.specs.Counted.{IsCounted, by_number}
+use Rattle.shb_lists.proofs.Words.{IsCounted, Key, Keyed, by_number}
 use Rattle.shb_lists.proofs.counter.RaceCounter.count_numbered.Given as goal
 
 abbrev pub invariant-loop-r : goal.invariant-loop-r

@@ -1,7 +1,6 @@
 -- Each race in its turn.
 use Rattle.std.proofs.Common.{[], ◌++◌, ◌^◌, ℕ, List, arith, length, map, take}
-use Rattle.shb_format.specs.Report.{pair_of}
-use Rattle.shb_lists.specs.Counted.{times, with_places}
+use Rattle.shb_lists.proofs.Words.{pair_of, times, with_places}
 use Rattle.shb_lists.proofs.CountLemmas.{all_races, race_after, race_room}
 use Rattle.shb_lists.proofs.counter.RaceCounter.count_racing.Goals as goal
 

@@ -1,7 +1,6 @@
 -- The races so far are counted.
 use Rattle.std.proofs.Common.{◌++◌, ℕ, List, map, take}
-use Rattle.shb_lines.specs.declared.event.Pair.{Pair}
-use Rattle.shb_lists.specs.Counted.{HasCounted}
+use Rattle.shb_lists.proofs.Words.{HasCounted, Pair}
 use Rattle.shb_lists.proofs.counter.RaceCounter.count_racing.Given as goal
 
 abbrev pub invariant-loop-first : goal.invariant-loop-first

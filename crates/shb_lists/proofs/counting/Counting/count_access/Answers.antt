@@ -1,6 +1,5 @@
 use Rattle.std.proofs.Common.{arith}
-use Rattle.shb_links.proofs.Owners.{variable_sized}
-use Rattle.shb_pairs.specs.Races.{races_with}
+use Rattle.shb_lists.proofs.Words.{races_with, variable_sized}
 use Rattle.shb_lists.proofs.CountLemmas.{counted_more}
 use Rattle.shb_lists.proofs.PlanLemmas.{planned_more, planned_room}
 use Rattle.shb_lists.proofs.counting.Counting.count_access.Goals as goal

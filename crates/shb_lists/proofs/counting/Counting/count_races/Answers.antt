@@ -1,6 +1,5 @@
 use Rattle.std.proofs.Common.{◌≡◌, ◌++◌, ◌∙◌, ℕ, List, ap, arith, subst, sym}
-use Rattle.shb_lists.specs.Counted.{HasCounted}
-use Rattle.shb_lists.specs.declared.counter.RaceCounter.{RaceCounter}
+use Rattle.shb_lists.proofs.Words.{HasCounted, RaceCounter}
 use Rattle.shb_lists.proofs.CountLemmas.{found_length, found_races, found_within}
 use Rattle.shb_lists.proofs.counting.Counting.count_races.Goals as goal
 

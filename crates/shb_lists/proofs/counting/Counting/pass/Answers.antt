@@ -1,9 +1,6 @@
 use Rattle.std.proofs.Common.{◌≡◌, ◌++◌, ◌∙◌, ℕ, Bool, [], List, ap, subst, sym, true}
 use Rattle.std.specs.Prelude.{cond}
-use Rattle.std.proofs.lemmas.Result.{on_ok_weaker}
-use Rattle.shb_pairs.specs.Races.{races_with}
-use Rattle.shb_stamps.specs.Open.{accesses_open}
-use Rattle.shb_lists.specs.Counted.{HasCounted}
+use Rattle.shb_lists.proofs.Words.{HasCounted, accesses_open, on_ok_weaker, races_with}
 use Rattle.shb_lists.proofs.ListedLemmas.{open_access}
 use Rattle.shb_lists.proofs.PlanLemmas.{planned_skipped}
 use Rattle.shb_lists.proofs.TableLemmas.{tables_skipped}

@@ -1,10 +1,5 @@
 use Rattle.std.proofs.Common.{List, arith, length, refl, subst, sym}
-use Rattle.std.proofs.lemmas.Option.{slice_get_read}
-use Rattle.shb_links.proofs.Owners.{variable_sized}
-use Rattle.shb_lists.specs.History.{AreChained}
-use Rattle.shb_lists.specs.Rivals.{HasRivals}
-use Rattle.shb_lists.specs.declared.rivals.Newest.{Newest}
-use Rattle.shb_lists.specs.declared.rivals.Rival.{Rival}
+use Rattle.shb_lists.proofs.Words.{AreChained, HasRivals, Newest, Rival, slice_get_read, variable_sized}
 use Rattle.shb_lists.proofs.history.AccessHistory.find.Goals as goal
 
 pub index-rivals-requires : goal.index-rivals-requires

@@ -1,6 +1,5 @@
 use Rattle.std.proofs.Common.{arith, length, refl}
-use Rattle.std.proofs.lemmas.Option.{slice_get_read}
-use Rattle.shb_links.proofs.Owners.{variable_sized}
+use Rattle.shb_lists.proofs.Words.{slice_get_read, variable_sized}
 use Rattle.shb_lists.proofs.HistoryLemmas.{past_taken}
 use Rattle.shb_lists.proofs.history.AccessHistory.note.Goals as goal
 

@@ -1,5 +1,5 @@
 use Rattle.std.proofs.Common.{arith, refl, sym}
-use Rattle.shb_lists.specs.Batches.{races_below}
+use Rattle.shb_lists.proofs.Words.{races_below}
 use Rattle.shb_lists.proofs.GivenLemmas.{races_of_list}
 use Rattle.shb_lists.proofs.PartLemmas.{below_is_list, below_none}
 use Rattle.shb_lists.proofs.list.RaceList.counted.Goals as goal

@@ -1,6 +1,5 @@
 use Rattle.std.proofs.Common.{subst, sym}
-use Rattle.shb_lists.specs.OwnNumbers.{AreThreads}
-use Rattle.shb_lists.specs.declared.own_numbers.Own.{Own}
+use Rattle.shb_lists.proofs.Words.{AreThreads, Own}
 use Rattle.shb_lists.proofs.OwnLemmas.{all_own}
 use Rattle.shb_lists.proofs.own_numbers.Own.of.Goals as goal
 

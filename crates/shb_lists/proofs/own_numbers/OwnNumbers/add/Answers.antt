@@ -1,6 +1,5 @@
 use Rattle.std.proofs.Common.{◌<◌, arith, length, refl}
-use Rattle.std.proofs.lemmas.Option.{slice_get_read}
-use Rattle.shb_lists.specs.declared.own_numbers.Names.{Names}
+use Rattle.shb_lists.proofs.Words.{Names, slice_get_read}
 use Rattle.shb_lists.proofs.OwnLemmas.{own_added}
 use Rattle.shb_lists.proofs.own_numbers.OwnNumbers.add.Goals as goal
 

@@ -1,7 +1,5 @@
 use Rattle.std.proofs.Common.{◌+◌, Some, ap, arith, refl, subst, sym, ◌∙◌}
-use Rattle.shb_links.proofs.Owners.{variable_sized}
-use Rattle.shb_lists.specs.OwnNumbers.{AreOwnBefore}
-use Rattle.shb_lists.specs.declared.own_numbers.OwnNumbers.{OwnNumbers}
+use Rattle.shb_lists.proofs.Words.{AreOwnBefore, OwnNumbers, variable_sized}
 use Rattle.shb_lists.proofs.ListedLemmas.{open_variable}
 use Rattle.shb_lists.proofs.OwnLemmas.{own_starts}
 use Rattle.shb_lists.proofs.own_numbers.OwnNumbers.of.Goals.{then-is_access+in_ok-add, else-is_access+in_ok-skip}

@@ -1,4 +1,4 @@
-use Rattle.shb_lists.specs.OwnNumbers.{AreOwnBefore}
+use Rattle.shb_lists.proofs.Words.{AreOwnBefore}
 use Rattle.shb_lists.proofs.own_numbers.OwnNumbers.of.Given as goal
 
 abbrev pub invariant-loop-e : goal.invariant-loop-e

@@ -1,6 +1,5 @@
 use Rattle.std.proofs.Common.{◌+◌, ◌++◌, ◌∙◌, ℕ, List, [], ap, arith, map, rules, subst, sym}
-use Rattle.shb_lists.specs.Batches.{AreNarrowed}
-use Rattle.shb_pairs.specs.Listed.{race_of}
+use Rattle.shb_lists.proofs.Words.{AreNarrowed, race_of}
 use Rattle.shb_lists.proofs.PartLemmas.{part_more, part_small, part_with}
 use Rattle.shb_lists.proofs.parts.RaceParts.next_part.Goals as goal
 

@@ -1,7 +1,5 @@
 use Rattle.std.proofs.Common.{◌≡◌, ◌≤◌, ◌++◌, ℕ, length, map}
-use Rattle.shb_pairs.specs.Listed.{pair_in}
-use Rattle.shb_lists.specs.Parts.{IsPartly, races_until}
-use Rattle.shb_lists.specs.History.{IsHistory}
+use Rattle.shb_lists.proofs.Words.{IsHistory, IsPartly, pair_in, races_until}
 use Rattle.shb_lists.proofs.parts.RaceParts.next_part.Given as goal
 
 abbrev pub invariant-loop-e : goal.invariant-loop-e

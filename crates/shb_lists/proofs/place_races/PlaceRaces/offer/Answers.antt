@@ -1,5 +1,5 @@
 use Rattle.std.proofs.Common.{List, subst, sym}
-use Rattle.shb_lists.specs.PlaceRaces.{FoundRace, IsOffered}
+use Rattle.shb_lists.proofs.Words.{FoundRace, IsOffered}
 use Rattle.shb_lists.proofs.PlaceRacesLemmas.{offered_kept, offered_put}
 use Rattle.shb_lists.proofs.place_races.PlaceRaces.offer.Goals as goal
 

@@ -1,6 +1,5 @@
-use Rattle.std.proofs.lemmas.Grind.{common_steps}
+use Rattle.shb_lists.proofs.Words.{common_steps, race_less, race_not_less}
 use Rattle.std.proofs.Common.{arith}
-use Rattle.shb_pairs.proofs.KeyOrder.{race_less, race_not_less}
 use Rattle.shb_lists.proofs.place_races.PlaceRaces.stands_first.Goals as goal
 
 pub returns-in-Some : goal.returns-in-Some

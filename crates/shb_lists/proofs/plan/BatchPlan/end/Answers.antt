@@ -1,5 +1,5 @@
 use Rattle.std.proofs.Common.{◌+◌, ◌<◌, ◌≤◌, ℕ, arith, length, subst, sym}
-use Rattle.shb_lists.specs.Batches.{races_between}
+use Rattle.shb_lists.proofs.Words.{races_between}
 use Rattle.shb_lists.proofs.PlanLemmas.{between_more, between_most, between_none}
 use Rattle.shb_lists.proofs.plan.BatchPlan.end.Goals as goal
 

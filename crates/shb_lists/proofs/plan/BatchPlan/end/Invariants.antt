@@ -1,7 +1,5 @@
 use Rattle.std.proofs.Common.{◌≡◌, ◌+◌, ◌≤◌, List, length}
-use Rattle.shb_lines.specs.declared.event.Event.{Event}
-use Rattle.shb_lists.specs.Batches.{races_between}
-use Rattle.shb_lists.specs.Planned.{IsPlan}
+use Rattle.shb_lists.proofs.Words.{Event, IsPlan, races_between}
 use Rattle.shb_lists.proofs.plan.BatchPlan.end.Given as goal
 
 abbrev pub invariant-loop-x : goal.invariant-loop-x

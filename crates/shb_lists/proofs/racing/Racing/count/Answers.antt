@@ -1,5 +1,5 @@
 use Rattle.std.proofs.Common.{true, false}
-use Rattle.std.proofs.lemmas.Result.{on_ok_weaker}
+use Rattle.shb_lists.proofs.Words.{on_ok_weaker}
 use Rattle.shb_lists.proofs.TableLemmas.{both_sides, from_side, to_side}
 use Rattle.shb_lists.proofs.racing.Racing.count.Goals as goal
 

@@ -1,5 +1,5 @@
 use Rattle.std.proofs.Common.{arith, length, refl, ◌∙◌, ap}
-use Rattle.std.proofs.lemmas.List.{length_push}
+use Rattle.shb_lists.proofs.Words.{length_push}
 use Rattle.shb_lists.proofs.RacingCountsLemmas.{side_added}
 use Rattle.shb_lists.proofs.racing_counts.RacingCounts.add_sides.Goals as goal
 

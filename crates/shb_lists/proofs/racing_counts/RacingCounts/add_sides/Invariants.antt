@@ -1,5 +1,5 @@
 use Rattle.std.proofs.Common.{◌≡◌, ◌<◌, ℕ, length}
-use Rattle.shb_lists.specs.RacingCounts.{Accessed, IsRacingCounts, threads_of}
+use Rattle.shb_lists.proofs.Words.{Accessed, IsRacingCounts, threads_of}
 use Rattle.shb_lists.proofs.racing_counts.RacingCounts.add_sides.Given as goal
 
 abbrev pub invariant-loop : goal.invariant-loop

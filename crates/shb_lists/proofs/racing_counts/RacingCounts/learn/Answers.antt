@@ -1,10 +1,5 @@
 use Rattle.std.proofs.Common.{◌≡◌, ◌<◌, Some, arith, length, refl, ap, ◌∙◌}
-use Rattle.std.proofs.lemmas.Grind.{get_or_default_zero}
-use Rattle.std.proofs.lemmas.List.{get_or-set_same, length-set}
-use Rattle.std.proofs.lemmas.Option.{slice_get-get_or, slice_get_read, slice_get_within}
-use Rattle.std.proofs.Math.ListN.{set}
-use Rattle.shb_lists.specs.RacingCounts.{accessed_by, thread_number, threads_of}
-use Rattle.shb_lists.specs.declared.racing_counts.Side.{Side}
+use Rattle.shb_lists.proofs.Words.{Side, accessed_by, get_or-set_same, get_or_default_zero, length-set, set, slice_get-get_or, slice_get_read, slice_get_within, thread_number, threads_of}
 use Rattle.shb_lists.proofs.RacingCountsLemmas.{all_learned, left_counts, own_named, side_read, unknown_learned}
 use Rattle.shb_lists.proofs.racing_counts.RacingCounts.learn.Goals as goal
 

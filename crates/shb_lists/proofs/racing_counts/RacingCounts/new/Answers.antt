@@ -1,5 +1,5 @@
 use Rattle.std.proofs.Common.{refl, rules}
-use Rattle.shb_lists.specs.declared.racing_counts.RacingCounts.{RacingCounts}
+use Rattle.shb_lists.proofs.Words.{RacingCounts}
 use Rattle.shb_lists.proofs.RacingCountsLemmas.{unknown_starts}
 use Rattle.shb_lists.proofs.racing_counts.RacingCounts.new.Goals as goal
 

@@ -1,6 +1,5 @@
 use Rattle.std.proofs.Common.{ℕ, length, arith, get_or, refl, subst, sym}
-use Rattle.std.proofs.lemmas.Option.{slice_get-get_or, slice_get_read}
-use Rattle.shb_lists.specs.RacingCounts.{HasOneMore}
+use Rattle.shb_lists.proofs.Words.{HasOneMore, slice_get-get_or, slice_get_read}
 use Rattle.shb_lists.proofs.RacingCountsLemmas.{side_room, unknown_noted}
 use Rattle.shb_lists.proofs.racing_counts.RacingCounts.note.Goals as goal
 

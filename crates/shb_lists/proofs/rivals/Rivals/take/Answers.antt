@@ -1,7 +1,5 @@
 use Rattle.std.proofs.Common.{◌≡◌, ℕ, List, Some, ap, arith, length, refl, slice_get, subst, sym, ◌∙◌}
-use Rattle.std.proofs.lemmas.Option.{get_or_from_slice_get, slice_get_within}
-use Rattle.shb_lists.specs.Rivals.{IsNewest}
-use Rattle.shb_lists.specs.declared.rivals.Rival.{Rival}
+use Rattle.shb_lists.proofs.Words.{IsNewest, Rival, get_or_from_slice_get, slice_get_within}
 use Rattle.shb_lists.proofs.RivalLemmas.{newest_missing, of_rivals, rivals_pushed, rivals_set}
 use Rattle.shb_lists.proofs.rivals.Rivals.take.Goals as goal
 
