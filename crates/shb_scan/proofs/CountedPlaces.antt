@@ -1,20 +1,10 @@
 -- The places of races that were found, counted by the numbers of their locations.
 use Rattle.std.proofs.Common.{◌≡◌, ℕ, zero, suc, ◌+◌, ◌<◌, ◌≤◌, Bool, true, false, cond, List, [], ◌∷◌, length, map, get_or, take, Some, IfSome, refl, sym, ap, subst, ◌∙◌, arith}
-use Rattle.std.specs.List.{AllByRecursion, IsDistinct}
-use Rattle.std.specs.Str.{bytes_eq}
-use Rattle.std.proofs.lemmas.List.{length-map}
+use Rattle.shb_scan.proofs.Words.{AllByRecursion, AreKeyed, FoundRace, IsDistinct, IsRaceLocated, Key, Keyed, Pair, PlaceOf, TraceData, bytes_eq, counted_of, ends_of, length-map, location_at, pair_of, places_after, same_key, with_keyed, with_one_more, with_pair}
 use Rattle.indexmap.specs.IndexMap.{insert_entry}
-use Rattle.shb_lines.specs.declared.event.Pair.{Pair}
-use Rattle.shb_lines.specs.text.TraceData.{TraceData}
-use Rattle.shb_format.specs.Keyed.{AreKeyed, Key, Keyed, counted_of, same_key, with_keyed}
-use Rattle.shb_format.specs.Places.{PlaceOf, location_at, places_after, with_one_more, with_pair}
-use Rattle.shb_format.specs.Report.{pair_of}
 use Rattle.shb_format.proofs.EachLemmas.{each-weaker}
 use Rattle.shb_format.proofs.KeyedLemmas.{keyed_pair}
 use Rattle.shb_format.proofs.PlaceLemmas.{one_pair_more}
-use Rattle.shb_nearest.specs.Found.{ends_of}
-use Rattle.shb_nearest.specs.declared.access.FoundRace.{FoundRace}
-use Rattle.shb_scan.specs.FoundNames.{IsRaceLocated}
 
 -- no place counts more than so many races
 abbrev pub AreFew : ℕ → List Keyed → Type 0

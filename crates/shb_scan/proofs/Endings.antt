@@ -1,16 +1,11 @@
 -- What the reading of a source answers, by its last step.
 use Rattle.std.proofs.Common.{◌≡◌, ◌-◌, ◌^◌, ◌<◌, ℕ, Bool, true, false, List, [], ◌++◌, Option, Result, Ok, Err, sym, subst, arith}
 use Rattle.std.specs.Result.{IsErrAnd}
-use Rattle.shb_io.specs.Devices.{CountsFailure}
+use Rattle.shb_scan.proofs.Words.{CountsFailure, FoundScan, HasEnded, HasReadScan, HasScanned, IsFoundIn, IsStepped, Moves, Scan, ScanError}
 use Rattle.shb_io.specs.declared.no_memory.NoMemory.{NoMemory}
-use Rattle.shb_lines.specs.text.Lines.{Moves}
 use Rattle.shb_lines.proofs.text.LinesRead.{moves_more, moves_none}
-use Rattle.shb_scan.specs.declared.errors.ScanError.{ScanError}
 use Rattle.shb_scan.specs.declared.errors.ScanError.TheVariants as errors
-use Rattle.shb_scan.specs.declared.found.FoundScan.{FoundScan}
-use Rattle.shb_scan.specs.declared.reading.Scan.{Scan}
 use Rattle.shb_scan.specs.Errors.{source_failed}
-use Rattle.shb_scan.specs.Scans.{HasEnded, HasReadScan, HasScanned, IsFoundIn, IsStepped}
 
 -- a source that gave some bytes, whose lines were taken and whose events were noted
 abbrev pub Passed : Option (List ℕ) → Option (List ℕ) → ℕ → ℕ → Scan → Type 0

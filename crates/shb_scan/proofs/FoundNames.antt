@@ -1,26 +1,12 @@
 -- The line of an access that was found is made of the names behind its numbers.
 use Rattle.std.specs.Prelude.{All, option_and_then}
 use Rattle.std.proofs.Common.{◌≡◌, ℕ, List, Bool, true, false, cond, Option, None, Some, is_some, slice_get, refl, sym, ap, ◌∙◌}
-use Rattle.std.specs.List.{after_first, list_any}
-use Rattle.std.proofs.lemmas.Option.{slice_get_within}
-use Rattle.shb_lines.specs.declared.event.Event.{Event}
+use Rattle.shb_scan.proofs.Words.{AreSpots, Event, FoundAccess, FoundRace, HasNames, HasRaceNames, IsFoundAccess, IsFoundRace, IsLocated, IsMadeOf, IsNumber, IsOperation, IsRaceLocated, IsRaceMadeOf, IsTraceOf, ScanNames, Spot, Tables, TraceData, access_op, after_first, call_line, line_of_event, list_any, location_after, location_if, location_of, made_of_its_names, slice_get_within, tables_in, variable_at, variable_of}
 use Rattle.shb_lines.specs.declared.event.Kind.{Kind}
-use Rattle.shb_lines.specs.events.Events.{variable_of}
-use Rattle.shb_lines.specs.events.Race.{variable_at}
 use Rattle.shb_lines.specs.text.Grammar.{is_mark}
 use Rattle.shb_lines.specs.text.Meaning.{is_bar}
-use Rattle.shb_lines.specs.text.Numbers.{IsNumber, IsOperation, Tables}
-use Rattle.shb_lines.specs.text.TraceData.{IsTraceOf, TraceData, call_line, location_after, location_of, tables_in}
 use Rattle.shb_lines.proofs.text.AccessLines.{GivesEvent, gives_event}
-use Rattle.shb_lines.proofs.text.NamedLines.{made_of_its_names}
-use Rattle.shb_format.specs.Report.{line_of_event}
 use Rattle.shb_format.specs.AccessText.{access_kind}
-use Rattle.shb_nearest.specs.Found.{IsFoundAccess, IsFoundRace, access_op}
-use Rattle.shb_nearest.specs.declared.access.FoundAccess.{FoundAccess}
-use Rattle.shb_nearest.specs.declared.access.FoundRace.{FoundRace}
-use Rattle.shb_nearest.specs.declared.access.Spot.{Spot}
-use Rattle.shb_scan.specs.declared.writing.ScanNames.{ScanNames}
-use Rattle.shb_scan.specs.FoundNames.{AreSpots, HasNames, HasRaceNames, IsLocated, IsMadeOf, IsRaceLocated, IsRaceMadeOf, location_if}
 
 -- numbers of names that a line is made of have names
 pub has_names : (names : ScanNames) (trace : TraceData) (x : ℕ) (access : FoundAccess) → IsMadeOf names trace x access → HasNames names x access

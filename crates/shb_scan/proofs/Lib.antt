@@ -10,3 +10,4 @@ pub mod Endings
 pub mod Listed
 pub mod Outcomes
 pub mod OneScan
+mod Words

@@ -1,15 +1,6 @@
 -- What was found in a text is what its scan lists.
 use Rattle.std.proofs.Common.{◌≡◌, ℕ, List, All, length, sym, ap, subst, ◌∙◌}
-use Rattle.shb_lines.specs.declared.numbering.Numbering.{Numbering}
-use Rattle.shb_lines.specs.text.Text.{lines_of}
-use Rattle.shb_lines.specs.text.TraceData.{TraceData}
-use Rattle.shb_format.specs.declared.counts.Counts.{Counts}
-use Rattle.shb_format.specs.Report.{counts_of}
-use Rattle.shb_nearest.specs.declared.access.FoundRace.{FoundRace}
-use Rattle.shb_scan.specs.declared.found.FoundScan.{FoundScan}
-use Rattle.shb_scan.specs.declared.writing.ScanNames.{ScanNames}
-use Rattle.shb_scan.specs.FoundNames.{AreSpots, HasRaceNames, IsRaceMadeOf}
-use Rattle.shb_scan.specs.Scans.{IsFoundIn, counts_in}
+use Rattle.shb_scan.proofs.Words.{AreSpots, Counts, FoundRace, FoundScan, HasRaceNames, IsFoundIn, IsRaceMadeOf, Numbering, ScanNames, TraceData, counts_in, counts_of, lines_of}
 use Rattle.shb_scan.proofs.FoundNames.{races_have_names, races_made_of}
 
 module _ (text : List ℕ) (found : FoundScan) (h : IsFoundIn text found) where

@@ -1,30 +1,9 @@
 -- What is known after one event more.
 use Rattle.std.proofs.Common.{◌≡◌, ◌⊎◌, inl, inr, ◌+◌, ◌<◌, ◌≤◌, ℕ, zero, suc, List, [], ◌∷◌, ◌++◌, length, Option, Some, Result, Ok, Err, OnOk, is_some, slice_get, refl, sym, ap, subst, ◌∙◌, arith, length-append}
 use Rattle.std.specs.List.{IsDistinct}
-use Rattle.std.specs.Str.{bytes_eq}
-use Rattle.shb_lines.specs.declared.event.Event.{Event}
-use Rattle.shb_lines.specs.declared.numbering.Step.{Step}
-use Rattle.shb_lines.specs.declared.owned_names.OwnedNames.{OwnedNames}
-use Rattle.shb_lines.specs.events.Discipline.{MayCome}
-use Rattle.shb_lines.specs.events.Events.{variable_of}
-use Rattle.shb_lines.specs.events.Race.{variable_at}
-use Rattle.shb_lines.specs.text.Names.{with_name}
-use Rattle.shb_lines.specs.text.Numbering.{IsWithin, event_of, with_step}
-use Rattle.shb_lines.specs.text.Numbers.{Tables}
-use Rattle.shb_lines.specs.text.Taken.{HasTaken}
-use Rattle.shb_lines.specs.text.TraceData.{TraceData, location_of}
+use Rattle.shb_scan.proofs.Words.{AreSpots, Event, HasNoted, HasScanned, HasSearched, HasSpot, HasTaken, IsDistinct-with_name, IsSpotOf, IsStateAfter, IsWithin, MayCome, NearestRaces, OwnedNames, Scan, Spot, Step, Tables, TraceData, bytes_eq, event_of, line_of_event, location_of, scan_bounds, variable_at, variable_of, with_name, with_step}
 use Rattle.shb_lines.proofs.text.NameLemmas.{length-with_name_le, slice_get-with_name}
-use Rattle.shb_lines.proofs.text.Numbers.{IsDistinct-with_name}
-use Rattle.shb_discipline.specs.State.{IsStateAfter}
 use Rattle.shb_discipline.specs.declared.state.State.{State}
-use Rattle.shb_format.specs.Report.{line_of_event}
-use Rattle.shb_nearest.specs.Searched.{HasSearched}
-use Rattle.shb_nearest.specs.declared.access.Spot.{Spot}
-use Rattle.shb_nearest.specs.declared.search.NearestRaces.{NearestRaces}
-use Rattle.shb_scan.specs.declared.reading.Scan.{Scan}
-use Rattle.shb_scan.specs.Limits.{scan_bounds}
-use Rattle.shb_scan.specs.FoundNames.{AreSpots, IsSpotOf}
-use Rattle.shb_scan.specs.Scans.{HasNoted, HasScanned, HasSpot}
 use Rattle.shb_scan.proofs.Pushes.{accesses, accessing, at_push, disciplined_push, line_before, line_last}
 
 -- names that grow keep the spots

@@ -1,19 +1,11 @@
 -- A text has one scan, and each place of its trace is listed once.
 use Rattle.std.proofs.Common.{◌≡◌, ◌≢◌, ◌⊎◌, inl, inr, ℕ, Bool, true, false, List, None, Option, Some, refl, sym, ap, subst, ◌∙◌}
 use Rattle.std.specs.Prelude.{Contains, if◌then◌else◌}
-use Rattle.std.specs.Str.{bytes_eq}
-use Rattle.std.proofs.lemmas.Bool.{cases_eq}
+use Rattle.shb_scan.proofs.Words.{AreAtOnePlace, HasScan, IsReportOn, IsScan, IsTraceOf, Race, TraceData, bytes_eq, cases_eq, lines_of, location_at, site_at, tables_in, variable_at}
 use Rattle.std.proofs.lemmas.Slice.Eq.{bytes_eq-Decides}
-use Rattle.shb_lines.specs.events.Race.{Race, variable_at}
-use Rattle.shb_lines.specs.text.Text.{lines_of}
-use Rattle.shb_lines.specs.text.TraceData.{IsTraceOf, TraceData, tables_in}
 use Rattle.shb_discipline.proofs.Numbering.{one_trace}
-use Rattle.shb_format.specs.Places.{location_at}
-use Rattle.shb_format.specs.Report.{IsReportOn}
 use Rattle.shb_format.proofs.Blocks.{HasOneList, IsReportOn-unique}
 use Rattle.shb_nearest.proofs.NearestLaws.{listed_once, listed_races, place_listed, unique}
-use Rattle.shb_scan.specs.Outcomes.{HasScan, IsScan}
-use Rattle.shb_scan.specs.Sites.{AreAtOnePlace, site_at}
 
 -- some lines have one trace, with its names and its lines
 one_whole_trace : (lines : List (List ℕ)) (a b : TraceData) → IsTraceOf lines a → IsTraceOf lines b → a ≡ b

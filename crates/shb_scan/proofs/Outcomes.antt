@@ -1,19 +1,8 @@
 -- From what the parts of a scan answer to its outcome, exit by exit.
 use Rattle.std.proofs.Common.{◌≡◌, ◌+◌, ℕ, Bool, List, [], ◌++◌, map, None, Some, Option, Result, Ok, Err, IfSome, IsErrAnd, refl, sym, ap, subst, ◌∙◌, append-nil}
-use Rattle.std.specs.Io.KnownBytes.{Appends}
-use Rattle.shb_io.specs.Devices.{AppendsPrefix}
-use Rattle.shb_io.proofs.Growth.{Appends-nil}
-use Rattle.shb_lines.specs.declared.fault.Fault.{Fault}
-use Rattle.shb_discipline.specs.FirstFault.{HasNoFault, IsFirstFault}
-use Rattle.shb_nearest.specs.Found.{ends_of}
-use Rattle.shb_scan.specs.declared.errors.ScanError.{ScanError}
+use Rattle.shb_scan.proofs.Words.{Appends, Appends-nil, AppendsPrefix, Fault, FoundScan, HasNoFault, HasReadScan, HasScan, IsFirstFault, IsFoundIn, IsScan, IsScanOutcome, ScanError, ends_of, listing_bytes, scan_limits}
 use Rattle.shb_scan.specs.declared.errors.ScanError.TheVariants.{Trace, TooManyLines, Source, Sink, Memory}
-use Rattle.shb_scan.specs.declared.found.FoundScan.{FoundScan}
-use Rattle.shb_scan.specs.Limits.{scan_limits}
-use Rattle.shb_scan.specs.Listing.{listing_bytes}
-use Rattle.shb_scan.specs.Outcomes.{HasScan, IsScan, IsScanOutcome}
 use Rattle.shb_scan.specs.Reads.{ReadsAll}
-use Rattle.shb_scan.specs.Scans.{HasReadScan, IsFoundIn}
 use Rattle.shb_scan.proofs.RaceBlocks.{reported}
 
 -- a source that tells its bytes and was read to its end gave all of them

@@ -1,27 +1,8 @@
 -- Numbers of locations tell the same places as the locations do, with variables and without.
 use Rattle.std.specs.Prelude.{All}
 use Rattle.std.proofs.Common.{◌≡◌, ◌<◌, ◌↔◌, ℕ, Bool, false, List, length, map, get_or, option_and_then, Option, Some, slice_get, sym, ap, subst, ◌∙◌, arith}
-use Rattle.std.specs.List.{IsDistinct}
-use Rattle.std.specs.Str.{bytes_eq}
-use Rattle.std.proofs.lemmas.Option.{slice_get-get_or, slice_get_within}
-use Rattle.shb_lines.specs.declared.event.Event.{Event}
-use Rattle.shb_lines.specs.events.Race.{Race, variable_at}
-use Rattle.shb_lines.specs.declared.owned_names.OwnedNames.{OwnedNames}
-use Rattle.shb_lines.specs.text.Numbering.{tables_of}
-use Rattle.shb_lines.specs.text.Text.{lines_of}
-use Rattle.shb_lines.specs.text.TraceData.{TraceData}
-use Rattle.shb_lines.proofs.text.Numbers.{one_number}
-use Rattle.shb_format.specs.Keyed.{AreKeyed}
-use Rattle.shb_format.specs.Places.{location_at}
-use Rattle.shb_nearest.specs.Found.{ends_of, location_in, site_in}
+use Rattle.shb_scan.proofs.Words.{AreKeyed, AreLocated, AreNearestRaces, AreSpots, Event, FoundScan, HasEnded, HasSearched, IsDistinct, IsFoundIn, IsRaceLocated, OwnedNames, Race, Scan, Spot, TraceData, bytes_eq, ends_of, lines_of, location_at, location_in, one_number, places_in, site_at, site_in, slice_get-get_or, slice_get_within, tables_of, variable_at}
 use Rattle.shb_nearest.specs.Nearest.{AreNearest, IsNearest}
-use Rattle.shb_nearest.specs.Searched.{AreNearestRaces, HasSearched}
-use Rattle.shb_nearest.specs.declared.access.Spot.{Spot}
-use Rattle.shb_scan.specs.declared.found.FoundScan.{FoundScan}
-use Rattle.shb_scan.specs.declared.reading.Scan.{Scan}
-use Rattle.shb_scan.specs.FoundNames.{AreLocated, AreSpots, IsRaceLocated}
-use Rattle.shb_scan.specs.Scans.{HasEnded, IsFoundIn, places_in}
-use Rattle.shb_scan.specs.Sites.{site_at}
 use Rattle.shb_scan.proofs.FoundNames.{races_located}
 use Rattle.shb_scan.proofs.Pushes.{accessing}
 use Rattle.shb_scan.proofs.Taking.{events_count}

@@ -1,13 +1,7 @@
 -- Lists with one item more at their end.
 use Rattle.std.proofs.Common.{◌≡◌, ◌⊎◌, inl, inr, ◌<◌, ℕ, zero, suc, List, [], ◌∷◌, ◌++◌, length, map, take, option_and_then, Option, Some, None, slice_get, unwrap_or, refl, sym, ap, subst, ◌∙◌, arith}
-use Rattle.std.specs.List.{AllZip}
-use Rattle.std.proofs.lemmas.List.{get_or_append_left, take-append-le}
-use Rattle.std.proofs.lemmas.Option.{unwrap_or-slice_get}
-use Rattle.std.proofs.Math.Seq.{get_or-append_seam, take-append_seam}
-use Rattle.shb_lines.specs.declared.event.Event.{Event}
-use Rattle.shb_lines.specs.events.Discipline.{IsDisciplined, MayCome}
-use Rattle.shb_lines.specs.events.Events.{op_at, variable_of}
-use Rattle.shb_lines.specs.events.Race.{variable_at}
+use Rattle.shb_scan.proofs.Words.{AllZip, Event, IsDisciplined, MayCome, get_or-append_seam, get_or_append_left, take-append-le, take-append_seam, unwrap_or-slice_get, variable_at, variable_of}
+use Rattle.shb_lines.specs.events.Events.{op_at}
 
 pub at_push : {X : Type 0} (xs : List X) (x : X) (k : ℕ) (y : X) → slice_get (xs ++ x ∷ []) k ≡ Some y → ((k < length xs) × (slice_get xs k ≡ Some y)) ⊎ ((k ≡ length xs) × (x ≡ y))
 at_push [] x zero y h = inr (refl, let e : x ≡ y = cc in e)

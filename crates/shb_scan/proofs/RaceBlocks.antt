@@ -1,13 +1,7 @@
 -- The blocks of races, one after another, and the report that they are a part of.
 use Rattle.std.proofs.Common.{◌≡◌, ℕ, ◌+◌, ◌<◌, List, [], ◌∷◌, ◌++◌, None, false, length, map, get_or, take, drop, refl, sym, ap, ◌∙◌, arith, append_assoc, append-nil, take-append-drop, length-take}
-use Rattle.std.proofs.lemmas.List.{length-map, map-append, take_more}
+use Rattle.shb_scan.proofs.Words.{AreBlocks, Counts, FoundRace, HasSchedule, IsReportOn, ShownRace, TraceData, alone, block_bytes, blocks_from, blocks_of, counts_of, ends_of, head_bytes, length-map, listing_bytes, map-append, take_more}
 use Rattle.std.proofs.lemmas.List.Elements.{All-map}
-use Rattle.shb_lines.specs.text.TraceData.{TraceData}
-use Rattle.shb_format.specs.declared.counts.Counts.{Counts}
-use Rattle.shb_format.specs.Report.{AreBlocks, HasSchedule, IsReportOn, ShownRace, block_bytes, blocks_from, counts_of, head_bytes}
-use Rattle.shb_nearest.specs.Found.{ends_of}
-use Rattle.shb_nearest.specs.declared.access.FoundRace.{FoundRace}
-use Rattle.shb_scan.specs.Listing.{alone, blocks_of, listing_bytes}
 
 -- the blocks of pairs, of which the first has this number
 abbrev pub blocks_at : TraceData → ℕ → List (ℕ × ℕ) → List ℕ

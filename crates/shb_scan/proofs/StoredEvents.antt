@@ -1,37 +1,15 @@
 -- What is known of a trace whose events are kept, with an event more, and at its end.
 use Rattle.std.proofs.Common.{◌≡◌, ◌⊎◌, inl, inr, ◌+◌, ◌<◌, ◌≤◌, ℕ, Bool, false, true, zero, suc, List, [], ◌∷◌, ◌++◌, length, map, take, option_and_then, OnOk, Option, Result, Some, slice_get, refl, sym, ap, subst, ◌∙◌, arith}
 use Rattle.std.specs.Bool.{beq}
-use Rattle.std.specs.List.{IsDistinct, list_any}
-use Rattle.std.specs.Option.{option_map_or}
-use Rattle.std.specs.Str.{bytes_eq}
-use Rattle.std.proofs.lemmas.Bool.{cases_Bool}
-use Rattle.std.proofs.lemmas.List.{length-take-le, take-take, take_all}
-use Rattle.std.proofs.lemmas.Option.{get_or_from_slice_get, slice_get_within}
-use Rattle.std.proofs.Math.Seq.{take-suc}
-use Rattle.shb_lines.specs.declared.event.Event.{Event}
+use Rattle.shb_scan.proofs.Words.{AreLocated, AreNearestRaces, Event, FoundRace, HasRoom, HasSearched, HasTakenTo, IsDisciplined, IsDistinct, IsScan, IsSpotIn, MayCome, NearestRaces, Pair, Race, Spot, TraceData, bytes_eq, cases_Bool, ends, ends_of, get_or_from_slice_get, length-take-le, list_any, location_at, op_at, option_map_or, site_at, site_in, slice_get_within, take-suc, take-take, take_all, thread_at, variable_at, variable_of}
 use Rattle.shb_lines.specs.declared.event.Op.{Op}
-use Rattle.shb_lines.specs.declared.event.Pair.{Pair}
 use Rattle.shb_lines.specs.declared.event.Sizes.{Sizes}
-use Rattle.shb_lines.specs.events.Discipline.{IsDisciplined, MayCome}
-use Rattle.shb_lines.specs.events.Events.{op_at, thread_at, variable_of}
-use Rattle.shb_lines.specs.events.Race.{Race, ends, variable_at}
 use Rattle.shb_lines.specs.events.Sizes.{IsWithin}
 use Rattle.shb_lines.specs.text.Limits.{most_events}
-use Rattle.shb_lines.specs.text.TraceData.{TraceData}
 use Rattle.shb_lines.proofs.events.Events.{event_of_thread, same_op}
 use Rattle.shb_links.proofs.Owners.{variable_sized}
-use Rattle.shb_format.specs.Places.{location_at}
 use Rattle.shb_stamps.specs.Open.{is_open}
 use Rattle.shb_pairs.specs.Open.{AreOpen}
-use Rattle.shb_nearest.specs.Found.{ends_of, site_in}
-use Rattle.shb_nearest.specs.Searched.{AreNearestRaces, HasRoom, HasSearched}
-use Rattle.shb_nearest.specs.declared.access.FoundRace.{FoundRace}
-use Rattle.shb_nearest.specs.declared.access.Spot.{Spot}
-use Rattle.shb_nearest.specs.declared.search.NearestRaces.{NearestRaces}
-use Rattle.shb_scan.specs.FoundNames.{AreLocated}
-use Rattle.shb_scan.specs.Outcomes.{IsScan}
-use Rattle.shb_scan.specs.Sites.{site_at}
-use Rattle.shb_scan.specs.Stored.{HasTakenTo, IsSpotIn}
 use Rattle.shb_scan.proofs.Noted.{on_ok}
 use Rattle.shb_scan.proofs.Places.{nearest_by, sites_alike}
 use Rattle.shb_scan.proofs.Pushes.{at_push}

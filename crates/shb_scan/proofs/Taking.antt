@@ -1,34 +1,17 @@
 -- What is known after what was taken next.
 use Rattle.std.proofs.Common.{◌≡◌, inl, inr, ◌+◌, ◌-◌, ◌^◌, ◌<◌, ◌≤◌, ℕ, Bool, true, false, List, [], ◌∷◌, ◌++◌, length, map, take, Option, None, Some, refl, sym, ap, subst, ◌∙◌, arith, append_assoc, append-nil, length-append}
-use Rattle.std.specs.Io.KnownBytes.{IsAtEnd}
-use Rattle.std.specs.Str.Lines.{strip_carriage_return}
-use Rattle.std.proofs.lemmas.List.{take-append-le}
-use Rattle.shb_lines.specs.declared.event.Event.{Event}
+use Rattle.shb_scan.proofs.Words.{AreLinesOf, Event, Fault, HasEnded, HasNoted, HasScanned, HasTaken, IsAtEnd, IsEventOf, IsFirstFault, IsNext, IsStateAfter, IsTakenNext, IsTraceOf, IsWithin, IsWithinAfter, LocatedEvent, MayCome, Scan, Spot, Step, Tables, TraceData, event_of, events_of, fed, lines_of, most_scan_events, rest_of, scan_bounds, scan_limits, strip_carriage_return, tables_in, tables_of, take-append-le, trace_of, with_step}
 use Rattle.shb_lines.specs.declared.event_reader.EventReader.{EventReader}
 use Rattle.shb_lines.specs.declared.event_reader.Taken.{Taken}
 use Rattle.shb_lines.specs.declared.event_reader.Taken.TheVariants as takens
-use Rattle.shb_lines.specs.declared.fault.Fault.{Fault}
 use Rattle.shb_lines.specs.declared.limits.Limits.{Limits}
-use Rattle.shb_lines.specs.declared.numbering.Step.{Step}
 use Rattle.shb_lines.specs.Lowest.{IsLowest}
-use Rattle.shb_lines.specs.events.Discipline.{MayCome}
 use Rattle.shb_lines.specs.text.Faults.{HasNoLineFaultBefore, number_of}
-use Rattle.shb_lines.specs.text.Numbering.{IsWithin, event_of, tables_of, with_step}
-use Rattle.shb_lines.specs.text.Numbers.{IsEventOf, Tables, events_of}
-use Rattle.shb_lines.specs.text.Taken.{AreLinesOf, HasTaken, IsTakenNext, IsWithinAfter, fed, rest_of}
-use Rattle.shb_lines.specs.text.Text.{LocatedEvent, lines_of, trace_of}
-use Rattle.shb_lines.specs.text.TraceData.{IsTraceOf, TraceData, tables_in}
 use Rattle.shb_lines.proofs.text.TakenEvents.{faultless_in, front_whole, lines_of_fed}
 use Rattle.shb_lines.proofs.text.TraceMore.{step_more, step_none}
 use Rattle.shb_discipline.specs.Faults.{HasDisciplineFault, IsFirstDisciplineFault}
-use Rattle.shb_discipline.specs.FirstFault.{IsFirstFault}
-use Rattle.shb_discipline.specs.State.{IsStateAfter}
 use Rattle.shb_discipline.proofs.Faultless.{may_come}
 use Rattle.shb_discipline.proofs.FirstFault.{accepted, first_of_discipline, first_of_lines}
-use Rattle.shb_nearest.specs.declared.access.Spot.{Spot}
-use Rattle.shb_scan.specs.declared.reading.Scan.{Scan}
-use Rattle.shb_scan.specs.Limits.{most_scan_events, scan_bounds, scan_limits}
-use Rattle.shb_scan.specs.Scans.{HasEnded, HasNoted, HasScanned, IsNext}
 use Rattle.shb_scan.proofs.Pushes.{AllZip-length, at_push, count_map, front_push, last_push}
 
 -- all bytes of a source that has ended were read

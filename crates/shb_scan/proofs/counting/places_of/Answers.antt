@@ -1,13 +1,6 @@
 -- Each race is counted in its turn.
-use Rattle.std.proofs.lemmas.List.{take_all}
+use Rattle.shb_scan.proofs.Words.{AreKeyed, FoundAccess, FoundRace, Keyed, Pair, ends_of, pair_of, places_after, take_all}
 use Rattle.std.proofs.Common.{◌+◌, ◌-◌, ◌^◌, List, [], false, arith, get_or, subst, sym}
-use Rattle.shb_lines.specs.declared.event.Pair.{Pair}
-use Rattle.shb_format.specs.Keyed.{AreKeyed, Keyed}
-use Rattle.shb_format.specs.Places.{places_after}
-use Rattle.shb_format.specs.Report.{pair_of}
-use Rattle.shb_nearest.specs.Found.{ends_of}
-use Rattle.shb_nearest.specs.declared.access.FoundAccess.{FoundAccess}
-use Rattle.shb_nearest.specs.declared.access.FoundRace.{FoundRace}
 use Rattle.shb_scan.proofs.CountedPlaces.{AreFew, few_counted, few_more, key_of, many_pairs, one_race_more, pairs_of}
 use Rattle.shb_scan.proofs.counting.places_of.Goals as goal
 

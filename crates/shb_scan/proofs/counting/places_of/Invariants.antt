@@ -1,11 +1,6 @@
 use Rattle.std.specs.Prelude.{All}
-use Rattle.std.specs.List.{IsDistinct}
-use Rattle.std.specs.Str.{bytes_eq}
+use Rattle.shb_scan.proofs.Words.{AreKeyed, IsDistinct, IsRaceLocated, TraceData, bytes_eq, places_after}
 use Rattle.std.proofs.Common.{ℕ, List, [], take}
-use Rattle.shb_lines.specs.text.TraceData.{TraceData}
-use Rattle.shb_format.specs.Keyed.{AreKeyed}
-use Rattle.shb_format.specs.Places.{places_after}
-use Rattle.shb_scan.specs.FoundNames.{IsRaceLocated}
 use Rattle.shb_scan.proofs.CountedPlaces.{AreFew, pairs_of}
 use Rattle.shb_scan.proofs.counting.places_of.Given as goal
 

@@ -1,12 +1,6 @@
 -- The names are those of the trace.
 use Rattle.std.proofs.Common.{◌∙◌, List, ap, map, refl, subst, sym}
-use Rattle.shb_io.specs.Devices.{Writes}
-use Rattle.shb_lines.specs.declared.numbering.Numbering.{Numbering}
-use Rattle.shb_format.specs.Keyed.{AreKeyed}
-use Rattle.shb_nearest.specs.Found.{ends_of}
-use Rattle.shb_nearest.specs.declared.access.FoundRace.{FoundRace}
-use Rattle.shb_scan.specs.Listing.{listing_bytes}
-use Rattle.shb_scan.specs.Scans.{counts_in, places_in}
+use Rattle.shb_scan.proofs.Words.{AreKeyed, FoundRace, Numbering, Writes, counts_in, ends_of, listing_bytes, places_in}
 use Rattle.shb_scan.proofs.Listed.{counts_are, have_names, made_of}
 use Rattle.shb_scan.proofs.found.write_found.Goals as goal
 

@@ -1,8 +1,6 @@
 -- The lines taken so far have no fault, and their events were noted.
 use Rattle.std.proofs.Common.{◌≡◌, ◌-◌, ◌^◌, ℕ, List}
-use Rattle.shb_lines.specs.text.Lines.{Moves}
-use Rattle.shb_scan.specs.Limits.{scan_bounds}
-use Rattle.shb_scan.specs.Scans.{HasScanned}
+use Rattle.shb_scan.proofs.Words.{HasScanned, Moves, scan_bounds}
 use Rattle.shb_scan.proofs.reading.read_scan.Given as goal
 
 abbrev pub invariant-loop-scan : goal.invariant-loop-scan

@@ -1,10 +1,7 @@
 -- A location has the number of its name, and where there is none, that of the empty name.
 use Rattle.std.proofs.Common.{◌≡◌, ◌∙◌, ℕ, List, [], Option, Some, ap, sym}
-use Rattle.std.specs.Option.{option_copied}
+use Rattle.shb_scan.proofs.Words.{location_after, location_from_after, location_of, option_copied, with_name}
 use Rattle.std.specs.Prelude.{is_some, unwrap_or}
-use Rattle.shb_lines.specs.text.Names.{with_name}
-use Rattle.shb_lines.specs.text.TraceData.{location_after, location_of}
-use Rattle.shb_lines.proofs.text.NamedLines.{location_from_after}
 use Rattle.shb_scan.proofs.reading.spot_of.Goals as goal
 
 -- the location of a line by what stands after its second bar

@@ -1,6 +1,5 @@
 use Rattle.std.proofs.Common.{◌≡◌, ◌∙◌, length, map, arith, ap}
-use Rattle.shb_lines.specs.events.Race.{ends}
-use Rattle.shb_nearest.specs.Found.{ends_of}
+use Rattle.shb_scan.proofs.Words.{ends, ends_of}
 use Rattle.shb_scan.proofs.StoredEvents.{no_races, stored_races, taken_none}
 use Rattle.shb_scan.proofs.stored.nearest_races.Goals as goal
 

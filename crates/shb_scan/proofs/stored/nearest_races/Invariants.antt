@@ -1,6 +1,6 @@
 -- The events before this one were taken.
 use Rattle.std.proofs.Common.{◌≡◌}
-use Rattle.shb_scan.specs.Stored.{HasTakenTo}
+use Rattle.shb_scan.proofs.Words.{HasTakenTo}
 use Rattle.shb_scan.proofs.stored.nearest_races.Given as goal
 
 abbrev pub invariant-loop-e : goal.invariant-loop-e

@@ -1,6 +1,5 @@
 use Rattle.std.proofs.Common.{◌≡◌, map, take}
-use Rattle.shb_lines.specs.events.Race.{ends}
-use Rattle.shb_nearest.specs.Found.{ends_of}
+use Rattle.shb_scan.proofs.Words.{ends, ends_of}
 use Rattle.shb_scan.proofs.stored.pairs_of.Given as goal
 
 abbrev pub invariant-loop-race : goal.invariant-loop-race

@@ -1,4 +1,4 @@
-use Rattle.std.specs.Option.{option_copied}
+use Rattle.shb_scan.proofs.Words.{option_copied}
 use Rattle.shb_scan.proofs.FoundNames.{line_is}
 use Rattle.shb_scan.proofs.writing.access_text.Goals as goal
 

@@ -1,7 +1,6 @@
 -- The events are those of the race, with the lines that the trace has.
 use Rattle.std.proofs.Common.{None, subst}
-use Rattle.shb_io.specs.Devices.{Writes}
-use Rattle.shb_format.specs.Report.{block_bytes}
+use Rattle.shb_scan.proofs.Words.{Writes, block_bytes}
 use Rattle.shb_scan.proofs.writing.write_race.Goals as goal
 
 pub returns-clause-written : goal.returns-clause-written

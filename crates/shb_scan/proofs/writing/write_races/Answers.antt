@@ -1,12 +1,6 @@
 -- Each block is written after those before it.
 use Rattle.std.proofs.Common.{rules, ◌+◌, List, None, drop, false, get_or, map, subst, take}
-use Rattle.std.specs.Io.KnownBytes.{Appends}
-use Rattle.shb_io.specs.Devices.{AppendsPrefix}
-use Rattle.shb_io.proofs.Growth.{Appends-trans, AppendsPrefix-after, AppendsPrefix-front, Writes-err}
-use Rattle.shb_format.specs.Report.{block_bytes}
-use Rattle.shb_nearest.specs.Found.{ends_of}
-use Rattle.shb_nearest.specs.declared.access.FoundAccess.{FoundAccess}
-use Rattle.shb_nearest.specs.declared.access.FoundRace.{FoundRace}
+use Rattle.shb_scan.proofs.Words.{Appends, Appends-trans, AppendsPrefix, AppendsPrefix-after, AppendsPrefix-front, FoundAccess, FoundRace, Writes-err, block_bytes, ends_of}
 use Rattle.shb_scan.proofs.RaceBlocks.{blocks-next, blocks-split, blocks_at, race_blocks}
 use Rattle.shb_scan.proofs.writing.write_races.Goals as goal
 

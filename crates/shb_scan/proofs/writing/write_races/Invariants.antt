@@ -1,8 +1,6 @@
 use Rattle.std.specs.Prelude.{All}
 use Rattle.std.proofs.Common.{◌≡◌, take}
-use Rattle.std.specs.Io.KnownBytes.{Appends}
-use Rattle.shb_lines.specs.text.TraceData.{TraceData}
-use Rattle.shb_scan.specs.FoundNames.{IsRaceMadeOf}
+use Rattle.shb_scan.proofs.Words.{Appends, IsRaceMadeOf, TraceData}
 use Rattle.shb_scan.proofs.RaceBlocks.{race_blocks}
 use Rattle.shb_scan.proofs.writing.write_races.Given as goal
 

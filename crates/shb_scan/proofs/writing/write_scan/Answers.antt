@@ -1,12 +1,7 @@
 -- The head, the places, the blocks and the tail.
 use Rattle.std.proofs.Common.{◌++◌, append_assoc, length, map, subst, sym}
-use Rattle.std.specs.Io.KnownBytes.{Appends}
-use Rattle.shb_io.specs.Devices.{AppendsPrefix, Writes}
-use Rattle.shb_io.proofs.Growth.{AppendsPrefix-after, AppendsPrefix-front, Writes-err, Writes-then}
-use Rattle.shb_format.specs.Places.{counts_in, section_bytes}
-use Rattle.shb_format.specs.Report.{counts_of, head_bytes, pair_of, tail_bytes}
-use Rattle.shb_nearest.specs.Found.{ends_of}
-use Rattle.shb_scan.specs.Scans.{places_in}
+use Rattle.shb_scan.proofs.Words.{Appends, AppendsPrefix, AppendsPrefix-after, AppendsPrefix-front, Writes, Writes-err, Writes-then, counts_of, ends_of, head_bytes, pair_of, places_in, section_bytes, tail_bytes}
+use Rattle.shb_format.specs.Places.{counts_in}
 use Rattle.shb_scan.proofs.RaceBlocks.{head_is, race_blocks}
 use Rattle.shb_scan.proofs.writing.write_scan.Goals as goal
 

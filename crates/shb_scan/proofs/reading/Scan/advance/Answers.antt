@@ -1,7 +1,6 @@
 -- Lines are taken up to the next event, which is noted.
 use Rattle.std.proofs.Common.{◌++◌, refl, sym, subst}
-use Rattle.shb_lines.specs.text.Taken.{HasTaken}
-use Rattle.shb_scan.specs.declared.reading.Scan.{Scan}
+use Rattle.shb_scan.proofs.Words.{HasTaken, Scan}
 use Rattle.shb_scan.proofs.Taking.{count_of, next_of}
 use Rattle.shb_scan.proofs.reading.Scan.advance.Goals as goal
 

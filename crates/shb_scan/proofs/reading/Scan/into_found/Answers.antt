@@ -1,12 +1,6 @@
 use Rattle.std.specs.Prelude.{All}
-use Rattle.std.specs.List.{IsDistinct}
-use Rattle.std.specs.Str.{bytes_eq}
+use Rattle.shb_scan.proofs.Words.{AreKeyed, FoundRace, IsDistinct, IsRaceLocated, TraceData, bytes_eq, places_in}
 use Rattle.std.proofs.Common.{ℕ, List, refl, subst}
-use Rattle.shb_lines.specs.text.TraceData.{TraceData}
-use Rattle.shb_format.specs.Keyed.{AreKeyed}
-use Rattle.shb_nearest.specs.declared.access.FoundRace.{FoundRace}
-use Rattle.shb_scan.specs.FoundNames.{IsRaceLocated}
-use Rattle.shb_scan.specs.Scans.{places_in}
 use Rattle.shb_scan.proofs.Places.{found_in}
 use Rattle.shb_scan.proofs.reading.Scan.into_found.Goals as goal
 

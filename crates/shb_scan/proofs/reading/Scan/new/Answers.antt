@@ -1,5 +1,5 @@
 -- Nothing was noted yet.
-use Rattle.shb_scan.specs.Limits.{scan_bounds}
+use Rattle.shb_scan.proofs.Words.{scan_bounds}
 use Rattle.shb_scan.proofs.Noted.{scanned_none}
 use Rattle.shb_scan.proofs.reading.Scan.new.Goals as goal
 

@@ -1,9 +1,6 @@
 -- The event and its spot are noted.
 use Rattle.std.proofs.Common.{◌++◌, ◌∷◌, [], refl, sym, subst, arith}
-use Rattle.std.specs.Str.Lines.{strip_carriage_return}
-use Rattle.shb_lines.specs.text.Numbering.{event_of}
-use Rattle.shb_discipline.specs.State.{IsStateAfter}
-use Rattle.shb_nearest.specs.Searched.{HasSearched}
+use Rattle.shb_scan.proofs.Words.{HasSearched, IsStateAfter, event_of, strip_carriage_return}
 use Rattle.shb_scan.proofs.Noted.{noted_more, on_ok}
 use Rattle.shb_scan.proofs.Pushes.{disciplined_push}
 use Rattle.shb_scan.proofs.reading.Scan.note.Goals as goal

@@ -1,7 +1,6 @@
 -- What each of the things that can be taken gives.
 use Rattle.std.proofs.Common.{Err, sym, subst}
-use Rattle.shb_scan.specs.declared.errors.ScanError.{ScanError}
-use Rattle.shb_scan.specs.Scans.{IsNext, IsStepped}
+use Rattle.shb_scan.proofs.Words.{IsNext, IsStepped, ScanError}
 use Rattle.shb_scan.proofs.Taking.{end_next, fault_next, nothing_next, step_next, undisciplined_next}
 use Rattle.shb_scan.proofs.reading.Scan.take.Goals as goal
 
