@@ -1,17 +1,12 @@
 -- The blocks of a report one after another, and that a trace has just one report.
 use Rattle.std.proofs.Common.{◌≡◌, ℕ, ◌+◌, ◌≤◌, Bool, true, false, List, [], ◌∷◌, ◌++◌, length, map, Option, None, Some, refl, sym, ap, subst, ◌∙◌, arith, append_assoc, append-nil, length-append}
 use Rattle.std.specs.Prelude.{All}
-use Rattle.std.proofs.lemmas.List.Elements.{All-nil, All-cons, All-head, All-tail}
+use Rattle.shb_format.proofs.Words.{All-cons, All-head, All-nil, All-tail, AllRaces, AreBlocks, HasSchedule, IsPrintedSchedule, IsRaceList, IsReportOn, Pair, ShownRace, TraceData, block_bytes, blocks_from, ends, front_bytes, pair_of, tail_bytes}
 use Rattle.shb_lines.specs.declared.event.Event.{Event}
-use Rattle.shb_lines.specs.declared.event.Pair.{Pair}
 use Rattle.shb_lines.specs.events.Discipline.{IsDisciplined}
-use Rattle.shb_lines.specs.events.Race.{IsRaceList, ends}
-use Rattle.shb_lines.specs.events.Schedule.{IsPrintedSchedule}
-use Rattle.shb_lines.specs.text.TraceData.{TraceData}
 use Rattle.shb_lines.proofs.events.Decide.{printed_exists}
 use Rattle.shb_lines.proofs.events.RaceLists.{race_list_unique}
 use Rattle.shb_lines.proofs.events.Increasing.{increasing_equal}
-use Rattle.shb_format.specs.Report.{AllRaces, AreBlocks, HasSchedule, IsReportOn, ShownRace, block_bytes, blocks_from, front_bytes, pair_of, tail_bytes}
 
 -- the pairs of some races that are shown
 abbrev pairs_of : List ShownRace → List (ℕ × ℕ)

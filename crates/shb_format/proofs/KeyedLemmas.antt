@@ -1,22 +1,13 @@
 -- Places by the numbers of their locations are the places of these locations.
-use Rattle.std.proofs.lemmas.Grind.{common_steps}
+use Rattle.shb_format.proofs.Words.{AllByRecursion, AreKeyed, IsDistinct, Key, Keyed, Pair, PlaceCount, PlaceOf, TraceData, bytes_eq, bytes_eq-Decides, common_steps, counted_of, counts_in, insert_key, list_any, location_at, places_after, same_key, with_keyed, with_new, with_one_more, with_pair}
 use Rattle.std.proofs.Common.{◌≡◌, ℕ, zero, suc, ◌+◌, ◌<◌, ◌≤◌, ◌&&◌, ◌++◌, Bool, true, false, cond, nat_eq, List, [], ◌∷◌, length, map, position, Option, None, Some, IfSome, is_some, slice_get, get_or, take, refl, sym, ap, subst, ◌∙◌, arith}
-use Rattle.std.specs.List.{AllByRecursion, IsDistinct, list_any}
 use Rattle.std.specs.Map.{keys_of}
-use Rattle.std.specs.Str.{bytes_eq}
 use Rattle.std.proofs.lemmas.Bool.Decides.{eqb_tells}
-use Rattle.std.proofs.lemmas.Slice.Eq.{bytes_eq-Decides}
 use Rattle.indexmap.specs.IndexMap.{insert_entry, set_value_at}
-use Rattle.indexmap.specs.IndexSet.{insert_key}
 use Rattle.indexmap.proofs.MapLemmas.{Found-position, insert_entry-first}
-use Rattle.shb_lines.specs.declared.event.Pair.{Pair}
-use Rattle.shb_lines.specs.text.TraceData.{TraceData}
 use Rattle.shb_lines.proofs.text.Numbers.{one_number}
-use Rattle.shb_format.specs.Keyed.{AreKeyed, Key, Keyed, counted_of, same_key, with_keyed, with_new}
-use Rattle.shb_format.specs.Places.{PlaceOf, counts_in, location_at, places_after, with_one_more, with_pair}
 use Rattle.shb_format.proofs.Numbered.{still_different}
 use Rattle.shb_format.proofs.PlaceLemmas.{one_pair_more, places_after_few}
-use Rattle.shb_format.specs.declared.places.PlaceCount.{PlaceCount}
 
 -- two numbers are equal exactly if their locations are
 same_number : (locations : List (List ℕ)) (a b : ℕ) (x y : List ℕ) → IsDistinct bytes_eq locations → slice_get locations a ≡ Some x → slice_get locations b ≡ Some y → bytes_eq x y ≡ nat_eq a b

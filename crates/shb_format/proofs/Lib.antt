@@ -5,3 +5,4 @@ pub mod Numbered
 pub mod KeyedLemmas
 pub mod PlaceLemmas
 pub mod WrittenText
+mod Words

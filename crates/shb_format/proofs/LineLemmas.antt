@@ -1,6 +1,6 @@
 -- The text of some lines, and the lines of some places and blocks, one part after another.
 use Rattle.std.proofs.Common.{◌≡◌, ℕ, ◌+◌, List, [], ◌∷◌, ◌++◌, length, take, refl, sym, ap, ◌∙◌, arith, append_assoc}
-use Rattle.shb_format.specs.Value.{Block, Place, block_lines, lines_text, place_lines}
+use Rattle.shb_format.proofs.Words.{Block, Place, block_lines, lines_text, place_lines}
 
 pub lines_text-append : (front last : List (List ℕ)) → lines_text (front ++ last) ≡ lines_text front ++ lines_text last
 lines_text-append [] last = refl

@@ -1,15 +1,9 @@
 -- Locations and their numbers.
-use Rattle.std.proofs.lemmas.Grind.{common_steps}
+use Rattle.shb_format.proofs.Words.{IsDistinct, TextKey, bytes_eq, common_steps, get_or_from_slice_get, insert_key, list_any, map-append, slice_get_within}
 use Rattle.std.proofs.Common.{◌≡◌, ◌||◌, ◌++◌, ℕ, Bool, true, false, cond, List, [], ◌∷◌, Some, map, slice_get, refl, ap, arith}
 use Rattle.std.specs.Cmp.Lexicographic.{nat_list_eq_equiv}
-use Rattle.std.specs.List.{IsDistinct, list_any}
-use Rattle.std.specs.Str.{bytes_eq}
-use Rattle.std.proofs.lemmas.List.{map-append}
 use Rattle.std.proofs.lemmas.Map.Keys.{IsDistinct-push}
 use Rattle.std.proofs.lemmas.Map.Views.{list_any-from_Contains}
-use Rattle.std.proofs.lemmas.Option.{get_or_from_slice_get, slice_get_within}
-use Rattle.indexmap.specs.IndexSet.{insert_key}
-use Rattle.shb_lines.specs.declared.hashing.TextKey.{TextKey}
 
 -- the texts of the locations in a table, by number
 abbrev pub locations_in : List TextKey → List (List ℕ)

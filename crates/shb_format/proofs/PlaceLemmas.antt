@@ -1,18 +1,10 @@
 -- What a table of places does with a pair.
-use Rattle.std.proofs.lemmas.Grind.{common_steps}
+use Rattle.shb_format.proofs.Words.{AllByRecursion, IsPairOf, IsPlaceOf, Pair, PlaceCount, PlaceOf, TraceData, bytes_eq, common_steps, counts_in, location_at, location_of, option_copied, option_map, places_after, places_of_pairs, take_more, unwrap_or, with_one_more, with_pair}
 use Rattle.std.specs.Prelude.{All}
 use Rattle.std.proofs.Common.{◌≡◌, ℕ, zero, suc, ◌+◌, ◌<◌, ◌≤◌, ◌&&◌, Bool, true, false, cond, List, [], ◌∷◌, length, get_or, take, Option, None, Some, IfSome, arith}
 use Rattle.std.specs.Borrow.{Bor}
-use Rattle.std.specs.List.{AllByRecursion}
-use Rattle.std.specs.Option.{option_copied, option_map, unwrap_or}
-use Rattle.std.proofs.lemmas.List.{take_more}
 use Rattle.std.proofs.lemmas.List.Sums.{fold-append}
-use Rattle.shb_lines.specs.text.TraceData.{TraceData, location_of}
 use Rattle.shb_format.proofs.EachLemmas.{each-weaker}
-use Rattle.std.specs.Str.{bytes_eq}
-use Rattle.shb_lines.specs.declared.event.Pair.{Pair}
-use Rattle.shb_format.specs.declared.places.PlaceCount.{PlaceCount}
-use Rattle.shb_format.specs.Places.{IsPairOf, IsPlaceOf, PlaceOf, counts_in, location_at, places_after, places_of_pairs, with_one_more, with_pair}
 
 pub copied_few : (limit : ℕ) (found : Option (Bor PlaceCount)) → IfSome (option_copied found) (λ counted. counted.count < limit) → IfSome found (λ counted. counted.now.count < limit)
 copied_few limit None h = tt

@@ -1,16 +1,7 @@
 -- The bytes that the writer puts together are the text of a report.
-use Rattle.std.proofs.lemmas.Grind.{common_steps}
+use Rattle.shb_format.proofs.Words.{All-head, All-tail, AllRaces, HasSchedule, IsPrintedSchedule, IsRaceList, IsReportOn, ShownRace, TraceData, block_bytes, block_lines, block_of, blocks_from, common_steps, counts_in, length-map, lines_text, pair_of, places_of_pairs, places_section, report_text, section_bytes, shown_places, written_report}
 use Rattle.std.proofs.Common.{◌≡◌, ℕ, ◌+◌, true, List, [], ◌∷◌, ◌++◌, map, codes, Option, None, Some, refl, sym, ap, subst, ◌∙◌, append_assoc, arith}
 use Rattle.std.specs.Prelude.{All, IsSomeAnd}
-use Rattle.std.proofs.lemmas.List.{length-map}
-use Rattle.std.proofs.lemmas.List.Elements.{All-head, All-tail}
-use Rattle.shb_lines.specs.text.TraceData.{TraceData}
-use Rattle.shb_lines.specs.events.Race.{IsRaceList}
-use Rattle.shb_lines.specs.events.Schedule.{IsPrintedSchedule}
-use Rattle.shb_format.specs.Places.{counts_in, places_of_pairs, section_bytes, shown_places}
-use Rattle.shb_format.specs.Report.{AllRaces, HasSchedule, IsReportOn, ShownRace, block_bytes, blocks_from, pair_of}
-use Rattle.shb_format.specs.Writing.{block_of, written_report}
-use Rattle.shb_format.specs.Value.{block_lines, lines_text, places_section, report_text}
 use Rattle.shb_format.proofs.LineLemmas.{lines_text-append}
 
 abbrev section_lines : TraceData → List (ℕ × ℕ) → List (List ℕ)

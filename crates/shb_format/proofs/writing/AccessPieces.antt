@@ -1,12 +1,7 @@
 -- The pieces of a block of accesses, one after another, are its lines.
 use Rattle.std.proofs.Common.{◌≡◌, ◌+◌, ℕ, List, ◌∷◌, ◌++◌, codes, None, ap, sym, ◌∙◌, append_assoc, append-nil}
-use Rattle.std.specs.Option.{option_copied}
+use Rattle.shb_format.proofs.Words.{HasLineOf, TraceData, access_kind, access_line, barred, block_bytes, event_lines, labelled_line, line_of_event, option_copied, race_numbers_line}
 use Rattle.shb_lines.specs.text.Grammar.{word_of}
-use Rattle.shb_lines.specs.text.TraceData.{TraceData, barred}
-use Rattle.shb_format.specs.AccessText.{HasLineOf, access_kind, access_line}
-use Rattle.shb_format.specs.Report.{block_bytes, line_of_event}
-use Rattle.shb_format.specs.Value.{race_numbers_line}
-use Rattle.shb_format.specs.Writing.{event_lines, labelled_line}
 use Rattle.shb_format.specs.declared.writing.access_writer.AccessText.{AccessText}
 use Rattle.shb_format.proofs.writing.BlockText.{block_is}
 

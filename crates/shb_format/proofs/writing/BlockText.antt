@@ -1,12 +1,6 @@
 -- The pieces of a block, one after another, are its lines.
-use Rattle.std.proofs.lemmas.Grind.{common_steps}
+use Rattle.shb_format.proofs.Words.{TraceData, block_bytes, common_steps, decimal, event_lines, event_numbers, length-map, lines_text, listed, race_numbers_line, schedule_lines, schedule_start}
 use Rattle.std.proofs.Common.{◌≡◌, ℕ, ◌+◌, List, [], ◌∷◌, ◌++◌, length, map, codes, Option, Some, refl, sym, ap, ◌∙◌, append_assoc, arith}
-use Rattle.std.specs.Fmt.{decimal}
-use Rattle.std.proofs.lemmas.List.{length-map}
-use Rattle.shb_lines.specs.text.TraceData.{TraceData}
-use Rattle.shb_format.specs.Writing.{event_lines, event_numbers, schedule_start}
-use Rattle.shb_format.specs.Report.{block_bytes, schedule_lines}
-use Rattle.shb_format.specs.Value.{lines_text, listed, race_numbers_line}
 
 numbers_are : (events : List ℕ) → event_numbers events ≡ listed (map (λ event. event + 1) events)
 numbers_are [] = refl

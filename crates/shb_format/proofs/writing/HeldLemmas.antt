@@ -1,11 +1,7 @@
 -- Text put after what is held back, one piece after another.
 use Rattle.std.proofs.Common.{◌≡◌, ◌+◌, ◌<◌, List, [], ◌∷◌, ◌++◌, ℕ, length, get_or, take, drop, Option, Result, Ok, Err, flat_map, IsErrAnd, OnOk, OnErr, sym, ap, ◌∙◌, subst, append_assoc, append-nil, take-append-drop}
-use Rattle.std.proofs.lemmas.List.{take_more}
-use Rattle.std.proofs.lemmas.List.Concat.{flat_map-append}
+use Rattle.shb_format.proofs.Words.{Appends-trans, AppendsPrefix, AppendsPrefix-after, AppendsPrefix-front, HoldsBack, HoldsBack-push, HoldsBack-trans, Puts, flat_map-append, take_more}
 use Rattle.std.specs.Io.KnownBytes.{Appends}
-use Rattle.shb_io.specs.Devices.{AppendsPrefix, HoldsBack}
-use Rattle.shb_io.proofs.Growth.{Appends-trans, AppendsPrefix-front, AppendsPrefix-after, HoldsBack-push, HoldsBack-trans}
-use Rattle.shb_format.specs.Writing.{Puts}
 
 -- xs, and then ys
 pub HoldsBack-then : (a b c : Option (List ℕ)) (held mid now xs ys : List ℕ) → HoldsBack a b mid (held ++ xs) → HoldsBack b c now (mid ++ ys) → HoldsBack a c now (held ++ (xs ++ ys))

@@ -1,15 +1,6 @@
 -- The lines of places in a table, whose locations have names, are those of the places of a trace's pairs.
 use Rattle.std.proofs.Common.{◌≡◌, ℕ, zero, suc, ◌+◌, ◌<◌, ◌&&◌, Bool, true, false, cond, List, [], ◌∷◌, length, get_or, Some, slice_get, refl, sym, ap, subst, ◌∙◌, arith}
-use Rattle.std.specs.List.{AllByRecursion}
-use Rattle.std.specs.Str.{bytes_eq}
-use Rattle.std.proofs.lemmas.List.{length-map}
-use Rattle.std.proofs.lemmas.Option.{slice_get_within}
-use Rattle.shb_lines.specs.declared.event.Pair.{Pair}
-use Rattle.shb_lines.specs.text.TraceData.{TraceData}
-use Rattle.shb_format.specs.declared.places.PlaceCount.{PlaceCount}
-use Rattle.shb_format.specs.Keyed.{AreKeyed, IsKeyed, Keyed}
-use Rattle.shb_format.specs.Places.{PlaceOf, counts_in, location_at, place_bytes, places_after, places_of_pairs, with_one_more, with_pair}
-use Rattle.shb_format.specs.Writing.{place_text}
+use Rattle.shb_format.proofs.Words.{AllByRecursion, AreKeyed, IsKeyed, Keyed, Pair, PlaceCount, PlaceOf, TraceData, bytes_eq, counts_in, length-map, location_at, place_bytes, place_text, places_after, places_of_pairs, slice_get_within, with_one_more, with_pair}
 use Rattle.shb_format.proofs.EachLemmas.{each_at}
 use Rattle.shb_format.proofs.writing.PlaceText.{place_is}
 

@@ -1,13 +1,6 @@
 -- The lines of places, one place after another.
-use Rattle.std.proofs.lemmas.Grind.{common_steps}
+use Rattle.shb_format.proofs.Words.{Place, PlaceCount, TraceData, common_steps, decimal, labelled_line, length-map, lines_text, map-append, place_bytes, place_line, place_lines, place_text, places_bytes, section_bytes, shown_place, shown_places, take_more}
 use Rattle.std.proofs.Common.{◌≡◌, ℕ, ◌+◌, ◌<◌, List, [], ◌∷◌, ◌++◌, length, get_or, take, drop, codes, sym, ap, ◌∙◌, arith, append_assoc, take-append-drop, length-take}
-use Rattle.std.proofs.lemmas.List.{length-map, map-append, take_more}
-use Rattle.std.specs.Fmt.{decimal}
-use Rattle.shb_lines.specs.text.TraceData.{TraceData}
-use Rattle.shb_format.specs.declared.places.PlaceCount.{PlaceCount}
-use Rattle.shb_format.specs.Writing.{labelled_line, place_text}
-use Rattle.shb_format.specs.Places.{place_bytes, places_bytes, section_bytes, shown_place, shown_places}
-use Rattle.shb_format.specs.Value.{Place, lines_text, place_line, place_lines}
 use Rattle.shb_format.proofs.LineLemmas.{lines_text-append, place_lines-append}
 
 -- a line after its label

@@ -1,16 +1,10 @@
 -- The numbers of consecutive events.
-use Rattle.std.proofs.lemmas.Grind.{common_steps}
+use Rattle.shb_format.proofs.Words.{HasNumbers, Run, common_steps, event_number, event_numbers, first_numbers, flat_map-append, get_or_push, get_or_read, length_push, positions_in, range_with_len, run_positions, slice_range}
 use Rattle.std.proofs.Common.{◌≡◌, ℕ, ◌+◌, ◌-◌, ◌<◌, ◌≤◌, List, [], ◌∷◌, ◌++◌, length, get_or, take, drop, refl, sym, ap, ◌∙◌, arith, append_assoc, append-nil, length-append, take-append-drop}
-use Rattle.std.specs.List.{range_with_len, slice_range}
 use Rattle.std.proofs.lemmas.Bool.{cases_lt}
-use Rattle.std.proofs.lemmas.List.{get_or_push, get_or_read, length_push}
-use Rattle.std.proofs.lemmas.List.Concat.{flat_map-append}
 use Rattle.std.proofs.Math.ListN.{get_or-append}
 use Rattle.std.proofs.Math.Seq.{drop-append_seam, take-append_seam}
-use Rattle.shb_positions.specs.declared.positions.Run.{Run}
-use Rattle.shb_positions.specs.Runs.{positions_in, run_positions}
 use Rattle.shb_positions.proofs.RunLemmas.{range_split}
-use Rattle.shb_format.specs.Writing.{HasNumbers, event_number, event_numbers, first_numbers}
 use Rattle.shb_format.proofs.writing.HeldLemmas.{texts-next}
 
 numbers_split : (a m n b k : ℕ) → a + m ≡ b → m + n ≡ k → event_numbers (range_with_len a k) ≡ event_numbers (range_with_len a m) ++ event_numbers (range_with_len b n)

@@ -1,4 +1,4 @@
-use Rattle.shb_format.specs.Report.{AllRaces}
+use Rattle.shb_format.proofs.Words.{AllRaces}
 use Rattle.shb_format.proofs.Blocks.{IsReportOn-unique, one_race_list}
 use Rattle.shb_format.proofs.laws.report_is_unique.Goals as goal
 

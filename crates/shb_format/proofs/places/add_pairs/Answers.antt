@@ -1,6 +1,6 @@
 -- Each pair is counted in its turn.
 use Rattle.std.proofs.Common.{◌-◌, ◌^◌, arith, List}
-use Rattle.shb_lines.specs.declared.event.Pair.{Pair}
+use Rattle.shb_format.proofs.Words.{Pair}
 use Rattle.shb_format.proofs.KeyedLemmas.{few_so_far, next_keyed}
 use Rattle.shb_format.proofs.PlaceLemmas.{located}
 use Rattle.shb_format.proofs.places.add_pairs.Goals as goal

@@ -1,9 +1,6 @@
 -- The table has the places of the pairs so far.
 use Rattle.std.proofs.Common.{[], take}
-use Rattle.std.specs.List.{IsDistinct}
-use Rattle.std.specs.Str.{bytes_eq}
-use Rattle.shb_format.specs.Keyed.{AreKeyed}
-use Rattle.shb_format.specs.Places.{places_after}
+use Rattle.shb_format.proofs.Words.{AreKeyed, IsDistinct, bytes_eq, places_after}
 use Rattle.shb_format.proofs.places.add_pairs.Given as goal
 
 abbrev pub invariant-loop-pair : goal.invariant-loop-pair

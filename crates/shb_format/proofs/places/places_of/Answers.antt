@@ -1,7 +1,6 @@
 -- Each place's pair is one of the pairs.
-use Rattle.std.proofs.lemmas.Grind.{common_steps}
+use Rattle.shb_format.proofs.Words.{common_steps, places_of_pairs}
 use Rattle.std.proofs.Common.{◌∙◌, All, arith}
-use Rattle.shb_format.specs.Places.{places_of_pairs}
 use Rattle.shb_format.proofs.KeyedLemmas.{keyed_counts}
 use Rattle.shb_format.proofs.PlaceLemmas.{places_in_range}
 use Rattle.shb_format.proofs.places.places_of.Goals as goal

@@ -1,7 +1,5 @@
-use Rattle.std.proofs.lemmas.Grind.{common_steps}
+use Rattle.shb_format.proofs.Words.{bytes_eq-Decides, common_steps, slice_get-map}
 use Rattle.std.proofs.Common.{option_map, arith}
-use Rattle.std.proofs.lemmas.Option.{slice_get-map}
-use Rattle.std.proofs.lemmas.Slice.Eq.{bytes_eq-Decides}
 use Rattle.shb_format.proofs.locations.Locations.guessed.Goals as goal
 
 pub returns-then-eq : goal.returns-then-eq

@@ -1,7 +1,6 @@
 use Rattle.std.proofs.Common.{List, [], sym, subst}
 use Rattle.std.specs.List.{IsDistinct}
-use Rattle.std.specs.Str.{bytes_eq}
-use Rattle.shb_lines.specs.declared.hashing.TextKey.{TextKey}
+use Rattle.shb_format.proofs.Words.{TextKey, bytes_eq}
 use Rattle.shb_format.proofs.Numbered.{locations_in}
 use Rattle.shb_format.proofs.locations.Locations.new.Goals as goal
 

@@ -1,8 +1,6 @@
 -- A set puts a new location last and keeps a known one.
-use Rattle.std.proofs.lemmas.Grind.{common_steps}
+use Rattle.shb_format.proofs.Words.{bytes_eq-Decides, common_steps, slice_get-map}
 use Rattle.std.proofs.Common.{option_map, arith, sym}
-use Rattle.std.proofs.lemmas.Option.{slice_get-map}
-use Rattle.std.proofs.lemmas.Slice.Eq.{bytes_eq-Decides}
 use Rattle.shb_format.proofs.Numbered.{inserted, known_stay, still_different}
 use Rattle.shb_format.proofs.locations.Locations.number_of.Goals as goal
 

@@ -1,6 +1,5 @@
 use Rattle.std.proofs.Common.{◌∙◌, ◌<◌, ◌-◌, ◌^◌, ap, subst, sym, IfSome, List, Option}
-use Rattle.shb_format.specs.declared.places.PlaceCount.{PlaceCount}
-use Rattle.shb_format.specs.Keyed.{Keyed, counted_of}
+use Rattle.shb_format.proofs.Words.{Keyed, PlaceCount, counted_of}
 use Rattle.shb_format.proofs.PlaceLemmas.{copied_few}
 use Rattle.shb_format.proofs.places.PlaceTable.add.Goals as goal
 

@@ -1,8 +1,6 @@
 -- A write where the numbers stand.
-use Rattle.std.proofs.lemmas.Grind.{common_steps}
+use Rattle.shb_format.proofs.Words.{Keyed, PlaceCount, common_steps, counted_of}
 use Rattle.std.proofs.Common.{◌≡◌, ◌+◌, ◌<◌, ◌^◌, ◌∙◌, ap, arith, sym, subst, IfSome, List, Option, Some}
-use Rattle.shb_format.specs.declared.places.PlaceCount.{PlaceCount}
-use Rattle.shb_format.specs.Keyed.{Keyed, counted_of}
 use Rattle.shb_format.proofs.KeyedLemmas.{written_at}
 use Rattle.shb_format.proofs.places.PlaceTable.add_many.Goals.{in-Some-get_index_mut, in_default-get_index_mut}
 use Rattle.shb_format.proofs.places.PlaceTable.add_many.Goals as goal

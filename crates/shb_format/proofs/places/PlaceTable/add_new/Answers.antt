@@ -1,6 +1,6 @@
 -- Numbers that have no place are put last.
 use Rattle.std.proofs.Common.{◌≡◌, ◌∙◌, ap, false, is_some, List}
-use Rattle.shb_format.specs.Keyed.{Keyed, counted_of, with_new}
+use Rattle.shb_format.proofs.Words.{Keyed, counted_of, with_new}
 use Rattle.shb_format.proofs.KeyedLemmas.{put_new}
 use Rattle.shb_format.proofs.places.PlaceTable.add_new.Goals as goal
 

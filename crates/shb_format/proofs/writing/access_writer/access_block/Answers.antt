@@ -1,6 +1,5 @@
 use Rattle.std.proofs.Common.{◌++◌, subst}
-use Rattle.shb_io.specs.Devices.{Writes}
-use Rattle.shb_io.proofs.Growth.{HoldsBack-end, Writes-both, Writes-err}
+use Rattle.shb_format.proofs.Words.{HoldsBack-end, Writes, Writes-both, Writes-err}
 use Rattle.shb_format.proofs.writing.AccessPieces.{access_block_is, access_lines}
 use Rattle.shb_format.proofs.writing.access_writer.access_block.Goals as goal
 

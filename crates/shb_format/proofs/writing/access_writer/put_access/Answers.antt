@@ -1,6 +1,5 @@
 use Rattle.std.proofs.Common.{◌++◌, List, ℕ, codes}
-use Rattle.std.specs.Option.{option_copied}
-use Rattle.shb_lines.specs.text.TraceData.{barred}
+use Rattle.shb_format.proofs.Words.{barred, option_copied}
 use Rattle.shb_format.proofs.writing.HeldLemmas.{Puts-as, Puts-second_failed, Puts-three}
 use Rattle.shb_format.proofs.writing.AccessPieces.{access_pieces}
 use Rattle.shb_format.proofs.writing.access_writer.put_access.Goals as goal

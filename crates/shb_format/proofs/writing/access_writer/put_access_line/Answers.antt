@@ -1,5 +1,5 @@
 use Rattle.std.proofs.Common.{codes}
-use Rattle.shb_format.specs.AccessText.{access_line}
+use Rattle.shb_format.proofs.Words.{access_line}
 use Rattle.shb_format.proofs.writing.HeldLemmas.{Puts-second_failed, Puts-three}
 use Rattle.shb_format.proofs.writing.access_writer.put_access_line.Goals as goal
 

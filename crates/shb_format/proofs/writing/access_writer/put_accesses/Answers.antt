@@ -1,6 +1,5 @@
 use Rattle.std.proofs.Common.{◌++◌, codes}
-use Rattle.shb_format.specs.AccessText.{access_line}
-use Rattle.shb_format.specs.Writing.{labelled_line}
+use Rattle.shb_format.proofs.Words.{access_line, labelled_line}
 use Rattle.shb_format.proofs.writing.HeldLemmas.{PutsPrefix-front, Puts-then, Puts-err}
 use Rattle.shb_format.proofs.writing.access_writer.put_accesses.Goals as goal
 

@@ -1,6 +1,5 @@
 use Rattle.std.proofs.Common.{codes, ap, sym}
-use Rattle.std.specs.Option.{option_copied}
-use Rattle.shb_lines.specs.text.TraceData.{barred}
+use Rattle.shb_format.proofs.Words.{barred, option_copied}
 use Rattle.shb_format.proofs.writing.HeldLemmas.{Puts-as, Puts-then}
 use Rattle.shb_format.proofs.writing.access_writer.put_barred.Goals as goal
 

@@ -1,6 +1,5 @@
 use Rattle.std.proofs.Common.{codes}
-use Rattle.std.specs.Option.{option_copied}
-use Rattle.shb_lines.specs.text.TraceData.{barred}
+use Rattle.shb_format.proofs.Words.{barred, option_copied}
 use Rattle.shb_format.proofs.writing.HeldLemmas.{Puts-second_failed, Puts-three}
 use Rattle.shb_format.proofs.writing.access_writer.put_operation.Goals as goal
 

@@ -1,5 +1,5 @@
 use Rattle.std.proofs.Common.{arith}
-use Rattle.std.proofs.lemmas.Fmt.{length-decimal-le}
+use Rattle.shb_format.proofs.Words.{length-decimal-le}
 use Rattle.shb_format.proofs.writing.DigitLemmas.{length_more}
 use Rattle.shb_format.proofs.writing.buffer.digit_count.Goals as goal
 

@@ -1,5 +1,5 @@
 use Rattle.std.proofs.Common.{◌≡◌, ◌+◌, length}
-use Rattle.std.specs.Fmt.{decimal}
+use Rattle.shb_format.proofs.Words.{decimal}
 use Rattle.shb_format.proofs.writing.buffer.digit_count.Given as goal
 
 abbrev pub invariant-loop-left : goal.invariant-loop-left

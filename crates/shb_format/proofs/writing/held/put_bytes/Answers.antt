@@ -1,4 +1,4 @@
-use Rattle.std.proofs.lemmas.Grind.{common_steps}
+use Rattle.shb_format.proofs.Words.{common_steps}
 use Rattle.std.proofs.Common.{arith}
 use Rattle.shb_format.proofs.writing.HeldLemmas.{Puts-sent}
 use Rattle.shb_format.proofs.writing.held.put_bytes.Goals as goal

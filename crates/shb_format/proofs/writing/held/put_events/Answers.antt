@@ -1,7 +1,5 @@
-use Rattle.std.proofs.lemmas.Grind.{common_steps}
+use Rattle.shb_format.proofs.Words.{AppendsPrefix, common_steps, event_number, event_numbers}
 use Rattle.std.proofs.Common.{◌++◌, ◌+◌, get_or, take, drop, subst, arith}
-use Rattle.shb_io.specs.Devices.{AppendsPrefix}
-use Rattle.shb_format.specs.Writing.{event_number, event_numbers}
 use Rattle.shb_format.proofs.writing.HeldLemmas.{HoldsBack-then, PutsPrefix-front, PutsPrefix-after, Puts-err, texts-next, texts-split}
 use Rattle.shb_format.proofs.writing.held.put_events.Goals as goal
 

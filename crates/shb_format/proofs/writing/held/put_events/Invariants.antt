@@ -1,6 +1,5 @@
 use Rattle.std.proofs.Common.{◌≡◌, ◌++◌, take}
-use Rattle.shb_io.specs.Devices.{HoldsBack}
-use Rattle.shb_format.specs.Writing.{event_numbers}
+use Rattle.shb_format.proofs.Words.{HoldsBack, event_numbers}
 use Rattle.shb_format.proofs.writing.held.put_events.Given as goal
 
 abbrev pub invariant-loop-event : goal.invariant-loop-event

@@ -1,4 +1,4 @@
-use Rattle.std.proofs.lemmas.Grind.{common_steps}
+use Rattle.shb_format.proofs.Words.{common_steps}
 use Rattle.std.proofs.Common.{◌++◌, codes, arith}
 use Rattle.shb_format.proofs.writing.HeldLemmas.{PutsPrefix-front, PutsPrefix-after, Puts-then, Puts-err}
 use Rattle.shb_format.proofs.writing.held.put_line.Goals as goal

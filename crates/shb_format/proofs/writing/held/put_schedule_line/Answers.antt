@@ -1,5 +1,5 @@
 use Rattle.std.proofs.Common.{◌++◌, length, codes}
-use Rattle.shb_format.specs.Writing.{event_numbers, schedule_start}
+use Rattle.shb_format.proofs.Words.{event_numbers, schedule_start}
 use Rattle.shb_format.proofs.writing.HeldLemmas.{PutsPrefix-front, PutsPrefix-after, Puts-as, Puts-then, Puts-err}
 use Rattle.shb_format.proofs.writing.BlockText.{schedule_is}
 use Rattle.shb_format.proofs.writing.held.put_schedule_line.Goals as goal

@@ -1,7 +1,5 @@
 use Rattle.std.proofs.Common.{rules, ◌++◌, ◌+◌, ◌-◌, subst, refl}
-use Rattle.std.specs.List.{range_with_len}
-use Rattle.shb_io.specs.Devices.{AppendsPrefix, HoldsBack}
-use Rattle.shb_format.specs.Writing.{event_number, event_numbers}
+use Rattle.shb_format.proofs.Words.{AppendsPrefix, HoldsBack, event_number, event_numbers, range_with_len}
 use Rattle.shb_format.proofs.writing.HeldLemmas.{HoldsBack-then, PutsPrefix-front, PutsPrefix-after, Puts-err}
 use Rattle.shb_format.proofs.writing.RunTexts.{numbers-next, numbers-split}
 use Rattle.shb_format.proofs.writing.held_runs.put_run_numbers.Goals as goal

@@ -1,7 +1,5 @@
 use Rattle.std.proofs.Common.{◌≡◌, ◌++◌}
-use Rattle.std.specs.List.{range_with_len}
-use Rattle.shb_io.specs.Devices.{HoldsBack}
-use Rattle.shb_format.specs.Writing.{event_numbers}
+use Rattle.shb_format.proofs.Words.{HoldsBack, event_numbers, range_with_len}
 use Rattle.shb_format.proofs.writing.held_runs.put_run_numbers.Given as goal
 
 abbrev pub invariant-loop-k : goal.invariant-loop-k

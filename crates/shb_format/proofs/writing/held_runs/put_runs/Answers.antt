@@ -1,9 +1,5 @@
-use Rattle.std.proofs.lemmas.Grind.{common_steps}
+use Rattle.shb_format.proofs.Words.{AppendsPrefix, Run, common_steps, event_numbers, positions_in, run_positions}
 use Rattle.std.proofs.Common.{◌++◌, ◌+◌, get_or, take, drop, subst, arith}
-use Rattle.shb_io.specs.Devices.{AppendsPrefix}
-use Rattle.shb_positions.specs.declared.positions.Run.{Run}
-use Rattle.shb_positions.specs.Runs.{positions_in, run_positions}
-use Rattle.shb_format.specs.Writing.{event_numbers}
 use Rattle.shb_format.proofs.writing.HeldLemmas.{HoldsBack-then, PutsPrefix-front, PutsPrefix-after, Puts-err}
 use Rattle.shb_format.proofs.writing.RunTexts.{runs-next, runs-split}
 use Rattle.shb_format.proofs.writing.held_runs.put_runs.Goals as goal

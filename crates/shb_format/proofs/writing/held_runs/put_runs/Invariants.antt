@@ -1,7 +1,5 @@
 use Rattle.std.proofs.Common.{◌≡◌, ◌++◌, take}
-use Rattle.shb_io.specs.Devices.{HoldsBack}
-use Rattle.shb_positions.specs.Runs.{positions_in}
-use Rattle.shb_format.specs.Writing.{event_numbers}
+use Rattle.shb_format.proofs.Words.{HoldsBack, event_numbers, positions_in}
 use Rattle.shb_format.proofs.writing.held_runs.put_runs.Given as goal
 
 abbrev pub invariant-loop-run : goal.invariant-loop-run

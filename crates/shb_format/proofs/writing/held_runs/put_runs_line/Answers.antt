@@ -1,6 +1,5 @@
 use Rattle.std.proofs.Common.{◌++◌, ap, length, codes, subst}
-use Rattle.shb_io.specs.Devices.{AppendsPrefix, HoldsBack}
-use Rattle.shb_format.specs.Writing.{event_numbers, schedule_start}
+use Rattle.shb_format.proofs.Words.{AppendsPrefix, HoldsBack, event_numbers, schedule_start}
 use Rattle.shb_format.proofs.writing.HeldLemmas.{PutsPrefix-front, PutsPrefix-after, Puts-as, Puts-then, Puts-err}
 use Rattle.shb_format.proofs.writing.BlockText.{schedule_is}
 use Rattle.shb_format.proofs.writing.held_runs.put_runs_line.Goals as goal

@@ -1,8 +1,6 @@
 -- The count, and the lines of the places.
 use Rattle.std.proofs.Common.{◌++◌, ◌∙◌, subst}
-use Rattle.shb_io.specs.Devices.{Writes}
-use Rattle.shb_io.proofs.Growth.{HoldsBack-end, Writes-both, Writes-err}
-use Rattle.shb_format.specs.Places.{counts_in, places_bytes, places_of_pairs}
+use Rattle.shb_format.proofs.Words.{HoldsBack-end, Writes, Writes-both, Writes-err, counts_in, places_bytes, places_of_pairs}
 use Rattle.shb_format.proofs.writing.NamedPlaces.{many_counts}
 use Rattle.shb_format.proofs.writing.PlaceText.{section_is}
 use Rattle.shb_format.proofs.writing.place_writer.named_place_lines.Goals as goal

@@ -1,7 +1,6 @@
 -- The count, and the lines of the places.
-use Rattle.std.proofs.lemmas.Grind.{common_steps}
+use Rattle.shb_format.proofs.Words.{HoldsBack-end, Writes-both, common_steps}
 use Rattle.std.proofs.Common.{arith}
-use Rattle.shb_io.proofs.Growth.{HoldsBack-end, Writes-both}
 use Rattle.shb_format.proofs.writing.PlaceText.{section_is}
 use Rattle.shb_format.proofs.writing.place_writer.place_lines.Goals as goal
 

@@ -1,10 +1,6 @@
 -- Each place is put after those before it.
-use Rattle.std.proofs.lemmas.List.{take_all}
+use Rattle.shb_format.proofs.Words.{AppendsPrefix, HoldsBack, PlaceCount, counts_in, lines_text, place_bytes, place_lines, places_bytes, places_of_pairs, shown_places, take_all}
 use Rattle.std.proofs.Common.{rules, ◌+◌, ◌++◌, List, ℕ, arith, drop, get_or, subst, take}
-use Rattle.shb_io.specs.Devices.{AppendsPrefix, HoldsBack}
-use Rattle.shb_format.specs.declared.places.PlaceCount.{PlaceCount}
-use Rattle.shb_format.specs.Places.{counts_in, place_bytes, places_bytes, places_of_pairs, shown_places}
-use Rattle.shb_format.specs.Value.{lines_text, place_lines}
 use Rattle.shb_format.proofs.writing.HeldLemmas.{HoldsBack-then, PutsPrefix-front, PutsPrefix-after, Puts-err}
 use Rattle.shb_format.proofs.writing.NamedPlaces.{count_within, key_within, many_counts, named_place}
 use Rattle.shb_format.proofs.writing.PlaceText.{places-next, places-split}

@@ -1,9 +1,5 @@
 use Rattle.std.proofs.Common.{◌≡◌, ◌++◌, List, take}
-use Rattle.shb_io.specs.Devices.{HoldsBack}
-use Rattle.shb_lines.specs.declared.event.Pair.{Pair}
-use Rattle.shb_lines.specs.text.TraceData.{TraceData}
-use Rattle.shb_format.specs.Keyed.{AreKeyed}
-use Rattle.shb_format.specs.Places.{counts_in, places_bytes, places_of_pairs}
+use Rattle.shb_format.proofs.Words.{AreKeyed, HoldsBack, Pair, TraceData, counts_in, places_bytes, places_of_pairs}
 use Rattle.shb_format.proofs.writing.place_writer.put_named_places.Given as goal
 
 abbrev pub invariant-loop-q : goal.invariant-loop-q

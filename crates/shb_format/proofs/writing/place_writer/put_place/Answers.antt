@@ -1,7 +1,6 @@
 -- The three lines, one after another.
 use Rattle.std.proofs.Common.{◌++◌, codes}
-use Rattle.shb_format.specs.Writing.{labelled_line}
-use Rattle.shb_format.specs.Value.{place_line}
+use Rattle.shb_format.proofs.Words.{labelled_line, place_line}
 use Rattle.shb_format.proofs.writing.HeldLemmas.{Puts-as, Puts-err, Puts-second_failed, Puts-three, PutsPrefix-front}
 use Rattle.shb_format.proofs.writing.PlaceText.{place_pieces}
 use Rattle.shb_format.proofs.writing.place_writer.put_place.Goals as goal

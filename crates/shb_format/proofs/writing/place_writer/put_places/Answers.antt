@@ -1,9 +1,6 @@
 -- Each place is put after those before it.
 use Rattle.std.proofs.Common.{rules, ◌+◌, ◌++◌, List, ℕ, drop, get_or, subst, take}
-use Rattle.shb_io.specs.Devices.{AppendsPrefix, HoldsBack}
-use Rattle.shb_format.specs.declared.places.PlaceCount.{PlaceCount}
-use Rattle.shb_format.specs.Places.{place_bytes, places_bytes, shown_places}
-use Rattle.shb_format.specs.Value.{lines_text, place_lines}
+use Rattle.shb_format.proofs.Words.{AppendsPrefix, HoldsBack, PlaceCount, lines_text, place_bytes, place_lines, places_bytes, shown_places}
 use Rattle.shb_format.proofs.PlaceLemmas.{located}
 use Rattle.shb_format.proofs.writing.HeldLemmas.{HoldsBack-then, PutsPrefix-front, PutsPrefix-after, Puts-err}
 use Rattle.shb_format.proofs.writing.PlaceText.{place_is, places-next, places-split}

@@ -1,6 +1,5 @@
 use Rattle.std.proofs.Common.{◌≡◌, ◌++◌, take}
-use Rattle.shb_io.specs.Devices.{HoldsBack}
-use Rattle.shb_format.specs.Places.{places_bytes}
+use Rattle.shb_format.proofs.Words.{HoldsBack, places_bytes}
 use Rattle.shb_format.proofs.writing.place_writer.put_places.Given as goal
 
 abbrev pub invariant-loop-k : goal.invariant-loop-k

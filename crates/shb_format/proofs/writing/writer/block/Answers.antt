@@ -1,10 +1,5 @@
 use Rattle.std.proofs.Common.{◌++◌, subst}
-use Rattle.std.specs.Option.{option_map}
-use Rattle.shb_io.specs.Devices.{Writes}
-use Rattle.shb_io.proofs.Growth.{HoldsBack-end, Writes-both, Writes-err}
-use Rattle.shb_format.specs.Writing.{event_lines}
-use Rattle.shb_format.specs.Report.{schedule_lines}
-use Rattle.shb_format.specs.Value.{lines_text}
+use Rattle.shb_format.proofs.Words.{HoldsBack-end, Writes, Writes-both, Writes-err, event_lines, lines_text, option_map, schedule_lines}
 use Rattle.shb_format.proofs.writing.BlockText.{block_is}
 use Rattle.shb_format.proofs.writing.HeldLemmas.{HoldsBack-then, PutsPrefix-front, PutsPrefix-after}
 use Rattle.shb_format.proofs.writing.writer.block.Goals as goal

@@ -1,6 +1,5 @@
-use Rattle.std.proofs.lemmas.Grind.{common_steps}
+use Rattle.shb_format.proofs.Words.{Writes-both, common_steps}
 use Rattle.std.proofs.Common.{arith}
-use Rattle.shb_io.proofs.Growth.{Writes-both}
 use Rattle.shb_format.proofs.writing.writer.head.Goals as goal
 
 pub returns-clause-written : goal.returns-clause-written

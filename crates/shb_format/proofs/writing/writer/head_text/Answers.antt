@@ -1,5 +1,5 @@
 use Rattle.std.proofs.Common.{◌≡◌, ℕ, List, [], ◌∷◌, ◌++◌, codes, ◌∙◌, append_assoc}
-use Rattle.std.specs.Fmt.{decimal}
+use Rattle.shb_format.proofs.Words.{decimal}
 use Rattle.shb_format.proofs.writing.writer.head_text.Goals as goal
 
 -- pieces that were pushed one after another

@@ -1,6 +1,5 @@
 use Rattle.std.proofs.Common.{◌++◌, codes}
-use Rattle.shb_format.specs.Writing.{labelled_line}
-use Rattle.shb_format.specs.Report.{line_of_event}
+use Rattle.shb_format.proofs.Words.{labelled_line, line_of_event}
 use Rattle.shb_format.proofs.writing.HeldLemmas.{PutsPrefix-front, Puts-then, Puts-err}
 use Rattle.shb_format.proofs.writing.writer.put_event_lines.Goals as goal
 

@@ -1,5 +1,5 @@
 use Rattle.std.proofs.Common.{◌*◌, ◌≤◌, length}
-use Rattle.shb_format.specs.Writing.{HasNumbers}
+use Rattle.shb_format.proofs.Words.{HasNumbers}
 use Rattle.shb_format.proofs.writing.number_texts.NumberTexts.of_first.Given as goal
 
 abbrev pub invariant-loop-event : goal.invariant-loop-event

@@ -1,4 +1,4 @@
-use Rattle.std.proofs.lemmas.Grind.{common_steps}
+use Rattle.shb_format.proofs.Words.{common_steps}
 use Rattle.std.proofs.Common.{arith}
 use Rattle.shb_format.proofs.writing.RunTexts.{numbers-part, part-rises, part-within}
 use Rattle.shb_format.proofs.writing.number_texts.NumberTexts.text_of.Goals as goal
