@@ -1,13 +1,8 @@
 -- The first bad line, by the forms, is the one that the definition names.
 use Rattle.std.proofs.Common.{◌⊎◌, inl, inr, Option, None, Some, IfSome, ◌≡◌, ℕ, zero, suc, ◌+◌, ◌-◌, ◌<◌, ◌≤◌, List, [], ◌∷◌, ◌++◌, length, take, drop, refl, sym, ap, subst, ◌∙◌, arith, append_assoc, append-nil, take-append-drop, length-append, length-take}
-use Rattle.std.proofs.Math.Seq.{take-append-add}
-use Rattle.std.proofs.lemmas.List.{take_all, take-append-le}
+use Rattle.shb_reading.proofs.Words.{BeginsReport, End, Form, IsBadFrom, IsBadLine, IsReportValue, IsTextOf, ReportValue, Takes, Version, lines_text, report_lines, report_text, take-append-add, take-append-le, take_all}
 use Rattle.std.proofs.lemmas.Bool.{cases_lt}
 use Rattle.std.specs.Io.KnownBytes.{Consumes, IsAtEnd}
-use Rattle.shb_reading.specs.Parts.{IsTextOf}
-use Rattle.shb_format.specs.Value.{IsReportValue, ReportValue, lines_text, report_lines, report_text}
-use Rattle.shb_reading.specs.Reading.{BeginsReport, IsBadLine}
-use Rattle.shb_reading.specs.Forms.{Form, Version, End, Takes, IsBadFrom}
 use Rattle.shb_reading.proofs.Machine.{after}
 use Rattle.shb_reading.proofs.Language.{ending, takes_all, takes_front}
 use Rattle.shb_reading.proofs.Values.{lines_of_value, value_of_lines}

@@ -1,16 +1,9 @@
 -- Digits read one after another, and the number that stands at the front of a text.
 use Rattle.std.specs.Borrow.{Bor}
 use Rattle.std.proofs.Common.{rules, Option, None, Some, MatchOption, ◌≡◌, ℕ, zero, suc, ◌+◌, ◌-◌, ◌*◌, ◌<◌, ◌≤◌, ◌^◌, Bool, true, false, List, [], ◌∷◌, ◌++◌, length, get_or, take, refl, sym, ap, subst, ◌∙◌, arith}
-use Rattle.std.specs.Fmt.{decimal}
-use Rattle.std.specs.List.{list_all}
-use Rattle.std.specs.Char.{is_ascii_digit, digit_value}
-use Rattle.std.specs.Str.Parse.{digits_value, digits_value_after}
-use Rattle.std.proofs.lemmas.List.{append_cancel_left, take_more}
-use Rattle.std.proofs.lemmas.List.Folds.{list_all_at}
+use Rattle.shb_reading.proofs.Words.{IsLabelled, Stops, append_cancel_left, decimal, decimal-digits_value, decimal_digit, decimal_is_IsNumeral, digit_value, digits_value, digits_value_after, first_decimal, is_ascii_digit, list_all, list_all_at, take_more}
 use Rattle.std.proofs.lemmas.Str.{digit_value_digit}
 use Rattle.std.proofs.lemmas.Str.Parse.{IsDigitsTest, IsNumeralModel, digits_value-take-le, numerals_by_value}
-use Rattle.std.proofs.lemmas.Fmt.{decimal_is_IsNumeral, decimal-digits_value, first_decimal, decimal_digit}
-use Rattle.shb_reading.specs.Lines.{Stops, IsLabelled}
 use Rattle.shb_reading.proofs.Fronts.{decimal_digits, digit_range, same_front}
 
 -- a digit more

@@ -1,21 +1,9 @@
 -- One block or place more.
 use Rattle.std.proofs.Common.{◌≡◌, Result, Ok, Err, IsErrAnd, ℕ, suc, ◌+◌, ◌-◌, ◌<◌, ◌≤◌, ◌^◌, List, [], ◌∷◌, ◌++◌, length, map, codes, take, drop, refl, sym, ap, subst, ◌∙◌, arith, append_assoc, length-append, length-drop}
-use Rattle.std.proofs.lemmas.List.{drop-append-le, length-map, map-append, map-id, take-append-le, take_all}
-use Rattle.std.proofs.Math.Seq.{drop-append_seam}
-use Rattle.std.specs.List.{AllByRecursion}
-use Rattle.shb_reading.specs.declared.position.Position.{Position}
+use Rattle.shb_reading.proofs.Words.{AddsShown, AllByRecursion, Block, Form, IfBad, IfStop, IsBlock, IsPlace, IsPlaceIn, IsRaceIn, IsRest, IsShown, IsSpanIn, PlaceEntry, Position, ReadsBlock, ReadsBlocks, ReadsPlace, ReadsPlaces, Span, TakesBlocks, TakesLine, block_at, block_forms, block_from, block_lines, block_lines-append, blocks_at, bytes_at, bytes_from, drop-append-le, drop-append_seam, each-push, each-weaker, joined, length-map, lines_text, map-append, map-id, numbers_line, place_forms, place_in_text, place_lines, place_lines-append, places_at, race_numbers_line, take-append-le, take_all}
 use Rattle.shb_reading.specs.declared.position.ReadStop.{ReadStop}
 use Rattle.shb_reading.specs.declared.position.ReadStop.TheVariants.{BadLine, Memory}
-use Rattle.shb_reading.specs.declared.parts.PlaceEntry.{PlaceEntry}
 use Rattle.shb_reading.specs.declared.parts.RaceEntry.{RaceEntry}
-use Rattle.shb_reading.specs.declared.parts.Span.{Span}
-use Rattle.shb_reading.specs.Forms.{Form, block_forms, place_forms}
-use Rattle.shb_reading.specs.Lines.{IfBad, IfStop, TakesLine, bytes_from}
-use Rattle.shb_reading.specs.Parts.{IsPlaceIn, IsRaceIn, IsSpanIn, ReadsBlock, ReadsBlocks, ReadsPlace, ReadsPlaces, TakesBlocks, block_at, block_from, blocks_at, bytes_at, place_in_text, places_at}
-use Rattle.shb_reading.specs.Lines.{AddsShown}
-use Rattle.shb_format.proofs.EachLemmas.{each-push, each-weaker}
-use Rattle.shb_format.proofs.LineLemmas.{block_lines-append, joined, place_lines-append}
-use Rattle.shb_format.specs.Value.{Block, IsBlock, IsPlace, IsRest, IsShown, block_lines, lines_text, numbers_line, place_lines, race_numbers_line}
 
 pub stop_weaker : (stop : ReadStop) (P Q : ℕ → Type 0) → ((n : ℕ) → P n → Q n) → IfStop stop P → IfStop stop Q
 stop_weaker (BadLine n) P Q weaker h = weaker n h

@@ -1,14 +1,7 @@
 -- The front of a text, up to where a test ends, is determined; so are numbers and lines.
 use Rattle.std.proofs.Common.{◌≡◌, ℕ, zero, suc, ◌/◌, ◌%◌, cond, ◌<◌, ◌≤◌, ◌^◌, ◌==◌, Bool, true, false, ◌&&◌, not, List, [], ◌∷◌, ◌++◌, refl, sym, subst, ◌∙◌, arith}
-use Rattle.std.specs.Fmt.{decimal, digit_glyph, digits, digits_onto}
-use Rattle.std.specs.List.{list_all}
-use Rattle.std.specs.Char.{is_ascii_digit}
-use Rattle.std.proofs.lemmas.Bool.Decides.{nat_tests}
-use Rattle.std.proofs.lemmas.List.{append_cancel_left}
-use Rattle.std.proofs.lemmas.List.Folds.{list_all-append}
-use Rattle.std.proofs.lemmas.Fmt.{decimal_injective}
-use Rattle.shb_reading.specs.Lines.{Stops, IsLabelled}
-use Rattle.shb_format.specs.Value.{HasNoLineFeed}
+use Rattle.shb_reading.proofs.Words.{HasNoLineFeed, IsLabelled, Stops, append_cancel_left, decimal, decimal_injective, digit_glyph, digits_onto, is_ascii_digit, list_all, list_all-append, nat_tests}
+use Rattle.std.specs.Fmt.{digits}
 
 first_true : (a b : Bool) → (a && b) ≡ true → a ≡ true
 first_true true b h = refl

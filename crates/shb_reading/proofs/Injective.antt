@@ -1,12 +1,6 @@
 -- A text is the text of one report.
 use Rattle.std.proofs.Common.{◌≡◌, ℕ, ◌+◌, List, [], ◌∷◌, ◌++◌, length, codes, Option, None, Some, IfSome, refl, sym, ap, arith}
-use Rattle.std.specs.Fmt.{decimal}
-use Rattle.std.specs.List.{AllByRecursion}
-use Rattle.std.proofs.lemmas.List.{append_cancel_left}
-use Rattle.std.specs.Option.{is_some}
-use Rattle.shb_format.specs.declared.counts.Counts.{Counts}
-use Rattle.shb_reading.specs.Forms.{Form, Version, End}
-use Rattle.shb_format.specs.Value.{AreShown, ArePlaces, Block, HasNoLineFeed, IsBlock, IsPlace, IsReportValue, IsShown, Place, ReportValue, block_lines, counts_line, lines_text, listed, numbers_line, place_line, place_lines, places_section, race_numbers_line, report_lines, report_text, version_line}
+use Rattle.shb_reading.proofs.Words.{AllByRecursion, ArePlaces, AreShown, Block, Counts, End, Form, HasNoLineFeed, IsBlock, IsPlace, IsReportValue, IsShown, Place, ReportValue, Version, append_cancel_left, block_lines, counts_line, decimal, is_some, lines_text, listed, numbers_line, place_line, place_lines, places_section, race_numbers_line, report_lines, report_text, version_line}
 use Rattle.shb_reading.proofs.Fronts.{same_ending, same_line, same_number}
 use Rattle.shb_reading.proofs.Language.{AreLines}
 use Rattle.shb_reading.proofs.Listing.{listed_same}

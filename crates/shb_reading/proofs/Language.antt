@@ -1,9 +1,6 @@
 -- The forms are those of the lines of reports, and of no other lines.
 use Rattle.std.proofs.Common.{◌≡◌, true, false, ℕ, zero, suc, ◌≤◌, List, [], ◌∷◌, ◌++◌, length, take, codes, refl, sym, ap, ◌∙◌, arith, append_assoc}
-use Rattle.std.specs.Fmt.{decimal}
-use Rattle.shb_format.specs.declared.counts.Counts.{Counts}
-use Rattle.shb_format.specs.Value.{AreShown, HasNoLineFeed, IsRest, counts_line, lines_text, listed, numbers_line, place_line, places_line, race_numbers_line, races_line}
-use Rattle.shb_reading.specs.Forms.{Form, Version, CountsForm, Races, Places, PlaceForm, Race, Named, Schedule, End, Label, First, Second, At, And, label_bytes, least_after, HasForm, TakesForm, Takes}
+use Rattle.shb_reading.proofs.Words.{And, AreShown, At, Counts, CountsForm, End, First, Form, HasForm, HasNoLineFeed, IsRest, Label, Named, PlaceForm, Places, Race, Races, Schedule, Second, Takes, TakesForm, Version, counts_line, decimal, label_bytes, least_after, lines_text, listed, numbers_line, place_line, places_line, race_numbers_line, races_line}
 use Rattle.shb_reading.proofs.Fronts.{one_line-append, one_line-decimal}
 
 -- all of these lines have these forms, one after another

@@ -11,3 +11,4 @@ pub mod EntryLemmas
 pub mod ScanLemmas
 pub mod Bad
 pub mod Injective
+mod Words

@@ -1,15 +1,7 @@
 -- Where a line ends, and which lines stand at a front.
 use Rattle.std.proofs.Common.{◌≡◌, ◌≢◌, ℕ, suc, ◌+◌, ◌<◌, ◌==◌, Bool, true, false, not, List, [], ◌∷◌, ◌++◌, length, get_or, take, drop, None, Some, refl, sym, ap, subst, ◌∙◌, arith, append_assoc, take-append-drop, length-take, length-append, get_or-take}
-use Rattle.std.proofs.Math.Seq.{drop-cons, drop-append_seam, take-append_seam}
-use Rattle.std.proofs.lemmas.List.{drop-drop}
+use Rattle.shb_reading.proofs.Words.{BeginsWithLine, Form, HasForm, HasNoLineFeed, IsRest, IsSpanIn, Label, Lacks, Named, Position, Span, TakesForm, TakesLine, bytes_at, bytes_from, drop-append_seam, drop-cons, drop-drop, label_bytes, least_after, nat_tests, take-append_seam}
 use Rattle.memchr.specs.Find.{IsFirstByte, is_byte}
-use Rattle.shb_reading.specs.Forms.{Form, Named, Label, label_bytes, least_after, HasForm, TakesForm}
-use Rattle.shb_reading.specs.declared.position.Position.{Position}
-use Rattle.shb_reading.specs.declared.parts.Span.{Span}
-use Rattle.shb_reading.specs.Parts.{IsSpanIn, bytes_at}
-use Rattle.shb_reading.specs.Lines.{BeginsWithLine, Lacks, TakesLine, bytes_from}
-use Rattle.shb_format.specs.Value.{HasNoLineFeed, IsRest}
-use Rattle.std.proofs.lemmas.Bool.Decides.{nat_tests}
 use Rattle.shb_reading.proofs.Fronts.{both_true, second_true, same_line}
 
 other_byte : (b : ℕ) → ((b == 10) ≡ true → ⊥) → not (b == 10) ≡ true

@@ -1,12 +1,6 @@
 -- The numbers of a schedule, read one after another.
 use Rattle.std.proofs.Common.{◌≡◌, ◌≢◌, ℕ, zero, suc, ◌+◌, ◌==◌, Bool, true, false, MatchBool, length-append, ◌<◌, ◌^◌, List, [], ◌∷◌, ◌++◌, length, codes, map, take, refl, sym, ap, ◌∙◌, arith, append_assoc, append-nil, ◌≤◌}
-use Rattle.std.specs.Fmt.{decimal}
-use Rattle.std.proofs.lemmas.Bool.Decides.{nat_tests}
-use Rattle.std.proofs.lemmas.List.{append_cancel_left}
-use Rattle.std.specs.List.{AllByRecursion}
-use Rattle.std.specs.Char.{is_ascii_digit}
-use Rattle.shb_reading.specs.Lines.{AddsShown, Stops, IsLabelled}
-use Rattle.shb_format.specs.Value.{IsShown, listed, numbers_line}
+use Rattle.shb_reading.proofs.Words.{AddsShown, AllByRecursion, IsLabelled, IsShown, Stops, append_cancel_left, decimal, is_ascii_digit, listed, nat_tests, numbers_line}
 use Rattle.shb_reading.proofs.Peeling.{peel}
 
 pub ends-listed : (ns : List ℕ) → Stops is_ascii_digit (listed ns)

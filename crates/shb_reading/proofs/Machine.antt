@@ -1,8 +1,7 @@
 -- The forms determine what a text's lines are, and so which line is the first bad one.
 use Rattle.std.proofs.Common.{◌≡◌, Bool, true, false, ℕ, zero, suc, ◌+◌, ◌<◌, List, [], ◌∷◌, ◌++◌, length, codes, get_or, refl, sym, ap, subst, ◌∙◌, arith}
-use Rattle.shb_reading.specs.Forms.{Form, Version, CountsForm, Races, Places, PlaceForm, Race, Named, Schedule, End, HasForm, TakesForm, Takes, IsBadFrom, block_forms, place_forms, places_form}
+use Rattle.shb_reading.proofs.Words.{CountsForm, End, Form, HasForm, IsBadFrom, Named, PlaceForm, Places, Race, Races, Schedule, Takes, TakesForm, Version, block_forms, place_forms, places_form, version_line}
 use Rattle.shb_reading.proofs.Fronts.{same_line, same_ending}
-use Rattle.shb_format.specs.Value.{version_line}
 
 pub versions_differ : codes "shb-report 1" ≡ codes "shb-report 2" → ⊥
 versions_differ e = let digits : ◌≡◌ {A = ℕ} 49 50 = ap (λ (l : List ℕ). get_or l 11 0) e in omega arith

@@ -1,8 +1,6 @@
 -- The first bad line stays the same after a line that was taken.
 use Rattle.std.proofs.Common.{◌≡◌, ◌+◌, ℕ, List, ◌∷◌, ◌++◌, sym, subst}
-use Rattle.shb_reading.specs.declared.position.Position.{Position}
-use Rattle.shb_reading.specs.Forms.{Form, HasForm, IsBadFrom}
-use Rattle.shb_reading.specs.Lines.{IsBadAt, Lacks, Passes, TakesLine, bytes_from}
+use Rattle.shb_reading.proofs.Words.{Form, HasForm, IsBadAt, IsBadFrom, Lacks, Passes, Position, TakesLine, bytes_from}
 use Rattle.shb_reading.proofs.LineEnds.{takes_by}
 use Rattle.shb_reading.proofs.Machine.{bad_later_form, bad_here}
 

@@ -1,11 +1,6 @@
 -- A line that is read from its front, one label and number after another.
 use Rattle.std.proofs.Common.{◌≡◌, ◌≢◌, ℕ, ◌<◌, ◌==◌, Bool, true, false, List, [], ◌∷◌, ◌++◌, length, codes, refl, sym, ap, ◌∙◌, arith, append-nil, Option, None, Some, MatchOption}
-use Rattle.std.specs.Fmt.{decimal}
-use Rattle.std.proofs.lemmas.Bool.Decides.{nat_tests}
-use Rattle.std.specs.Char.{is_ascii_digit}
-use Rattle.shb_format.specs.declared.counts.Counts.{Counts}
-use Rattle.shb_reading.specs.Lines.{Stops, IsLabelled}
-use Rattle.shb_format.specs.Value.{AreShown, IsShown, counts_line, place_line, race_numbers_line}
+use Rattle.shb_reading.proofs.Words.{AreShown, Counts, IsLabelled, IsShown, Stops, counts_line, decimal, is_ascii_digit, nat_tests, place_line, race_numbers_line}
 use Rattle.shb_reading.proofs.Fronts.{same_labelled}
 
 -- what stands after a number that was read

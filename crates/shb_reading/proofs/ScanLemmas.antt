@@ -1,21 +1,10 @@
 -- The parts of a report, one after another.
 use Rattle.std.proofs.Common.{◌≡◌, ℕ, ◌+◌, ◌-◌, ◌*◌, ◌^◌, ◌<◌, ◌≤◌, Bool, true, false, List, [], ◌∷◌, ◌++◌, length, codes, refl, sym, ap, subst, ◌∙◌, arith, append_assoc, append-nil, length-append, length-drop}
-use Rattle.std.proofs.lemmas.List.{length-map, take_all}
-use Rattle.std.specs.List.{AllByRecursion}
-use Rattle.std.specs.Option.{is_some}
+use Rattle.shb_reading.proofs.Words.{AllByRecursion, AreShown, Block, Counts, CountsForm, Form, IsBadAt, IsPlaceIn, IsScanned, IsShown, IsTextOf, KeepsFirst, Passes, Place, PlaceEntry, Places, Position, Races, ReadsBlocks, ReadsPlaces, ReadsSection, TakesBlocks, TakesLine, Version, block_forms, block_lines, blocks_at, bytes_from, counts_line, each-take, is_some, joined, length-map, lines_text, place_lines, places_at, places_form, places_line, places_section, races_line, section_at, take_all, version_line}
 use Rattle.shb_lines.specs.text.Limits.{most_bytes}
-use Rattle.shb_reading.specs.declared.position.Position.{Position}
-use Rattle.shb_reading.specs.declared.parts.PlaceEntry.{PlaceEntry}
 use Rattle.shb_reading.specs.declared.parts.Parts.{Parts}
-use Rattle.shb_format.specs.declared.counts.Counts.{Counts}
-use Rattle.shb_reading.specs.Forms.{Form, Version, CountsForm, Races, Places, block_forms, places_form}
-use Rattle.shb_reading.specs.Lines.{IsBadAt, Passes, TakesLine, bytes_from}
-use Rattle.shb_reading.specs.Parts.{IsPlaceIn, IsScanned, IsTextOf, KeepsFirst, ReadsBlocks, ReadsPlaces, ReadsSection, TakesBlocks, blocks_at, places_at, section_at}
-use Rattle.shb_format.specs.Value.{AreShown, Block, IsShown, Place, block_lines, counts_line, lines_text, place_lines, places_line, places_section, races_line, version_line}
 use Rattle.shb_reading.proofs.Machine.{bad_after}
 use Rattle.shb_reading.proofs.Passing.{passes_by}
-use Rattle.shb_format.proofs.EachLemmas.{each-take}
-use Rattle.shb_format.proofs.LineLemmas.{joined}
 
 -- the version decides which forms follow
 

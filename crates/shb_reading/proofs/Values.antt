@@ -1,9 +1,6 @@
 -- The lines of the forms are those of the reports in the grammar.
 use Rattle.std.proofs.Common.{◌≡◌, true, false, ℕ, zero, suc, ◌+◌, List, [], ◌∷◌, ◌++◌, length, codes, refl, sym, ap, subst, ◌∙◌, Option, None, Some, IfSome}
-use Rattle.std.specs.List.{AllByRecursion}
-use Rattle.std.specs.Option.{is_some}
-use Rattle.shb_format.specs.Value.{ArePlaces, Block, IsBlock, IsPlace, IsReportValue, IsShown, Place, ReportValue, block_lines, counts_line, numbers_line, place_line, place_lines, places_line, places_section, race_numbers_line, races_line, report_lines, version_line}
-use Rattle.shb_reading.specs.Forms.{Form, Version, CountsForm, Races, Places, PlaceForm, Race, Named, Schedule, End, First, Second, At, And, HasForm, block_forms, place_forms}
+use Rattle.shb_reading.proofs.Words.{AllByRecursion, And, ArePlaces, At, Block, CountsForm, End, First, Form, HasForm, IsBlock, IsPlace, IsReportValue, IsShown, Named, Place, PlaceForm, Places, Race, Races, ReportValue, Schedule, Second, Version, block_forms, block_lines, counts_line, is_some, numbers_line, place_forms, place_line, place_lines, places_line, places_section, race_numbers_line, races_line, report_lines, version_line}
 use Rattle.shb_reading.proofs.Language.{AreLines, line_then, one_line-counts, one_line-races, one_line-places, one_line-place, one_line-race, one_line-named, one_line-numbers}
 
 -- a report's lines have the forms

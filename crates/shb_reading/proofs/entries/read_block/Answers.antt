@@ -1,6 +1,6 @@
 -- The first bad line of a block is the one that was not read.
 use Rattle.std.proofs.Common.{◌≡◌, ◌+◌, ◌-◌, ◌≤◌, arith, length, refl, [], ◌∷◌}
-use Rattle.shb_reading.specs.Forms.{Race, Named, Schedule, First, Second}
+use Rattle.shb_reading.proofs.Words.{First, Named, Race, Schedule, Second}
 use Rattle.shb_reading.proofs.EntryLemmas.{block_grows, block_read}
 use Rattle.shb_reading.proofs.Passing.{bad_at, passes_by}
 use Rattle.shb_reading.proofs.entries.read_block.Goals as goal

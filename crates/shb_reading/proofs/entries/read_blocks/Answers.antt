@@ -1,7 +1,6 @@
 -- Each block is the next one.
 use Rattle.std.proofs.Common.{ℕ, List, ◌+◌, ◌-◌, ◌++◌, arith, sym, subst}
-use Rattle.shb_reading.specs.Forms.{Form, IsBadFrom, block_forms}
-use Rattle.shb_reading.specs.Lines.{bytes_from}
+use Rattle.shb_reading.proofs.Words.{Form, IsBadFrom, block_forms, bytes_from}
 use Rattle.shb_reading.proofs.EntryLemmas.{blocks_more, blocks_left, bad_weaker}
 use Rattle.shb_reading.proofs.entries.read_blocks.Goals as goal
 

@@ -1,7 +1,5 @@
 use Rattle.std.proofs.Common.{◌≤◌, ◌+◌, ◌-◌, ◌++◌, List}
-use Rattle.shb_reading.specs.Forms.{Form, block_forms}
-use Rattle.shb_reading.specs.Lines.{IsAt, Passes}
-use Rattle.shb_reading.specs.Parts.{ReadsBlocks}
+use Rattle.shb_reading.proofs.Words.{Form, IsAt, Passes, ReadsBlocks, block_forms}
 use Rattle.shb_reading.proofs.entries.read_blocks.Given as goal
 
 abbrev pub invariant-loop-number : goal.invariant-loop-number

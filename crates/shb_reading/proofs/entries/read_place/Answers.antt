@@ -1,6 +1,6 @@
 -- The first bad line of a place is the one that was not read.
 use Rattle.std.proofs.Common.{refl, [], ◌∷◌}
-use Rattle.shb_reading.specs.Forms.{PlaceForm, Named, At, And}
+use Rattle.shb_reading.proofs.Words.{And, At, Named, PlaceForm}
 use Rattle.shb_reading.proofs.Passing.{bad_at, passes_by}
 use Rattle.shb_reading.proofs.entries.read_place.Goals as goal
 

@@ -1,7 +1,6 @@
 -- Each place is the next one.
 use Rattle.std.proofs.Common.{ℕ, List, [], ◌∷◌, ◌+◌, ◌-◌, ◌++◌, arith, sym, subst}
-use Rattle.shb_reading.specs.Forms.{Form, IsBadFrom, place_forms}
-use Rattle.shb_reading.specs.Lines.{bytes_from}
+use Rattle.shb_reading.proofs.Words.{Form, IsBadFrom, bytes_from, place_forms}
 use Rattle.shb_reading.proofs.EntryLemmas.{places_more, places_left, bad_weaker}
 use Rattle.shb_reading.proofs.entries.read_place_entries.Goals as goal
 

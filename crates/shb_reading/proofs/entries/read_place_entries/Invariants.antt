@@ -1,7 +1,5 @@
 use Rattle.std.proofs.Common.{◌≤◌, ◌+◌, ◌-◌, ◌++◌, List}
-use Rattle.shb_reading.specs.Forms.{Form, place_forms}
-use Rattle.shb_reading.specs.Lines.{IsAt, Passes}
-use Rattle.shb_reading.specs.Parts.{KeepsFirst, ReadsPlaces}
+use Rattle.shb_reading.proofs.Words.{Form, IsAt, KeepsFirst, Passes, ReadsPlaces, place_forms}
 use Rattle.shb_reading.proofs.entries.read_place_entries.Given as goal
 
 abbrev pub invariant-loop-number : goal.invariant-loop-number

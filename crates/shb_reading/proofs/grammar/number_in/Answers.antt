@@ -1,6 +1,6 @@
 -- A number that is all of a text has nothing after it.
 use Rattle.std.proofs.Common.{arith, sym, ap, length, ◌∙◌, append-nil, [], ◌++◌, ℕ, List}
-use Rattle.std.specs.Fmt.{decimal}
+use Rattle.shb_reading.proofs.Words.{decimal}
 use Rattle.shb_reading.proofs.Peeling.{is_some, peel_last}
 use Rattle.shb_reading.proofs.grammar.number_in.Goals as goal
 

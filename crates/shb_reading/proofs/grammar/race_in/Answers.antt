@@ -1,6 +1,6 @@
 -- The numbers are read one after another.
 use Rattle.std.proofs.Common.{◌++◌, arith, codes, refl, sym}
-use Rattle.std.specs.Fmt.{decimal}
+use Rattle.shb_reading.proofs.Words.{decimal}
 use Rattle.shb_reading.proofs.Peeling.{peel, race_first}
 use Rattle.shb_reading.proofs.grammar.race_in.Goals as goal
 

@@ -1,6 +1,6 @@
 -- No version stands after another label.
 use Rattle.std.proofs.Common.{◌≢◌, Bool, true, false, List, ℕ, ◌++◌, codes}
-use Rattle.shb_format.specs.Value.{version_line}
+use Rattle.shb_reading.proofs.Words.{version_line}
 use Rattle.shb_reading.proofs.grammar.version_in.Goals as goal
 
 unlike : (line : List ℕ) → ((rest : List ℕ) → line ≢ codes "shb-report " ++ rest) → (with_places : Bool) → line ≢ version_line with_places

@@ -1,5 +1,5 @@
 -- What std says of the prefix, as an equation.
-use Rattle.std.proofs.lemmas.Bool.Decides.{Decides-eqb}
+use Rattle.shb_reading.proofs.Words.{Decides-eqb}
 use Rattle.std.proofs.lemmas.Slice.Eq.{strip_prefix_is}
 use Rattle.shb_reading.proofs.labels.after_label.Goals as goal
 

@@ -1,6 +1,5 @@
 use Rattle.std.proofs.Common.{◌≡◌, true, take}
-use Rattle.std.specs.List.{list_all}
-use Rattle.std.specs.Char.{is_ascii_digit}
+use Rattle.shb_reading.proofs.Words.{is_ascii_digit, list_all}
 use Rattle.shb_reading.proofs.labels.digits_in.Given as goal
 
 abbrev pub invariant-loop-count : goal.invariant-loop-count

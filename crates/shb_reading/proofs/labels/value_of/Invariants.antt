@@ -1,5 +1,5 @@
 use Rattle.std.proofs.Common.{◌≡◌, ◌<◌, ◌^◌, take}
-use Rattle.std.specs.Str.Parse.{digits_value}
+use Rattle.shb_reading.proofs.Words.{digits_value}
 use Rattle.shb_reading.proofs.labels.value_of.Given as goal
 
 abbrev pub invariant-loop-digit : goal.invariant-loop-digit

@@ -1,7 +1,7 @@
 -- Another line stands at the front.
 use Rattle.shb_reading.proofs.LineEnds.{lacks_by}
 use Rattle.std.proofs.Common.{refl}
-use Rattle.shb_reading.specs.Forms.{CountsForm}
+use Rattle.shb_reading.proofs.Words.{CountsForm}
 use Rattle.shb_reading.proofs.lines.read_counts.Goals as goal
 
 pub returns-in_err-counts : goal.returns-in_err-counts

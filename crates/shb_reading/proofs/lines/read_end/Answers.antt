@@ -1,7 +1,7 @@
 -- Another line stands at the front.
 use Rattle.shb_reading.proofs.LineEnds.{lacks_by}
 use Rattle.std.proofs.Common.{refl}
-use Rattle.shb_reading.specs.Forms.{End}
+use Rattle.shb_reading.proofs.Words.{End}
 use Rattle.shb_reading.proofs.lines.read_end.Goals as goal
 
 pub returns-then-not-is_end : goal.returns-then-not-is_end

@@ -1,7 +1,7 @@
 -- Another line stands at the front.
 use Rattle.std.proofs.Common.{refl, subst, sym}
 use Rattle.shb_reading.proofs.LineEnds.{lacks_named, named_taken}
-use Rattle.shb_reading.specs.Lines.{TakesLine}
+use Rattle.shb_reading.proofs.Words.{TakesLine}
 use Rattle.shb_reading.proofs.lines.read_named.Goals as goal
 
 pub returns-in_err-bytes : goal.returns-in_err-bytes

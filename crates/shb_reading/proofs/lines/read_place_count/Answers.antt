@@ -1,7 +1,7 @@
 -- Another line stands at the front.
 use Rattle.shb_reading.proofs.LineEnds.{lacks_by}
 use Rattle.std.proofs.Common.{refl}
-use Rattle.shb_reading.specs.Forms.{Places}
+use Rattle.shb_reading.proofs.Words.{Places}
 use Rattle.shb_reading.proofs.lines.read_place_count.Goals as goal
 
 pub returns-in_err-count : goal.returns-in_err-count

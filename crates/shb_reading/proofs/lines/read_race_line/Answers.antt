@@ -1,7 +1,7 @@
 -- Another line stands at the front.
 use Rattle.shb_reading.proofs.LineEnds.{lacks_by}
 use Rattle.std.proofs.Common.{refl}
-use Rattle.shb_reading.specs.Forms.{Race}
+use Rattle.shb_reading.proofs.Words.{Race}
 use Rattle.shb_reading.proofs.lines.read_race_line.Goals as goal
 
 pub returns-in_err-pair : goal.returns-in_err-pair

@@ -1,7 +1,7 @@
 -- Another line stands at the front.
 use Rattle.shb_reading.proofs.LineEnds.{lacks_by}
 use Rattle.std.proofs.Common.{refl}
-use Rattle.shb_reading.specs.Forms.{Schedule}
+use Rattle.shb_reading.proofs.Words.{Schedule}
 use Rattle.shb_reading.proofs.lines.read_schedule.Goals as goal
 
 pub returns-then-not-branch : goal.returns-then-not-branch

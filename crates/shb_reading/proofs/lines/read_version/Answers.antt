@@ -1,6 +1,6 @@
 -- Another line stands at the front.
 use Rattle.std.proofs.Common.{refl}
-use Rattle.shb_reading.specs.Forms.{Version}
+use Rattle.shb_reading.proofs.Words.{Version}
 use Rattle.shb_reading.proofs.LineEnds.{lacks_by}
 use Rattle.shb_reading.proofs.lines.read_version.Goals as goal
 

@@ -1,5 +1,5 @@
 use Rattle.std.proofs.Common.{ap, ◌∙◌}
-use Rattle.shb_reading.specs.Parts.{block_from}
+use Rattle.shb_reading.proofs.Words.{block_from}
 use Rattle.shb_reading.proofs.listed.listed_at.Goals as goal
 
 pub returns : goal.returns

@@ -2,7 +2,7 @@
 use Rattle.std.proofs.Common.{arith, subst}
 use Rattle.shb_lines.specs.text.Taking.{HasGiven}
 use Rattle.shb_lines.proofs.text.TakingLemmas.{reads_text}
-use Rattle.shb_reading.specs.Reading.{IsBadLine}
+use Rattle.shb_reading.proofs.Words.{IsBadLine}
 use Rattle.shb_reading.proofs.Bad.{bad_of_source}
 use Rattle.shb_reading.proofs.report.read_report_within.Goals as goal
 

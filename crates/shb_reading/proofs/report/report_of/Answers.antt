@@ -1,7 +1,6 @@
 -- A text within the limit has the bad line that was found.
-use Rattle.std.proofs.Common.{◌≤◌, length, arith, subst}
-use Rattle.shb_reading.specs.Forms.{End, IsBadFrom, Version}
-use Rattle.std.proofs.Common.{[], ◌∷◌, List, ℕ}
+use Rattle.std.proofs.Common.{◌≤◌, length, arith, subst, [], ◌∷◌, List, ℕ}
+use Rattle.shb_reading.proofs.Words.{End, IsBadFrom, Version}
 use Rattle.shb_reading.proofs.Bad.{bad_short}
 use Rattle.shb_reading.proofs.EntryLemmas.{bad_weaker}
 use Rattle.shb_reading.proofs.report.report_of.Goals as goal

@@ -1,6 +1,6 @@
 -- The first bad line of the head is the one that was not read.
 use Rattle.std.proofs.Common.{refl, [], ◌∷◌}
-use Rattle.shb_reading.specs.Forms.{CountsForm, Races, Version}
+use Rattle.shb_reading.proofs.Words.{CountsForm, Races, Version}
 use Rattle.shb_reading.proofs.Passing.{bad_at, passes_by}
 use Rattle.shb_reading.proofs.ScanLemmas.{passes_race_count, passes_version}
 use Rattle.shb_reading.proofs.whole.read_head.Goals as goal

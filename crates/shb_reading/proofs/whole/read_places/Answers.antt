@@ -1,6 +1,6 @@
 -- The places stand after their count.
 use Rattle.std.proofs.Common.{refl}
-use Rattle.shb_reading.specs.Forms.{Places, place_forms}
+use Rattle.shb_reading.proofs.Words.{Places, place_forms}
 use Rattle.shb_reading.proofs.EntryLemmas.{bad_weaker}
 use Rattle.shb_reading.proofs.Passing.{bad_at, passes_by}
 use Rattle.shb_reading.proofs.ScanLemmas.{section_read, with_section}

@@ -1,5 +1,5 @@
 -- The last line is missing, or bytes stand after it.
-use Rattle.shb_reading.specs.Forms.{End}
+use Rattle.shb_reading.proofs.Words.{End}
 use Rattle.shb_reading.proofs.Passing.{bad_at, passes_by}
 use Rattle.shb_reading.proofs.ScanLemmas.{bad_tail}
 use Rattle.std.proofs.Common.{refl, []}
