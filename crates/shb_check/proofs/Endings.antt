@@ -7,10 +7,8 @@ use Rattle.shb_io.proofs.Growth.{Appends-nil}
 use Rattle.shb_lines.specs.declared.event.Event.{Event}
 use Rattle.shb_lines.specs.declared.fault.Fault.{Fault}
 use Rattle.shb_lines.specs.declared.fault.LineFault.{LineFault}
-use Rattle.shb_lines.specs.events.Discipline.{IsDisciplined}
+use Rattle.shb_check.proofs.Words.{HasChecked, IsChecked, IsDisciplined, IsReadingOf, IsTraceOf, IsVerdictFor, TraceData, Verdict, lines_of, most_read, standard_limits, verdict_bytes}
 use Rattle.shb_lines.specs.text.Taking.{ReadsText, TakesAtMost, read_failed}
-use Rattle.shb_lines.specs.text.Text.{lines_of}
-use Rattle.shb_lines.specs.text.TraceData.{IsReadingOf, IsTraceOf, TraceData}
 use Rattle.shb_lines.proofs.text.TakingLemmas.{reads_left, reads_then, reads_told}
 use Rattle.shb_discipline.specs.FirstFault.{IsFirstFault, HasNoFault}
 use Rattle.shb_discipline.specs.declared.checking.CheckError.{CheckError}
@@ -21,13 +19,7 @@ use Rattle.shb_check.specs.declared.errors.RunError.{RunError}
 use Rattle.shb_check.specs.declared.errors.RunError.TheVariants.{Trace, Source, Sink, Memory}
 use Rattle.shb_lines.specs.declared.read.ReadError.{ReadError}
 use Rattle.shb_lines.specs.declared.read.ReadError.TheVariants as reading
-use Rattle.shb_lines.specs.text.Limits.{most_read, standard_limits}
-use Rattle.shb_judging.specs.declared.verdict.Verdict.{Verdict}
-use Rattle.shb_judging.specs.Verdicts.{IsVerdictFor}
-use Rattle.shb_judging.specs.Verdicts.{verdict_bytes}
-use Rattle.shb_check.specs.Checks.{HasChecked, IsChecked}
-use Rattle.shb_check.specs.Errors.{error_of_checking, error_of_reading}
-use Rattle.shb_check.specs.Errors.{IsAccepted, IsRefusalOf}
+use Rattle.shb_check.specs.Errors.{error_of_checking, error_of_reading, IsAccepted, IsRefusalOf}
 use Rattle.shb_check.specs.Outcomes.{Grows, OnJudged, OnMemory, OnNoTrace, OnSink, OnTrace, OnWriting, sink_failed, source_failed}
 
 -- a text with no fault has no first one

@@ -1,3 +1,4 @@
 pub mod OneTrace
 pub mod OneVerdict
 pub mod Endings
+mod Words

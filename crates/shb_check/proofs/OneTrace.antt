@@ -1,6 +1,6 @@
 -- Some lines have one trace.
 use Rattle.std.proofs.Common.{◌≡◌, ℕ, List, sym, ◌∙◌}
-use Rattle.shb_lines.specs.text.TraceData.{IsTraceOf, TraceData, tables_in}
+use Rattle.shb_check.proofs.Words.{IsTraceOf, TraceData, tables_in}
 use Rattle.shb_discipline.proofs.Numbering.{one_trace}
 
 -- some lines have one trace, with its names and its lines

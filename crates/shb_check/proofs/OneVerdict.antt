@@ -1,19 +1,12 @@
 -- The texts of a trace and of a report have one verdict.
 use Rattle.std.proofs.Common.{◌≡◌, ◌⊎◌, inl, inr, ℕ, List, refl, sym, ap, subst, ◌∙◌}
 use Rattle.std.specs.Prelude.{◌↔◌}
-use Rattle.shb_lines.specs.events.Discipline.{IsDisciplined}
-use Rattle.shb_lines.specs.text.Limits.{most_bytes}
-use Rattle.shb_lines.specs.text.Text.{lines_of}
-use Rattle.shb_lines.specs.text.TraceData.{TraceData}
-use Rattle.shb_judging.specs.declared.verdict.Verdict.{Verdict}
+use Rattle.shb_check.proofs.Words.{IsDisciplined, IsGoodFor, IsJudged, IsVerdict, IsVerdictFor, IsVerdictOf, TraceData, Verdict, lines_of, most_bytes}
 use Rattle.shb_judging.specs.declared.verdict.Verdict.TheVariants.{Good, BadLine, BadCounts, BadRace, BadPlaces}
 use Rattle.shb_reading.specs.Reading.{IsBadLine}
-use Rattle.shb_judging.specs.Verdicts.{IsVerdict}
 use Rattle.shb_reading.proofs.Bad.{bad_line_unique}
 use Rattle.shb_reading.proofs.Injective.{report_same}
 use Rattle.shb_judging.proofs.VerdictLaws.{one_verdict}
-use Rattle.shb_judging.specs.Verdicts.{IsJudged, IsVerdictFor}
-use Rattle.shb_check.specs.Checks.{IsGoodFor, IsVerdictOf}
 use Rattle.shb_check.proofs.OneTrace.{one_whole_trace}
 
 -- a text has a bad line, or it is a report that is judged

@@ -1,6 +1,6 @@
 -- Each exit has its outcome.
 use Rattle.shb_lines.specs.declared.read.Parsed.{Parsed}
-use Rattle.shb_judging.specs.declared.verdict.Verdict.{Verdict}
+use Rattle.shb_check.proofs.Words.{Verdict}
 use Rattle.shb_check.proofs.Endings.{of_failed_sink, of_line, of_refused, of_unjudged, of_unread}
 use Rattle.shb_check.proofs.verdicts.check.Goals as goal
 
