@@ -2,23 +2,9 @@
 use Rattle.std.proofs.Common.{◌≡◌, ◌⊎◌, inl, inr, ℕ, ◌+◌, ◌<◌, ◌≤◌, Bool, true, false, List, [], ◌∷◌, ◌++◌, length, map, take, drop, get_or, Option, Result, Ok, Err, refl, sym, ap, subst, ◌∙◌, append_assoc, append-nil, arith}
 use Rattle.std.specs.Prelude.{OnErr, if◌then◌else◌}
 use Rattle.std.proofs.lemmas.Bool.{cases_lt}
-use Rattle.std.proofs.lemmas.List.{length-append, map-append, map_more, map_push, take_all, take-append-drop}
-use Rattle.std.proofs.lemmas.List.Elements.{All-map}
-use Rattle.std.proofs.Math.Seq.{take-append-add, take-append_seam}
-use Rattle.std.specs.Io.KnownBytes.{Appends}
-use Rattle.shb_io.specs.Devices.{AppendsPrefix}
-use Rattle.shb_io.specs.declared.no_memory.NoMemory.{NoMemory}
-use Rattle.shb_io.proofs.Growth.{Appends-trans, AppendsPrefix-front, AppendsPrefix-whole}
-use Rattle.shb_lines.specs.declared.event.Pair.{Pair}
-use Rattle.shb_lines.specs.events.Race.{ends}
-use Rattle.shb_lines.specs.text.TraceData.{TraceData}
-use Rattle.shb_format.specs.Report.{AreBlocks, HasSchedule, ShownRace, block_bytes, blocks_from, pair_of}
+use Rattle.shb_write.proofs.Words.{All-map, Appends, Appends-trans, AppendsFront, AppendsPrefix, AppendsPrefix-front, AppendsPrefix-whole, AreBlocks, BlockWriter, HasSchedule, HasStopped, HasWritten, NoMemory, Pair, ShownRace, TraceData, WriteError, alone, block_bytes, blocks_from, blocks_of, ends, length-append, map-append, map_more, map_push, pair_of, scheduled, take-append-add, take-append-drop, take-append_seam, take_all, write_failed}
 use Rattle.shb_witness.proofs.Printed.{computed_is_printed}
-use Rattle.shb_write.specs.declared.block_writer.BlockWriter.{BlockWriter}
-use Rattle.shb_write.specs.declared.errors.WriteError.{WriteError}
 use Rattle.shb_write.specs.declared.errors.WriteError.TheVariants as errors
-use Rattle.shb_write.specs.Blocks.{HasStopped, HasWritten, alone, blocks_of, scheduled}
-use Rattle.shb_write.specs.Written.{AppendsFront, write_failed}
 
 pub blocks-append : (trace : TraceData) (n m : ℕ) (xs ys : List ShownRace) → m ≡ length xs + n → blocks_from trace n (xs ++ ys) ≡ blocks_from trace n xs ++ blocks_from trace m ys
 blocks-append trace n m [] ys is = ap (λ k. blocks_from trace k ys) (let e : n ≡ m = omega (arith, is) in e)

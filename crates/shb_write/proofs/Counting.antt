@@ -1,14 +1,6 @@
 -- The events of races are events of the trace.
 use Rattle.std.proofs.Common.{◌≡◌, ℕ, zero, suc, ◌<◌, List, [], ◌∷◌, length, map, All, arith}
-use Rattle.shb_lines.specs.declared.event.Event.{Event}
-use Rattle.shb_lines.specs.declared.event.Pair.{Pair}
-use Rattle.shb_lines.specs.events.Race.{ends}
-use Rattle.shb_lines.specs.text.TraceData.{TraceData}
-use Rattle.shb_lists.proofs.GivenLemmas.{race_of_trace}
-use Rattle.std.proofs.lemmas.List.Elements.{All-nil}
-use Rattle.shb_format.specs.Places.{IsPairOf}
-use Rattle.shb_witness.specs.Schedules.{AreRaces}
-use Rattle.shb_write.specs.Listed.{IsRaceOf}
+use Rattle.shb_write.proofs.Words.{All-nil, AreRaces, Event, IsPairOf, IsRaceOf, Pair, TraceData, ends, race_of_trace}
 
 pub pairs_in_range : (trace : TraceData) (events : List Event) (races : List Pair) → events ≡ trace.events → AreRaces events races → All (IsPairOf trace) races
 pairs_in_range trace events races same are k d lt = let both = race_of_trace trace events _ _ same (are k d lt) in record { first = both.0; second = both.1 }

@@ -6,3 +6,4 @@ pub mod Reports
 pub mod Scheduling
 pub mod PieceLemmas
 pub mod TextLemmas
+mod Words

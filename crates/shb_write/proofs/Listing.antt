@@ -1,27 +1,10 @@
 -- The races of a trace, listed part by part.
 use Rattle.std.proofs.Common.{◌≡◌, ℕ, suc, ◌+◌, ◌^◌, ◌<◌, ◌≤◌, Bool, false, true, List, [], ◌∷◌, ◌++◌, length, map, get_or, All, Option, Result, Ok, Err, IsErrAnd, refl, sym, ap, subst, ◌∙◌, arith}
-use Rattle.std.proofs.lemmas.List.{get_or_append_left, length-append, length-map, map-append}
-use Rattle.std.proofs.lemmas.List.Elements.{All-map}
+use Rattle.shb_write.proofs.Words.{All-map, Appends, Appends-nil, AppendsFront, BlockWriter, CountsFailure, Event, HasListed, HasShown, HasStopped, HasWritten, IsPairOf, IsPlaceOf, IsRaceOf, MayList, NoMemory, PlaceCount, Race, ShownRace, TraceData, WriteError, WritesFront, alone, blocks_from, counts_in, get_or_append_left, length-append, length-map, map-append, pair_of, places_of_pairs, race_of_trace, scheduled, scheduled_in, shown_in, write_failed}
 use Rattle.std.specs.Prelude.{if◌then◌else◌}
-use Rattle.std.specs.Io.KnownBytes.{Appends}
-use Rattle.shb_io.specs.Devices.{CountsFailure}
-use Rattle.shb_io.specs.declared.no_memory.NoMemory.{NoMemory}
-use Rattle.shb_io.proofs.Growth.{Appends-nil}
-use Rattle.shb_lines.specs.declared.event.Event.{Event}
-use Rattle.shb_lines.specs.events.Race.{Race}
-use Rattle.shb_lines.specs.text.TraceData.{TraceData}
-use Rattle.shb_format.specs.Places.{IsPairOf, IsPlaceOf, counts_in, places_of_pairs}
-use Rattle.shb_format.specs.declared.places.PlaceCount.{PlaceCount}
-use Rattle.shb_format.specs.Report.{ShownRace, blocks_from, pair_of}
 use Rattle.shb_format.proofs.PlaceLemmas.{places_in_range}
-use Rattle.shb_write.specs.declared.block_writer.BlockWriter.{BlockWriter}
-use Rattle.shb_write.specs.declared.errors.WriteError.{WriteError}
 use Rattle.shb_write.specs.declared.errors.WriteError.TheVariants as errors
-use Rattle.shb_write.specs.Blocks.{HasShown, HasStopped, HasWritten, WritesFront, alone, scheduled, scheduled_in, shown_in}
-use Rattle.shb_write.specs.Written.{AppendsFront, write_failed}
-use Rattle.shb_write.specs.Listed.{HasListed, IsRaceOf, MayList}
 use Rattle.shb_write.proofs.Blocks.{stopped_after, stopped_then, written_then}
-use Rattle.shb_lists.proofs.GivenLemmas.{race_of_trace}
 
 module _ {A : Type 0} (P : A → Type 0) where
   all_left : (xs ys : List A) → All P (xs ++ ys) → All P xs

@@ -1,17 +1,7 @@
 -- The blocks of a list of races, written part by part.
 use Rattle.std.proofs.Common.{◌≡◌, ◌∙◌, ℕ, Global, List, [], ◌++◌, None, Option, Some, Result, IsErrAnd, Vec, ap, map, refl, subst, sym}
-use Rattle.shb_io.specs.declared.no_memory.NoMemory.{NoMemory}
-use Rattle.shb_lines.specs.declared.event.Event.{Event}
-use Rattle.shb_format.specs.Report.{ShownRace}
-use Rattle.shb_pairs.specs.Listed.{pair_in}
-use Rattle.shb_pairs.specs.declared.listed.ListedRace.{ListedRace}
-use Rattle.shb_lists.specs.Given.{HasGiven, IsNext}
+use Rattle.shb_write.proofs.Words.{BlockWriter, Event, HasGiven, HasListed, HasStopped, HasWritten, IsNext, ListedRace, MayList, NoMemory, ShownRace, WriteError, given_front, pair_in}
 use Rattle.shb_lists.specs.declared.list.Rest.{Rest}
-use Rattle.shb_lists.proofs.GivenLemmas.{given_front}
-use Rattle.shb_write.specs.Blocks.{HasStopped, HasWritten}
-use Rattle.shb_write.specs.Listed.{HasListed, MayList}
-use Rattle.shb_write.specs.declared.block_writer.BlockWriter.{BlockWriter}
-use Rattle.shb_write.specs.declared.errors.WriteError.{WriteError}
 use Rattle.shb_write.specs.declared.errors.WriteError.TheVariants as errors
 use Rattle.shb_write.proofs.Listing.{next_may, next_stopped, next_written, then_refused}
 

@@ -1,16 +1,8 @@
 -- The pairs of all pieces, one piece after the other.
 use Rattle.std.proofs.Common.{◌≡◌, ◌+◌, ◌-◌, ◌<◌, ℕ, List, [], ◌∷◌, ◌++◌, Global, Vec, ap, append-nil, arith, drop, length, map, refl, sym, take, ◌∙◌}
 use Rattle.std.specs.Prelude.{flat_map, slice_index_or, slice_range}
-use Rattle.std.proofs.Math.Seq.{take-add}
-use Rattle.std.proofs.lemmas.List.Concat.{flat_map-append}
-use Rattle.std.proofs.lemmas.List.{map-append}
-use Rattle.shb_fan.specs.Values.{values_of}
-use Rattle.shb_lines.specs.declared.event.Pair.{Pair}
-use Rattle.shb_lines.specs.events.Race.{ends}
+use Rattle.shb_write.proofs.Words.{ListedRace, Pair, Piece, ends, flat_map-append, map-append, pair_in, take-add, values_of}
 use Rattle.shb_pairs.proofs.Joined.{joined_values}
-use Rattle.shb_pairs.specs.Listed.{pair_in}
-use Rattle.shb_pairs.specs.declared.listed.ListedRace.{ListedRace}
-use Rattle.shb_write.specs.declared.pieces.Piece.{Piece}
 
 pub flat_joined : {X A : Type 0} (f : X → List A) (xs : List X) → flat_map (λ (l : List A). l) (map f xs) ≡ flat_map f xs
 flat_joined f [] = refl

@@ -1,18 +1,7 @@
 -- A report from its parts.
 use Rattle.std.proofs.Common.{◌≡◌, inl, inr, ℕ, ◌+◌, Bool, List, ◌++◌, length, map, take, Option, Result, Ok, Err, IsErrAnd, refl, sym, ap, subst, ◌∙◌, arith, length-append}
-use Rattle.std.specs.Io.KnownBytes.{Appends}
-use Rattle.std.proofs.Math.Seq.{take-append-add}
-use Rattle.shb_io.specs.Devices.{AppendsPrefix, CountsFailure}
-use Rattle.shb_io.specs.declared.no_memory.NoMemory.{NoMemory}
-use Rattle.shb_io.proofs.Growth.{Appends-trans, AppendsPrefix-after}
-use Rattle.shb_lines.specs.text.TraceData.{TraceData}
-use Rattle.shb_format.specs.declared.places.PlaceCount.{PlaceCount}
-use Rattle.shb_format.specs.Places.{counts_in, places_of_pairs, section_bytes}
-use Rattle.shb_format.specs.Report.{IsReportOn, counts_of, front_bytes, head_bytes, pair_of, tail_bytes}
-use Rattle.shb_write.specs.declared.errors.WriteError.{WriteError}
+use Rattle.shb_write.proofs.Words.{Appends, Appends-trans, AppendsFront, AppendsPrefix, AppendsPrefix-after, CountsFailure, CutsBlocksOn, CutsReportOn, HasReported, IsReportOn, NoMemory, PlaceCount, These, TraceData, WriteError, WritesReport, blocks_of, counts_in, counts_of, front_bytes, head_bytes, pair_of, places_of_pairs, section_bytes, tail_bytes, take-append-add, write_failed}
 use Rattle.shb_write.specs.declared.errors.WriteError.TheVariants.{Sink, Memory}
-use Rattle.shb_write.specs.Blocks.{blocks_of}
-use Rattle.shb_write.specs.Written.{AppendsFront, CutsBlocksOn, CutsReportOn, HasReported, These, WritesReport, write_failed}
 use Rattle.shb_write.proofs.Blocks.{are_blocks, front_lacks}
 
 -- the head and the places

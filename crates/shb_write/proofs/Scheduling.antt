@@ -1,19 +1,7 @@
 -- Blocks that are written as their schedules come.
 use Rattle.std.proofs.Common.{◌≡◌, ℕ, zero, suc, ◌+◌, ◌-◌, ◌^◌, ◌<◌, ◌≤◌, List, [], ◌∷◌, ◌++◌, length, map, take, drop, get_or, All, Option, refl, sym, ap, subst, ◌∙◌, arith}
-use Rattle.std.proofs.lemmas.List.{map-append, map-id, map_more, map_push, take_all, take-append-drop}
-use Rattle.std.specs.Io.KnownBytes.{Appends}
-use Rattle.shb_fan.specs.Values.{values_of}
-use Rattle.shb_fan.proofs.Values.{length-values}
-use Rattle.shb_lines.specs.declared.event.Event.{Event}
-use Rattle.shb_lines.specs.declared.event.Pair.{Pair}
-use Rattle.shb_lines.specs.events.Race.{ends}
-use Rattle.shb_lines.specs.text.TraceData.{TraceData}
-use Rattle.shb_witness.specs.Schedules.{Asked, schedule_at}
-use Rattle.shb_format.specs.Places.{IsPairOf}
+use Rattle.shb_write.proofs.Words.{Appends, AppendsFront, Asked, Event, HasScheduled, IsPairOf, MaySchedule, Pair, TraceData, blocks_from, ends, length-values, map-append, map-id, map_more, map_push, schedule_at, scheduled, scheduled_in, shown_from, take-append-drop, take_all, values_of, with_schedule}
 use Rattle.shb_write.specs.declared.schedule_writer.ScheduleWriter.{ScheduleWriter}
-use Rattle.shb_write.specs.Blocks.{HasScheduled, MaySchedule, scheduled, scheduled_in, shown_from, with_schedule}
-use Rattle.shb_format.specs.Report.{blocks_from}
-use Rattle.shb_write.specs.Written.{AppendsFront}
 use Rattle.shb_write.proofs.Blocks.{blocks_front}
 
 abbrev pub none : Pair

@@ -1,22 +1,7 @@
 -- The texts of pieces, one after the other.
 use Rattle.std.proofs.Common.{◌≡◌, ◌+◌, ◌-◌, ◌<◌, ◌≤◌, ℕ, zero, suc, All, List, [], ◌∷◌, ◌++◌, Global, Vec, Option, ap, append-nil, arith, drop, length, map, refl, subst, sym, take, ◌∙◌}
 use Rattle.std.specs.Prelude.{flat_map, slice_index_or, slice_range}
-use Rattle.std.proofs.Math.Seq.{take-add}
-use Rattle.std.proofs.lemmas.List.{drop-map, length-drop, length-map, length-take-le, map-append, take-append-drop, take-map, take_all, take_more}
-use Rattle.std.proofs.lemmas.List.Elements.{All-drop, All-take}
-use Rattle.std.proofs.lemmas.List.Concat.{flat_map-append}
-use Rattle.std.specs.Io.KnownBytes.{Appends}
-use Rattle.shb_io.specs.Devices.{AppendsPrefix}
-use Rattle.shb_fan.specs.Values.{values_of}
-use Rattle.shb_lines.specs.text.TraceData.{TraceData}
-use Rattle.shb_format.specs.Report.{blocks_from}
-use Rattle.shb_pairs.specs.Listed.{pair_in}
-use Rattle.shb_pairs.specs.declared.listed.ListedRace.{ListedRace}
-use Rattle.shb_write.specs.Blocks.{alone}
-use Rattle.shb_write.specs.Listed.{IsRaceOf}
-use Rattle.shb_write.specs.Texts.{HasText, piece_text, text_of}
-use Rattle.shb_write.specs.declared.pieces.Piece.{Piece}
-use Rattle.shb_write.specs.Written.{AppendsFront}
+use Rattle.shb_write.proofs.Words.{All-drop, All-take, Appends, AppendsFront, AppendsPrefix, HasText, IsRaceOf, ListedRace, Piece, TraceData, alone, blocks_from, drop-map, flat_map-append, length-drop, length-map, length-take-le, map-append, pair_in, piece_text, take-add, take-append-drop, take-map, take_all, take_more, text_of, values_of}
 use Rattle.shb_write.proofs.PieceLemmas.{flat_joined}
 use Rattle.shb_write.proofs.Blocks.{blocks-append, front_after, front_more, front_of}
 

@@ -1,14 +1,7 @@
 -- The texts that came are the blocks of the races, or the front of them.
 use Rattle.std.proofs.Common.{rules, ◌≡◌, ◌+◌, ◌∙◌, ◌++◌, ◌∷◌, All, List, [], ap, arith, map, subst, sym}
-use Rattle.std.specs.Io.KnownBytes.{Appends}
+use Rattle.shb_write.proofs.Words.{Appends, AppendsFront, HasText, Piece, WriteError, alone, length-map, pair_in, piece_text, text_of, write_failed}
 use Rattle.std.specs.Prelude.{if◌then◌else◌, slice_index_or}
-use Rattle.std.proofs.lemmas.List.{length-map}
-use Rattle.shb_pairs.specs.Listed.{pair_in}
-use Rattle.shb_write.specs.Blocks.{alone}
-use Rattle.shb_write.specs.Texts.{HasText, piece_text, text_of}
-use Rattle.shb_write.specs.Written.{AppendsFront, write_failed}
-use Rattle.shb_write.specs.declared.errors.WriteError.{WriteError}
-use Rattle.shb_write.specs.declared.pieces.Piece.{Piece}
 use Rattle.shb_write.proofs.Blocks.{left_after, whole_front}
 use Rattle.shb_write.proofs.Scheduling.{values_next}
 use Rattle.shb_write.proofs.TextLemmas.{all_came, some_came}

@@ -1,9 +1,5 @@
 use Rattle.std.proofs.Common.{◌∙◌, List, All, ap, map, subst, sym}
-use Rattle.shb_lines.specs.declared.event.Event.{Event}
-use Rattle.shb_lines.specs.declared.event.Pair.{Pair}
-use Rattle.shb_lines.specs.events.Race.{Race, ends}
-use Rattle.shb_pairs.specs.Listed.{pair_in}
-use Rattle.shb_lists.proofs.GivenLemmas.{pairs_race}
+use Rattle.shb_write.proofs.Words.{Event, Pair, Race, ends, pair_in, pairs_race}
 use Rattle.shb_write.proofs.list.schedule_kept.Goals as goal
 
 pub order_of_races-requires : goal.order_of_races-requires

@@ -1,8 +1,5 @@
 use Rattle.std.proofs.Common.{ℕ, List, arith, map, rules, subst}
-use Rattle.shb_format.specs.Report.{ShownRace, blocks_from}
-use Rattle.shb_lists.proofs.GivenLemmas.{same_races}
-use Rattle.shb_write.specs.Blocks.{WritesBlocks, WritesFront, shown_in}
-use Rattle.shb_write.specs.declared.errors.WriteError.{WriteError}
+use Rattle.shb_write.proofs.Words.{ShownRace, WriteError, WritesBlocks, WritesFront, blocks_from, same_races, shown_in}
 use Rattle.shb_write.proofs.Blocks.{left_after}
 use Rattle.shb_write.proofs.Listing.{blocks_shown, races_of_trace, same_shown, shown_so}
 use Rattle.shb_write.proofs.list.write_blocks.Goals as goal

@@ -1,6 +1,5 @@
 use Rattle.std.proofs.Common.{[], map}
-use Rattle.shb_pairs.specs.Listed.{pair_in}
-use Rattle.shb_write.specs.Blocks.{shown_in}
+use Rattle.shb_write.proofs.Words.{pair_in, shown_in}
 use Rattle.shb_write.proofs.Listing.{none_written}
 use Rattle.shb_write.proofs.Parts.{part_may, part_stopped, part_written, parts_done, parts_refused, when_next}
 use Rattle.shb_write.proofs.list.write_parts.Goals as goal

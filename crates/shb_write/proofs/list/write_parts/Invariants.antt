@@ -1,6 +1,5 @@
 use Rattle.std.proofs.Common.{length}
-use Rattle.shb_lists.specs.Given.{parts_left}
-use Rattle.shb_write.specs.Blocks.{shown_in}
+use Rattle.shb_write.proofs.Words.{parts_left, shown_in}
 use Rattle.shb_write.proofs.Parts.{IsListing}
 use Rattle.shb_write.proofs.list.write_parts.Given as goal
 

@@ -1,5 +1,5 @@
 use Rattle.std.proofs.Common.{◌≡◌, flat_map, map, take}
-use Rattle.shb_lines.specs.events.Race.{ends}
+use Rattle.shb_write.proofs.Words.{ends}
 use Rattle.shb_write.proofs.pieces.joined.Given as goal
 
 abbrev pub invariant-loop-part : goal.invariant-loop-part

@@ -1,11 +1,7 @@
 use Rattle.std.proofs.Common.{ℕ, List, [], Global, Vec, ap, flat_map, length, map, ◌∙◌}
 use Rattle.std.specs.Prelude.{slice_index_or}
 use Rattle.std.proofs.lemmas.Result.{IfOk-weaker}
-use Rattle.shb_fan.specs.Values.{values_of}
-use Rattle.shb_lines.specs.declared.event.Pair.{Pair}
-use Rattle.shb_lines.specs.events.Race.{ends}
-use Rattle.shb_pairs.specs.Listed.{pair_in}
-use Rattle.shb_write.specs.declared.pieces.Piece.{Piece}
+use Rattle.shb_write.proofs.Words.{Pair, Piece, ends, pair_in, values_of}
 use Rattle.shb_write.proofs.PieceLemmas.{parts_joined}
 use Rattle.shb_write.proofs.pieces.pairs_in_pieces.Goals as goal
 

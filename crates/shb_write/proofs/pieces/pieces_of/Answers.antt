@@ -1,8 +1,5 @@
 use Rattle.std.proofs.Common.{All, map, subst, sym}
-use Rattle.std.proofs.lemmas.List.Elements.{All-push}
-use Rattle.shb_pairs.specs.Listed.{pair_in}
-use Rattle.shb_write.specs.Texts.{HasText}
-use Rattle.shb_write.specs.declared.pieces.Piece.{Piece}
+use Rattle.shb_write.proofs.Words.{All-push, HasText, Piece, pair_in}
 use Rattle.shb_write.proofs.PieceLemmas.{cut_more}
 use Rattle.shb_write.proofs.TextLemmas.{piece_has_text, text_more}
 use Rattle.shb_write.proofs.pieces.pieces_of.Goals as goal

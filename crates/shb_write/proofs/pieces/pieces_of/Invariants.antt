@@ -1,7 +1,5 @@
 use Rattle.std.proofs.Common.{◌≡◌, ◌-◌, ◌≤◌, All, flat_map, length, map, take}
-use Rattle.shb_lines.specs.text.TraceData.{TraceData}
-use Rattle.shb_pairs.specs.Listed.{pair_in}
-use Rattle.shb_write.specs.Texts.{HasText, piece_text, text_of}
+use Rattle.shb_write.proofs.Words.{HasText, TraceData, pair_in, piece_text, text_of}
 use Rattle.shb_write.proofs.pieces.pieces_of.Given as goal
 
 abbrev pub invariant-loop-start : goal.invariant-loop-start

@@ -1,6 +1,5 @@
 use Rattle.std.proofs.Common.{List, ℕ, subst}
-use Rattle.shb_io.specs.Devices.{Writes}
-use Rattle.shb_io.proofs.Growth.{AppendsPrefix-front, Writes-err, Writes-then}
+use Rattle.shb_write.proofs.Words.{AppendsPrefix-front, Writes, Writes-err, Writes-then}
 use Rattle.shb_write.proofs.Reports.{front_is}
 use Rattle.shb_write.proofs.report.write_front.Goals as goal
 

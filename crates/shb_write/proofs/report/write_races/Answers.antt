@@ -1,5 +1,5 @@
 use Rattle.std.proofs.Common.{arith, rules, sym}
-use Rattle.shb_io.proofs.Growth.{Appends-trans, AppendsPrefix-after, AppendsPrefix-front}
+use Rattle.shb_write.proofs.Words.{Appends-trans, AppendsPrefix-after, AppendsPrefix-front}
 use Rattle.shb_write.proofs.Listing.{few_counted, places_of_trace, races_of_trace}
 use Rattle.shb_write.proofs.Reports.{report_failed, report_stopped, reported}
 use Rattle.shb_write.proofs.report.write_races.Goals as goal

@@ -1,14 +1,7 @@
 -- The schedules that came are in the blocks of the races, or in the front of them.
 use Rattle.std.proofs.Common.{rules, ◌≡◌, ◌+◌, ◌∙◌, ◌++◌, ◌∷◌, [], ap, arith, length, map}
-use Rattle.std.specs.Io.KnownBytes.{Appends}
+use Rattle.shb_write.proofs.Words.{Appends, AppendsFront, Asked, blocks_from, ends, length-map, length-values, schedule_at, scheduled_in, write_failed}
 use Rattle.std.specs.Prelude.{if◌then◌else◌}
-use Rattle.std.proofs.lemmas.List.{length-map}
-use Rattle.shb_fan.proofs.Values.{length-values}
-use Rattle.shb_format.specs.Report.{blocks_from}
-use Rattle.shb_lines.specs.events.Race.{ends}
-use Rattle.shb_witness.specs.Schedules.{Asked, schedule_at}
-use Rattle.shb_write.specs.Blocks.{scheduled_in}
-use Rattle.shb_write.specs.Written.{AppendsFront, write_failed}
 use Rattle.shb_write.proofs.Blocks.{left_after, whole_front}
 use Rattle.shb_write.proofs.Counting.{pairs_in_range}
 use Rattle.shb_write.proofs.Scheduling.{came_all, came_front, values_next}

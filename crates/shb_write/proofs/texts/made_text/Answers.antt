@@ -1,6 +1,5 @@
 use Rattle.std.proofs.Common.{◌∙◌, All, ap, map, subst, sym}
-use Rattle.shb_lines.specs.events.Race.{ends}
-use Rattle.shb_write.specs.Listed.{IsRaceOf}
+use Rattle.shb_write.proofs.Words.{IsRaceOf, ends}
 use Rattle.shb_write.proofs.Counting.{pairs_of_trace}
 use Rattle.shb_write.proofs.texts.made_text.Goals as goal
 

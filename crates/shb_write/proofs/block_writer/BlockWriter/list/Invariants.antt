@@ -1,6 +1,5 @@
 use Rattle.std.proofs.Common.{map, take}
-use Rattle.shb_lines.specs.events.Race.{ends}
-use Rattle.shb_write.specs.Blocks.{HasWritten, alone}
+use Rattle.shb_write.proofs.Words.{HasWritten, alone, ends}
 use Rattle.shb_write.proofs.block_writer.BlockWriter.list.Given as goal
 
 abbrev pub invariant-loop-pair : goal.invariant-loop-pair

@@ -1,5 +1,5 @@
 use Rattle.std.proofs.Common.{◌+◌, ◌∙◌, ap, refl, subst}
-use Rattle.shb_io.specs.Devices.{AppendsPrefix}
+use Rattle.shb_write.proofs.Words.{AppendsPrefix}
 use Rattle.shb_write.proofs.TextLemmas.{text_cut}
 use Rattle.shb_write.proofs.text_writer.TextWriterTakerVecU8.take.Goals as goal
 
