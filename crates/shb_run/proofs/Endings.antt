@@ -1,31 +1,13 @@
 -- From what the parts of a run answer to what the run says of the text.
 use Rattle.std.proofs.Common.{◌≡◌, ◌⊎◌, ℕ, inl, inr, Bool, List, length, Option, Result, Ok, Err, IsErrAnd, sym, ap, subst, ◌∙◌}
-use Rattle.shb_lines.specs.declared.event.Event.{Event}
-use Rattle.shb_lines.specs.declared.fault.LineFault.{LineFault}
-use Rattle.shb_lines.specs.events.Discipline.{IsDisciplined}
-use Rattle.shb_lines.specs.events.Race.{IsRaceList}
-use Rattle.shb_lines.specs.text.Text.{lines_of}
-use Rattle.shb_lines.specs.text.TraceData.{IsReadingOf, IsTraceOf, TraceData}
+use Rattle.shb_run.proofs.Words.{All, AreShown, Choice, CutsBlocksOn, Event, Grows-same, HasReported, HasSummed, HasTrace, IsAccepted, IsDisciplined, IsRaceList, IsReadingOf, IsReported, IsScan, IsShown, IsTraceOf, LineFault, ListedBy, ListsPlaces, ListsRaces, ListsSchedulable, Nearest, ReportsTrace, Summary, These, TraceData, counts_of, lines_of, once_listed, places_listed, races_listed, standard_limits, summary_of}
 use Rattle.shb_lines.proofs.events.Decide.{decide_below_pred, printed_exists}
 use Rattle.shb_lines.proofs.events.Schedulable.{printed_is_schedule}
 use Rattle.shb_lines.proofs.events.Unschedulable.{race_of_schedule}
-use Rattle.shb_lines.specs.text.Limits.{standard_limits}
 use Rattle.shb_discipline.proofs.FirstFault.{accepted}
-use Rattle.shb_format.specs.Report.{counts_of}
-use Rattle.shb_format.specs.Value.{AreShown, IsShown}
-use Rattle.shb_scan.specs.Outcomes.{IsScan}
-use Rattle.shb_scan.proofs.OneScan.{once_listed, places_listed, races_listed}
 use Rattle.shb_write.specs.declared.errors.WriteError.{WriteError}
 use Rattle.shb_write.specs.declared.errors.WriteError.TheVariants as writing
-use Rattle.shb_run.specs.declared.settings.Choice.{Choice}
-use Rattle.shb_run.specs.declared.settings.Choice.TheVariants.{All, Nearest}
-use Rattle.shb_run.specs.declared.settings.Summary.{Summary}
-use Rattle.shb_check.specs.Errors.{IsAccepted}
 use Rattle.shb_check.specs.Outcomes.{Grows}
-use Rattle.shb_run.specs.Runs.{HasTrace, IsReported, ListedBy, ListsPlaces, ListsRaces, ListsSchedulable, ReportsTrace, summary_of}
-use Rattle.shb_write.specs.Written.{CutsBlocksOn, HasReported, These}
-use Rattle.shb_run.specs.Outcomes.{HasSummed}
-use Rattle.shb_check.proofs.Endings.{Grows-same}
 use Rattle.shb_run.proofs.Reports.{known_blocks, known_cut, known_written}
 
 schedulable_of : (events : List Event) (races : List (ℕ × ℕ)) → IsDisciplined events → IsRaceList events races → ListsSchedulable events races

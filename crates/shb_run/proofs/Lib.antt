@@ -5,3 +5,4 @@ pub mod Endings
 pub mod Outcomes
 pub mod Within
 pub mod NearestLists
+mod Words

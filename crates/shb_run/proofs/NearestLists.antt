@@ -1,10 +1,6 @@
 -- The nearest races of places and variables stand for all races of a trace.
 use Rattle.std.proofs.Common.{◌≡◌, inl, inr, ℕ, ◌≤◌, true, List, Some, refl, sym, ap, ◌∙◌, arith}
-use Rattle.shb_lines.specs.events.Race.{variable_at}
-use Rattle.shb_lines.specs.text.TraceData.{TraceData}
-use Rattle.shb_scan.specs.Outcomes.{IsScan}
-use Rattle.shb_scan.proofs.OneScan.{places_listed, races_listed}
-use Rattle.shb_lists.specs.PlaceRaces.{HaveNearest}
+use Rattle.shb_run.proofs.Words.{HaveNearest, IsScan, TraceData, places_listed, races_listed, variable_at}
 
 pub have_nearest : (trace : TraceData) (races : List (ℕ × ℕ)) → IsScan true trace races → HaveNearest trace races
 have_nearest trace races scan = record {

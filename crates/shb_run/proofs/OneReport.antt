@@ -1,14 +1,7 @@
 -- A text has one report.
 use Rattle.std.proofs.Common.{◌≡◌, ℕ, Bool, List, subst}
-use Rattle.shb_lines.specs.text.Text.{lines_of}
-use Rattle.shb_lines.specs.text.TraceData.{TraceData}
-use Rattle.shb_format.specs.Report.{IsReportOn, IsReportOnText}
-use Rattle.shb_check.proofs.OneTrace.{one_whole_trace}
+use Rattle.shb_run.proofs.Words.{All, Choice, IsReportOn, IsReportOnText, ListedBy, Nearest, TraceData, lines_of, one_nearest_list, one_whole_trace}
 use Rattle.shb_format.proofs.Blocks.{HasOneList, IsReportOn-unique, one_race_list}
-use Rattle.shb_scan.proofs.OneScan.{one_nearest_list}
-use Rattle.shb_run.specs.declared.settings.Choice.{Choice}
-use Rattle.shb_run.specs.declared.settings.Choice.TheVariants.{All, Nearest}
-use Rattle.shb_run.specs.Runs.{ListedBy}
 
 one_list : (choice : Choice) (trace : TraceData) → HasOneList (ListedBy choice) trace
 one_list All = one_race_list

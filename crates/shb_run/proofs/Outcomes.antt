@@ -1,25 +1,11 @@
 -- From what the parts of a run answer to its outcome, exit by exit.
 use Rattle.std.proofs.Common.{◌≡◌, ◌⊎◌, ◌+◌, ◌≤◌, ℕ, inl, Bool, List, Option, Result, Ok, Err, IsErrAnd, refl, sym, subst}
 use Rattle.shb_io.specs.declared.no_memory.NoMemory.{NoMemory}
-use Rattle.shb_lines.specs.declared.event.Event.{Event}
-use Rattle.shb_lines.specs.declared.fault.LineFault.{LineFault}
-use Rattle.shb_lines.specs.events.Discipline.{IsDisciplined}
-use Rattle.shb_lines.specs.text.Limits.{most_read, standard_limits}
+use Rattle.shb_run.proofs.Words.{AreShown, Choice, CutsBlocksOn, CutsReportOn, Event, Grows-same, IsAccepted, IsDisciplined, IsFirstFault, IsOutcome, IsReadingOf, IsRefusalOf, IsShown, LineFault, ListedBy, ReportsTrace, Summary, TraceData, counts_of, most_read, none_found, of_any_fault, standard_limits}
 use Rattle.shb_lines.specs.text.Taking.{ReadsText, TakesAtMost}
-use Rattle.shb_lines.specs.text.TraceData.{IsReadingOf, TraceData}
 use Rattle.shb_lines.proofs.text.TakingLemmas.{reads_left, reads_then, reads_told}
-use Rattle.shb_discipline.specs.FirstFault.{IsFirstFault}
 use Rattle.shb_check.specs.declared.errors.RunError.{RunError}
 use Rattle.shb_check.specs.declared.errors.RunError.TheVariants.{Trace, Source, Sink, Memory}
-use Rattle.shb_check.specs.Errors.{IsAccepted, IsRefusalOf}
-use Rattle.shb_check.proofs.Endings.{Grows-same, none_found, of_any_fault}
-use Rattle.shb_format.specs.Report.{counts_of}
-use Rattle.shb_format.specs.Value.{AreShown, IsShown}
-use Rattle.shb_write.specs.Written.{CutsBlocksOn, CutsReportOn}
-use Rattle.shb_run.specs.declared.settings.Choice.{Choice}
-use Rattle.shb_run.specs.declared.settings.Summary.{Summary}
-use Rattle.shb_run.specs.Outcomes.{IsOutcome}
-use Rattle.shb_run.specs.Runs.{ListedBy, ReportsTrace}
 use Rattle.shb_run.proofs.Endings.{grown_of_refused, has_trace, or_then, reported_of}
 
 module _ {A B : Type 0} (choice : Choice) (ws : Bool) (remaining : A → Option (List ℕ)) (given failed_reads : A → ℕ) (source left : A) (taken : B → Option (List ℕ)) (failed_writes : B → ℕ) (sink : B)

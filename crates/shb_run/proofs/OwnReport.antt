@@ -4,27 +4,16 @@ use Rattle.std.specs.List.{AllByRecursion}
 use Rattle.std.proofs.lemmas.List.{length-map}
 use Rattle.std.proofs.lemmas.Slice.Zip.{AllZip-long}
 use Rattle.shb_lines.specs.text.Faults.{HasNoLineFaultBefore}
-use Rattle.shb_lines.specs.text.Text.{IsLineText, lines_of}
-use Rattle.shb_lines.specs.text.TraceData.{IsTraceOf, TraceData}
+use Rattle.shb_run.proofs.Words.{AreShown, Choice, HasNoFault, IsLineText, IsReportValue, IsReported, IsShown, IsTraceOf, ListedBy, ReportValue, Summary, TraceData, counts_of, lines_of, most_bytes, one_whole_trace, report_text, standard_limits, written_good}
 use Rattle.shb_lines.proofs.text.LineTexts.{held_texts}
-use Rattle.shb_lines.specs.text.Limits.{most_bytes, standard_limits}
-use Rattle.shb_discipline.specs.FirstFault.{HasNoFault}
 use Rattle.shb_judging.specs.declared.verdict.Verdict.{Verdict}
 use Rattle.shb_judging.specs.declared.verdict.Verdict.TheVariants.{Good, BadLine, BadCounts, BadRace, BadPlaces}
 use Rattle.shb_reading.specs.Reading.{IsReportText}
-use Rattle.shb_format.specs.Report.{counts_of}
-use Rattle.shb_format.specs.Value.{AreShown, IsReportValue, IsShown, ReportValue, report_text}
-use Rattle.shb_judging.specs.Verdicts.{IsVerdict}
+use Rattle.shb_judging.specs.Verdicts.{IsVerdict, IsJudged, IsVerdictFor}
 use Rattle.shb_format.specs.Writing.{IsShowable}
 use Rattle.shb_reading.proofs.Injective.{report_same}
 use Rattle.shb_judging.proofs.VerdictLaws.{one_verdict}
-use Rattle.shb_judging.proofs.WrittenGood.{written_good}
-use Rattle.shb_run.specs.declared.settings.Summary.{Summary}
-use Rattle.shb_judging.specs.Verdicts.{IsJudged, IsVerdictFor}
 use Rattle.shb_check.specs.Checks.{IsVerdictOf}
-use Rattle.shb_run.specs.declared.settings.Choice.{Choice}
-use Rattle.shb_run.specs.Runs.{IsReported, ListedBy}
-use Rattle.shb_check.proofs.OneTrace.{one_whole_trace}
 use Rattle.shb_run.proofs.Reports.{listed_are_races}
 
 -- the lines of the trace of a text that has no fault

@@ -1,16 +1,9 @@
 -- The races of a report.
 use Rattle.std.proofs.Common.{◌≡◌, ℕ, Bool, List, get_or, All, Contains, Option, sym, subst}
 use Rattle.std.proofs.lemmas.List.Elements.{Contains-get_or}
-use Rattle.shb_lines.specs.declared.event.Event.{Event}
-use Rattle.shb_lines.specs.events.Race.{Race}
-use Rattle.shb_lines.specs.text.TraceData.{TraceData}
-use Rattle.shb_format.specs.Report.{IsReportOn}
+use Rattle.shb_run.proofs.Words.{Choice, CutsBlocksOn, CutsReportOn, Event, IsReportOn, ListedBy, Race, These, TraceData, WritesReport, all_are_races}
 use Rattle.shb_scan.proofs.OneScan.{races_listed as nearest_are_races}
-use Rattle.shb_judging.proofs.WrittenGood.{all_are_races}
-use Rattle.shb_run.specs.declared.settings.Choice.{Choice}
 use Rattle.shb_run.specs.declared.settings.Choice.TheVariants as choices
-use Rattle.shb_write.specs.Written.{CutsBlocksOn, CutsReportOn, These, WritesReport}
-use Rattle.shb_run.specs.Runs.{ListedBy}
 
 -- each pair that a report of this choice lists is a race
 pub listed_are_races : (choice : Choice) (trace : TraceData) (races : List (ℕ × ℕ)) → ListedBy choice trace races → (i j : ℕ) → Contains races (i, j) → Race trace.events i j

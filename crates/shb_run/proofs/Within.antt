@@ -1,10 +1,6 @@
 -- The races of a list are races of the trace.
 use Rattle.std.proofs.Common.{◌≡◌, ℕ, ◌<◌, List, All, length, map, refl}
-use Rattle.shb_lines.specs.declared.event.Event.{Event}
-use Rattle.shb_lines.specs.declared.event.Pair.{Pair}
-use Rattle.shb_lines.specs.events.Race.{Race, ends}
-use Rattle.shb_lines.specs.text.TraceData.{TraceData}
-use Rattle.shb_lists.proofs.GivenLemmas.{pairs_race, race_of_trace}
+use Rattle.shb_run.proofs.Words.{Event, Pair, Race, TraceData, ends, pairs_race, race_of_trace}
 
 -- the later event of each is an event
 pub seconds_within : (trace : TraceData) (events : List Event) (pairs : List Pair) → events ≡ trace.events → All (λ race. Race events race.0 race.1) (map ends pairs) → All (λ (pair : Pair). pair.second < length events) pairs

@@ -1,15 +1,8 @@
 use Rattle.std.proofs.Common.{Global, List, Vec, map, subst, sym}
-use Rattle.std.proofs.lemmas.Result.{IfOk-weaker}
-use Rattle.shb_lines.specs.declared.event.Event.{Event}
-use Rattle.shb_lines.specs.declared.event.Pair.{Pair}
-use Rattle.shb_lines.specs.events.Race.{IsRaceList, ends}
-use Rattle.shb_pairs.specs.Listed.{pair_in}
+use Rattle.shb_run.proofs.Words.{Event, HaveNearest, IfOk-weaker, IsRaceList, Pair, RaceList, ends, pair_in, races_of_list}
 use Rattle.shb_pairs.specs.declared.listed.ListedRace.{ListedRace}
 use Rattle.shb_lists.specs.Batches.{races_below}
-use Rattle.shb_lists.specs.PlaceRaces.{HaveNearest}
-use Rattle.shb_lists.specs.declared.list.RaceList.{RaceList}
 use Rattle.shb_lists.proofs.BatchLemmas.{when_some}
-use Rattle.shb_lists.proofs.GivenLemmas.{races_of_list}
 use Rattle.shb_lists.proofs.PartLemmas.{below_is_list}
 use Rattle.shb_run.proofs.NearestLists.{have_nearest}
 use Rattle.shb_run.proofs.lists.all_races.Goals as goal

@@ -1,6 +1,5 @@
 use Rattle.std.proofs.Common.{◌≡◌, map, take}
-use Rattle.shb_lines.specs.events.Race.{ends}
-use Rattle.shb_pairs.specs.Listed.{pair_in}
+use Rattle.shb_run.proofs.Words.{ends, pair_in}
 use Rattle.shb_run.proofs.lists.listed.Given as goal
 
 abbrev pub invariant-loop-pair : goal.invariant-loop-pair

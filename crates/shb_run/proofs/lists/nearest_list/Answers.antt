@@ -1,10 +1,5 @@
 use Rattle.std.proofs.Common.{◌∙◌, ℕ, List, ap, map, subst, sym}
-use Rattle.std.proofs.lemmas.Result.{IfOk-weaker}
-use Rattle.shb_lines.specs.declared.event.Pair.{Pair}
-use Rattle.shb_lines.specs.events.Race.{ends}
-use Rattle.shb_pairs.specs.Listed.{pair_in}
-use Rattle.shb_lists.specs.declared.list.RaceList.{RaceList}
-use Rattle.shb_scan.specs.Outcomes.{IsScan}
+use Rattle.shb_run.proofs.Words.{IfOk-weaker, IsScan, Pair, RaceList, ends, pair_in}
 use Rattle.shb_run.specs.declared.settings.Choice.TheVariants as choices
 use Rattle.shb_run.proofs.Within.{seconds_within}
 use Rattle.shb_run.proofs.Reports.{races_listed}
