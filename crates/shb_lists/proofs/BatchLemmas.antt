@@ -1,7 +1,8 @@
 -- The races that are kept of some variables, sorted, are those of the race list.
 use Rattle.std.proofs.Common.{◌≡◌, ◌≢◌, ℕ, zero, suc, ◌+◌, ◌<◌, ◌≤◌, ◌⊎◌, inl, inr, Bool, true, false, List, [], ◌∷◌, ◌++◌, Option, None, Some, IfSome, length, map, get_or, not, refl, arith, ap, sym, subst, ◌∙◌, append-nil}
 use Rattle.std.specs.Prelude.{All, AllPairs, Contains, flat_map, nat_lt, ◌↔◌}
-use Rattle.shb_lists.proofs.Words.{All-permutation, AllPairs-from_increasing, AreNarrowed, AreOpen, Contains-get_or, Contains-permutation, Event, IsBatch, IsDistinct-IsPermutation, IsListOf, IsNumberedByAccess, IsPermutation, IsPermutation-map, IsPermutation-sym, IsRaceList, IsSorted, IsWithin, ListedRace, PairBefore, Race, Sizes, accesses_at, accesses_in, accesses_open, all_is_race_list, append_assoc, before_then, cases_Bool, cases_lt, event_at_access, flat_map-append, flat_map_contains, flat_map_ordered, flat_map_parts, get_or-map, get_or_append_left, get_or_push, is_lt, is_open, le-ltb, length-map, lt-ltb, numbers_listed, numbers_more_yes, pair_in, piece_rises, race_cmp, race_contained, race_not_less, race_parts, race_total, races_before, races_below, races_between, races_on, races_on_parts, races_with, ranks_by, same_in_order, slice_get_within, sorted_far, test_from_access, variable_at, variable_sized, variable_within, variables_in}
+use Rattle.shb_lists.proofs.Words.{All-permutation, AllPairs-from_increasing, AreNarrowed, AreOpen, Contains-get_or, Contains-permutation, Event, IsBatch, IsDistinct-IsPermutation, IsListOf, IsNumberedByAccess, IsPermutation, IsPermutation-map, IsPermutation-sym, IsRaceList, IsSorted, IsWithin, ListedRace, PairBefore, Race, Sizes, accesses_at, accesses_in, accesses_open, all_is_race_list, append_assoc, cases_Bool, cases_lt, event_at_access, flat_map-append, flat_map_contains, flat_map_ordered, flat_map_parts, get_or-map, get_or_append_left, get_or_push, is_lt, is_open, le-ltb, length-map, lt-ltb, numbers_listed, numbers_more_yes, pair_in, piece_rises, race_contained, race_parts, races_before, races_below, races_between, races_on, races_on_parts, races_with, ranks_by, same_in_order, slice_get_within, sorted_far, test_from_access, variable_at, variable_sized, variable_within, variables_in}
+use Rattle.shb_lists.proofs.KeyOrder.{before_then, race_cmp, race_not_less, race_total}
 use Rattle.std.proofs.lemmas.Map.Made.{AllPairs-from_IsDistinct, IsDistinct-from_AllPairs}
 use Rattle.shb_lines.specs.events.Reach.{numbers_where}
 use Rattle.shb_lists.proofs.ListedLemmas.{flips, kept_differ, open_access, open_variable, same_decides, same_race}

@@ -2,7 +2,7 @@
 use Rattle.std.proofs.Common.{◌≡◌, ℕ, zero, suc, ◌+◌, ◌<◌, ◌≤◌, Bool, true, false, cond, List, [], ◌∷◌, ◌++◌, Some, length, get_or, map, take, All, IfSome, Option, refl, sym, ap, subst, ◌∙◌, append_assoc, inl, inr, arith}
 use Rattle.std.specs.Prelude.{◌==◌, sum}
 use Rattle.shb_lists.proofs.Words.{Accessed, AreOwnOf, AreRacingCounts, Event, HasCounted, IsCounted, Key, Keyed, Pair, PlaceCount, RaceCounter, by_number, cases_Bool, cases_eq, counted_of, eq-eqb, get_or_from_slice_get, is_race, length-append, length-map, length-take-le, location_number, locations_of, map-append, map_push, ne_eqb, number_in, numbers_all, numbers_where, only, pair_of, reflect_race, slice_get_within, sum_by-cons, take_all, take_more, times, variable_at, with_key, with_more, with_places}
-use Rattle.shb_pairs.specs.Races.{races_with}
+use Rattle.shb_stamps.specs.Accesses.{races_with}
 use Rattle.shb_lists.proofs.KeyCounts.{sum_more, sum_whole}
 use Rattle.shb_format.specs.Keyed.{same_key}
 use Rattle.shb_lists.proofs.CountsByPlace.{at_key, grown_at, grown_same, grown_zero, key_of, more_grown}

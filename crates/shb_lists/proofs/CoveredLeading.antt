@@ -1,5 +1,6 @@
 -- The races that are found, in the order of the race list, are the leading races.
-use Rattle.shb_lists.proofs.Words.{All-contains_itself, All-permutation, AreLeading, Contains-get_or, Contains-permutation, Covers, Decides-and, Decides-eqb, FoundRace, HasVariable, IsDistinct, IsDistinct-IsPermutation, IsDistinct-from_apart, IsInListOrder, IsNumberedByAccess, LeadingRaces, Leads, ListedRace, NotAfter, Pair, Race, TraceData, all_is_race_list, all_races, apart_from_distinct, before_not_after, before_or_same, cases_Bool, cases_order, common_steps, ends, get_or_from_slice_get, map_contains, map_parts, not_before, option_map, pairs_back, place_at, places_of_pairs, race_in, race_of, same_in_order, slice_get-get_or, slice_get-map, slice_get_within, variable_at}
+use Rattle.shb_lists.proofs.Words.{All-contains_itself, All-permutation, AreLeading, Contains-get_or, Contains-permutation, Covers, Decides-and, Decides-eqb, FoundRace, HasVariable, IsDistinct, IsDistinct-IsPermutation, IsDistinct-from_apart, IsInListOrder, IsNumberedByAccess, LeadingRaces, Leads, ListedRace, NotAfter, Pair, Race, TraceData, all_is_race_list, all_races, apart_from_distinct, cases_Bool, cases_order, common_steps, ends, get_or_from_slice_get, map_contains, map_parts, option_map, pairs_back, place_at, places_of_pairs, race_in, race_of, same_in_order, slice_get-get_or, slice_get-map, slice_get_within, variable_at}
+use Rattle.shb_lists.proofs.KeyOrder.{before_not_after, before_or_same, not_before}
 use Rattle.std.proofs.Common.{◌≡◌, ◌&&◌, ℕ, inl, inr, Bool, true, false, nat_eq, List, [], ◌∷◌, Option, Some, map, get_or, All, refl, sym, ap, subst, ◌∙◌, arith}
 use Rattle.std.specs.Prelude.{AllPairs, Contains, slice_get}
 use Rattle.shb_lists.proofs.LeadingLemmas.{firsts, firsts_lead, led_once}

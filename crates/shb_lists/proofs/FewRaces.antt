@@ -2,7 +2,7 @@
 use Rattle.std.proofs.Common.{ℕ, suc, ◌*◌, ◌<◌, ◌≤◌, List, [], ◌∷◌, length, arith}
 use Rattle.std.specs.Prelude.{All, flat_map}
 use Rattle.shb_lists.proofs.Words.{Event, is_race, length-append, length-map, numbers_few, numbers_where}
-use Rattle.shb_pairs.specs.Races.{races_with}
+use Rattle.shb_stamps.specs.Accesses.{races_with}
 
 with_few : (trace : List Event) (j : ℕ) → length (races_with trace j) ≤ j
 unfolding races_with

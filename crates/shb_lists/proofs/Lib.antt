@@ -33,4 +33,5 @@ pub mod LimitLemmas
 pub mod PlanLemmas
 pub mod PartLemmas
 pub mod GivenLemmas
+pub mod KeyOrder
 mod Words

@@ -1,9 +1,10 @@
 -- The races in the order in which a sweep finds them, sorted, are the race list.
 use Rattle.std.proofs.Common.{◌≡◌, ◌≢◌, ℕ, zero, suc, ◌+◌, ◌<◌, inl, inr, Bool, true, false, List, [], ◌∷◌, ◌++◌, Option, Some, None, map, get_or, refl, arith, ap, sym, subst, ◌∙◌, append-nil}
 use Rattle.std.specs.Prelude.{All, AllPairs, cond, flat_map, ◌==◌, ◌&&◌}
-use Rattle.shb_lists.proofs.Words.{All-append, AllPairs-from_increasing, Decides, Decides-and, Decides-eqb, Decides-like, Event, IsListOf, ListedRace, PairBefore, accesses_open, cases_Bool, flat_map-append, get_or-map, is_open, is_race, length-map, map-append, numbers_listed, numbers_more_no, numbers_more_yes, option_map_or, pair_in, piece_rises, race_of, races_before, same_fields, variable_at}
+use Rattle.shb_lists.proofs.Words.{All-append, AllPairs-from_increasing, Decides, Decides-and, Decides-eqb, Decides-like, Event, IsListOf, ListedRace, PairBefore, accesses_open, cases_Bool, flat_map-append, get_or-map, is_open, is_race, length-map, map-append, numbers_listed, numbers_more_no, numbers_more_yes, option_map_or, pair_in, piece_rises, race_of, races_before, variable_at}
+use Rattle.shb_lists.proofs.KeyOrder.{same_fields}
 use Rattle.shb_lines.specs.events.Reach.{numbers_where}
-use Rattle.shb_pairs.specs.Races.{races_with}
+use Rattle.shb_stamps.specs.Accesses.{races_with}
 
 -- ---- the races of one event more
 

@@ -2,9 +2,9 @@
 use Rattle.std.proofs.Common.{◌≡◌, ◌≢◌, ◌⊎◌, ℕ, zero, suc, ◌+◌, ◌-◌, ◌<◌, ◌≤◌, inl, inr, Bool, true, false, List, [], ◌∷◌, ◌++◌, Option, Some, None, length, map, max, refl, arith, ap, sym, subst, ◌∙◌, append-nil}
 use Rattle.std.specs.Prelude.{All, cond, drop, flat_map}
 use Rattle.shb_lists.proofs.Words.{All-drop, All-map, AreNarrowed, Event, IsNumberedByAccess, IsPart, IsRaceList, IsWithin, ListedRace, Sizes, access_from_test, accesses_at, accesses_open, all_is_race_list, append_assoc, cases_Bool, cases_eq, cases_lt, drop_all, flat_map-append, is_open, is_race, map-append, option_map_or, pair_in, race_list_unique, race_of, races_before, races_below, races_on, races_until, races_with, test_from_access, variable_at, variable_sized, variable_within, variables_in}
+use Rattle.shb_stamps.specs.Accesses.{variables_before}
 use Rattle.std.proofs.Math.Seq.{drop-append-add}
 use Rattle.shb_lines.specs.events.Reach.{numbers_where}
-use Rattle.shb_pairs.specs.Accesses.{variables_before}
 use Rattle.shb_lists.proofs.BatchLemmas.{accessed_within, below_next}
 use Rattle.shb_lists.proofs.ListedLemmas.{open_access, open_variable, pairs_of_kept, quiet_numbers, races_more}
 use Rattle.shb_lists.proofs.RankLemmas.{numbers_alike}

@@ -1,5 +1,6 @@
 -- The races that are found, one more at a time.
-use Rattle.shb_lists.proofs.Words.{AreFound, Decides-and, Decides-eqb, FoundRace, Improves, IsCovered, IsFound, IsOffered, ListedRace, NotAfter, TraceData, common_steps, contains_cases, contains_head, contains_none, contains_tail, insert_entry, location_at, lookup, place_at, race_then, same_key}
+use Rattle.shb_lists.proofs.Words.{AreFound, Decides-and, Decides-eqb, FoundRace, Improves, IsCovered, IsFound, IsOffered, ListedRace, NotAfter, TraceData, common_steps, contains_cases, contains_head, contains_none, contains_tail, insert_entry, location_at, lookup, place_at, same_key}
+use Rattle.shb_lists.proofs.KeyOrder.{race_then}
 use Rattle.std.proofs.Common.{◌≡◌, ℕ, ◌⊎◌, inl, inr, Bool, true, false, cond, List, [], ◌∷◌, Some, arith, refl, subst, ap, sym, ◌∙◌}
 use Rattle.std.specs.Prelude.{Contains, slice_get}
 use Rattle.std.proofs.lemmas.Map.Views.{Contains-from_lookup}

@@ -3,8 +3,7 @@ use Rattle.shb_lists.proofs.Words.{Event, accesses_in, accesses_open, cases_Bool
 use Rattle.std.proofs.Common.{◌≡◌, ℕ, zero, suc, ◌+◌, ◌-◌, ◌*◌, ◌<◌, ◌≤◌, inl, inr, Bool, true, false, List, [], ◌∷◌, ◌++◌, Option, Some, None, length, refl, arith, ap, sym, ◌∙◌, append-nil}
 use Rattle.std.specs.Prelude.{cond, ◌==◌, flat_map}
 use Rattle.shb_lines.specs.events.Reach.{numbers_where}
-use Rattle.shb_pairs.specs.Accesses.{accesses_at}
-use Rattle.shb_pairs.specs.Races.{races_with}
+use Rattle.shb_stamps.specs.Accesses.{accesses_at, races_with}
 use Rattle.shb_lists.proofs.FewRaces.{races_few}
 use Rattle.shb_lists.proofs.BatchLemmas.{below_next}
 

@@ -1,9 +1,9 @@
 -- The race list, by the numbers of variables in place of their first accesses.
 use Rattle.shb_lists.proofs.Words.{AllPairs-from_increasing, Contains-get_or, Event, KeyBefore, Pair, Race, access_member, accesses_at, accesses_in, all_member, all_races, common_steps, flat_map_ordered, is_race, map_contains, map_ordered, map_parts, numbers_below, numbers_listed, numbers_where, pair_of, race_parts, races_on_parts, variable_at, variables_in}
+use Rattle.shb_stamps.specs.Accesses.{races_with}
 use Rattle.std.proofs.Common.{◌≡◌, ℕ, ◌<◌, ◌⊎◌, inl, inr, true, List, Some, length, map, get_or, refl, subst, arith}
 use Rattle.std.specs.Prelude.{AllPairs, Contains}
-use Rattle.shb_pairs.specs.Races.{races_with}
-use Rattle.shb_pairs.proofs.Listing.{races_on}
+use Rattle.shb_stamps.proofs.Listing.{races_on}
 
 -- p stands before q
 abbrev pub IsBefore : List Event → Pair → Pair → Type 0

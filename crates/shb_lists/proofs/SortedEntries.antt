@@ -1,7 +1,8 @@
 -- Entries that were sorted have their races in the order of the race list.
 use Rattle.std.proofs.Common.{◌≡◌, ℕ, ◌<◌, false, List, Some, length, map, get_or, All, sym, ap, subst, ◌∙◌, arith}
 use Rattle.std.specs.Prelude.{AllPairs}
-use Rattle.shb_lists.proofs.Words.{All-permutation, Event, HasVariable, IsInListOrder, IsNotAfter, IsPermutation, IsPermutation-map, IsSorted, ListedRace, Pair, is_lt, map_ordered, race_cmp, race_in, race_not_less, race_renamed, race_total, ranks_by, sorted_far, variable_at}
+use Rattle.shb_lists.proofs.Words.{All-permutation, Event, HasVariable, IsInListOrder, IsNotAfter, IsPermutation, IsPermutation-map, IsSorted, ListedRace, Pair, is_lt, map_ordered, race_in, ranks_by, sorted_far, variable_at}
+use Rattle.shb_lists.proofs.KeyOrder.{race_cmp, race_not_less, race_renamed, race_total}
 
 -- so two entries that the sort left in this order have races in this order
 module _ (trace : List Event) (entries : List ListedRace) (variables : All (HasVariable trace) entries) (up : IsSorted race_cmp entries) where

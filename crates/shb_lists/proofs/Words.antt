@@ -28,7 +28,7 @@ pub use Rattle.shb_lists.specs.Counted.{AreNumbered, AreRacing, AreTables, Diffe
 pub use Rattle.shb_lists.specs.Given.{HasGiven, parts_left}
 pub use Rattle.shb_lists.specs.History.{AreChained, IsAccess, IsHistory, racing_by}
 pub use Rattle.shb_lists.specs.Leading.{AreLeading, LeadingRaces, Leads}
-pub use Rattle.shb_lists.specs.Listed.{IsListOf, races_before}
+pub use Rattle.shb_lists.specs.Listed.{IsListOf, NotAfter, pair_in, race_in, race_of, races_before}
 pub use Rattle.shb_lists.specs.Occurs.{HasCounts, occurs, with_key}
 pub use Rattle.shb_lists.specs.OwnNumbers.{AreNumbersOf, AreOwn, AreOwnBefore, AreOwnOf, AreThreads, HasOwn}
 pub use Rattle.shb_lists.specs.Parts.{IsPart, IsPartly, races_until}
@@ -37,6 +37,7 @@ pub use Rattle.shb_lists.specs.Planned.{HasAdded, HasPlanned, IsPlan, planned}
 pub use Rattle.shb_lists.specs.RacingCounts.{Accessed, AreMet, AreRacingCounts, HasOneMore, IsLearned, IsRacingCounts, IsSide, IsSideOf, accessed_by, is_by, location_number, locations_of, met_before, number_in, thread_number, threads_of}
 pub use Rattle.shb_lists.specs.Rivals.{HasRivals, IsNewest, is_met, newest_for, newest_where}
 pub use Rattle.shb_lists.specs.declared.counter.RaceCounter.{RaceCounter}
+pub use Rattle.shb_lists.specs.declared.listed.ListedRace.{ListedRace}
 pub use Rattle.shb_lists.specs.declared.own_numbers.Names.{Names}
 pub use Rattle.shb_lists.specs.declared.own_numbers.Own.{Own}
 pub use Rattle.shb_lists.specs.declared.own_numbers.OwnNumbers.{OwnNumbers}
@@ -48,18 +49,14 @@ pub use Rattle.shb_lists.specs.declared.rivals.Newest.{Newest}
 pub use Rattle.shb_lists.specs.declared.rivals.Rival.{Rival}
 pub use Rattle.shb_lists.specs.declared.search.Access.{Access}
 pub use Rattle.shb_lists.specs.declared.tables.Table.{Table}
-pub use Rattle.shb_pairs.proofs.Counting.{access_from_test, key_no, numbers_all, numbers_few, numbers_more_no, numbers_more_yes, test_from_access, variable_within}
-pub use Rattle.shb_pairs.proofs.FlatMaps.{flat_map_contains, flat_map_ordered, flat_map_parts, map_contains, map_ordered, map_parts}
-pub use Rattle.shb_pairs.proofs.KeyOrder.{before_not_after, before_or_same, before_then, not_before, race_cmp, race_less, race_not_less, race_renamed, race_then, race_total, same_fields}
-pub use Rattle.shb_pairs.proofs.Listing.{access_member, all_is_race_list, all_member, all_races, numbers_below, piece_rises, race_contained, race_parts, races_on_parts}
-pub use Rattle.shb_pairs.proofs.Times.{count_seen, rival_races, times_rise}
-pub use Rattle.shb_pairs.specs.Accesses.{accesses_at, accesses_in, variables_in}
-pub use Rattle.shb_pairs.specs.Listed.{NotAfter, pair_in, race_in, race_of}
-pub use Rattle.shb_pairs.specs.Open.{AreOpen}
-pub use Rattle.shb_pairs.specs.Races.{PairBefore, races_with}
-pub use Rattle.shb_pairs.specs.declared.listed.ListedRace.{ListedRace}
+pub use Rattle.shb_stamps.proofs.Accesses.{access_from_test, key_no, numbers_all, numbers_few, numbers_more_no, numbers_more_yes, test_from_access, variable_within}
+pub use Rattle.shb_stamps.proofs.FlatMaps.{flat_map_contains, flat_map_ordered, flat_map_parts, map_contains, map_ordered, map_parts}
 pub use Rattle.shb_stamps.proofs.Fronts.{zero_entry}
+pub use Rattle.shb_stamps.proofs.Listing.{access_member, all_is_race_list, all_member, all_races, numbers_below, piece_rises, race_contained, race_parts, races_on_parts}
+pub use Rattle.shb_stamps.proofs.Times.{count_seen, rival_races, times_rise}
+pub use Rattle.shb_stamps.specs.Accesses.{PairBefore, accesses_at, accesses_in, races_with, variables_in}
 pub use Rattle.shb_stamps.specs.Open.{accesses_open, is_open}
+pub use Rattle.shb_stamps.specs.Settling.{AreOpen}
 pub use Rattle.std.proofs.Math.ListN.{set}
 pub use Rattle.std.proofs.lemmas.Bool.{cases_Bool, cases_eq, cases_lt, cases_order, eq-eqb, eqb-true, le-ltb, lt-ltb, ne_eqb}
 pub use Rattle.std.proofs.lemmas.Bool.Decides.{Decides-and, Decides-eqb, Decides-like, eqb_tells}
@@ -78,5 +75,5 @@ pub use Rattle.std.specs.List.{AllByRecursion, IsDistinct}
 pub use Rattle.std.specs.List.Sorted.{IsNonDecreasing, IsPermutation, IsSorted}
 pub use Rattle.std.specs.Map.{keys_of, lookup}
 pub use Rattle.std.specs.Option.{option_map, option_map_or}
-pub use Rattle.std.specs.Ordering.{is_lt}
+pub use Rattle.std.specs.Ordering.{is_lt, nat_cmp, ordering_then}
 pub use Rattle.std.specs.Str.{bytes_eq}

@@ -4,8 +4,7 @@ use Rattle.shb_lines.specs.declared.event.Event.{Event}
 use Rattle.shb_lines.specs.events.Race.{Race, variable_at}
 use Rattle.shb_lines.specs.events.Reach.{numbers_where}
 use Rattle.shb_stamps.specs.Open.{is_open}
-use Rattle.shb_pairs.specs.Accesses.{accesses_in}
-use Rattle.shb_pairs.specs.Races.{races_with}
+use Rattle.shb_stamps.specs.Accesses.{accesses_in, races_with}
 
 -- the races of x, by the later access, then by the earlier
 abbrev pub races_on : List Event → ℕ → List (ℕ × ℕ)

@@ -11,7 +11,7 @@ use Rattle.shb_format.specs.Keyed.{Key, Keyed, counted_of, counting, same_key, w
 use Rattle.shb_format.specs.Places.{location_at}
 use Rattle.shb_format.specs.Report.{pair_of}
 use Rattle.shb_stamps.specs.Open.{accesses_open, is_open}
-use Rattle.shb_pairs.specs.Races.{races_with}
+use Rattle.shb_stamps.specs.Accesses.{races_with}
 use Rattle.shb_lists.specs.History.{IsAccess, IsHistory}
 use Rattle.shb_lists.specs.Planned.{HasPlanned}
 use Rattle.shb_lists.specs.OwnNumbers.{AreOwn}

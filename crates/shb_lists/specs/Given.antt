@@ -6,8 +6,8 @@ use Rattle.shb_lines.specs.events.Race.{Race}
 use Rattle.shb_lines.specs.text.TraceData.{TraceData}
 use Rattle.shb_format.specs.Places.{counts_in, places_of_pairs}
 use Rattle.shb_format.specs.Report.{pair_of}
-use Rattle.shb_pairs.specs.Listed.{pair_in}
-use Rattle.shb_pairs.specs.declared.listed.ListedRace.{ListedRace}
+use Rattle.shb_lists.specs.Listed.{pair_in}
+use Rattle.shb_lists.specs.declared.listed.ListedRace.{ListedRace}
 use Rattle.shb_lists.specs.Batches.{races_below}
 use Rattle.shb_lists.specs.Parts.{IsPartly, races_until}
 use Rattle.shb_lists.specs.declared.list.RaceList.{RaceList}

@@ -2,9 +2,8 @@
 use Rattle.std.specs.Prelude.{◌≡◌, ◌+◌, ◌≤◌, ℕ, List, [], All, drop, flat_map, length}
 use Rattle.shb_lines.specs.declared.event.Event.{Event}
 use Rattle.shb_lines.specs.events.Reach.{numbers_where}
-use Rattle.shb_pairs.specs.Accesses.{accesses_at}
-use Rattle.shb_pairs.specs.Races.{races_with}
-use Rattle.shb_pairs.specs.declared.listed.ListedRace.{ListedRace}
+use Rattle.shb_stamps.specs.Accesses.{accesses_at, races_with}
+use Rattle.shb_lists.specs.declared.listed.ListedRace.{ListedRace}
 use Rattle.shb_lists.specs.Batches.{AreNarrowed}
 use Rattle.shb_lists.specs.History.{IsHistory}
 use Rattle.shb_lists.specs.declared.parts.RaceParts.{RaceParts}

@@ -7,8 +7,8 @@ use Rattle.shb_lines.specs.events.Race.{Race, variable_at}
 use Rattle.shb_lines.specs.text.TraceData.{TraceData}
 use Rattle.shb_format.specs.Places.{location_at, place_at}
 use Rattle.shb_lists.specs.RacingCounts.{number_in}
-use Rattle.shb_pairs.specs.Listed.{NotAfter, race_of}
-use Rattle.shb_pairs.specs.declared.listed.ListedRace.{ListedRace}
+use Rattle.shb_lists.specs.Listed.{NotAfter, race_of}
+use Rattle.shb_lists.specs.declared.listed.ListedRace.{ListedRace}
 
 -- the numbers of a place's two locations, and the race that is known of it
 abbrev pub FoundRace : Type 0

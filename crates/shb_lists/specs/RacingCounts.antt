@@ -4,7 +4,7 @@ use Rattle.shb_lines.specs.declared.event.Event.{Event}
 use Rattle.shb_lines.specs.events.Events.{thread_at}
 use Rattle.shb_lines.specs.events.Order.{BelowPred}
 use Rattle.shb_lines.specs.events.Reach.{is_race, numbers_where, writes_at}
-use Rattle.shb_pairs.specs.Accesses.{accesses_at}
+use Rattle.shb_stamps.specs.Accesses.{accesses_at}
 use Rattle.shb_lists.specs.Occurs.{HasCounts}
 use Rattle.shb_lists.specs.OwnNumbers.{names_of}
 use Rattle.shb_lists.specs.declared.own_numbers.Own.{Own}

@@ -2,7 +2,7 @@
 use Rattle.std.specs.Prelude.{◌≡◌, ◌==◌, ◌&&◌, ℕ, zero, suc, Bool, true, cond, List, Some, count_by, slice_get}
 use Rattle.shb_lines.specs.declared.event.Event.{Event}
 use Rattle.shb_lines.specs.events.Reach.{any_below, of_thread, writes_at}
-use Rattle.shb_pairs.specs.Accesses.{accesses_at}
+use Rattle.shb_stamps.specs.Accesses.{accesses_at}
 use Rattle.shb_lists.specs.declared.rivals.Newest.{Newest}
 use Rattle.shb_lists.specs.declared.rivals.Rival.{Rival}
 

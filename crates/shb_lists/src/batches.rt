@@ -3,12 +3,12 @@
 ghost use Rattle.std.specs.Prelude.{◌≡◌, ◌⊎◌, ◌+◌, ◌<◌, ◌≤◌, false, IfOk, map};
 ghost use Rattle.shb_stamps.specs.Open.{is_open as is_open_in};
 ghost use Rattle.shb_lists.specs.Batches.{AreNarrowed, races_between};
-ghost use Rattle.shb_pairs.specs.Listed.{pair_in};
+ghost use Rattle.shb_lists.specs.Listed.{pair_in};
 
 use crate::kept::{found_races, in_list_order};
+use crate::listed::ListedRace;
 use crate::settled::Settled;
 use shb_io::NoMemory;
-use shb_pairs::ListedRace;
 use shb_stamps::is_open;
 use std::alloc::Global;
 

@@ -3,7 +3,7 @@
 ghost use Rattle.std.specs.Prelude.{◌≡◌, ◌++◌, ◌+◌, ◌<◌, ◌^◌, ℕ, Bool, [], cond, true, List, OnOk, length};
 ghost use Rattle.shb_lines.specs.declared.event.Pair.{Pair};
 ghost use Rattle.shb_stamps.specs.Open.{accesses_open, is_open as is_open_in};
-ghost use Rattle.shb_pairs.specs.Races.{races_with};
+ghost use Rattle.shb_stamps.specs.Accesses.{races_with};
 ghost use Rattle.shb_lists.specs.Counted.{HasCounted, IsCounting, MayCount};
 ghost use Rattle.shb_lists.specs.Planned.{HasAdded, planned};
 

@@ -3,18 +3,17 @@
 ghost use Rattle.std.specs.Prelude.{◌≡◌, ◌↔◌, ◌+◌, ◌<◌, ◌≤◌, ◌++◌, ℕ, Bool, List, Some, IfOk, IfSome, IsTrue, OnOk, length, map};
 ghost use Rattle.shb_lines.specs.declared.event.Event.{Event};
 ghost use Rattle.shb_lines.specs.events.Race.{IsRaceList, variable_at};
-ghost use Rattle.shb_pairs.specs.Open.{AreOpen};
+ghost use Rattle.shb_stamps.specs.Settling.{AreOpen};
 ghost use Rattle.shb_lists.specs.Batches.{AreKept, IsBatch, races_below, races_between};
-ghost use Rattle.shb_pairs.specs.Listed.{pair_in, race_of};
-ghost use Rattle.shb_lists.specs.Listed.{IsListOf, races_before};
+ghost use Rattle.shb_lists.specs.Listed.{pair_in, race_of, IsListOf, races_before};
 
 use crate::history::AccessHistory;
+use crate::listed::ListedRace;
 use shb_discipline::Disciplined;
 use shb_io::NoMemory;
 use shb_lines::Events;
 use shb_links::{Linked, Links};
-use shb_pairs::{ListedRace, any_open};
-use shb_stamps::{Ordered, Sweep};
+use shb_stamps::{Ordered, Sweep, any_open};
 use std::alloc::Global;
 
 /// Whether so many races more can be kept beside those that are: any number, or not more than `most`.
@@ -102,7 +101,7 @@ pub(crate) fn found_races<'a>(
 /// All races of a trace, in the order of the race list; or nothing, if and only if there are more than `most`. One pass over
 /// the trace with a [`Sweep`], which is asked for accesses of open variables alone; none where no variable is open.
 ///
-/// The links are of the trace, and a variable whose flag is false has no race (`open_variables` of `shb_pairs` tells
+/// The links are of the trace, and a variable whose flag is false has no race (`open_variables` of `shb_stamps` tells
 /// which). An access of an open variable costs a comparison for each thread that accesses the variable, and a step for
 /// each of its races. Memory: 8 bytes per event, 24 per variable, 12 for each variable and thread that accesses it, 12 per
 /// race, and what a sweep takes.

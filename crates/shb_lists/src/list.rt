@@ -2,7 +2,7 @@
 
 ghost use Rattle.std.specs.Prelude.{◌≡◌, ◌+◌, ◌<◌, ◌≤◌, ◌++◌, ℕ, All, List, IfOk, IfSome, length, map};
 ghost use Rattle.shb_lines.specs.events.Race.{Race, ends};
-ghost use Rattle.shb_pairs.specs.Listed.{pair_in};
+ghost use Rattle.shb_lists.specs.Listed.{pair_in};
 ghost use Rattle.shb_lists.specs.Batches.{races_below};
 ghost use Rattle.shb_lists.specs.Given.{HasGiven, IsNext, ListsRaces, parts_left};
 ghost use Rattle.shb_lists.specs.PlaceRaces.{HaveNearest};
@@ -10,13 +10,13 @@ ghost use Rattle.shb_lists.specs.Parts.{IsPart, IsPartly, races_until};
 ghost use Rattle.shb_lists.specs.declared.list.Rest.TheVariants.{From, Within};
 
 use crate::counted::{RaceCount, counted_races};
+use crate::listed::{ListedRace, pairs_of};
 use crate::parts::RaceParts;
 use crate::plan::{Batch, BatchPlan};
 use crate::settled::Settled;
 use shb_format::{Places, places_of};
 use shb_io::NoMemory;
 use shb_lines::Pair;
-use shb_pairs::{ListedRace, pairs_of};
 use std::alloc::Global;
 use std::mem;
 use std::random::RandomSource;

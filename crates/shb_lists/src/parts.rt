@@ -1,16 +1,16 @@
 //! The races of one variable, a part at a time.
 
 ghost use Rattle.std.specs.Prelude.{◌≡◌, ◌<◌, ◌≤◌, ◌++◌, ℕ, IfOk, OnOk, length, map};
-ghost use Rattle.shb_pairs.specs.Listed.{pair_in};
+ghost use Rattle.shb_lists.specs.Listed.{pair_in};
 ghost use Rattle.shb_lists.specs.Parts.{IsPart, IsPartly, races_until};
 
 use crate::batches::narrowed;
 use crate::history::AccessHistory;
 use crate::kept::add_races;
+use crate::listed::ListedRace;
 use crate::settled::Settled;
 use shb_io::NoMemory;
 use shb_links::Linked;
-use shb_pairs::ListedRace;
 use shb_stamps::{Ordered, Sweep};
 use std::alloc::Global;
 

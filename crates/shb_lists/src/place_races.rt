@@ -4,13 +4,13 @@ ghost use Rattle.std.specs.Prelude.{◌≡◌, ℕ, false, true, IfOk, List, OnO
 ghost use Rattle.std.specs.List.{IsDistinct};
 ghost use Rattle.std.specs.Map.{keys_of, lookup};
 ghost use Rattle.shb_lines.specs.text.TraceData.{TraceData};
-ghost use Rattle.shb_pairs.specs.Listed.{NotAfter};
+ghost use Rattle.shb_lists.specs.Listed.{NotAfter};
 ghost use Rattle.shb_lists.specs.PlaceRaces.{AreFound, IsFound, IsOffered, same_key};
 
+use crate::listed::ListedRace;
 use indexmap::IndexMap;
 use shb_io::NoMemory;
 use shb_lines::HashKeys;
-use shb_pairs::ListedRace;
 use std::alloc::Global;
 use std::random::RandomSource;
 

@@ -3,13 +3,13 @@
 ghost use Rattle.std.specs.Prelude.{◌≡◌, ◌↔◌, ◌+◌, ◌<◌, ◌≤◌, List, IfOk, IfSome, IsTrue, None, Some, length, map};
 ghost use Rattle.shb_lines.specs.declared.event.Event.{Event};
 ghost use Rattle.shb_lists.specs.Batches.{AreKept, races_between, races_on};
-ghost use Rattle.shb_pairs.specs.Listed.{pair_in};
+ghost use Rattle.shb_lists.specs.Listed.{pair_in};
 ghost use Rattle.shb_lists.specs.Planned.{IsPlan, planned};
 
 use crate::batches::races_within;
+use crate::listed::ListedRace;
 use crate::settled::Settled;
 use shb_io::NoMemory;
-use shb_pairs::ListedRace;
 use std::alloc::Global;
 
 /// Some variables whose numbers follow each other, and their races.

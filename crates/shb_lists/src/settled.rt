@@ -1,7 +1,7 @@
 //! A trace whose variables are told apart.
 
 ghost use Rattle.std.specs.Prelude.{◌≡◌};
-ghost use Rattle.shb_pairs.specs.Open.{AreOpen};
+ghost use Rattle.shb_stamps.specs.Settling.{AreOpen};
 
 use shb_discipline::Disciplined;
 use shb_links::Links;

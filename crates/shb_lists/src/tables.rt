@@ -7,7 +7,7 @@ ghost use Rattle.std.specs.Prelude.{◌≡◌, ◌++◌, ◌+◌, ◌*◌, ◌<�
 ghost use Rattle.shb_lines.specs.declared.event.Event.{Event};
 ghost use Rattle.shb_lines.specs.declared.event.Pair.{Pair};
 ghost use Rattle.shb_stamps.specs.Open.{is_open as is_open_in};
-ghost use Rattle.shb_pairs.specs.Races.{races_with};
+ghost use Rattle.shb_stamps.specs.Accesses.{races_with};
 ghost use Rattle.shb_lists.specs.Counted.{AreRacing, AreTables, HasCounted, MayCount};
 ghost use Rattle.shb_lists.specs.History.{IsAccess};
 ghost use Rattle.shb_lists.specs.OwnNumbers.{AreOwnOf, names_of};

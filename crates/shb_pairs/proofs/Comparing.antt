@@ -1,10 +1,9 @@
 -- The races of an access, one comparison with an earlier access at a time.
 use Rattle.std.proofs.Common.{◌≡◌, ℕ, zero, suc, ◌+◌, ◌<◌, ◌⊎◌, inl, inr, Bool, true, false, List, [], ◌∷◌, ◌++◌, Some, length, get_or, map, take, refl, arith, ap, sym, ◌∙◌}
 use Rattle.std.specs.Prelude.{cond, filter}
-use Rattle.shb_pairs.proofs.Words.{Event, Race, accesses_at, append-nil, append_assoc, cases_Bool, ends, filter-append, filter_more, is_race, map_push, reflect_race, variable_at}
+use Rattle.shb_pairs.proofs.Words.{Event, Race, accesses_at, append-nil, append_assoc, cases_Bool, ends, filter-append, filter_more, is_race, map_push, numbers_all, reflect_race, variable_at}
 use Rattle.shb_lines.specs.events.Reach.{numbers_where}
 use Rattle.shb_lines.specs.declared.event.Pair.{Pair}
-use Rattle.shb_pairs.proofs.Counting.{numbers_all}
 use Rattle.shb_pairs.proofs.PieceRaces.{race_accesses}
 
 -- pairs with the later access j

@@ -1,12 +1,12 @@
 -- The values of all pieces, joined, are the races of all variables.
 use Rattle.std.proofs.Common.{◌≡◌, ℕ, zero, suc, ◌+◌, ◌-◌, ◌*◌, ◌≤◌, inl, inr, List, [], ◌∷◌, ◌++◌, length, get_or, take, drop, refl, arith, subst, ap, sym, ◌∙◌, add-one}
 use Rattle.std.specs.Prelude.{Contains, flat_map, map, min}
-use Rattle.shb_pairs.proofs.Words.{AreOpen, Event, IsNumberedByAccess, IsRaceList, OpenTrace, Piece, accesses_in, append-nil, cases_Bool, contains_head, div_ceil, flat_map-append, is_open, joined, length-drop, listed_accesses, map_more, min_comm, numbered_piece, pieces_in, races_with, take_all, take_min, variables_in}
+use Rattle.shb_pairs.proofs.Words.{Event, IsNumberedByAccess, IsRaceList, OpenTrace, Piece, accesses_in, all_is_race_list, all_races, append-nil, cases_Bool, contains_head, div_ceil, flat_map-append, is_open, joined, length-drop, listed_accesses, map_more, min_comm, numbered_piece, numbers_below, pieces_in, races_on, races_on_parts, races_with, take_all, take_min, variables_in}
+use Rattle.shb_stamps.specs.Settling.{AreOpen}
 use Rattle.shb_lines.specs.events.Reach.{numbers_where}
 use Rattle.shb_pairs.specs.Races.{first_pieces, pieces_below, races_at, races_of}
 use Rattle.std.proofs.Math.Seq.{take-add}
 use Rattle.shb_fan.specs.Values.{values_of}
-use Rattle.shb_pairs.proofs.Listing.{numbers_below, races_on, races_on_parts, all_races, all_is_race_list}
 use Rattle.shb_pairs.proofs.PieceRaces.{no_pieces, pieces_on, listed_closed, listed_open}
 
 joined-map : {X A : Type 0} (f : X → List A) (xs : List X) → joined (map f xs) ≡ flat_map f xs
@@ -20,7 +20,7 @@ values_of_front {X} {M} f xs d (suc n) le =
     let more : map f (take (suc n) xs) ≡ map f (take n xs) ++ f (get_or xs n d) ∷ [] = rw (← add-one) (map_more f xs n d (omega arith)) in
     ap (λ (ms : List M). ms ++ f (get_or xs n d) ∷ []) ih ∙ sym more
 
-pub joined_values : {X A : Type 0} (f : X → List A) (xs : List X) (d : X) → joined (values_of (λ k. f (get_or xs k d)) (length xs)) ≡ flat_map f xs
+joined_values : {X A : Type 0} (f : X → List A) (xs : List X) (d : X) → joined (values_of (λ k. f (get_or xs k d)) (length xs)) ≡ flat_map f xs
 joined_values f xs d = ap (λ lists. joined lists) (values_of_front f xs d (length xs) (omega arith) ∙ ap (λ (ys : List _). map f ys) (take_all (length xs) xs (omega arith))) ∙ joined-map f xs
 
 -- the runs of one variable

@@ -1,10 +1,10 @@
 -- The value of a piece is its own races.
 use Rattle.std.proofs.Common.{◌≡◌, ℕ, ◌+◌, ◌-◌, ◌<◌, ◌≤◌, List, length, get_or, drop, arith, subst, ap, sym, ◌∙◌}
 use Rattle.std.specs.Prelude.{Contains, AllPairs, flat_map, slice_range}
-use Rattle.shb_pairs.proofs.Words.{AllPairs-from_increasing, AreRacesOfPiece, Event, OpenTrace, Piece, Race, accesses_at, accesses_in, get_or-drop, get_or-take, length-drop, length-take-le, listed_accesses, numbers_listed, piece_at, pieces_in, races_with}
+use Rattle.shb_pairs.proofs.Words.{AreRacesOfPiece, Event, OpenTrace, Piece, Race, accesses_at, accesses_in, get_or-drop, get_or-take, length-drop, length-take-le, listed_accesses, numbers_listed, piece_at, piece_rises, pieces_in, race_contained, race_parts, races_with}
+use Rattle.std.proofs.lemmas.List.Kept.{AllPairs-from_increasing}
 use Rattle.shb_pairs.specs.Races.{races_at, races_of}
-use Rattle.shb_pairs.proofs.Listing.{piece_rises, race_contained, race_parts}
-use Rattle.shb_pairs.proofs.FlatMaps.{flat_map_contains, flat_map_parts}
+use Rattle.shb_stamps.proofs.FlatMaps.{flat_map_contains, flat_map_parts}
 use Rattle.shb_pairs.proofs.PieceRaces.{IsPieceOf, piece_within, listed_open}
 
 part_length : (xs : List ℕ) (from to : ℕ) → from ≤ to → to ≤ length xs → length (slice_range xs from to) ≡ to - from

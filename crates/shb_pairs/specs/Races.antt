@@ -1,12 +1,12 @@
 -- The pieces that the accesses of each variable are cut into, and the races of a piece: those whose later access is among its accesses.
-use Rattle.std.specs.Prelude.{◌≡◌, ℕ, zero, suc, ◌+◌, ◌-◌, ◌*◌, ◌<◌, ◌⊎◌, ◌↔◌, min, List, [], ◌∷◌, ◌++◌, AllPairs, Contains, map, flat_map, length, slice_index_or, slice_range}
+use Rattle.std.specs.Prelude.{◌≡◌, ℕ, zero, suc, ◌+◌, ◌-◌, ◌*◌, ◌<◌, ◌↔◌, min, List, [], ◌∷◌, ◌++◌, AllPairs, Contains, map, flat_map, length, slice_index_or, slice_range}
 use Rattle.std.specs.Int.{div_ceil}
 use Rattle.shb_lines.specs.declared.event.Event.{Event}
 use Rattle.shb_lines.specs.events.Race.{Race}
-use Rattle.shb_lines.specs.events.Reach.{numbers_where, is_race}
 use Rattle.shb_stamps.specs.Open.{OpenTrace}
 use Rattle.shb_pairs.specs.declared.piece.Piece.{Piece}
-use Rattle.shb_pairs.specs.Accesses.{accesses_in, listed_accesses, variables_in}
+use Rattle.shb_stamps.specs.Accesses.{PairBefore, accesses_in, races_with, variables_in}
+use Rattle.shb_pairs.specs.Accesses.{listed_accesses}
 
 -- how many accesses a piece has at most
 abbrev pub piece_length : ℕ
@@ -30,10 +30,6 @@ pieces_below a (suc x) = pieces_below a x ++ first_pieces x (length (listed_acce
 abbrev pub pieces_in : OpenTrace → List Piece
 pieces_in a = pieces_below a (variables_in a.trace)
 
--- the races whose later access is j, by the earlier access
-unfoldable pub races_with : List Event → ℕ → List (ℕ × ℕ)
-races_with trace j = map (λ i. (i, j)) (numbers_where (λ i. is_race trace i j) j)
-
 -- the races whose later access is among those of the piece, by the later access, then by the earlier
 unfoldable pub races_of : List Event → Piece → List (ℕ × ℕ)
 races_of trace p = flat_map (races_with trace) (slice_range (accesses_in trace p.variable) p.from p.to)
@@ -45,10 +41,6 @@ piece_at pieces k = slice_index_or pieces k (record { variable = 0; from = 0; to
 -- the races of piece k
 unfoldable pub races_at : OpenTrace → ℕ → List (ℕ × ℕ)
 races_at a k = races_of a.trace (piece_at (pieces_in a) k)
-
--- p stands before q: by the later access, then by the earlier
-abbrev pub PairBefore : ℕ × ℕ → ℕ × ℕ → Type 0
-PairBefore p q = (p.1 < q.1) ⊎ ((p.1 ≡ q.1) × (p.0 < q.0))
 
 -- all races whose later access is among those of the piece, each once, by the later access, then by the earlier
 pub record AreRacesOfPiece (a : OpenTrace) (p : Piece) (races : List (ℕ × ℕ)) : Type 0 where

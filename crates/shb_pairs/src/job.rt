@@ -4,9 +4,9 @@ ghost use Rattle.std.specs.Prelude.{◌≡◌, ◌++◌, ℕ, ◌<◌, ◌≤◌
 ghost use Rattle.shb_lines.specs.events.Race.{ends, variable_at};
 ghost use Rattle.shb_lines.specs.events.Reach.{numbers_where};
 ghost use Rattle.shb_stamps.specs.Open.{OpenTrace, is_open};
-ghost use Rattle.shb_pairs.specs.Accesses.{accesses_at, accesses_in, variables_in};
+ghost use Rattle.shb_stamps.specs.Accesses.{accesses_at, accesses_in, variables_in, races_with};
 ghost use Rattle.shb_pairs.specs.Open.{AsksOpen};
-ghost use Rattle.shb_pairs.specs.Races.{piece_at, pieces_in, races_at, races_with};
+ghost use Rattle.shb_pairs.specs.Races.{piece_at, pieces_in, races_at};
 
 use crate::accesses::Accesses;
 use crate::piece::Piece;

@@ -10,7 +10,7 @@ ghost use Rattle.shb_lines.specs.events.Race.{Conflict, IsRaceList, Race};
 ghost use Rattle.shb_lines.specs.events.Schedule.{IsPrintedSchedule, IsSchedule};
 ghost use Rattle.shb_lines.specs.events.Sizes.{IsNumberedByAccess};
 ghost use Rattle.shb_stamps.specs.Open.{OpenTrace};
-ghost use Rattle.shb_pairs.specs.Open.{AreOpen};
+ghost use Rattle.shb_stamps.specs.Settling.{AreOpen};
 ghost use Rattle.shb_pairs.specs.Races.{AreRacesOfPiece, joined, piece_at, pieces_in, races_at};
 
 /// The values of all pieces, joined, are the race list, where a variable that isn't open has no race.

@@ -2,15 +2,14 @@
 ghost use Rattle.std.specs.Prelude.{◌≡◌, ◌<◌, ℕ, All, IfOk, List, if◌then◌else◌, length, map, max};
 ghost use Rattle.shb_lines.specs.events.Race.{ends};
 ghost use Rattle.shb_lists.specs.Given.{ListsRaces};
-ghost use Rattle.shb_pairs.specs.Listed.{pair_in};
+ghost use Rattle.shb_lists.specs.Listed.{pair_in};
 ghost use Rattle.shb_run.specs.Runs.{ListedBy};
 ghost use Rattle.shb_run.specs.declared.settings.Choice.TheVariants.{All as AllRaces, Nearest};
 
 use crate::settings::Choice;
 use shb_io::NoMemory;
 use shb_lines::{Events, Pair};
-use shb_lists::{RaceList, Settled, kept_races};
-use shb_pairs::ListedRace;
+use shb_lists::{ListedRace, RaceList, Settled, kept_races};
 use shb_scan::nearest_races;
 use std::alloc::Global;
 use std::random::RandomSource;

@@ -15,7 +15,7 @@ use shb_io::{Sink, Source};
 use shb_lines::Trace;
 use shb_links::links_of;
 use shb_lists::Settled;
-use shb_pairs::open_variables;
+use shb_stamps::open_variables;
 use shb_write::{BlockPlan, WriteError, write_races};
 use std::alloc::Global;
 use std::random::RandomSource;

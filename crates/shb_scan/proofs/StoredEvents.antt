@@ -9,7 +9,7 @@ use Rattle.shb_lines.specs.text.Limits.{most_events}
 use Rattle.shb_lines.proofs.events.Events.{event_of_thread, same_op}
 use Rattle.shb_links.proofs.Owners.{variable_sized}
 use Rattle.shb_stamps.specs.Open.{is_open}
-use Rattle.shb_pairs.specs.Open.{AreOpen}
+use Rattle.shb_stamps.specs.Settling.{AreOpen}
 use Rattle.shb_scan.proofs.Noted.{on_ok}
 use Rattle.shb_scan.proofs.Places.{nearest_by, sites_alike}
 use Rattle.shb_scan.proofs.Pushes.{at_push}

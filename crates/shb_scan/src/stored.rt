@@ -5,7 +5,7 @@ ghost use Rattle.std.specs.Option.{option_map_or};
 ghost use Rattle.shb_lines.specs.events.Events.{variable_of};
 ghost use Rattle.shb_lines.specs.events.Race.{ends};
 ghost use Rattle.shb_stamps.specs.Open.{is_open as is_open_in};
-ghost use Rattle.shb_pairs.specs.Open.{AreOpen};
+ghost use Rattle.shb_stamps.specs.Settling.{AreOpen};
 ghost use Rattle.shb_nearest.specs.Found.{ends_of};
 ghost use Rattle.shb_scan.specs.Outcomes.{IsScan};
 ghost use Rattle.shb_scan.specs.Stored.{HasTakenTo, IsSpotIn};

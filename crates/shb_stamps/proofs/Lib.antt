@@ -13,4 +13,9 @@ pub mod ClockSteps
 pub mod Streaming
 pub mod TraceSteps
 pub mod Screening
+pub mod Accesses
+pub mod FlatMaps
+pub mod Listing
+pub mod Times
+pub mod OpenVariables
 mod Words

@@ -1,3 +1,4 @@
+pub mod Accesses
 pub mod Chunks
 pub mod Clocks
 pub mod Fronts
@@ -7,6 +8,7 @@ pub mod Moved
 pub mod Open
 pub mod Rows
 pub mod Screen
+pub mod Settling
 pub mod Stamps
 pub mod StreamClocks
 pub mod SweepData

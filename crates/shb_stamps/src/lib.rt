@@ -6,7 +6,9 @@
 //! asked about the events of a list, so it keeps rows for these alone, found by binary search. Orders that can be asked about each event are in
 //! `shb_orders`, for tests. [`Ordered`] is a trace with its links and an order of it, which are of one
 //! trace by its type. What is kept of a variable, its [`Latest`] write and read, tells of most accesses that they race with
-//! none before them; the clocks of the next event are asked for that (`screen`).
+//! none before them; the clocks of the next event are asked for that (`screen`). [`open_variables`] goes over the trace once,
+//! with a sweep, and finds variables that can't race ("settled"): before each access the last write is SHB-below its
+//! predecessor and, before a write, so is the newest read since, and before that the read before it. The others are open.
 //!
 //! A vector clock of a property of events has for each thread the number of its events, from the
 //! first on, that have the property (`IsFront`). Clocks are rows of one memory, and a row says
@@ -42,6 +44,7 @@ mod ordered;
 mod row;
 mod row_list;
 mod screen;
+mod settling;
 mod stamp;
 mod stream_clocks;
 mod sweep;
@@ -52,5 +55,6 @@ pub use open::is_open;
 pub use order::Order;
 pub use ordered::Ordered;
 pub use screen::{Epoch, Latest};
+pub use settling::{any_open, open_variables};
 pub use stream_clocks::StreamClocks;
 pub use sweep::Sweep;

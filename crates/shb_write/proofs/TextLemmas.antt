@@ -1,8 +1,8 @@
 -- The texts of pieces, one after the other.
 use Rattle.std.proofs.Common.{◌≡◌, ◌+◌, ◌-◌, ◌<◌, ◌≤◌, ℕ, zero, suc, All, List, [], ◌∷◌, ◌++◌, Global, Vec, Option, ap, append-nil, arith, drop, length, map, refl, subst, sym, take, ◌∙◌}
 use Rattle.std.specs.Prelude.{flat_map, slice_index_or, slice_range}
-use Rattle.shb_write.proofs.Words.{All-drop, All-take, Appends, AppendsFront, AppendsPrefix, HasText, IsRaceOf, ListedRace, Piece, TraceData, alone, blocks_from, drop-map, flat_map-append, length-drop, length-map, length-take-le, map-append, pair_in, piece_text, take-add, take-append-drop, take-map, take_all, take_more, text_of, values_of}
-use Rattle.shb_write.proofs.PieceLemmas.{flat_joined}
+use Rattle.shb_write.proofs.Words.{All-drop, All-take, Appends, AppendsFront, AppendsPrefix, HasText, IsRaceOf, ListedRace, Piece, TraceData, alone, blocks_from, drop-map, flat_map-append, length-drop, length-map, length-take-le, map-append, pair_in, piece_text, take-add, take-append-drop, take-map, take_all, text_of, values_of}
+use Rattle.shb_write.proofs.PieceLemmas.{flat_joined, values_taken}
 use Rattle.shb_write.proofs.Blocks.{blocks-append, front_after, front_more, front_of}
 
 -- the text of some races and of those after them
@@ -41,12 +41,6 @@ piece_has_text trace before piece races start end lt within has is number = reco
 
 abbrev joined : List (List ℕ) → List ℕ
 joined texts = flat_map (λ (l : List ℕ). l) texts
-
-values_taken : (texts : List (List ℕ)) (k : ℕ) → k ≤ length texts → values_of (λ i. slice_index_or texts i []) k ≡ take k texts
-values_taken texts zero le = refl
-values_taken texts (suc k) le =
-    let up : k + 1 ≡ suc k = omega arith in
-    ap (λ l. l ++ slice_index_or texts k [] ∷ []) (values_taken texts k (omega (arith, le))) ∙ sym (take_more texts k [] (omega (arith, le))) ∙ ap (λ (n : ℕ). take n texts) up
 
 module _ (trace : TraceData) (before : ℕ) (races : List ListedRace) (pieces : List Piece) (texts : List (List ℕ)) (given : List (Vec ℕ Global)) (old new : Option (List ℕ)) (made : texts ≡ map (piece_text trace) pieces)
     (are : flat_map (piece_text trace) pieces ≡ text_of trace before (map pair_in races)) where

@@ -13,8 +13,8 @@ pub use Rattle.shb_lines.specs.events.Race.{Race, ends}
 pub use Rattle.shb_lines.specs.text.TraceData.{TraceData}
 pub use Rattle.shb_lists.proofs.GivenLemmas.{given_front, pairs_race, race_of_trace, same_races}
 pub use Rattle.shb_lists.specs.Given.{HasGiven, IsNext, parts_left}
-pub use Rattle.shb_pairs.specs.Listed.{pair_in}
-pub use Rattle.shb_pairs.specs.declared.listed.ListedRace.{ListedRace}
+pub use Rattle.shb_lists.specs.Listed.{pair_in}
+pub use Rattle.shb_lists.specs.declared.listed.ListedRace.{ListedRace}
 pub use Rattle.shb_witness.specs.Schedules.{AreRaces, Asked, schedule_at}
 pub use Rattle.shb_write.specs.Blocks.{HasScheduled, HasShown, HasStopped, HasWritten, MaySchedule, WritesBlocks, WritesFront, alone, blocks_of, scheduled, scheduled_in, shown_from, shown_in, with_schedule}
 pub use Rattle.shb_write.specs.Listed.{HasListed, IsRaceOf, MayList}

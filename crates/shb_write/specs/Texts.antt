@@ -3,7 +3,7 @@ use Rattle.std.specs.Prelude.{◌≡◌, ℕ, ◌+◌, ◌^◌, ◌<◌, List, A
 use Rattle.std.specs.Io.KnownBytes.{Appends}
 use Rattle.shb_lines.specs.text.TraceData.{TraceData}
 use Rattle.shb_format.specs.Report.{blocks_from}
-use Rattle.shb_pairs.specs.Listed.{pair_in}
+use Rattle.shb_lists.specs.Listed.{pair_in}
 use Rattle.shb_write.specs.Blocks.{alone}
 use Rattle.shb_write.specs.Listed.{IsRaceOf}
 use Rattle.shb_write.specs.Written.{AppendsFront}

@@ -3,7 +3,7 @@ ghost use Rattle.std.specs.Prelude.{◌-◌, ◌^◌, ◌<◌, ℕ, List, [], le
 ghost use Rattle.shb_io.specs.Devices.{CountsFailure};
 ghost use Rattle.shb_lines.specs.declared.event.Event.{Event};
 ghost use Rattle.shb_lists.specs.Given.{HasGiven, ListsRaces};
-ghost use Rattle.shb_pairs.specs.Listed.{pair_in};
+ghost use Rattle.shb_lists.specs.Listed.{pair_in};
 ghost use Rattle.shb_write.specs.Blocks.{WritesBlocks, alone, scheduled_in, shown_in};
 ghost use Rattle.shb_write.specs.Listed.{HasListed, MayList};
 ghost use Rattle.shb_write.specs.Written.{write_failed};
@@ -18,8 +18,7 @@ use crate::texts::TextJob;
 use shb_fan::{Gate, StreamError, stream};
 use shb_io::Sink;
 use shb_links::Linked;
-use shb_lists::{RaceList, Settled};
-use shb_pairs::ListedRace;
+use shb_lists::{ListedRace, RaceList, Settled};
 use shb_stamps::Ordered;
 use shb_witness::order_of_races;
 use std::alloc::Global;

@@ -2,14 +2,14 @@
 ghost use Rattle.std.specs.Prelude.{◌≡◌, ◌+◌, ◌^◌, ◌<◌, ◌≤◌, ℕ, All, List, IfOk, [], flat_map, length, map, slice_index_or, slice_range};
 ghost use Rattle.shb_lines.specs.events.Race.{ends};
 ghost use Rattle.shb_lines.specs.text.TraceData.{TraceData};
-ghost use Rattle.shb_pairs.specs.Listed.{pair_in};
+ghost use Rattle.shb_lists.specs.Listed.{pair_in};
 ghost use Rattle.shb_write.specs.Texts.{HasText, piece_text, text_of};
 
 use crate::plan::BlockPlan;
 use shb_fan::{Gate, Job, gather};
 use shb_io::NoMemory;
 use shb_lines::Pair;
-use shb_pairs::{ListedRace, pairs_of};
+use shb_lists::{ListedRace, pairs_of};
 use std::alloc::Global;
 use std::collections::LinkedList;
 use std::marker::Model;

@@ -3,7 +3,7 @@ ghost use Rattle.std.specs.Prelude.{◌≡◌, ◌+◌, ◌-◌, ◌^◌, ◌<�
 ghost use Rattle.shb_io.specs.Devices.{IsCounted};
 ghost use Rattle.shb_lines.specs.events.Race.{ends};
 ghost use Rattle.shb_format.specs.Places.{IsPairOf};
-ghost use Rattle.shb_pairs.specs.Listed.{pair_in};
+ghost use Rattle.shb_lists.specs.Listed.{pair_in};
 ghost use Rattle.shb_write.specs.Blocks.{WritesFront};
 ghost use Rattle.shb_write.specs.Texts.{HasText, piece_text, text_of};
 
@@ -13,7 +13,7 @@ use crate::text::Text;
 use shb_fan::Job;
 use shb_io::{Failed, NoMemory, Sink};
 use shb_lines::{Pair, Trace};
-use shb_pairs::pairs_of;
+use shb_lists::pairs_of;
 use std::alloc::Global;
 use std::collections::LinkedList;
 use std::marker::Model;

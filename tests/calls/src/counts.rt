@@ -6,8 +6,8 @@ use shb_format::PlaceCount;
 use shb_lines::Pair;
 use shb_links::Links;
 use shb_lists::{Settled, counted_races};
-use shb_pairs::open_variables;
 use shb_scan::nearest_races;
+use shb_stamps::open_variables;
 use std::test::Fail;
 
 /// The races of a text.

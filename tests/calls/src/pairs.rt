@@ -9,8 +9,9 @@ use shb_fan::{FreeGate, Job, Workers, gather};
 use shb_lines::{Op, Pair, conflicts};
 use shb_links::{Linked, Links};
 use shb_pairs::laws::{no_schedule_without_race, printed_schedule_is_schedule};
-use shb_pairs::{PairJob, Piece, accesses_of, is_race, open_variables, pieces};
+use shb_pairs::{PairJob, Piece, accesses_of, is_race, pieces};
 use shb_replay::replay;
+use shb_stamps::open_variables;
 use shb_witness::{WitnessJob, schedule, thread_events};
 use std::test::Fail;
 

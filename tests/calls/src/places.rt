@@ -6,9 +6,9 @@ use shb_discipline::Disciplined;
 use shb_io::{Page, Text};
 use shb_lines::Fault;
 use shb_links::Links;
-use shb_pairs::open_variables;
 use shb_run::{RunError, Summary, run_places, run_scan};
 use shb_scan::nearest_races;
+use shb_stamps::open_variables;
 use std::test::Fail;
 
 /// Both writes race with both reads: the least later event is 3, and the greatest that races with it 2.

@@ -1,6 +1,6 @@
 use Rattle.std.proofs.Common.{◌++◌, ℕ, List, Vec, Global, get_or, map, take, ap, ◌∙◌}
 use Rattle.shb_pairs.proofs.Words.{ends, reflect_race, take_all}
-use Rattle.shb_pairs.specs.Races.{races_with}
+use Rattle.shb_stamps.specs.Accesses.{races_with}
 use Rattle.shb_pairs.proofs.Comparing.{earlier_below, not_racing, pairs_with, racing, racing_all, racing_more, racing_same}
 use Rattle.shb_pairs.proofs.job.add_races.Goals as goal
 use Rattle.shb_pairs.proofs.job.add_races.Goals.{then-racing+in_ok-push, else-racing}

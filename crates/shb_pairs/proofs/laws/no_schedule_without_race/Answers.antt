@@ -1,4 +1,4 @@
-use Rattle.shb_pairs.proofs.Words.{race_of_schedule}
+use Rattle.shb_lines.proofs.events.Unschedulable.{race_of_schedule}
 use Rattle.shb_pairs.proofs.laws.no_schedule_without_race.Goals as goal
 
 pub returns : goal.returns

@@ -1,4 +1,4 @@
-use Rattle.shb_pairs.proofs.Words.{race_of_schedule}
+use Rattle.shb_lines.proofs.events.Unschedulable.{race_of_schedule}
 use Rattle.shb_pairs.proofs.laws.schedule_makes_a_race.Goals as goal
 
 pub returns : goal.returns

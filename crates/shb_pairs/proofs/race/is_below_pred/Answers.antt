@@ -1,5 +1,8 @@
 use Rattle.std.proofs.Common.{◌≡◌, ℕ, List, Some, subst}
-use Rattle.shb_pairs.proofs.Words.{Event, below_pred_test, local_time, thread_at}
+use Rattle.shb_lines.proofs.events.Prefix.{below_pred_test}
+use Rattle.shb_pairs.proofs.Words.{Event}
+use Rattle.shb_lines.specs.events.Discipline.{local_time}
+use Rattle.shb_lines.specs.events.Events.{thread_at}
 use Rattle.shb_pairs.proofs.race.is_below_pred.Goals as goal
 
 -- an event is below the predecessor exactly where its local time is no higher than the order's answer

@@ -1,6 +1,6 @@
 use Rattle.std.proofs.Common.{Global, List, Vec, map, subst, sym}
 use Rattle.shb_run.proofs.Words.{Event, HaveNearest, IfOk-weaker, IsRaceList, Pair, RaceList, ends, pair_in, races_of_list}
-use Rattle.shb_pairs.specs.declared.listed.ListedRace.{ListedRace}
+use Rattle.shb_lists.specs.declared.listed.ListedRace.{ListedRace}
 use Rattle.shb_lists.specs.Batches.{races_below}
 use Rattle.shb_lists.proofs.BatchLemmas.{when_some}
 use Rattle.shb_lists.proofs.PartLemmas.{below_is_list}

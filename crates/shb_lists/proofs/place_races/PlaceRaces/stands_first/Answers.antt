@@ -1,4 +1,5 @@
-use Rattle.shb_lists.proofs.Words.{common_steps, race_less, race_not_less}
+use Rattle.shb_lists.proofs.KeyOrder.{race_less, race_not_less}
+use Rattle.shb_lists.proofs.Words.{common_steps}
 use Rattle.std.proofs.Common.{arith}
 use Rattle.shb_lists.proofs.place_races.PlaceRaces.stands_first.Goals as goal
 

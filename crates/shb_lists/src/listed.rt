@@ -2,7 +2,7 @@
 
 ghost use Rattle.std.specs.Prelude.{◌≡◌, IfOk, map};
 ghost use Rattle.shb_lines.specs.events.Race.{ends};
-ghost use Rattle.shb_pairs.specs.Listed.{pair_in, race_in};
+ghost use Rattle.shb_lists.specs.Listed.{pair_in, race_in};
 
 use shb_io::NoMemory;
 use shb_lines::Pair;

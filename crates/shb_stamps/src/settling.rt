@@ -2,14 +2,16 @@
 
 ghost use Rattle.std.specs.Prelude.{◌≡◌, ℕ, ◌+◌, ◌<◌, false, true, IfOk, IsTrue, length, map};
 ghost use Rattle.shb_stamps.specs.Open.{is_open as is_open_in};
+ghost use Rattle.shb_stamps.specs.Settling.{AreOpen, AreScreened};
 ghost use Rattle.shb_stamps.specs.Screen.{is_unknown};
-ghost use Rattle.shb_pairs.specs.Open.{AreOpen};
-ghost use Rattle.shb_pairs.specs.Screen.{AreScreened};
 
+use crate::open::is_open;
+use crate::ordered::Ordered;
+use crate::screen::Latest;
+use crate::sweep::Sweep;
 use shb_discipline::Disciplined;
 use shb_io::NoMemory;
 use shb_links::{Linked, Links};
-use shb_stamps::{Latest, Ordered, Sweep, is_open};
 use std::alloc::Global;
 
 /// Takes the event at e into what is kept of its variable, if it accesses one.

@@ -1,6 +1,6 @@
 use Rattle.std.proofs.Common.{◌≡◌}
-use Rattle.shb_pairs.proofs.Words.{AreScreened}
-use Rattle.shb_pairs.proofs.screen.open_variables.Given as goal
+use Rattle.shb_stamps.specs.Settling.{AreScreened}
+use Rattle.shb_stamps.proofs.settling.open_variables.Given as goal
 
 abbrev pub invariant-loop-e : goal.invariant-loop-e
 invariant-loop-e l = record {

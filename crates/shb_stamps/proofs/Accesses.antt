@@ -1,10 +1,20 @@
 -- How many accesses there are before a position: one position more, and variable by variable.
-use Rattle.shb_pairs.proofs.Words.{Contains-get_or, Event, IsNumberedByAccess, append-nil, cases_Bool, cases_lt, common_steps, eq-eqb, eqb-true, event_at_access, le-max_left, le-max_right, length-append, max-le, numbers_listed, option_map_or, slice_get_within, variable_at, variables_in}
+use Rattle.shb_lines.proofs.events.Reach.{event_at_access, numbers_listed}
+use Rattle.shb_lines.proofs.events.Search.{latest_below}
+use Rattle.shb_lines.specs.declared.event.Event.{Event}
+use Rattle.shb_lines.specs.events.Race.{variable_at}
+use Rattle.shb_lines.specs.events.Sizes.{IsNumberedByAccess}
+use Rattle.std.proofs.lemmas.Bool.{cases_Bool, cases_lt, eq-eqb, eqb-true}
+use Rattle.std.proofs.lemmas.Grind.{common_steps}
+use Rattle.std.proofs.lemmas.List.{append-nil, length-append}
+use Rattle.std.proofs.lemmas.List.Elements.{Contains-get_or}
+use Rattle.std.proofs.lemmas.Option.{slice_get_within}
+use Rattle.std.proofs.Math.Nat.{le-max_left, le-max_right, max-le}
+use Rattle.std.specs.Option.{option_map_or}
 use Rattle.shb_lines.specs.events.Reach.{numbers_where}
-use Rattle.shb_pairs.specs.Accesses.{accesses_at, variables_before}
+use Rattle.shb_stamps.specs.Accesses.{accesses_at, variables_before, variables_in}
 use Rattle.std.proofs.Common.{◌≡◌, ℕ, zero, suc, ◌+◌, ◌<◌, ◌≤◌, inl, inr, Bool, true, false, List, [], ◌∷◌, ◌++◌, Option, Some, None, length, refl, arith, ap, add-one, ◌≢◌, get_or}
 use Rattle.std.specs.Prelude.{cond, ◌==◌, max, All}
-use Rattle.shb_lines.proofs.events.Search.{latest_below}
 
 pub key_no : (a b : ℕ) → a ≢ b → (a == b) ≡ false
 key_no a b ne = elim (cases_Bool (a == b)) [ inl h ↦ absurd (ne (eqb-true a b h)) | inr h ↦ h ]

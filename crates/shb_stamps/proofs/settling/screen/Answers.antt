@@ -1,8 +1,10 @@
 use Rattle.std.proofs.Common.{◌≡◌, ◌+◌, ℕ, Some, arith, subst, sym, ◌∙◌}
-use Rattle.shb_pairs.proofs.Words.{IsScreened, apart, variable_at, variable_known, variable_sized}
+use Rattle.shb_lines.specs.events.Race.{variable_at}
+use Rattle.shb_links.proofs.Owners.{apart, variable_known, variable_sized}
+use Rattle.shb_stamps.specs.Screen.{IsScreened}
 use Rattle.shb_stamps.specs.SweepData.{SweepData}
-use Rattle.shb_pairs.proofs.Screening.{table_access, table_other}
-use Rattle.shb_pairs.proofs.screen.screen.Goals as goal
+use Rattle.shb_stamps.proofs.OpenVariables.{table_access, table_other}
+use Rattle.shb_stamps.proofs.settling.screen.Goals as goal
 
 pub index-latest-requires : goal.index-latest-requires
 index-latest-requires c =
