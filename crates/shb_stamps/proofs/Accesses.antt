@@ -1,14 +1,5 @@
 -- How many accesses there are before a position: one position more, and variable by variable.
-use Rattle.shb_lines.proofs.events.Reach.{event_at_access, numbers_listed}
-use Rattle.shb_lines.proofs.events.Search.{latest_below}
-use Rattle.shb_lines.specs.declared.event.Event.{Event}
-use Rattle.shb_lines.specs.events.Race.{variable_at}
-use Rattle.shb_lines.specs.events.Sizes.{IsNumberedByAccess}
-use Rattle.std.proofs.lemmas.Bool.{cases_Bool, cases_lt, eq-eqb, eqb-true}
-use Rattle.std.proofs.lemmas.Grind.{common_steps}
-use Rattle.std.proofs.lemmas.List.{append-nil, length-append}
-use Rattle.std.proofs.lemmas.List.Elements.{Contains-get_or}
-use Rattle.std.proofs.lemmas.Option.{slice_get_within}
+use Rattle.shb_stamps.proofs.Words.{Contains-get_or, Event, IsNumberedByAccess, append-nil, cases_Bool, cases_lt, common_steps, eq-eqb, eqb-true, event_at_access, latest_below, length-append, numbers_listed, slice_get_within, variable_at}
 use Rattle.std.proofs.Math.Nat.{le-max_left, le-max_right, max-le}
 use Rattle.std.specs.Option.{option_map_or}
 use Rattle.shb_lines.specs.events.Reach.{numbers_where}

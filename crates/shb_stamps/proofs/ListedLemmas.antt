@@ -4,9 +4,8 @@ use Rattle.std.specs.Prelude.{All, Contains, Err}
 use Rattle.std.proofs.Math.Dec.{eqb}
 use Rattle.std.specs.List.Sorted.{IsStrictlyIncreasing, IsNonDecreasing, IsBinarySearchResult}
 use Rattle.std.specs.Ordering.{nat_cmp}
-use Rattle.shb_stamps.proofs.Words.{AllPairs-from_increasing, AreMore, BelowPred, Event, IsRowFor, cases_lt, eqb-true, get_or_append_left, get_or_push, get_or_read, length_push, searched, thread_at}
+use Rattle.shb_stamps.proofs.Words.{All-contains, AllPairs-from_increasing, AreMore, BelowPred, Contains-get_or, Event, IsRowFor, at_from_Contains, cases_lt, eqb-true, get_or_append_left, get_or_push, get_or_read, length_push, searched, thread_at}
 use Rattle.std.proofs.lemmas.Cmp.{nat_eq_equiv}
-use Rattle.std.proofs.lemmas.List.Elements.{All-contains, Contains-get_or, at_from_Contains}
 use Rattle.std.proofs.lemmas.Map.Views.{Contains-from_any, list_any-from_Contains}
 use Rattle.shb_stamps.specs.Listed.{HasListedRows, is_listed}
 use Rattle.shb_stamps.proofs.Stamping.{row_more}

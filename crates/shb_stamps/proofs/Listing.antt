@@ -1,14 +1,5 @@
 -- The races by variable, later access and earlier access are the race list.
-use Rattle.shb_lines.proofs.events.Reach.{event_at_access, numbers_listed, reflect_race}
-use Rattle.shb_lines.specs.declared.event.Event.{Event}
-use Rattle.shb_lines.specs.events.Race.{FirstAccess, IsRaceList, Race, RaceBefore, variable_at}
-use Rattle.shb_lines.specs.events.Reach.{is_race, numbers_where}
-use Rattle.shb_lines.specs.events.Sizes.{IsNumberedByAccess}
-use Rattle.std.proofs.lemmas.Bool.{cases_lt}
-use Rattle.std.proofs.lemmas.Grind.{common_steps}
-use Rattle.std.proofs.lemmas.List.Elements.{Contains-get_or}
-use Rattle.std.proofs.lemmas.List.Kept.{AllPairs-from_increasing}
-use Rattle.std.proofs.lemmas.Option.{slice_get_within}
+use Rattle.shb_stamps.proofs.Words.{AllPairs-from_increasing, Contains-get_or, Event, FirstAccess, IsNumberedByAccess, IsRaceList, Race, RaceBefore, cases_lt, common_steps, event_at_access, is_race, numbers_listed, numbers_where, reflect_race, slice_get_within, variable_at}
 use Rattle.shb_stamps.specs.Accesses.{accesses_at, accesses_in, variables_in, races_with, PairBefore}
 use Rattle.std.proofs.Common.{◌≡◌, ℕ, ◌<◌, ◌⊎◌, inl, inr, true, List, Some, length, get_or, refl, arith, subst}
 use Rattle.std.specs.Prelude.{Contains, AllPairs, flat_map, ◌↔◌}

@@ -1,11 +1,8 @@
 -- What is kept of a variable, an access at a time.
 use Rattle.std.proofs.Common.{◌≡◌, ℕ, ◌+◌, ◌<◌, inl, inr, Bool, false, List, [], ◌∷◌, ◌++◌, Some, length, arith, refl, sym, ap, subst, ◌∙◌}
 use Rattle.std.specs.Prelude.{option_and_then}
-use Rattle.shb_stamps.proofs.Words.{BelowPred, Event, IsDisciplined, ShbBelow, Write, below_longer, cases_eq, here, op_at, op_longer, race_longer, thread_longer, time_longer, variable_of}
-use Rattle.shb_lines.specs.events.Race.{Race, variable_at}
-use Rattle.shb_stamps.specs.Screen.{HasLatest, IsAccess, IsEpoch, IsMarked, IsPast, IsScreened, is_unknown}
+use Rattle.shb_stamps.proofs.Words.{BelowPred, Event, HasLatest, IsAccess, IsDisciplined, IsEpoch, IsMarked, IsPast, IsScreened, Latest, Race, ShbBelow, Write, below_longer, cases_eq, here, is_unknown, op_at, op_longer, race_longer, thread_longer, time_longer, variable_at, variable_of}
 use Rattle.shb_stamps.specs.declared.screen.Epoch.{Epoch}
-use Rattle.shb_stamps.specs.declared.screen.Latest.{Latest}
 use Rattle.shb_stamps.proofs.Sources.{path_append, strictly_below_below}
 
 -- the events that an epoch may be that of are SHB-below the predecessor of n

@@ -1,15 +1,7 @@
 -- Local times along a thread, and which accesses race by them.
 use Rattle.std.proofs.Common.{◌≡◌, ℕ, ◌+◌, ◌<◌, inl, inr, List, Some, arith, subst, sym}
 use Rattle.std.specs.Prelude.{◌↔◌}
-use Rattle.shb_lines.proofs.events.Counts.{count_mono, count_more_yes}
-use Rattle.shb_lines.proofs.events.Events.{event_of_thread, is_of_true}
-use Rattle.shb_lines.proofs.events.Prefix.{below_from_local, local_from_below}
-use Rattle.shb_lines.specs.declared.event.Event.{Event}
-use Rattle.shb_lines.specs.events.Discipline.{is_of, local_time}
-use Rattle.shb_lines.specs.events.Events.{thread_at}
-use Rattle.shb_lines.specs.events.Order.{IsBelowPredCount}
-use Rattle.shb_lines.specs.events.Race.{Conflict, Race}
-use Rattle.std.proofs.lemmas.Bool.{cases_lt}
+use Rattle.shb_stamps.proofs.Words.{Conflict, Event, IsBelowPredCount, Race, below_from_local, cases_lt, count_mono, count_more_yes, event_of_thread, is_of, is_of_true, local_from_below, local_time, thread_at}
 
 -- i conflicts with the later j and is of thread t
 pub record IsRival (trace : List Event) (t j i : ℕ) : Type 0 where

@@ -1,7 +1,6 @@
 use Rattle.std.proofs.Common.{◌≡◌, map}
 use Rattle.std.specs.Prelude.{take}
-use Rattle.shb_stamps.specs.Screen.{is_unknown}
-use Rattle.shb_stamps.specs.declared.screen.Latest.{Latest}
+use Rattle.shb_stamps.proofs.Words.{Latest, is_unknown}
 use Rattle.shb_stamps.proofs.settling.flags_of.Given as goal
 
 abbrev pub invariant-loop-latest : goal.invariant-loop-latest

@@ -1,9 +1,6 @@
 use Rattle.std.proofs.Common.{◌≡◌, ℕ, List, length, map, arith, subst, ap, ◌∙◌}
 use Rattle.std.proofs.lemmas.Result.{IfOk-weaker}
-use Rattle.shb_links.proofs.Owners.{variable_sized}
-use Rattle.shb_stamps.specs.Settling.{AreScreened}
-use Rattle.shb_stamps.specs.Screen.{is_unknown}
-use Rattle.shb_stamps.specs.declared.screen.Latest.{Latest}
+use Rattle.shb_stamps.proofs.Words.{AreScreened, Latest, is_unknown, variable_sized}
 use Rattle.shb_stamps.proofs.OpenVariables.{flags_open}
 use Rattle.shb_stamps.proofs.settling.open_variables.Goals as goal
 

@@ -1,5 +1,5 @@
 use Rattle.std.proofs.Common.{◌≡◌}
-use Rattle.shb_stamps.specs.Settling.{AreScreened}
+use Rattle.shb_stamps.proofs.Words.{AreScreened}
 use Rattle.shb_stamps.proofs.settling.open_variables.Given as goal
 
 abbrev pub invariant-loop-e : goal.invariant-loop-e

@@ -1,8 +1,5 @@
 use Rattle.std.proofs.Common.{◌≡◌, ◌+◌, ℕ, Some, arith, subst, sym, ◌∙◌}
-use Rattle.shb_lines.specs.events.Race.{variable_at}
-use Rattle.shb_links.proofs.Owners.{apart, variable_known, variable_sized}
-use Rattle.shb_stamps.specs.Screen.{IsScreened}
-use Rattle.shb_stamps.specs.SweepData.{SweepData}
+use Rattle.shb_stamps.proofs.Words.{IsScreened, SweepData, apart, variable_at, variable_known, variable_sized}
 use Rattle.shb_stamps.proofs.OpenVariables.{table_access, table_other}
 use Rattle.shb_stamps.proofs.settling.screen.Goals as goal
 

@@ -1,6 +1,5 @@
-use Rattle.shb_stamps.proofs.Words.{common_steps}
+use Rattle.shb_stamps.proofs.Words.{SweepData, common_steps}
 use Rattle.std.proofs.Common.{◌<◌, arith, false, length, subst, sym}
-use Rattle.shb_stamps.specs.SweepData.{SweepData}
 use Rattle.shb_stamps.proofs.Locals.{local_is}
 use Rattle.shb_stamps.proofs.sweep.Sweep.screen.Goals as goal
 
