@@ -13,7 +13,7 @@ MOST_CHOICES = 4_096  # of a lock for each variable
 READER = re.compile(r"(.+)@reader\..+", re.S)
 STAND_IN = re.compile(r".+@[0-9]+(?:[<>].+)?", re.S)
 Use = collections.namedtuple("Use", "event name thread location kind order again", defaults=("",))
-# `count` is 1 of an event, and more where the file of uses has several alike, which have no number.
+# `count` is 1 of an event, and more where they are of the sums of a file of uses, and have no number.
 Access = collections.namedtuple("Access", "number thread word name location held shared is_free is_atomic local count")
 Named = collections.namedtuple("Named", [*Access._fields, "variable"])
 
@@ -59,9 +59,11 @@ class Reader:
             elif kind == "repeated":
                 self.repeated.add(int(fields[0]))
             elif kind == "use":
-                count, word, name, local, thread, location, _, *locks = fields
-                yield Access(None, thread, "r" if word == "r" else "w", name, location, *told_apart({lock_of(lock, lasting) for lock in locks}),
-                             word == "f", word == "a", local if name.startswith("stack.") else lasting.get(name, ""), int(count))
+                word, name, local, location, *sums = fields
+                is_local = name.startswith("stack.")
+                for count, thread, locks in accesses_of(list(zip(sums[::3], map(int, sums[1::3]), sums[2::3]))):
+                    yield Access(None, thread, "r" if word == "r" else "w", name, location, *(frozenset(lasting.get(lock, lock) for lock in its) for its in locks),
+                                 word == "f", word == "a", local if is_local else lasting.get(name, ""), count)
 
     def read_stacks(self, text):
         for line in text.split("\n"):
@@ -141,6 +143,25 @@ def lock_of(name, lasting):
     """A lock as the program has it: one on a stack by the local that it is."""
     base, sign, rest = name.partition("@")
     return lasting.get(base, base) + sign + rest
+
+
+def accesses_of(sums):
+    """Accesses that these sums may be of: how many, by which thread, and with which locks. Each of those that hold some has one, and locks that
+    differ by digits alone are held one after the other."""
+    def of(*kinds):
+        return [(name, count) for kind, count, name in sums if kind in kinds]
+
+    ends = list(itertools.accumulate(count for _, count in of("by")))
+    bare, held = (sum(count for _, count in of(*kinds)) for kinds in (("bare",), ("held", "many")))
+    arcs, at = [], 0  # from an access on, of those that hold locks, which begin again behind the last
+    for kind, count, name in sorted((sum for sum in sums if sum[0] in ("under", "reading")), key=lambda it: (re.sub("[0-9]", "", it[2]), it)):
+        arcs.append((kind, name, at, count))
+        at = (at + count) % held
+    bounds = sorted({0, bare, bare + held, *ends, *(bare + place % held for _, _, start, count in arcs for place in (start, start + count))})
+    for begin, end in zip(bounds, bounds[1:]):
+        thread = of("by")[bisect.bisect(ends, begin)][0]
+        its = [(kind, name) for kind, name, start, count in arcs if begin >= bare and (begin - bare - start) % held < count]
+        yield end - begin, thread, [{name for kind, name in its if kind == which} for which in ("under", "reading")]
 
 
 def told_apart(locks):

@@ -210,8 +210,8 @@ class Pages(program.Case):
         trace, uses, stacks, path = (self.folder / name for name in ("page.std", "uses", "stacks", "page.html"))
         trace.write_bytes((EXAMPLES / "places.std").read_bytes())
         used = re.findall(rb"(.*)\|([rw])\((.*)\)\|(.*)\n", trace.read_bytes())
-        uses.write_bytes(b"".join(b"use\t1\t%b\t%b\t\t%b\t%b\t0\nevent\t%d\t%d\n" % (word, name, thread, at, number, number)
-                                  for number, (thread, word, name, at) in enumerate(used, 1)) + b"events\t4\n")
+        uses.write_bytes(b"shb-uses 2\n" + b"".join(b"use\t%b\t%b\t\t%b\tby\t1\t%b\tbare\t1\t0\nevent\t%d\t%d\n" % (word, name, at, thread, number, number)
+                                                    for number, (thread, word, name, at) in enumerate(used, 1)) + b"events\t4\n")
         stacks.write_bytes(b"shb-stacks 1 %020d\n" % 4 + bytes(16))
         with contextlib.redirect_stderr(io.StringIO()) as said:
             command.explain(command.show_run, recorded_run(trace, uses, stacks), asked(shb), path, io.TextIOWrapper(io.BytesIO(), "utf-8"))

@@ -35,11 +35,11 @@ class Trials(program.Case):
         stacks += "".join(f"{line}\n" for line in beside).encode()
         paths["stacks"].write_bytes(stacks)
         counts = collections.Counter(tuple(re.split(r"[|()]+", line)) for line in lines)
-        locks = {at: f"\t{lock}" for at, lock in held}
-        kinds = [f"use\t{count}\t{word}\t{name}\t\t{thread}\t{at}\t0{locks.get(at, '')}"
+        locks = {at: f"held\t{{0}}\t0\tunder\t{{0}}\t{lock}" for at, lock in held}
+        kinds = [f"use\t{word}\t{name}\t\t{at}\tby\t{count}\t{thread}\t" + locks.get(at, "bare\t{0}\t0").format(count)
                  for (thread, word, name, at), count in counts.items() if word in "rw"]
         events = [f"event\t{number}\t{number}" for number in range(1, len(lines) + 1)]
-        whole = [*kinds, *events, *more, f"events\t{len(lines)}"]
+        whole = ["shb-uses 2", *kinds, *events, *more, f"events\t{len(lines)}"]
         paths["uses"].write_text("".join(f"{line}\n" for line in whole))
         run = recorded_run(*(paths[name] for name in ("std", "uses", "stacks")))
         document = result.document(view_of_run(run, asked()._replace(has_windows=False), QUIET))

@@ -1,5 +1,5 @@
-"""What `shb-std --uses` writes beside the trace of a page: how often each thread used each variable in a race in the whole run, and which
-events of that trace those of the races are. The head of recorder/converter/page.c has its form."""
+"""What `shb-std --uses` writes beside the trace of a page: how often each variable in a race was used in the whole run, and which events of
+that trace those of the races are. The head of recorder/converter/page.c has its form."""
 
 import bisect
 import collections
@@ -7,12 +7,15 @@ import collections
 from shb_common.files import open_regular
 from shb_common.printable import printable
 
+BEGIN = b"shb-uses 2\n"
+OTHER = "is of another version of shb: its first line isn't `shb-uses 2`"
 WORDS = b"r", b"w", b"a", b"f"
+SUMS = {b"by": bytes, b"under": bytes, b"reading": bytes, b"bare": int, b"held": int, b"many": int}  # what each kind is of
 MOST_DIGITS = 18
 
-# `word` is r, w, a (written atomically) or f (freed); `local` the local that a variable on a stack was then,
-# or nothing; `stack` the number of its call stack, or 0; `locks` are those held, the oldest first.
-Use = collections.namedtuple("Use", "count word variable local thread location stack locks")
+# The accesses of a variable at a location in one way: `word` is r, w, a (written atomically) or f (freed); `local` the local that a
+# variable on a stack was then, or nothing. Each of `sums` is a kind, a count, and a stack's number, a thread or a lock.
+Use = collections.namedtuple("Use", "word variable local location sums")
 
 
 class BadUses(Exception):
@@ -29,10 +32,12 @@ class Uses:
         self.uses, self.events, self.in_run, self.parts, self.count = [], {}, {}, [], None
         self.repeated, self.sights = set(), set()
         with open_regular(path) as file:
-            for number, line in enumerate(file, 1):
+            if file.readline(len(BEGIN)) != BEGIN:
+                raise BadUses(OTHER)
+            for number, line in enumerate(file, 2):
                 try:
                     self.take(line[:-1].split(b"\t") if line.endswith(b"\n") else [])
-                except (ValueError, IndexError):
+                except (ValueError, LookupError):
                     raise BadUses(f"is damaged in line {number}: `{printable(line[:80].rstrip())}`") from None
         if self.count is None:
             raise BadUses("is cut off")
@@ -40,11 +45,11 @@ class Uses:
     def take(self, fields):
         kind = fields[0]
         if kind == b"use":
-            count, word, variable, local, thread, location, stack = fields[1:8]
-            if word not in WORDS:
+            word, variable, local, location, *sums = fields[1:]
+            if word not in WORDS or len(sums) % 3:
                 raise ValueError
-            where = variable, local, thread, location
-            self.uses.append(Use(number_of(count), word, *where, number_of(stack), tuple(fields[8:])))
+            its = zip(sums[::3], map(number_of, sums[1::3]), sums[2::3])
+            self.uses.append(Use(word, variable, local, location, [(kind, count, SUMS[kind](of)) for kind, count, of in its]))
         elif kind == b"event":
             in_page, in_run = map(number_of, fields[1:])
             self.events[in_run], self.in_run[in_page] = in_page, in_run

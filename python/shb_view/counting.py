@@ -4,10 +4,11 @@ the accesses that may be shown, the events right before them."""
 import collections
 
 from shb_common.faults import Refused
+from shb_common.uses import SUMS
 from shb_common.variables import without_end
 from shb_view.facts import Sites, sites_in
 from shb_view.groups import name_parts
-from shb_view.held import MOST_COUNTED, Held, Operations, called
+from shb_view.held import Held, Operations, called
 from shb_view.trace import CHANGED, OPENS
 
 BEFORE = 6  # events of a thread right before its access
@@ -182,25 +183,20 @@ class Counting:
             self.seen.add((written, location))
 
     def take_uses(self):
-        """Takes the uses of the whole run. A free is one of all variables of its block."""
-        kinds, frees, locks_of = self.access_kinds, {}, {}
+        """Takes the uses of the whole run. A free is one of all variables of its block: those of one of them count."""
+        kinds, freed = self.access_kinds, {}
         groups = {kinds.in_trace(variable): group for variable, group in self.groups.items()}
-        for count, word, variable, local, thread, location, stack, locks in self.uses:
+        for word, variable, local, location, sums in self.uses:
             group = groups.get(variable)
             if group is None or kinds.locals.get(variable, local) != local and variable.startswith(b"stack."):
                 continue
-            self.callers[variable, location][stack, not locks] += count
-            if locks not in locks_of:
-                named = tuple(called(lock, kinds.locks) for lock in locks)
-                locks_of[locks] = named if len(locks) <= MOST_COUNTED else None
-            kind = location, thread, word, locks_of[locks], b"" if word == b"f" else variable
-            if word == b"f":
-                block = name_parts(variable)["block"]
-                before = frees.get((group, kind, block), 0)
-                frees[group, kind, block] = max(before, count)
-                count -= before
-            if count > 0:
-                self.used[group].add(kind, count)
+            for kind, count, stack in sums:
+                if SUMS[kind] is int:
+                    self.callers[variable, location][stack, kind == b"bare"] += count
+            if word != b"f":
+                self.used[group].at(variable, location).add(word, sums, kinds.locks)
+            elif freed.setdefault((group, location, name_parts(variable)["block"]), variable) == variable:
+                self.used[group].at(b"", location).add(word, sums, kinds.locks)
 
     def private_locks(self):
         """The locks on stacks that one thread alone uses."""

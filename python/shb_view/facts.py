@@ -73,27 +73,25 @@ class Site:
         total = self.total()
         return sorted(lock for lock in {*self.locks, *self.reading} if self.guarded(lock) == total)
 
-    def add(self, variable, thread, word, locks, count):
-        """Takes accesses of a kind; `locks` is None where they aren't counted."""
-        self.variables.add(variable)
-        self.accesses[word] += count
-        self.threads[thread] += count
-        if word != b"r":
-            self.writers.add(thread)
-        if locks is None:
-            self.unknown += count
-        elif not locks:
-            self.bare += count
-        for lock in locks or ():
-            if b"@" in lock and read_lock(lock):
-                self.reading[read_lock(lock)] += count
-                self.wrong[read_lock(lock)] += count if word != b"r" else 0
-            else:
-                self.locks[lock] += count
+    def add(self, word, sums, locals):
+        """Takes accesses, as `uses.Use` has them; `locals` names locks on stacks."""
+        for kind, count, name in sums:
+            if kind == b"by":
+                self.accesses[word] += count
+                self.threads[name] += count
+                self.writers.update([name] * (word != b"r"))
+            elif kind == b"under":
+                self.locks[locals.get(name, name)] += count
+            elif kind == b"reading":
+                self.reading[locals.get(name, name)] += count
+                self.wrong[locals.get(name, name)] += count * (word != b"r")
+            elif kind == b"bare":
+                self.bare += count
+            elif kind == b"many":
+                self.unknown += count
 
     def take(self, other, name):
         """Takes what another one has; `name` gives its locks their names here."""
-        self.variables |= other.variables
         self.writers |= other.writers
         self.bare += other.bare
         self.unknown += other.unknown
@@ -142,49 +140,52 @@ def blamed_of(fact, locations):
 
 
 class Sites:
-    """How a group's variables are used: the sites of each by location, and how often frees are of all."""
+    """How a group's variables are used: by location the sites of each, and those of frees, which are of all."""
 
     def __init__(self, variables=(), frees=()):
         self.variables, self.frees = dict(variables), dict(frees)
 
-    def add(self, kind, count):
-        """Takes accesses of a kind, as `Counting.counts` has them."""
-        location, thread, word, locks, variable = kind
-        if not variable:
-            self.frees[kind] = self.frees.get(kind, 0) + count
-            return
-        sites = self.variables.get(variable)
-        if sites is None:
-            sites = self.variables[variable] = {}
-        site = sites.get(location)
-        if site is None:
-            site = sites[location] = Site(location)
-        site.add(variable, thread, word, locks, count)
+    def at(self, variable, location):
+        """The site of a variable, or of frees for b"", at a location."""
+        sites = self.variables.setdefault(variable, {}) if variable else self.frees
+        if location not in sites:
+            sites[location] = Site(location)
+        return sites[location]
 
     def of(self, variable):
-        """Those of one of the variables alone. A free is one of all."""
+        """Those of one of the variables alone."""
         return Sites({variable: self.variables.get(variable, {})}, self.frees)
 
     def total(self):
-        sites = [site for its in self.variables.values() for site in its.values()]
-        return sum(self.frees.values()) + sum(map(Site.total, sites))
+        return sum(site.total() for its in (*self.variables.values(), self.frees) for site in its.values())
 
 
 def sites_in(counts):
+    """The sites of what a trace has of each kind, as `Counting.counts`."""
     found = Sites()
-    for kind, count in counts.items():
+    for (location, thread, word, locks, variable), count in counts.items():
         if count:
-            found.add(kind, count)
+            found.at(variable, location).add(word, sums_of(thread, locks, count), {})
     return found
 
 
+def sums_of(thread, locks, count):
+    """Accesses of a kind, as `uses.Use` has them; `locks` is None where they aren't counted."""
+    yield b"by", count, thread
+    if not locks:
+        yield b"many" if locks is None else b"bare", count, 0
+    for lock in locks or ():
+        shared = read_lock(lock)
+        yield b"reading" if shared else b"under", count, shared or lock
+
+
 def joined(uses):
-    """The uses of several groups of one object as those of one. A free is one of all variables."""
+    """The uses of several groups of one object as those of one."""
     found = Sites()
     for one in uses:
         found.variables.update(one.variables)
-        for kind, count in one.frees.items():
-            found.frees[kind] = max(found.frees.get(kind, 0), count)
+        for location, site in one.frees.items():
+            found.frees[location] = max(found.frees.get(location, site), site, key=Site.total)
     return found
 
 
@@ -220,14 +221,13 @@ class Locks:
 def sites_of(group, uses, private):
     """The lines that use a group's variables: racing ones first, then those that write, then by how often; and their locks."""
     sites, racing, locks = {}, group.locations(), Locks(uses, private)
-    for variable, its in uses.variables.items():
+    for variable, its in (*uses.variables.items(), (b"", uses.frees)):
         name = functools.partial(locks.name, variable)
         for location, site in its.items():
             if location not in sites:
                 sites[location] = Site(location)
             sites[location].take(site, name)
-    for (location, thread, word, held, variable), count in uses.frees.items():
-        sites.setdefault(location, Site(location)).add(variable, thread, word, held, count)
+            sites[location].variables.add(variable)
     for pair in group.pairs:
         one, other = pair.locations
         for location, partner in {(one, other), (other, one)}:

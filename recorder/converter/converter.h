@@ -205,7 +205,8 @@ int is_over(void);                     /* it has no more events */
 extern u64 span_last;                  /* the last event of the span that the trace is in; or 0 */
 void note_written(u64 number, u64 in_page);                  /* an event of the run, by both its numbers */
 void note_part(u64 in_page);           /* a span begins or ends behind so many events */
-part name_of_held(u64 key, u32 t);     /* objects.c: of a lock that a thread holds */
+part name_of_held(u64 key);            /* objects.c: of a lock that a thread holds */
+int is_for_reading(u64 key);           /* the same: does it hold it for reading? */
 void count_use(u32 t, u64 caller, u32 piece, char word);
 enum { NOBODY = -1u };
 void note_sight(u32 t, u64 own_place, u32 piece, u32 writer, int writes);   /* an event of the piece, or of what stands for a thread's atomic writes */

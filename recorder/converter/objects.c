@@ -274,8 +274,9 @@ static u32 lock_of(object *o, which w, u32 t) {
    is held at an access in the trace is there. ---- */
 static u64 key_of(const object *o, which w) { return index_of(o) << 1 | (w.sign == 'r'); }
 static object *object_of_key(u64 key) { return &objects.at[key >> 1]; }
-static u32 lock_of_key(u64 key, u32 t) { return lock_of(object_of_key(key), key & 1 ? of_reader : own, t); }
-part name_of_held(u64 key, u32 t) { return lock_name(lock_of_key(key, t)); }
+static u32 lock_of_key(u64 key, u32 t) { return lock_of(object_of_key(key), is_for_reading(key) ? of_reader : own, t); }
+int is_for_reading(u64 key) { return key & 1; }
+part name_of_held(u64 key) { return variable_name(object_of_key(key)->at, block_of(object_of_key(key)->block)); }
 
 /* Before an event of it. */
 static void note_lock(const object *o, u32 t, u64 caller) {
@@ -315,18 +316,13 @@ static void add_hold(u32 t, hold added) {
     added.is_again = hold_of(t, added.key) != 0;
     *PUSH(s->held) = added;
     s->unwritten += !added.acquire;
-    if (added.key & ONLY_ORDERS) return;
-    s->locks += mix(added.key + 1, 0);
-    s->lock_set = 0;
+    if (!(added.key & ONLY_ORDERS)) s->locks += mix(added.key + 1, 0);
 }
 
 static void end_hold(u32 t, hold *h) {
     thread_state *s = &threads[t];
     s->unwritten -= !h->acquire;
-    if (!(h->key & ONLY_ORDERS)) {
-        s->locks -= mix(h->key + 1, 0);
-        s->lock_set = 0;
-    }
+    if (!(h->key & ONLY_ORDERS)) s->locks -= mix(h->key + 1, 0);
     memmove(h, h + 1, (&s->held.at[s->held.count--] - (h + 1)) * sizeof *h);
 }
 

@@ -6,10 +6,15 @@
    all locks, forks and joins; of those between such spans each thread's first one, forks and joins. A span begins with an acquire for
    each lock that is held there, and what is held at its end is released. Events that the page's trace lacks are left out, and none is made up.
 
-   The file of uses has of the whole run how often each thread used each variable in a race, at each location, in each way and under
-   each set of locks; and which events of the page's trace those of the races are. Lines, with tabs between their fields:
-       use COUNT WORD VARIABLE LOCAL THREAD LOCATION STACK LOCK..     WORD is r, w, a (written atomically) or f (freed); STACK a number
-                                                                      of the file of stacks, or 0
+   The file of uses has of the whole run how often each variable in a race is used at each location in each way, and sums of that by threads,
+   call stacks and locks; and which events of the page's trace those of the races are. Lines, with tabs between their fields, behind USES_BEGIN:
+       use WORD VARIABLE LOCAL LOCATION SUM..                   WORD is r, w, a (written atomically) or f (freed). A SUM is three
+                                                                fields; COUNT is how many accesses
+           by COUNT THREAD                                      the thread makes
+           bare COUNT STACK                                     hold no lock, and have this stack: a number of the file of stacks, or 0
+           held COUNT STACK                                     hold locks, and have it; "many" in its place: more than 64, of which no
+                                                                sum tells
+           under COUNT LOCK                                     hold the lock; "reading" in its place: for reading
        seen VARIABLE WRITTEN READ                               in the run a read at the location READ saw what another thread
                                                                 wrote at the location WRITTEN
        event NUMBER-IN-PAGE NUMBER-IN-RUN
@@ -24,7 +29,9 @@
 #include <string.h>
 #include "converter.h"
 
+#define USES_BEGIN "shb-uses 2\n"
 enum { BEFORE = 500, BEHIND = 16, SHORT_RUN = 20000, SPARSE = 4 };          /* events; one of SPARSE is kept, about */
+enum { MOST_COUNTED = 64 };            /* locks */
 typedef struct { u64 first, last; } span;
 
 /* What is written: the events in these spans, and of accesses those of variables with these names, or of all. */
@@ -40,7 +47,6 @@ static VECTOR(u64) wanted;
 static u64 wanted_at;
 static FILE *uses_file;
 static const char *uses_path;
-
 
 /* ---- the races ---- */
 static int by_first(const void *a, const void *b) {
@@ -186,43 +192,46 @@ void note_part(u64 in_page) {
     last = in_page;
 }
 
-/* ---- the locks that a thread holds, each once ---- */
-typedef struct { u64 first, count; } lock_set;               /* of `keys_of_sets` */
-static INTERNED(lock_set) sets;
-static VECTOR(u64) keys_of_sets;
+/* ---- uses ---- */
+/* A sum is of a thread, a stack or a lock's key; `first`, `last` and `next` chain those of a use. */
+enum sum_kind { BY, BARE, HELD, MANY, UNDER, READING };
+typedef struct { u64 of, count; u32 kind, next; } sum;
+typedef struct { u64 caller; const char *local; u32 piece, first, last; char word; } use;
+static INTERNED(sum) sums;
+static INTERNED(use) uses;
 
-static u32 set_of(u32 t) {
-    thread_state *s = &threads[t];
-    u64 sum = 0, count = 0, first = keys_of_sets.count;
-    if (s->lock_set) return s->lock_set - 1;
-    EACH(h, s->held.at, s->held.count) {
-        if (h->is_again || h->key & ONLY_ORDERS) continue;
-        *PUSH(keys_of_sets) = h->key;
-        sum += mix(h->key + 1, 0);
-        count++;
-    }
-    s->lock_set = INTERN(sets, sum, count);
-    lock_set *set = &sets.at[s->lock_set - 1];
-    if (set->count || !count) keys_of_sets.count = first;
-    else *set = (lock_set){first, count};
-    return s->lock_set - 1;
+static void add_sum(u32 number, enum sum_kind kind, u64 of) {
+    u32 at = INTERN(sums, (u64)number << 32 | kind, of);
+    use *u = &uses.at[number - 1];
+    if (sums.at[at - 1].count++) return;
+    sums.at[at - 1] = (sum){of, 1, kind, 0};
+    *(u->last ? &sums.at[u->last - 1].next : &u->first) = at;
+    u->last = at;
 }
 
-/* ---- uses ---- */
-typedef struct { u64 caller, count; const char *local; u32 thread, piece, set, stack; char word; } use;
-static INTERNED(use) uses;
-static map site_map, local_map;
+/* The stack of an access, and the locks of the program that its thread holds, each once. */
+static void add_locks(u32 number, u32 t, u32 stack) {
+    thread_state *s = &threads[t];
+    u64 count = 0;
+    EACH(h, s->held.at, s->held.count) count += !h->is_again && !(h->key & ONLY_ORDERS);
+    add_sum(number, !count ? BARE : count > MOST_COUNTED ? MANY : HELD, stack);
+    EACH(h, s->held.at, count > MOST_COUNTED ? 0 : s->held.count)
+        if (!h->is_again && !(h->key & ONLY_ORDERS)) add_sum(number, is_for_reading(h->key) ? READING : UNDER, h->key);
+}
 
 void count_use(u32 t, u64 caller, u32 number, char word) {
+    static map texts;
+    static INTERNED(u32) places;       /* by places in the code: the numbers of their texts */
     if (!uses_file) return;
     const piece *p = piece_of(number);
     u64 own = own_place(t, caller);
     const char *local = local_now(p->at, block_of(p->block));
-    u32 set = set_of(t), stack = stack_at(t, caller);
-    u32 site = map_number(&site_map, own, (u64)t << 8 | word), in = map_number(&local_map, (uintptr_t)local, stack);
-    use *u = ENTRY(uses, (u64)site << 32 | number, (u64)set << 32 | in);
-    if (!u->count) *u = (use){own, 0, local, t, number, set, stack, word};
-    u->count++;
+    u32 in = *local ? map_text(&texts, local) : 0, *place = ENTRY(places, own, 0);
+    if (!*place) *place = map_text(&texts, place_of(own).at);
+    u32 at = INTERN(uses, (u64)*place << 32 | number, (u64)word << 32 | in);
+    if (!uses.at[at - 1].word) uses.at[at - 1] = (use){own, local, number, 0, 0, word};
+    add_sum(at, BY, t);
+    add_locks(at, t, stack_at(t, caller));
 }
 
 /* ---- which writes were read ---- */
@@ -248,24 +257,31 @@ static void write_sight(const sight *s) {
             (int)written.length, written.at, (int)read.length, read.at);
 }
 
+static void write_sum(const sum *s) {
+    static const char *const words[] = {"by", "bare", "held", "many", "under", "reading"};
+    fprintf(uses_file, "\t%s\t%lu\t", words[s->kind], s->count);
+    if (s->kind == BY) fputs(thread_name(s->of), uses_file);
+    else if (s->kind >= UNDER) fprintf(uses_file, "%.*s", (int)name_of_held(s->of).length, name_of_held(s->of).at);
+    else {
+        fprintf(uses_file, "%lu", s->of);
+        keep_stack(s->of);
+    }
+}
+
 static void write_use(const use *u) {
     const piece *p = piece_of(u->piece);
     part name = variable_name(p->at, block_of(p->block)), place = place_of(u->caller);
-    fprintf(uses_file, "use\t%lu\t%c\t%.*s\t", u->count, u->word, (int)name.length, name.at);
+    fprintf(uses_file, "use\t%c\t%.*s\t", u->word, (int)name.length, name.at);
     write_own_name(uses_file, u->local);
-    fprintf(uses_file, "\t%s\t%.*s\t%u", thread_name(u->thread), (int)place.length, place.at, u->stack);
-    keep_stack(u->stack);
-    for (u64 k = 0; k < sets.at[u->set].count; k++) {
-        part lock = name_of_held(keys_of_sets.at[sets.at[u->set].first + k], u->thread);
-        fprintf(uses_file, "\t%.*s", (int)lock.length, lock.at);
-    }
+    fprintf(uses_file, "\t%.*s", (int)place.length, place.at);
+    for (u32 k = u->first; k; k = sums.at[k - 1].next) write_sum(&sums.at[k - 1]);
     fputc('\n', uses_file);
 }
 
 void open_uses(const char *path) {
     uses_path = path;
     uses_file = fopen(path, "w");
-    if (!uses_file) cannot_write(path);
+    if (!uses_file || fputs(USES_BEGIN, uses_file) < 0) cannot_write(path);
 }
 
 void end_uses(void) {

@@ -49,7 +49,6 @@ typedef struct {
     /* objects.c */
     VECTOR(hold) held;                 /* in the order in which they were taken */
     u64 unwritten, locks;              /* so many acquires aren't in the trace; a sum of the program's locks that it holds */
-    u32 lock_set;                      /* page.c: its number, if known */
     VECTOR(note) notes;                /* what it will take at its next fence */
     int is_fenced;                     /* by a release fence */
     u64 gave_at, gave;                 /* its last record, and the object that it gave something by that; plus one */
