@@ -25,6 +25,7 @@ extern u64 entry_count;                /* of the file */
 extern u64 record_count;               /* the passes may make it less */
 extern const char *recording_cut;      /* why the record is not that of the whole run; or null */
 void open_record(const char *path);    /* dies where it is damaged, or a copy that was cut or changed */
+void is_damaged(const char *how) __attribute__((noreturn));
 extern u64 carried_count;              /* how many of them are of blocks that were there before */
 void carry_blocks(const char *path);   /* of the record's segment before: the file's records come before all others */
 u32 threads_met(void);                 /* after the first pass */

@@ -33,6 +33,8 @@ static void have_at_hand(const struct record *from, u64 count) {
     records_end += count;
 }
 
+void is_damaged(const char *how) { die("record of %s is damaged: %s", record_path, how); }
+
 void begin_records(void) { records_end = entry_at = 0; }
 
 /* A pass over all has gone by those before: they needn't stay in memory. */
@@ -51,7 +53,7 @@ void next_records(void) {
     forget_before(entry_at);
     if (records_end < carried_count) have_at_hand(carried, carried_count);
     else if (merged) {
-        if (!(count = merge(merged, late_contexts, AT_ONCE, &entry_at))) die("record of %s is damaged: an access that is late has no place", record_path);
+        if (!(count = merge(merged, late_contexts, AT_ONCE, &entry_at))) is_damaged("an access that is late has no place");
         have_at_hand(merged, count);
     } else {
         have_at_hand(&entries[entry_at], count);

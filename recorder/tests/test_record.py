@@ -159,6 +159,14 @@ class Late(recorder.Case):
             self.assertEqual((answer.returncode, answer.stdout), (2, b""))
             self.assertIn(b"is damaged", answer.stderr)
 
+    def test_two_at_one_place(self):
+        """They are one access, by a thread at a line: no other is passed over."""
+        first, access = [entry(0, "FORK", 1, 0x101), entry(1, "WRITE", RANGE, 0x201, 4)], entry(0, "READ", RANGE, 0x102, 4)
+        for other in (entry(0, "READ", RANGE, 0x103, 4), entry(0, "WRITE", RANGE, 0x102, 4), entry(1, "READ", RANGE, 0x102, 4)):
+            answer = self.convert(b"".join([*first, late(2, 1, access), late(2, 1, other, is_repeated=True)]))
+            self.assertEqual((answer.returncode, answer.stdout), (2, b""))
+            self.assertIn(b"app.rec is damaged: two accesses that are late have one place\n", answer.stderr)
+
     def test_a_sum(self):
         """It is of the entries as they stand in the file."""
         entries = b"".join(LATE_ENTRIES)
