@@ -366,6 +366,8 @@ class Group:
     def handed(self, first, second):
         """All that was handed on between two accesses, as (name, line, line, kind, kind, order, order)."""
         found, uses = set(), self.reader.uses
+        if len({bisect.bisect(self.reader.parts, access.number) for access in (first, second)}) > 1:
+            return found  # something between them isn't there
         begin, end = (bisect.bisect_right(self.reader.events, access.number) for access in (first, second))
         for at in range(begin, end) if not first.is_free else ():
             load = uses[at]

@@ -122,7 +122,7 @@ class Trials(program.Case):
         self.assertNotIn("gone", self.group(lines, buffer, stacks=[0, 1, 2])[0])
 
     def test_what_is_not_moved(self):
-        """A flag that is read again, or set again; a result that is waited for, or has no join."""
+        """A flag that is read again, or set again; a result that is waited for, or has no join; what may lie between two parts."""
         for lines, more in (([*LATE, LATE[2]], []), ([*LATE, LATE[1]], []), (LATE, ["repeated\t3"]),
-                            (LATE, ["repeated\t2"]), (EARLY, ["repeated\t4"]), (EARLY[:-1], [])):
+                            (LATE, ["repeated\t2"]), (EARLY, ["repeated\t4"]), (EARLY[:-1], []), (LATE, ["part\t3"]), (EARLY, ["part\t4"])):
             self.assertNotIn("moved", self.group(lines, (), more)[0])

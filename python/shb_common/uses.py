@@ -65,9 +65,13 @@ class Uses:
             raise ValueError
 
     def pair(self, first, second):
-        """Two events of the run in the page's trace, or None where it hasn't both with all that is between them."""
+        """Two events of the run in the page's trace, or None where it hasn't both."""
         found = self.events.get(first), self.events.get(second)
-        return found if all(found) and len({bisect.bisect(self.parts, event) for event in found}) == 1 else None
+        return found if all(found) else None
+
+    def are_apart(self, first, second):
+        """Whether the page's trace lacks something between two events of it."""
+        return bisect.bisect(self.parts, first) != bisect.bisect(self.parts, second)
 
 
 def number_of(text):

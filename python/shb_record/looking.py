@@ -239,7 +239,7 @@ class Look:
 
 def show_apart(unknown):
     if unknown:
-        say(f"{counted(len(unknown), 'place')} of the run without a page, since their accesses are too far apart:")
+        say(f"{counted(len(unknown), 'place')} of the run without a page, since their accesses don't fit:")
     say_places((new.place, new.variables) for new in unknown)
 
 

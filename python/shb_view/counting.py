@@ -74,7 +74,7 @@ class Counting:
     def __init__(self, groups, wanted, kinds, uses=None):
         """`groups` has a number for each racing variable; `wanted` are the accesses to be noted, `kinds` says what an
         access is; `uses` are those of the whole run if the trace is a part of it."""
-        self.uses = uses and uses.uses
+        self.uses, self.are_apart = uses and uses.uses, uses.are_apart if uses else lambda first, second: False
         self.groups, self.wanted, self.access_kinds = groups, wanted, kinds
         self.lines = kinds.gathered.lines
         self.reads, self.racing_reads = racing_reads(kinds.gathered.races)

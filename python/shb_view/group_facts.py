@@ -26,7 +26,7 @@ class Facts:
 
     def __init__(self, counting, whole):
         self.kinds, self.whole = counting.access_kinds, whole
-        self.known = {}  # by variable what holds of it alone
+        self.known, self.are_apart = {}, counting.are_apart  # `known` has by variable what holds of it alone
         self.again, self.private = counting.again, counting.private_locks()
         self.refuted = set()  # variables that race whatever hands them on
         stacks = self.kinds.stacks
@@ -43,13 +43,18 @@ class Facts:
         """What holds of a group's uses, whichever variable they are of."""
         sites, locks = sites_of(group, uses, self.private)
         races = self.kinds.gathered.races_of(group.names) if self.pairs else {}
-        by = published(races, self.pairs, lambda event: self.kinds.stacks.free_of(event) is not None) if self.pairs else ()
+        may_hand = self.pairs and not self.has_far(group)
+        by = published(races, self.pairs, lambda event: self.kinds.stacks.free_of(event) is not None) if may_hand else ()
         fact, pairs = fact_of(sites, locks, self.whole, by), [pair for pair, _ in by]
         if fact.form == "published":
             fact = fact._replace(handed=((group.names, pairs),))
             if not self.refuted.isdisjoint(group.names) or self.come_again(group.names, races, pairs):
                 fact = fact_of(sites, locks, self.whole).refuting(pairs[0])
         return Section(group, uses, sites, self.with_gone(group, fact))
+
+    def has_far(self, group):
+        """Whether the page's trace lacks something between the accesses of a race: then it says nothing of that."""
+        return any(self.are_apart(*race[:2]) for its in self.kinds.gathered.races_of(group.names).values() for race in its)
 
     def with_gone(self, group, fact):
         """A fact, with the lines that use a local of another thread when that has the system's ones there."""

@@ -28,7 +28,7 @@ def trials_of(found, facts, counting):
         pairs = [pair for its in facts.pairs.values() for pair in its if pair.key()[:3] in keys]
         trials[keys] = Change(names, ordered(facts.kinds.stacks.uses, pairs))
     moves = {one.group.names: move_of(one, counting) for one in found
-             if one.fact.form == "no-lock" and one.fact.remedy}
+             if one.fact.form == "no-lock" and one.fact.remedy and not facts.has_far(one.group)}
     return {**trials, **{names: move for names, move in moves.items() if move}}
 
 

@@ -145,12 +145,14 @@ def analysed(shb, file, gathered, progress, room):
 
 
 def of_run(run, asked, file, gathered, room):
-    """The races of a run with both accesses in one part of its trace, with schedules if there are any."""
+    """The races of a run with both accesses in its trace, with schedules if there are any: of those in one part."""
     races = [(race._replace(first=pair[0], second=pair[1]), accesses) for race, accesses in run.races
              for pair in [run.uses.pair(race.first, race.second)] if pair]
-    given, found = schedules(asked.shb, file, races, room) if races and asked.has_windows else (NO_REPORT, {})
+    near = [(race, accesses) for race, accesses in races if not run.uses.are_apart(race.first, race.second)]
+    given, found = schedules(asked.shb, file, near, room) if near and asked.has_windows else (NO_REPORT, {})
+    of_near = {(race.first, race.second): found.get((race.first, race.second), race) for race, _ in near}
     for race, accesses in races:
-        gathered.add(found.get((race.first, race.second), race), *accesses, {})
+        gathered.add(of_near.get((race.first, race.second), race), *accesses, {})
     return Subject(given, run.counts, len(races), False, run.uses.count, run.uses)
 
 

@@ -2,9 +2,9 @@
    that of the run.
 
    The file of races has a line for each of them: the numbers of its two events in the run's trace, and its variable. Of the events
-   from a few before the first one of a race to a few behind its second one the page's trace has the accesses of variables in races, and
-   all locks, forks and joins; of those between such spans each thread's first one, forks and joins. A span begins with an acquire for
-   each lock that is held there, and what is held at its end is released. Events that the page's trace lacks are left out, and none is made up.
+   around a race's accesses, and between them unless they lie far apart, the page's trace has the accesses of variables in races, and all
+   locks, forks and joins; of those between such spans each thread's first one, forks and joins. A span begins with an acquire for each
+   lock that is held there, and what is held at its end is released. Events that the page's trace lacks are left out, and none is made up.
 
    The file of uses has of the whole run how often each variable in a race is used at each location in each way, and sums of that by threads,
    call stacks and locks; and which events of the page's trace those of the races are. Lines, with tabs between their fields, behind USES_BEGIN:
@@ -30,7 +30,7 @@
 #include "converter.h"
 
 #define USES_BEGIN "shb-uses 2\n"
-enum { BEFORE = 500, BEHIND = 16, SHORT_RUN = 20000, SPARSE = 4 };          /* events; one of SPARSE is kept, about */
+enum { BEFORE = 500, BEHIND = 16, SHORT_RUN = 20000, FAR_APART = 20000 };   /* events */
 enum { MOST_COUNTED = 64 };            /* locks */
 typedef struct { u64 first, last; } span;
 
@@ -59,10 +59,12 @@ static int by_number(const void *a, const void *b) {
     return one < other ? -1 : one > other;
 }
 
-/* What stands behind the last "!" may be the thread of an atomic's writer. */
+/* One whose accesses lie far apart has two spans. What stands behind the last "!" may be the thread of an atomic's writer. */
 static void add_race(u64 first, u64 second, char *variable) {
     char *sign = strrchr(variable, '!');
-    *PUSH(page.spans) = (span){first, second};
+    int is_apart = second - first > FAR_APART || second - first > most.events;
+    *PUSH(page.spans) = (span){first, is_apart ? first : second};
+    if (is_apart) *PUSH(page.spans) = (span){second, second};
     *PUSH(wanted) = first;
     *PUSH(wanted) = second;
     map_text(&page.names, variable);
@@ -71,39 +73,10 @@ static void add_race(u64 first, u64 second, char *variable) {
     map_text(&page.names, variable);
 }
 
-static u64 length_of(const span *s) { return s->last - s->first; }
-
-/* How many events are between the accesses of races. */
-static u64 covered(void) {
-    u64 sum = 0, end = 0;
-    qsort(page.spans.at, page.spans.count, sizeof *page.spans.at, by_first);
-    EACH(s, page.spans.at, page.spans.count) {
-        u64 from = s->first > end ? s->first : end;
-        if (s->last > from) sum += s->last - from;
-        if (s->last > end) end = s->last;
-    }
-    return sum;
-}
-
-/* Where a page has no room for all races, those whose accesses are far apart give way: else the first such one may take it all. */
-static void drop_far(void) {
-    while (covered() > SPARSE * most.events) {
-        u64 longest = 0, kept = 0;
-        EACH(s, page.spans.at, page.spans.count)
-            if (length_of(s) > longest) longest = length_of(s);
-        EACH(s, page.spans.at, page.spans.count) kept += length_of(s) <= longest / 2;
-        if (!kept) return;
-        kept = 0;
-        EACH(s, page.spans.at, page.spans.count)
-            if (length_of(s) <= longest / 2) page.spans.at[kept++] = *s;
-        page.spans.count = kept;
-    }
-}
-
 /* The spans of races that are near each other are one; it begins and ends with the run where that is short. */
 static void join_spans(u64 run_events) {
     u64 count = 0;
-    drop_far();
+    qsort(page.spans.at, page.spans.count, sizeof *page.spans.at, by_first);
     EACH(s, page.spans.at, page.spans.count) {
         span next = {s->first > SHORT_RUN ? s->first - BEFORE : 1, s->last + BEHIND};
         span *before = count ? &page.spans.at[count - 1] : 0;

@@ -184,7 +184,7 @@ int main(int count, char **words) {
         program = self.program("far_apart.c")
         status, _, said = self.record("--window", "400", program)
         self.assertEqual(status, 66)
-        head = "shb-record: 1 place of the run without a page, since their accesses are too far apart:\nshb-record:   far: "
+        head = "shb-record: 1 place of the run without a page, since their accesses don't fit:\nshb-record:   far: "
         self.assertIn(head, said)
         rows = [line.split("\t") for line in text_of(self.folder / "far_apart.shb" / "places.tsv").splitlines()[1:]]
         self.assertEqual(len([row for row in rows if row[3] == "far"]), 1)

@@ -12,9 +12,9 @@ from shb_view.result import document
 from shb_view.text import Colours, text_lines
 from shb_view.view import Asked, RecordedRun, view_of_run
 from test_open import planted
-from test_record import HEADER, LOCK, entry
+from test_record import ATOMIC, HEADER, LOCK, RELAXED, entry
 
-SPANS = "enum { BEFORE = 500, BEHIND = 16, SHORT_RUN = 20000, SPARSE = 4 };"
+SPANS = "enum { BEFORE = 500, BEHIND = 16, SHORT_RUN = 20000, FAR_APART = 20000 };"
 X, Y, Z, OTHER_LOCK = 0x5000, 0x6000, 0x7000, LOCK + 0x100
 
 
@@ -35,9 +35,12 @@ BETWEEN = b"".join(under(1 + number % 2, OTHER_LOCK, 0x300 + 2 * (number % 2)) f
 READ_ALONE = (  # thread 2 reads X before thread 1 writes it, and later what it wrote itself
     BEGIN, read(2, X, 0x201), write(1, X, 0x202), under(1, LOCK, 0x203), under(2, LOCK, 0x205), write(2, X, 0x207), BETWEEN,
     read(2, X, 0x201), write(1, Y, 0x208), write(2, Y, 0x209))
+LONG = b"".join(entry(2, "LOCK", OTHER_LOCK, 0x300) + write(2, 0x8000, 0x302) + entry(2, "UNLOCK", OTHER_LOCK, 0x303) for _ in range(60))
 FAR_APART = (  # the race of Z is from the first part to the second
-    BEGIN, write(1, X, 0x201), write(2, X, 0x202), write(1, Z, 0x203), b"".join(entry(2, "LOCK", OTHER_LOCK, 0x300) + write(2, 0x8000, 0x302) + entry(2, "UNLOCK", OTHER_LOCK, 0x303) for _ in range(60)),
-    under(1, OTHER_LOCK, 0x304, read(1, 0x8000, 0x306)), write(2, Z, 0x204), write(1, Y, 0x205), write(2, Y, 0x206))
+    BEGIN, write(1, X, 0x201), write(2, X, 0x202), write(1, Z, 0x203), LONG, under(1, OTHER_LOCK, 0x304, read(1, 0x8000, 0x306)), write(2, Z, 0x204),
+    write(1, Y, 0x205), write(2, Y, 0x206))
+HANDED_ON = (BEGIN, write(1, Z, 0x203), entry(1, "ATOMIC_STORE", ATOMIC, 0x210, 4 | RELAXED), LONG, under(1, OTHER_LOCK, 0x304, read(1, 0x8000, 0x306)),
+             entry(2, "ATOMIC_LOAD", ATOMIC, 0x211, 4 | RELAXED), write(2, Z, 0x204))
 HELD = [LOCK + 0x200 + 16 * k for k in range(9)]
 IN_LOCKS = (  # thread 1 holds nine locks before the page begins
     BEGIN, *(under(2, lock, 0x210) for lock in HELD), *(entry(1, "LOCK", lock, 0x220) for lock in HELD), *(under(2, OTHER_LOCK, 0x300) for _ in range(60)),
@@ -47,7 +50,7 @@ IN_LOCKS = (  # thread 1 holds nine locks before the page begins
 class Parts(recorder.Case):
     def setUp(self):
         super().setUp()
-        self.converter = planted(self.folder / "converter", "page.c", SPANS, "enum { BEFORE = 2, BEHIND = 2, SHORT_RUN = 4, SPARSE = 4 };")
+        self.converter = planted(self.folder / "converter", "page.c", SPANS, "enum { BEFORE = 2, BEHIND = 2, SHORT_RUN = 4, FAR_APART = 20 };")
 
     def page_of(self, entries, *options):
         """The page's trace of a record, with spans of a few events; the list of places is beside it."""
@@ -56,8 +59,8 @@ class Parts(recorder.Case):
         whole = recorder.must(recorder.call(self.converter, "--list", record)).stdout
         listed.write_bytes(recorder.must(recorder.call(recorder.SHB, "places", "--list", "--variables", input=whole)).stdout)
         races = re.findall(rb"^race \d+: (\d+) (\d+)\nfirst .*?\|[rw]\((.*?)\)", listed.read_bytes(), re.M)
-        uses = self.folder / "page.uses"
-        page.write_bytes(recorder.must(recorder.call(self.converter, "--only", "/dev/stdin", "--uses", uses, *options, record,
+        uses, self.stacks = self.folder / "page.uses", self.folder / "page.stacks"
+        page.write_bytes(recorder.must(recorder.call(self.converter, "--only", "/dev/stdin", "--uses", uses, "--stacks", self.stacks, *options, record,
                                                      input=b"".join(b"%b %b %b\n" % race for race in races))).stdout)
         self.uses, self.races = Uses(uses), {name.decode(): (int(first), int(second)) for first, second, name in races}
         return page
@@ -67,7 +70,7 @@ class Parts(recorder.Case):
         page = self.page_of(entries, *options)
         with open(page.with_suffix(".places"), "rb") as listed:
             report = Report(listed)
-            run = RecordedRun(page, report.counts, list(report.races()), self.uses, Stacks())
+            run = RecordedRun(page, report.counts, list(report.races()), self.uses, Stacks(self.stacks, self.uses.count))
         view = view_of_run(run, Asked(recorder.SHB, True, [], False, None), Progress("shb-view", io.StringIO()))
         text = "".join(f"{line}\n" for line in text_lines(view, Colours(False), True))
         return document(view), re.split(r"(?m)^(?=\d+\. )", text)
@@ -79,11 +82,27 @@ class Parts(recorder.Case):
         self.assertNotIn("read what", of_x)
         self.assertNotIn("0x202", of_y[of_y.index("Before the accesses:"):])
 
-    def test_a_race_from_one_part_to_another_is_on_no_page(self):
-        document, _ = self.explained(FAR_APART, "-n", "40")
-        self.assertEqual({name: bool(self.uses.pair(*race)) for name, race in self.races.items()}, {"0x5000": True, "0x6000": True, "0x7000": False})
-        self.assertTrue(all(event in self.uses.events for event in self.races["0x7000"]))
-        self.assertEqual({variable["name"] for place in document["places"] for variable in place["variables"]}, {"0x5000", "0x6000"})
+    def test_a_race_from_one_part_to_another(self):
+        """The page has both accesses, without what lies between, and no schedule of them."""
+        document, sections = self.explained(FAR_APART)
+        pairs = {name: self.uses.pair(*race) for name, race in self.races.items()}
+        self.assertEqual({name: self.uses.are_apart(*pair) for name, pair in pairs.items()}, {"0x5000": False, "0x6000": False, "0x7000": True})
+        self.assertLess(self.uses.count, 40)
+        self.assertEqual({group["group"][0]: "schedule" in group for group in document["groups"]}, {"0x5000": True, "0x6000": True, "0x7000": False})
+        self.assertTrue(all(any(re.match(rf"\d+\. {name}: ", section) for section in sections) for name in pairs))
+
+    def test_what_may_lie_between_is_not_told(self):
+        """Between the two accesses an atomic is stored by one thread, and loaded by the other: that it is the same value isn't known there."""
+        [group] = self.explained(HANDED_ON)[0]["groups"]
+        self.assertEqual(group["form"], "no-lock")
+        self.converter = recorder.BUILT / "shb-std"  # it has a longer span
+        [group] = self.explained(HANDED_ON)[0]["groups"]
+        self.assertEqual(group["form"], "published")
+
+    def test_a_race_that_does_not_fit(self):
+        document, _ = self.explained(FAR_APART, "-n", "9")
+        self.assertEqual({name: bool(self.uses.pair(*race)) for name, race in self.races.items()}, {"0x5000": True, "0x6000": False, "0x7000": False})
+        self.assertEqual({variable["name"] for place in document["places"] for variable in place["variables"]}, {"0x5000"})
 
     def test_a_page_ends_at_its_limit(self):
         """Also among the locks that are held where it begins; what comes up to there is what a longer page has."""
