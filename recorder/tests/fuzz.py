@@ -8,6 +8,7 @@ Each has so many seconds. FOLDER gets the programs, the inputs by which a new wa
 found (crash-.., timeout-..). The last lines are libFuzzer's: how many inputs there were.
 """
 
+import itertools
 import pathlib
 import re
 import struct
@@ -28,12 +29,10 @@ HEADER = b"command a b\n0 ffff 0 /nowhere/a\n10000 20000 10000 /nowhere/libb.so\
 
 
 def records():
-    """A record for each set of options, with a header and without."""
-    for options in range(32):
-        for header in (b"", HEADER):
-            yield bytes([options, len(header)]) + header + test_record.FRAMES + test_record.ENTRIES * 2
-    for entries in (test_record.LATE_ENTRIES, barriers(), large_blocks()):
-        yield bytes([0, 0]) + b"".join(entries)
+    """Each record with each set of options, with a header and without."""
+    bodies = [test_record.FRAMES + test_record.ENTRIES * 2, *map(b"".join, (test_record.LATE_ENTRIES, barriers(), large_blocks()))]
+    for options, header, body in itertools.product(range(32), (b"", HEADER), bodies):
+        yield bytes([options, len(header)]) + header + body
 
 
 def barriers():
