@@ -327,8 +327,6 @@ static u32 caller_number(u64 caller) {
 
 void note_caller(u64 caller) { caller_number(caller); }
 
-static int by_number(const void *a, const void *b) { return *(u64 *)a < *(u64 *)b ? -1 : *(u64 *)a > *(u64 *)b; }
-
 /* The addresses of the callers in a module, sorted. */
 static u64 *addresses_in(module *m, u64 *count) {
     u64 *found = zeroed(places.numbers.count + 1, sizeof *found);
@@ -445,27 +443,22 @@ static char *line_end(const char *text) {
 }
 
 static int has_unseen;
-static map hooked;                     /* functions, each by an address in it; once one was asked for also where their symbols begin */
+static map hooked;                     /* functions, each by an address in it */
 
 void note_hooked(u64 function) { map_number(&hooked, function, 0); }
 
+/* All were noted before. */
 static int is_hooked(module *m, u64 caller) {
-    static u64 known;
-    while (known < hooked.count) {     /* all were noted before */
-        known = hooked.count;
-        u64 *functions = zeroed(known, sizeof *functions), count = 0;
-        for (u64 k = 0; k < hooked.capacity; k++)
-            if (hooked.entries[k].value) functions[count++] = hooked.entries[k].a;
-        for (u64 k = 0; k < count; k++) {
-            module *in = module_at(functions[k]);
-            symbol *s = in ? symbol_at(in, functions[k]) : 0;
-            if (s) map_number(&hooked, s->at, 1);
-        }
-        known = hooked.count;
-        free(functions);
+    static map begins;                 /* of their symbols */
+    static int is_known;
+    for (u64 k = 0; !is_known && k < hooked.capacity; k++) {
+        module *in = hooked.entries[k].value ? module_at(hooked.entries[k].a) : 0;
+        symbol *s = in ? symbol_at(in, hooked.entries[k].a) : 0;
+        if (s) map_number(&begins, s->at, 0);
     }
+    is_known = 1;
     symbol *s = symbol_at(m, caller - 1);
-    return !s || map_find(&hooked, s->at, 1);
+    return !s || map_find(&begins, s->at, 0);
 }
 
 /* Names the frames of a caller; its location is the first one outside of the system's headers, else the first. */

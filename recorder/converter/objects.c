@@ -338,20 +338,14 @@ static int leave_hold(object *o, u32 t, which w, u64 caller) {
     return 1;
 }
 
-typedef struct { const hold *hold; u32 thread; } held;
-
-static int by_acquire(const void *a, const void *b) {
-    const held *one = a, *other = b;
-    return one->hold->acquire < other->hold->acquire ? -1 : 1;
-}
-
 void each_held(held_lock give, const char *operation) {
+    typedef struct { u64 acquire; const hold *hold; u32 thread; } held;
     static VECTOR(held) all;
     all.count = 0;
     for (u32 t = 0; t < thread_bound(); t = next_thread(t))
         EACH(h, threads[t].held.at, threads[t].held.count)
-            if (h->acquire) *PUSH(all) = (held){h, t};
-    if (all.count) qsort(all.at, all.count, sizeof *all.at, by_acquire);
+            if (h->acquire) *PUSH(all) = (held){h->acquire, h, t};
+    if (all.count) qsort(all.at, all.count, sizeof *all.at, by_number);
     EACH(it, all.at, all.count) give(operation, it->thread, it->hold);
 }
 
@@ -402,14 +396,12 @@ static void pass_lock(object *o, u32 t, which w, u64 caller) {
     leave_lock(o, t, w, caller);
 }
 
-static void publish_version(object *o, u32 t, u32 version, u64 caller) {
-    u32 number = map_find(&version_readers.numbers, index_of(o), version);
+static void publish(object *o, u32 t, u64 caller) {
+    u32 number = map_find(&version_readers.numbers, index_of(o), o->version);
     const list_entry *reader = number ? entry_of_list(version_readers.at[number - 1]) : 0;
     for (; reader; reader = entry_of_list(reader->next))
-        pass_lock(o, t, to_thread(version, reader->thread), caller);
+        pass_lock(o, t, to_thread(o->version, reader->thread), caller);
 }
-
-static void publish(object *o, u32 t, u64 caller) { publish_version(o, t, o->version, caller); }
 
 static void receive(object *o, u32 t, u64 caller) {
     if (sees_version(o, t)) pass_lock(o, t, to_thread(o->version, t), caller);

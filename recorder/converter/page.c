@@ -49,16 +49,6 @@ static FILE *uses_file;
 static const char *uses_path;
 
 /* ---- the races ---- */
-static int by_first(const void *a, const void *b) {
-    const span *one = a, *other = b;
-    return one->first < other->first ? -1 : one->first > other->first;
-}
-
-static int by_number(const void *a, const void *b) {
-    u64 one = *(const u64 *)a, other = *(const u64 *)b;
-    return one < other ? -1 : one > other;
-}
-
 /* One whose accesses lie far apart has two spans. What stands behind the last "!" may be the thread of an atomic's writer. */
 static void add_race(u64 first, u64 second, char *variable) {
     char *sign = strrchr(variable, '!');
@@ -76,7 +66,7 @@ static void add_race(u64 first, u64 second, char *variable) {
 /* The spans of races that are near each other are one; it begins and ends with the run where that is short. */
 static void join_spans(u64 run_events) {
     u64 count = 0;
-    qsort(page.spans.at, page.spans.count, sizeof *page.spans.at, by_first);
+    qsort(page.spans.at, page.spans.count, sizeof *page.spans.at, by_number);
     EACH(s, page.spans.at, page.spans.count) {
         span next = {s->first > SHORT_RUN ? s->first - BEFORE : 1, s->last + BEHIND};
         span *before = count ? &page.spans.at[count - 1] : 0;

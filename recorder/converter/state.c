@@ -1,61 +1,14 @@
 /* What a trace can go on with. */
-#define _GNU_SOURCE
-#include <errno.h>
-#include <stdlib.h>
 #include <string.h>
-#include <sys/random.h>
 #include "converter.h"
 
 /* ---- names: numbers from 1 in the order of asking ---- */
-typedef struct { char *text; u64 length, hash; } name;
-typedef struct { VECTOR(name) list; u64 slot_count; u32 *slots; } names;
-
-static const u64 prime = (1ull << 61) - 1;
-
-/* A random number, the same in the whole call. */
-static u64 random_point(void) {
-    static u64 point;
-    if (!point && getrandom(&point, sizeof point, 0) != sizeof point) die("cannot draw a random number: %s", strerror(errno));
-    return point & prime;
-}
-
-/* A text as a polynomial modulo the prime, at the random point: so nobody can choose texts that share a slot. */
-static u64 hash_of(const char *text, u64 length) {
-    u64 hash = length, point = random_point();
-    for (u64 i = 0; i < length; i++) {
-        unsigned __int128 product = (unsigned __int128)(hash + (unsigned char)text[i]) * point;
-        hash = (u64)(product & prime) + (u64)(product >> 61);
-        hash = (hash & prime) + (hash >> 61);
-    }
-    return hash;
-}
-
-static u32 *slot_of(const names *n, const char *text, u64 length, u64 hash) {
-    u64 at = hash & (n->slot_count - 1);
-    for (; n->slots[at]; at = (at + 1) & (n->slot_count - 1)) {
-        name *known = &n->list.at[n->slots[at] - 1];
-        if (known->hash == hash && known->length == length && !memcmp(known->text, text, length)) break;
-    }
-    return &n->slots[at];
-}
-
-static void double_slots(names *n) {
-    n->slot_count = n->slot_count ? 2 * n->slot_count : 256;
-    free(n->slots);
-    n->slots = zeroed(n->slot_count, sizeof *n->slots);
-    for (u64 i = 0; i < n->list.count; i++) {
-        const name *known = &n->list.at[i];
-        *slot_of(n, known->text, known->length, known->hash) = i + 1;
-    }
-}
+typedef struct { map numbers; VECTOR(part) texts; } names;
 
 static u32 name_number(names *n, const char *text, u64 length) {
-    u64 hash = hash_of(text, length);
-    if (n->list.count * 2 >= n->slot_count) double_slots(n);
-    u32 *slot = slot_of(n, text, length, hash);
-    if (*slot) return *slot;
-    *PUSH(n->list) = (name){memcpy(zeroed(length + WIDE, 1), text, length), length, hash};
-    return *slot = n->list.count;
+    u32 number = map_bytes(&n->numbers, text, length);
+    if (number > n->texts.count) *PUSH(n->texts) = (part){memcpy(zeroed(length + WIDE, 1), text, length), length};
+    return number;
 }
 
 /* ---- the state of the trace ---- */
@@ -83,10 +36,7 @@ u32 trace_lock(part name) {
     return number;
 }
 
-part lock_name(u32 number) {
-    const name *its = &lock_names.list.at[number - 1];
-    return (part){its->text, its->length};
-}
+part lock_name(u32 number) { return lock_names.texts.at[number - 1]; }
 
 static int may_be_forked(const thread *child) { return !child->started && !child->forked && !child->joined; }
 

@@ -6,10 +6,12 @@
 #include <stdlib.h>
 #include <string.h>
 #include <sys/mman.h>
+#include <sys/random.h>
 #include "tables.h"
 
 const char *program_name = "shb-std";
 int failed_status = 2;
+static const u64 prime = (1ull << 61) - 1;
 
 void die(const char *format, ...) {
     va_list arguments;
@@ -70,6 +72,11 @@ u64 mix(u64 a, u64 b) {
     return a ^ a >> 29;
 }
 
+int by_number(const void *one, const void *other) {
+    const u64 *a = one, *b = other;
+    return *a < *b ? -1 : *a > *b;
+}
+
 static map_entry *entry_of(const map *m, u64 a, u64 b) {
     u64 i = mix(a, b) & (m->capacity - 1);
     while (m->entries[i].value && (m->entries[i].a != a || m->entries[i].b != b)) i = (i + 1) & (m->capacity - 1);
@@ -107,12 +114,34 @@ u32 intern(map *numbers, u64 a, u64 b, void *array, u64 *capacity, size_t size) 
     return number;
 }
 
-static u64 sum_of(const char *text, u64 factor) {
-    u64 sum = factor;
-    while (*text) sum = (sum ^ (unsigned char)*text++) * factor;
-    return sum;
+/* A random number, the same in the whole call. */
+static u64 random_point(void) {
+    static u64 point;
+    if (!point && getrandom(&point, sizeof point, 0) != sizeof point) die("cannot draw a random number: %s", strerror(errno));
+    return point & prime;
 }
 
-#define SUMS_OF(text) sum_of(text, 0x100000001b3), sum_of(text, 0x9E3779B97F4A7C15)
-u32 map_text(map *m, const char *text) { return map_number(m, SUMS_OF(text)); }
-u32 map_find_text(const map *m, const char *text) { return map_find(m, SUMS_OF(text)); }
+/* A text as a polynomial modulo the prime, at the random point, so nobody can choose texts that are taken for one; and a plain sum. */
+typedef struct { u64 random, plain; } sums;
+static sums sums_of(const char *text, u64 length) {
+    sums s = {length, length};
+    u64 point = random_point();
+    for (u64 i = 0; i < length; i++) {
+        unsigned __int128 product = (unsigned __int128)(s.random + (unsigned char)text[i]) * point;
+        u64 sum = (u64)(product & prime) + (u64)(product >> 61);
+        s = (sums){(sum & prime) + (sum >> 61), (s.plain ^ (unsigned char)text[i]) * 0x9E3779B97F4A7C15};
+    }
+    return s;
+}
+
+u32 map_bytes(map *m, const char *text, u64 length) {
+    sums s = sums_of(text, length);
+    return map_number(m, s.random, s.plain);
+}
+
+u32 map_text(map *m, const char *text) { return map_bytes(m, text, strlen(text)); }
+
+u32 map_find_text(const map *m, const char *text) {
+    sums s = sums_of(text, strlen(text));
+    return map_find(m, s.random, s.plain);
+}

@@ -18,10 +18,10 @@ void *zeroed(size_t count, size_t size);
 char *copied(const char *text);
 void *mapped(size_t count, size_t size);                     /* what isn't used of it takes addresses alone */
 void *grown(void *array, u64 count, u64 *capacity, size_t size);
-#define GROW(array, count, capacity) ((array) = grown((array), (count), &(capacity), sizeof *(array)))  /* by one */
 /* An array that grows. PUSH points to a new entry at its end, which has to be written. */
 #define VECTOR(type) struct { type *at; u64 count, capacity; }
-#define PUSH(vector) (GROW((vector).at, (vector).count, (vector).capacity), &(vector).at[(vector).count++])
+#define PUSH(vector) \
+    ((vector).at = grown((vector).at, (vector).count, &(vector).capacity, sizeof *(vector).at), &(vector).at[(vector).count++])
 /* How many of the first `count` numbers k from 0 on are before something: `is_before`, of k, holds for these alone. */
 #define COUNT_BEFORE(k, count, is_before) ({ \
     u64 its_low = 0, its_end = (count); \
@@ -43,6 +43,8 @@ void *grown(void *array, u64 count, u64 *capacity, size_t size);
 u32 intern(map *numbers, u64 a, u64 b, void *array, u64 *capacity, size_t size);
 u32 map_find(const map *m, u64 a, u64 b);                    /* 0: it isn't there */
 u32 map_number(map *m, u64 a, u64 b);
-u32 map_text(map *m, const char *text);                      /* the same of a text, by two sums of it */
+u32 map_bytes(map *m, const char *text, u64 length);         /* the same of a text, by two sums of it */
+u32 map_text(map *m, const char *text);
 u32 map_find_text(const map *m, const char *text);
 u64 mix(u64 a, u64 b);
+int by_number(const void *one, const void *other);           /* for qsort, of entries that begin with a u64 */

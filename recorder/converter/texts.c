@@ -1,6 +1,8 @@
 /* What the lines of code that frames are at have as text, as sums: a line that was changed is known as another one by whoever sees
    traces of both, and nothing that stands in a file is told. */
+#define _GNU_SOURCE
 #include <fcntl.h>
+#include <stdio.h>
 #include <stdlib.h>
 #include <string.h>
 #include <sys/mman.h>
@@ -9,40 +11,31 @@
 #include "converter.h"
 
 enum { MOST_SOURCE = 64 << 20 };       /* bytes of a source file */
-typedef struct { const char *location; u64 line; } wanted;
-static VECTOR(wanted) locations;
+static VECTOR(const char *) locations;
 static int is_sorted;
 
 /* The location of a frame: "NAME:LINE". */
 void note_line(const char *location) {
-    const char *colon = strrchr(location, ':');
-    u64 line = colon ? strtoull(colon + 1, 0, 10) : 0;
-    if (!line) return;
-    *PUSH(locations) = (wanted){location, line};
+    if (!strrchr(location, ':')) return;
+    *PUSH(locations) = location;
     is_sorted = 0;
 }
 
 /* By name, then by line. */
-static int by_place(const void *a, const void *b) {
-    const wanted *one = a, *other = b;
-    u64 length = strrchr(one->location, ':') - one->location, other_length = strrchr(other->location, ':') - other->location;
-    int order = memcmp(one->location, other->location, length < other_length ? length : other_length);
-    if (order || length != other_length) return order ? order : length < other_length ? -1 : 1;
-    return one->line < other->line ? -1 : one->line > other->line;
-}
+static int by_place(const void *a, const void *b) { return strverscmp(*(const char *const *)a, *(const char *const *)b); }
 
-static int is_of(const wanted *w, const char *name) {
+/* The line of a location in a file; 0 of another file's. */
+static u64 line_in(const char *location, const char *name) {
     size_t length = strlen(name);
-    return !strncmp(w->location, name, length) && w->location + length == strrchr(w->location, ':');
+    int is_there = !strncmp(location, name, length) && location + length == strrchr(location, ':');
+    return is_there ? strtoull(location + length + 1, 0, 10) : 0;
 }
 
 /* The first wanted line of a file. */
 static u64 first_of(const char *name) {
-    char *text = zeroed(strlen(name) + 3, 1);
-    wanted key = {strcat(strcpy(text, name), ":0"), 0};
-    u64 first = COUNT_BEFORE(k, locations.count, by_place(&locations.at[k], &key) < 0);
-    free(text);
-    return first;
+    char text[2 * PLACE_BYTES];
+    snprintf(text, sizeof text, "%s:", name);
+    return COUNT_BEFORE(k, locations.count, strverscmp(locations.at[k], text) < 0);
 }
 
 static int is_blank(uint8_t byte) { return byte == ' ' || (byte >= '\t' && byte <= '\r'); }
@@ -76,15 +69,14 @@ void write_sums(FILE *file, const char *name, const char *path) {
     if (!locations.count) return;
     if (!is_sorted) qsort(locations.at, locations.count, sizeof *locations.at, by_place);
     is_sorted = 1;
-    const wanted *next = locations.at + first_of(name), *last = locations.at + locations.count;
-    if (next == last || !is_of(next, name)) return;
+    const char **next = locations.at + first_of(name), **last = locations.at + locations.count;
+    if (next == last || !line_in(*next, name)) return;
     bytes text = map_source(path);
     const uint8_t *at = text.at;
-    for (u64 line = 1; at < text.end && next < last && is_of(next, name); line++) {
+    for (u64 line = 1; at < text.end && next < last && line_in(*next, name); line++) {
         const uint8_t *end = memchr(at, '\n', text.end - at);
         if (!end) end = text.end;
-        for (; next < last && is_of(next, name) && next->line <= line; next++)
-            if (next->line == line) fprintf(file, "line %s\t%016lx\n", next->location, sum_of_line(at, end));
+        for (; next < last && line_in(*next, name) == line; next++) fprintf(file, "line %s\t%016lx\n", *next, sum_of_line(at, end));
         at = end + (end < text.end);
     }
     if (text.at) munmap((void *)text.at, text.end - text.at);

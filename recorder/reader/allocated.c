@@ -8,7 +8,7 @@
 #include "debug.h"
 
 /* A source file: its text, and where each line begins. */
-typedef struct { char *text; u64 *begins, count, capacity; } source;
+typedef struct { char *text; VECTOR(u64) begins; } source;
 
 static source read_source(const char *path) {
     enum { MOST_SOURCE = 1 << 26 };
@@ -18,30 +18,23 @@ static source read_source(const char *path) {
     if (size > 0 && size <= MOST_SOURCE) s.text = zeroed(size + 1, 1);
     if (s.text && pread(f, s.text, size, 0) != size) *s.text = 0;
     if (f >= 0) close(f);
-    for (char *at = s.text, *end; at && (end = strchr(at, '\n')); at = end + 1) {
-        GROW(s.begins, s.count, s.capacity);
-        s.begins[s.count++] = at - s.text;
-    }
+    for (char *at = s.text, *end; at && (end = strchr(at, '\n')); at = end + 1) *PUSH(s.begins) = at - s.text;
     return s;
 }
 
 /* Each is read once: a page may have many lines of it. */
 static const source *source_of(const char *path) {
     static map numbers;
-    static source *sources;
-    static u64 count, capacity;
+    static VECTOR(source) sources;
     u32 number = map_text(&numbers, path);
-    if (number > count) {
-        GROW(sources, count, capacity);
-        sources[count++] = read_source(path);
-    }
-    return &sources[number - 1];
+    if (number > sources.count) *PUSH(sources) = read_source(path);
+    return &sources.at[number - 1];
 }
 
 int read_line(const char *path, int number, char *line) {
     const source *s = source_of(path);
-    if (number < 1 || (u64)number > s->count) return 0;
-    const char *begin = s->text + s->begins[number - 1];
+    if (number < 1 || (u64)number > s->begins.count) return 0;
+    const char *begin = s->text + s->begins.at[number - 1];
     size_t length = strcspn(begin, "\n");
     if (length >= LINE_BYTES) return 0;
     memcpy(line, begin, length);

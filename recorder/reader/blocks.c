@@ -147,23 +147,22 @@ static int is_of_bits(struct debug *d, u64 pc) {
 
 /* The type of what a call allocates, if it is certain. Each is looked for once. */
 static const allocation *allocated_at(struct debug *d, const place_in_block *at) {
-    u32 number = map_number(&d->by_call, at->pc, 0);
-    if (number > d->call_count) {
-        Dwarf_Die function, type = {0};
-        int is_known = find_function(d, at->pc, &function)
-            && (allocated_type(innermost(d, function, at->pc), at->size, &type) || type_by_text(d, at->pc, at->size, &type));
-        if (!is_known) type.addr = 0;
-        GROW(d->calls, d->call_count, d->call_capacity);
-        d->calls[d->call_count++] = (allocation){type, is_of_bits(d, at->pc)};
-    }
-    return &d->calls[number - 1];
+    allocation *call = ENTRY(d->calls, at->pc, 0);
+    Dwarf_Die function, type = {0};
+    if (call->is_met) return call;
+    int is_known = find_function(d, at->pc, &function)
+        && (allocated_type(innermost(d, function, at->pc), at->size, &type) || type_by_text(d, at->pc, at->size, &type));
+    if (!is_known) type.addr = 0;
+    *call = (allocation){type, is_of_bits(d, at->pc), 1};
+    return call;
 }
 
 static named_part find_part(Dwarf_Die type, u64 offset, u64 length) {
     char name[NAME_BYTES] = "";
     text to = {name, sizeof name, 0};
-    if (!find_own_type(&type, &offset, length, &to)) return (named_part){0};
-    named_part found = {.type = strndup(name, to.at - name)};
+    named_part found = {.is_met = 1};
+    if (!find_own_type(&type, &offset, length, &to)) return found;
+    found.type = strndup(name, to.at - name);
     char *rest = to.at;
     to.rest = offset;
     add_members(type, offset, length, &to);
@@ -175,12 +174,9 @@ static named_part find_part(Dwarf_Die type, u64 offset, u64 length) {
 
 /* The names of what lies so far inside a type. */
 static named_part part_of(struct debug *d, Dwarf_Die type, u64 offset, u64 length) {
-    u32 number = map_number(&d->by_part, (u64)type.addr, offset << 32 | length);
-    if (number > d->part_count) {
-        GROW(d->parts, d->part_count, d->part_capacity);
-        d->parts[d->part_count++] = find_part(type, offset, length);
-    }
-    return d->parts[number - 1];
+    named_part *part = ENTRY(d->parts, (u64)type.addr, offset << 32 | length);
+    if (!part->is_met) *part = find_part(type, offset, length);
+    return *part;
 }
 
 static size_t add_part(named_part part, const char *index, char *buffer, size_t size) {

@@ -46,7 +46,7 @@ static int has_typed_code_in(Dwarf_Die *scope, int *typed, int depth) {
 
 static int has_typed_code(struct debug *d, int *typed) {
     int has = 0;
-    for (u64 k = 0; k < d->unit_count && !(has && *typed); k++) has |= has_typed_code_in(&d->units[k].whole, typed, 0);
+    for (u64 k = 0; k < d->units.count && !(has && *typed); k++) has |= has_typed_code_in(&d->units.at[k].whole, typed, 0);
     return has;
 }
 
@@ -59,10 +59,10 @@ static int lacks_type(Dwarf_Die *e, unsigned attribute) {
 
 /* As 0.188 in split files. */
 static int lacks_types(struct debug *d) {
-    for (u64 k = 0; k < d->unit_count; k++) {
+    EACH(u, d->units.at, d->units.count) {
         Dwarf_Die e;
-        if (d->units[k].whole.addr == d->units[k].linked.addr) continue;
-        for (int more = !dwarf_child(&d->units[k].whole, &e); more; more = !dwarf_siblingof(&e, &e))
+        if (u->whole.addr == u->linked.addr) continue;
+        for (int more = !dwarf_child(&u->whole, &e); more; more = !dwarf_siblingof(&e, &e))
             if (lacks_type(&e, DW_AT_signature) || lacks_type(&e, DW_AT_type)) return 1;
     }
     return 0;
@@ -95,7 +95,7 @@ const char *why_unread(struct debug *d) {
     read_units(d);
     if (!elf) return 0;
     int has_info = has_section(elf, ".debug_info") || has_section(elf, ".zdebug_info");
-    if (has_info && !d->unit_count) return "can't be read: it is too large, damaged, or compressed in a form that isn't known (-gz)";
+    if (has_info && !d->units.count) return "can't be read: it is too large, damaged, or compressed in a form that isn't known (-gz)";
     if (!d->dwarf) return has_section(elf, ".gnu_debuglink") ? "is in a file that isn't there (.gnu_debuglink)" : no_debug_information;
     return why_in_part(d);
 }
@@ -135,17 +135,11 @@ static void read_dwarf(struct debug *d) {
     d->is_alien = d->dwarf && is_of_other_build(d->dwarf);
 }
 
-static int by_low(const void *a, const void *b) {
-    const u64 *x = a, *y = b;          /* of a span or of code */
-    return *x < *y ? -1 : *x > *y;
-}
-
 static void note_spans(struct debug *d, Dwarf_Die *die, u64 number) {
     Dwarf_Addr base, low, high;
     for (ptrdiff_t at = 0; (at = dwarf_ranges(die, at, &base, &low, &high)) > 0;) {
         if (!low || low >= high) continue;                   /* code that the linker left out */
-        GROW(d->spans, d->span_count, d->span_capacity);
-        d->spans[d->span_count++] = (span){low, high, number};
+        *PUSH(d->spans) = (span){low, high, number};
     }
 }
 
@@ -153,8 +147,7 @@ static void note_code(unit *u, Dwarf_Die *die) {
     Dwarf_Addr base, low, high;
     for (ptrdiff_t at = 0; (at = dwarf_ranges(die, at, &base, &low, &high)) > 0;) {
         if (!low || low >= high) continue;
-        GROW(u->functions, u->count, u->capacity);
-        u->functions[u->count++] = (code){low, high, *die};
+        *PUSH(u->functions) = (code){low, high, *die};
     }
 }
 
@@ -188,7 +181,7 @@ static void index_functions(unit *u) {
     u->is_indexed = 1;
     const void *last = 0;
     find_functions(u, &u->whole, &last, 0);
-    if (u->count) qsort(u->functions, u->count, sizeof *u->functions, by_low);
+    if (u->functions.count) qsort(u->functions.at, u->functions.count, sizeof *u->functions.at, by_number);
 }
 
 /* Does a unit whose split file isn't found name an object file for it? */
@@ -211,34 +204,20 @@ void read_units(struct debug *d) {
         int is_lacking = kind == DW_UT_skeleton && !split.addr;
         d->lacks_split |= is_lacking;
         d->is_in_objects |= is_lacking && is_in_object(&die);
-        u64 before = d->span_count, number = d->unit_count;
-        GROW(d->units, d->unit_count, d->unit_capacity);
-        d->units[d->unit_count++] = (unit){.linked = die, .whole = split.addr ? split : die};
+        u64 before = d->spans.count, number = d->units.count;
+        *PUSH(d->units) = (unit){.linked = die, .whole = split.addr ? split : die};
         note_spans(d, &die, number);
-        if (d->span_count > before) continue;
-        unit *u = &d->units[number];   /* it doesn't tell where its code is */
+        if (d->spans.count > before) continue;
+        unit *u = &d->units.at[number];          /* it doesn't tell where its code is */
         index_functions(u);
-        for (u64 k = 0; k < u->count; k++) {
-            GROW(d->spans, d->span_count, d->span_capacity);
-            d->spans[d->span_count++] = (span){u->functions[k].low, u->functions[k].high, number};
-        }
+        EACH(f, u->functions.at, u->functions.count) *PUSH(d->spans) = (span){f->low, f->high, number};
     }
-    if (d->span_count) qsort(d->spans, d->span_count, sizeof *d->spans, by_low);
-}
-
-u64 count_up_to(const void *entries, u64 count, size_t size, u64 most) {
-    u64 low = 0, high = count;
-    while (low < high) {
-        u64 middle = (low + high) / 2;
-        if (*(const u64 *)((const char *)entries + middle * size) <= most) low = middle + 1;
-        else high = middle;
-    }
-    return low;
+    if (d->spans.count) qsort(d->spans.at, d->spans.count, sizeof *d->spans.at, by_number);
 }
 
 static unit *unit_with(struct debug *d, u64 pc) {
-    u64 k = count_up_to(d->spans, d->span_count, sizeof *d->spans, pc);
-    return k && pc < d->spans[k - 1].high ? &d->units[d->spans[k - 1].unit] : 0;
+    u64 begun = COUNT_BEFORE(k, d->spans.count, d->spans.at[k].low <= pc);
+    return begun && pc < d->spans.at[begun - 1].high ? &d->units.at[d->spans.at[begun - 1].unit] : 0;
 }
 
 static unit *find_code(struct debug *d, u64 pc, Dwarf_Die *function) {
@@ -246,8 +225,8 @@ static unit *find_code(struct debug *d, u64 pc, Dwarf_Die *function) {
     *function = (Dwarf_Die){0};
     if (!u) return 0;
     index_functions(u);
-    u64 k = count_up_to(u->functions, u->count, sizeof *u->functions, pc);
-    if (k && pc < u->functions[k - 1].high) *function = u->functions[k - 1].at;
+    u64 begun = COUNT_BEFORE(k, u->functions.count, u->functions.at[k].low <= pc);
+    if (begun && pc < u->functions.at[begun - 1].high) *function = u->functions.at[begun - 1].at;
     return u;
 }
 
@@ -363,12 +342,12 @@ int frames_at(struct debug *d, u64 pc, debug_frame *frames, int most) {
 void each_source(struct debug *d, void (*give)(const char *path)) {
     map given = {0};                   /* most units have the same headers */
     read_units(d);
-    for (u64 k = 0; k < d->unit_count; k++) {
+    EACH(u, d->units.at, d->units.count) {
         Dwarf_Files *files;
         size_t count = 0;
-        if (dwarf_getsrcfiles(&d->units[k].linked, &files, &count)) continue;
+        if (dwarf_getsrcfiles(&u->linked, &files, &count)) continue;
         for (size_t n = 0; n < count && given.count < MOST_SOURCES; n++) {
-            const char *told = dwarf_filesrc(files, n, 0, 0), *path = whole_path(&d->units[k], told);
+            const char *told = dwarf_filesrc(files, n, 0, 0), *path = whole_path(u, told);
             u64 before = given.count;
             if (path && map_text(&given, path) > before) give(path);
             if (path != told) free((char *)path);

@@ -12,16 +12,16 @@ typedef struct { u64 at, size; const char *linked; char *name; int is_twice, is_
 
 typedef struct { u64 low, high; Dwarf_Die at; } code;        /* of a function */
 /* Its entry in the linked file, and where all of it is (-gsplit-dwarf); its functions, sorted, once one was asked for. */
-typedef struct { Dwarf_Die linked, whole; code *functions; u64 count, capacity; int is_indexed; } unit;
+typedef struct { Dwarf_Die linked, whole; VECTOR(code) functions; int is_indexed; } unit;
 typedef struct { u64 low, high, unit; } span;
-typedef struct { char *type, *rest; } named_part;            /* "Account", ".balance"; null where there is no such type */
+typedef struct { char *type, *rest; int is_met; } named_part;          /* "Account", ".balance"; null where there is no such type */
 
-typedef struct { Dwarf_Die type; int is_of_bits; } allocation;       /* a type without an address isn't known */
+typedef struct { Dwarf_Die type; int is_of_bits, is_met; } allocation;         /* a type without an address isn't known */
 /* What an expression means: its type, the type of what a pointer in it points to last, and how far inside of that it
    lies, or at least if it is open (an index, bits). Is it a lock that a call gets? */
 typedef struct {
     Dwarf_Die type, object;
-    int has_object, has_member, is_open, is_element, is_lock;
+    int has_object, has_member, is_open, is_element, is_lock, is_met;
     u64 offset;
 } meaning;
 
@@ -31,25 +31,17 @@ struct debug {
     Dwfl_Module *file;
     Dwarf *dwarf;                      /* or null */
     u64 bias;                          /* what addresses are here more than in the debug information */
-    unit *units;
-    u64 unit_count, unit_capacity;
-    span *spans;                       /* the code of units, sorted */
-    u64 span_count, span_capacity;
-    symbol *symbols;                   /* sorted */
-    u64 symbol_count, symbol_capacity;
+    VECTOR(unit) units;
+    VECTOR(span) spans;                /* the code of units, sorted */
+    VECTOR(symbol) symbols;            /* sorted */
     int has_symbols, has_doubles, has_units, has_variables;  /* are they read? Of variables: 1 those outside of functions, 2 all */
     uint8_t lacks_split, is_in_objects, is_alien;            /* units that are in other files, in object files; a file of another build */
-    map by_address;                    /* the numbers of variables */
-    Dwarf_Die *variables;
-    u64 variable_count, variable_capacity;
-    map by_call, by_part;              /* the numbers of what calls allocate, and of what lies inside of that */
-    allocation *calls;
-    named_part *parts;
-    u64 call_count, call_capacity, part_count, part_capacity;
-    map by_use, by_global;             /* the numbers of what accesses mean; of names, with their units */
-    meaning *meanings;
-    Dwarf_Die *globals;                /* types; without an address where a name has none, or several */
-    u64 meaning_count, meaning_capacity, global_count, global_capacity;
+    INTERNED(Dwarf_Die) variables;     /* by their addresses */
+    INTERNED(allocation) calls;
+    INTERNED(named_part) parts;        /* what lies inside of what calls allocate */
+    INTERNED(meaning) meanings;        /* of accesses */
+    map global_names;                  /* with their units */
+    VECTOR(Dwarf_Die) globals;         /* types; without an address where a name has none, or several */
 };
 
 /* symbols.c */
@@ -76,8 +68,6 @@ int may_have_types(int tag);           /* may an entry have functions or types i
 int has_code(const struct debug *d, Dwarf_Die *die, u64 pc);
 /* A function, and what is inlined in it at a place in the code, the outermost first; addresses are as the debug information has them. */
 int scopes_at(Dwarf_Die function, u64 pc, Dwarf_Die *scopes, int most);
-/* How many of some entries are at most this, by the u64 that they are sorted by and begin with. */
-u64 count_up_to(const void *entries, u64 count, size_t size, u64 most);
 /* The frames at a place in the code, the innermost first; what isn't known is null, and 0. */
 typedef struct { char *function; const char *path; int line; } debug_frame;
 int line_at(struct debug *d, u64 pc, const char **path, int *line, int *column);         /* 0: it isn't known */
@@ -85,8 +75,7 @@ int frames_at(struct debug *d, u64 pc, debug_frame *frames, int most);
 void each_source(struct debug *d, void (*give)(const char *path));
 
 /* members.c */
-/* The number of the variable at an address, from 1 in `variables`; 0 if there is none. */
-u32 variable_at(struct debug *d, u64 address);
+Dwarf_Die *variable_at(struct debug *d, u64 address);       /* null if there is none */
 /* The same type without typedefs and qualifiers; 0 where there is none. */
 int plain_type(Dwarf_Die *type);
 int follow(Dwarf_Die *die, unsigned attribute);              /* to the entry that the attribute names; 0 if there is none */

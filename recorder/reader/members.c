@@ -22,9 +22,8 @@ static u64 address_of_variable(Dwarf_Die *die) {
 
 static void note_variable(struct debug *d, Dwarf_Die *e) {
     u64 address = address_of_variable(e);
-    if (!address || map_number(&d->by_address, address + d->bias, 0) <= d->variable_count) return;
-    GROW(d->variables, d->variable_count, d->variable_capacity);
-    d->variables[d->variable_count++] = *e;
+    Dwarf_Die *known = address ? ENTRY(d->variables, address + d->bias, 0) : 0;
+    if (known && !known->addr) *known = *e;
 }
 
 static void find_variables(struct debug *d, Dwarf_Die *in, int also_in_functions, const void **last, int depth) {
@@ -38,18 +37,18 @@ static void find_variables(struct debug *d, Dwarf_Die *in, int also_in_functions
 }
 
 /* Those in functions are read when one isn't among the others. */
-u32 variable_at(struct debug *d, u64 address) {
+Dwarf_Die *variable_at(struct debug *d, u64 address) {
     u32 number = 0;
     read_units(d);
-    for (int many = 1; !(number = map_find(&d->by_address, address, 0)) && many <= 2; many++) {
+    for (int many = 1; !(number = map_find(&d->variables.numbers, address, 0)) && many <= 2; many++) {
         if (d->has_variables >= many) continue;
         d->has_variables = many;
-        for (u64 k = 0; k < d->unit_count; k++) {
+        EACH(u, d->units.at, d->units.count) {
             const void *last = 0;
-            find_variables(d, &d->units[k].whole, many > 1, &last, 0);
+            find_variables(d, &u->whole, many > 1, &last, 0);
         }
     }
-    return number;
+    return number ? &d->variables.at[number - 1] : 0;
 }
 
 /* ---- what lies at an offset of a type ---- */
@@ -263,9 +262,8 @@ void add_members(Dwarf_Die type, u64 offset, u64 length, text *to) {
 
 void add_member(struct debug *d, u64 address, u64 offset, u64 length, char *buffer, size_t size) {
     text to = {buffer, size, offset};
-    u32 number = variable_at(d, address);
-    Dwarf_Die type;
-    if (number && !d->is_alien && type_of(&d->variables[number - 1], &type)) add_members(type, offset, length, &to);
+    Dwarf_Die *variable = variable_at(d, address), type;
+    if (variable && !d->is_alien && type_of(variable, &type)) add_members(type, offset, length, &to);
     if (to.rest) snprintf(to.at, to.room, "+%lu", to.rest);
 }
 

@@ -49,8 +49,7 @@ static void take_symbol(struct debug *d, int number) {
     int type = GELF_ST_TYPE(s.st_info), is_function = type == STT_FUNC || type == STT_GNU_IFUNC;
     if (!name || !*name || !s.st_size || s.st_size > ~0ull >> SYMBOL_FLAGS || section == SHN_UNDEF || section == SHN_ABS || section == SHN_COMMON) return;
     if (!is_function && type != STT_OBJECT && type != STT_NOTYPE) return;
-    GROW(d->symbols, d->symbol_count, d->symbol_capacity);
-    d->symbols[d->symbol_count++] = (symbol){s.st_value, s.st_size, name, 0, 0, is_function};
+    *PUSH(d->symbols) = (symbol){s.st_value, s.st_size, name, 0, 0, is_function};
 }
 
 static int by_address(const void *a, const void *b) {        /* of several at one address, the last by its name is found */
@@ -62,18 +61,18 @@ static void read_symbols(struct debug *d) {
     if (d->has_symbols++) return;
     int count = d->file ? dwfl_module_getsymtab(d->file) : 0;
     for (int k = 1; k < count; k++) take_symbol(d, k);
-    if (d->symbol_count) qsort(d->symbols, d->symbol_count, sizeof *d->symbols, by_address);
-    for (u64 k = 1; k < d->symbol_count; k++) {              /* at what is of two the second is found, so the first ends there */
-        symbol *before = &d->symbols[k - 1];
-        u64 most = d->symbols[k].at - before->at;
+    if (d->symbols.count) qsort(d->symbols.at, d->symbols.count, sizeof *d->symbols.at, by_address);
+    for (u64 k = 1; k < d->symbols.count; k++) {             /* at what is of two the second is found, so the first ends there */
+        symbol *before = &d->symbols.at[k - 1];
+        u64 most = before[1].at - before->at;
         if (most && before->size > most) before->size = most;
     }
 }
 
 static const char *name_of(struct debug *d, symbol *s) {
     int is_told = !s->name && !s->is_function && (is_of_other(s->linked) || is_static_local(s->linked));
-    u32 number = is_told ? variable_at(d, s->at) : 0;
-    if (number) s->name = told_name(&d->variables[number - 1]);
+    const Dwarf_Die *variable = is_told ? variable_at(d, s->at) : 0;
+    if (variable) s->name = told_name(variable);
     return s->name ? s->name : (s->name = demangled(s->linked));
 }
 
@@ -84,12 +83,12 @@ static int by_name(const void *a, const void *b) {
 /* Variables of one name, static in several files. */
 static void mark_doubles(struct debug *d) {
     if (d->has_doubles++) return;
-    symbol **sorted = zeroed(d->symbol_count + 1, sizeof *sorted);
+    symbol **sorted = zeroed(d->symbols.count + 1, sizeof *sorted);
     u64 count = 0;
-    for (u64 k = 0; k < d->symbol_count; k++) {
-        if (d->symbols[k].is_function) continue;
-        name_of(d, &d->symbols[k]);
-        sorted[count++] = &d->symbols[k];
+    EACH(s, d->symbols.at, d->symbols.count) {
+        if (s->is_function) continue;
+        name_of(d, s);
+        sorted[count++] = s;
     }
     qsort(sorted, count, sizeof *sorted, by_name);
     for (u64 k = 1; k < count; k++)
@@ -99,11 +98,11 @@ static void mark_doubles(struct debug *d) {
 
 const symbol *symbol_from(struct debug *d, u64 address) {
     read_symbols(d);
-    u64 k = count_up_to(d->symbols, d->symbol_count, sizeof *d->symbols, address);
-    if (k && address - d->symbols[k - 1].at < d->symbols[k - 1].size) k--;
-    else if (k == d->symbol_count) return 0;
-    else k = count_up_to(d->symbols, d->symbol_count, sizeof *d->symbols, d->symbols[k].at) - 1;
-    symbol *s = &d->symbols[k];
+    u64 begun = COUNT_BEFORE(k, d->symbols.count, d->symbols.at[k].at <= address);
+    symbol *s = d->symbols.at + begun, *end = d->symbols.at + d->symbols.count;
+    if (begun && address - s[-1].at < s[-1].size) s--;
+    else if (s == end) return 0;
+    else s = d->symbols.at + COUNT_BEFORE(k, d->symbols.count, d->symbols.at[k].at <= s->at) - 1;
     name_of(d, s);
     if (!s->is_function) mark_doubles(d);
     return s;
@@ -111,7 +110,7 @@ const symbol *symbol_from(struct debug *d, u64 address) {
 
 int is_variable(struct debug *d, const char *name) {
     read_symbols(d);
-    for (u64 k = 0; k < d->symbol_count; k++)
-        if (!d->symbols[k].is_function && !strcmp(name_of(d, &d->symbols[k]), name)) return 1;
+    EACH(s, d->symbols.at, d->symbols.count)
+        if (!s->is_function && !strcmp(name_of(d, s), name)) return 1;
     return 0;
 }

@@ -75,15 +75,14 @@ static search local_named(view *v, const char *name) {
 static Dwarf_Die global_named(view *v, const char *name) {
     char key[WORD + 24];
     snprintf(key, sizeof key, "%lx %s", (u64)v->unit.addr, name);
-    u32 number = map_text(&v->d->by_global, key);
-    if (number > v->d->global_count) {
+    u32 number = map_text(&v->d->global_names, key);
+    if (number > v->d->globals.count) {
         search s = {.name = name};
         look_in(v, &s, &v->unit, DW_TAG_namespace, 0);
         if (!s.is_found || s.is_unclear) s.type.addr = 0;
-        GROW(v->d->globals, v->d->global_count, v->d->global_capacity);
-        v->d->globals[v->d->global_count++] = s.type;
+        *PUSH(v->d->globals) = s.type;
     }
-    return v->d->globals[number - 1];
+    return v->d->globals.at[number - 1];
 }
 
 /* ---- expressions ---- */
@@ -345,13 +344,9 @@ static meaning find_meaning(struct debug *d, u64 pc, int is_write) {
 
 /* Each access in the code is looked at once. */
 int object_by_use(struct debug *d, place_in_block use, int is_write, object_in_block *found) {
-    u32 number = map_number(&d->by_use, use.pc, is_write);
-    if (number > d->meaning_count) {
-        meaning m = find_meaning(d, use.pc, is_write);
-        GROW(d->meanings, d->meaning_count, d->meaning_capacity);
-        d->meanings[d->meaning_count++] = m;
-    }
-    const meaning *m = &d->meanings[number - 1];
+    meaning *m = ENTRY(d->meanings, use.pc, is_write);
+    if (!m->is_met) *m = find_meaning(d, use.pc, is_write);
+    m->is_met = 1;
     *found = (object_in_block){.type = m->object, .is_element = m->is_element};
     found->size = m->has_object ? size_of_type(&found->type) : 0;
     return found->size && begin_of_object(m, &use, found->size, &found->begin);

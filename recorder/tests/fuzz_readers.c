@@ -63,7 +63,7 @@ static void read_text(const uint8_t *data, size_t size) {
     char line[LINE_BYTES] = "";
     if (!d) read_units(d = open_debug("./module-of-texts"));
     memcpy(line, data + 1, size <= sizeof line ? size - 1 : sizeof line - 1);
-    u64 low = d->spans[0].low, pc = low + data[0] * (d->spans[0].high - low) / 256 + d->bias;
+    u64 low = d->spans.at[0].low, pc = low + data[0] * (d->spans.at[0].high - low) / 256 + d->bias;
     for (int column = 1; line[column - 1]; column++) meaning_in_line(d, pc, column % 2, line, column);
 }
 #elif defined FUZZ_MODULES
@@ -83,15 +83,15 @@ static int read_module(void) {
     struct debug *d = open_debug(input);
     why_unread(d);
     is_variable(d, "one");
-    for (u64 k = 0; k < d->symbol_count && k < 16 * MOST; k++) symbol_from(d, d->symbols[k].at);
+    for (u64 k = 0; k < d->symbols.count && k < 16 * MOST; k++) symbol_from(d, d->symbols.at[k].at);
     each_source(d, take_text);
     add_member(d, 1, 0, 4, name, sizeof name);               /* of none: all are read */
-    for (u64 k = 0; k < d->by_address.capacity && k < 16 * MOST; k++)
-        for (u64 offset = 0; d->by_address.entries[k].value && offset < MOST; offset += 4)
-            add_member(d, d->by_address.entries[k].a, offset, 4, name, sizeof name);
-    for (u64 k = 0; k < d->span_count && k < 16 * MOST; k++)
+    for (u64 k = 0; k < d->variables.numbers.capacity && k < 16 * MOST; k++)
+        for (u64 offset = 0; d->variables.numbers.entries[k].value && offset < MOST; offset += 4)
+            add_member(d, d->variables.numbers.entries[k].a, offset, 4, name, sizeof name);
+    for (u64 k = 0; k < d->spans.count && k < 16 * MOST; k++)
         for (u64 at = 0; at < MOST; at += 4) {
-            u64 pc = d->spans[k].low + d->bias + at;
+            u64 pc = d->spans.at[k].low + d->bias + at;
             for (int n = frames_at(d, pc, frames, MOST); n-- > 0;) free(frames[n].function);
             add_local(d, (place_of_local){pc, at, at, 4}, name, sizeof name);
             add_in_block(d, (place_in_block){pc, MOST, at, 4}, name, sizeof name);
