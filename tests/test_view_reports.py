@@ -10,7 +10,7 @@ import program
 import shb
 from viewing import EXAMPLES, MADE, made, sections
 
-from shb_common import faults
+from shb_common import words
 from shb_common.report import BadReport, Lines
 
 
@@ -47,7 +47,7 @@ class Taken(program.Case):
                 verdict = judge.verdict(text, report).decode()
                 try:
                     sections(text, report, None)
-                except (BadReport, faults.Refused):
+                except (BadReport, words.Refused):
                     self.assertNotEqual(verdict[:3], "ok ")
                     refused += 1
                 else:
@@ -78,7 +78,7 @@ class Refused(program.Case):
 
     def refused(self, report):
         """Why a report of the trace isn't taken."""
-        with self.assertRaises((BadReport, faults.Refused)) as found:
+        with self.assertRaises((BadReport, words.Refused)) as found:
             sections(self.TRACE, report)
         return str(found.exception)
 

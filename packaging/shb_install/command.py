@@ -7,9 +7,9 @@ import subprocess
 import sys
 import tempfile
 
-from shb_common.faults import Refused
 from shb_common.files import put
 from shb_common.standard import words_of
+from shb_common.words import Refused
 from shb_install import machine, package, placing, sources, tree
 
 EPILOG = """\

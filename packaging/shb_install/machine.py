@@ -4,7 +4,7 @@ import re
 import shutil
 import subprocess
 
-from shb_common.faults import Refused
+from shb_common.words import Refused
 
 LEVEL = re.compile(rb"x86-64-v([234])")     # in the words of a program of the kit for a processor that lacks something
 

@@ -10,7 +10,7 @@ import shutil
 import subprocess
 import tarfile
 
-from shb_common.faults import Refused
+from shb_common.words import Refused
 from shb_install import machine
 from shb_install.placing import files_in
 from shb_install.sources import TOP, day

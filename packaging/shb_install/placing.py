@@ -14,8 +14,8 @@ import pathlib
 import shutil
 import stat
 
-from shb_common.faults import Refused
 from shb_common.standard import faults_of
+from shb_common.words import Refused
 
 LISTED = "lib/shb/installed"
 FOLDER = "/"                # the last sign of a line that names a folder

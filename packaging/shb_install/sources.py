@@ -4,7 +4,7 @@ import pathlib
 import subprocess
 import time
 
-from shb_common.faults import Refused
+from shb_common.words import Refused
 
 TOP = pathlib.Path(__file__).resolve().parents[2]
 

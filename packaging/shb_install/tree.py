@@ -6,7 +6,7 @@ import shutil
 import subprocess
 import tempfile
 
-from shb_common.faults import Refused
+from shb_common.words import Refused
 from shb_install import completions, helptext, manual
 from shb_install.sources import TOP
 

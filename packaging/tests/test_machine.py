@@ -1,7 +1,7 @@
 """What programs need of a machine."""
 
 import installing
-from shb_common.faults import Refused
+from shb_common.words import Refused
 from shb_install import machine
 
 WORDS = "this program was built with --cpu x86-64-v2, which asks for popcnt"

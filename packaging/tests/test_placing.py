@@ -7,7 +7,7 @@ from unittest import mock
 
 import installing
 from installing import contents
-from shb_common.faults import Refused
+from shb_common.words import Refused
 from shb_install import placing
 
 FIRST = {"bin/shb": "first", "bin/old": "old", "lib/shb/pack/part.py": "part", "share/gone/page": "page"}

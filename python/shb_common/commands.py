@@ -3,9 +3,9 @@
 import argparse
 import os
 
-from shb_common.printable import printable
 from shb_common.standard import tell
 from shb_common.version import installed, version
+from shb_common.words import printable
 
 COLUMNS = 80
 

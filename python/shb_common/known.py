@@ -12,10 +12,9 @@ import itertools
 import os
 import re
 
-from shb_common.faults import Refused
 from shb_common.files import read_at_most
-from shb_common.printable import printable
 from shb_common.refused import BEGINNINGS, LONGEST, MARK
+from shb_common.words import Refused, printable
 
 STAR = re.compile(rb"(?<!\\)\*")
 MOST_BYTES = 64 << 20       # of a file of known places

@@ -1,12 +1,13 @@
 """Which Python the commands need. An older one, or one without its whole library, can read this file and the commands' own, and says so."""
 
+import importlib
 import sys
 
 NEEDED = (3, 8)
 
 
-def need(command, status):
-    """Ends the command with this status if this Python is too old for it, or lacks a module of Python's library that it imports later."""
+def run(command, status):
+    """Runs a command. It ends with this status if this Python is too old for it, or lacks a module of Python's library."""
     def end(why):
         sys.stderr.write("%s: %s\n" % (command, why))
         sys.exit(status)
@@ -20,3 +21,4 @@ def need(command, status):
     if sys.version_info < NEEDED:
         end("Python %d.%d or later is needed, and this is %d.%d" % (NEEDED + sys.version_info[:2]))
     sys.excepthook = told
+    sys.exit(importlib.import_module(command.replace("-", "_") + ".command").main(sys.argv[1:]))

@@ -3,7 +3,7 @@
 import re
 
 from shb_common.limits import LINE_ROOM, MOST_EVENTS, MOST_TEXT, MOST_THREADS
-from shb_common.printable import printable
+from shb_common.words import printable
 
 NUMBER = re.compile(r"(?:.*: )?line ([1-9][0-9]{0,18}): ")
 LONGEST = 60        # columns of the line that are shown

@@ -7,7 +7,7 @@ import collections
 import re
 
 from shb_common.limits import LINE_ROOM, MOST_LINE
-from shb_common.printable import printable
+from shb_common.words import printable
 
 NUMBER = rb"(0|[1-9][0-9]{0,19})"
 VERSION = re.compile(rb"shb-report 2\n")

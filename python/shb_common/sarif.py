@@ -8,11 +8,11 @@ import urllib.parse
 
 from shb_common import known, version
 from shb_common.locations import line_of, parts_of
-from shb_common.printable import printable
 from shb_common.result import in_bytes
 from shb_common.sources import read_lines
 from shb_common.stacks import bare
 from shb_common.sums import blake2b
+from shb_common.words import printable
 
 SCHEMA = "https://docs.oasis-open.org/sarif/sarif/v2.1.0/errata01/os/schemas/sarif-schema-2.1.0.json"
 RULE = {

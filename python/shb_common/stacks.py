@@ -11,7 +11,7 @@ import sys
 
 from shb_common.files import open_regular
 from shb_common.locations import line_of, parts_of
-from shb_common.printable import printable
+from shb_common.words import printable
 
 BEGIN = re.compile(rb"shb-stacks 1 ([0-9]{20})\n")
 BEGIN_BYTES = 34

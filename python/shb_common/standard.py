@@ -4,7 +4,7 @@ import contextlib
 import os
 import sys
 
-from shb_common.printable import printable
+from shb_common.words import printable
 
 
 def open_standard_files():

@@ -5,7 +5,7 @@ import bisect
 import collections
 
 from shb_common.files import open_regular
-from shb_common.printable import printable
+from shb_common.words import printable
 
 BEGIN = b"shb-uses 2\n"
 OTHER = "is of another version of shb: its first line isn't `shb-uses 2`"

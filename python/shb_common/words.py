@@ -1,6 +1,24 @@
-"""Words that all commands use."""
+"""What commands say: how many, names as a reader sees them, and why something can't be done."""
+
+SIGNS = str.maketrans({"&": "&amp;", "<": "&lt;", ">": "&gt;", '"': "&quot;", "'": "&#x27;"})
+
+
+class Refused(Exception):
+    """What every part of a command raises: the words say why, and what to do about it where that is known."""
 
 
 def counted(count, word, words=None):
     """`1 place`, `2 places`, `1,000 places`."""
     return f"{count:,} {word if count == 1 else words or word + 's'}"
+
+
+def in_html(text):
+    """As `html.escape`, whose module takes its time."""
+    return text.translate(SIGNS)
+
+
+def printable(text, most=None):
+    """The text on a terminal: what doesn't print is escaped. Of more than `most` columns the first ones, and two dots."""
+    found = text.decode("utf-8", "backslashreplace")
+    found = "".join(sign if sign.isprintable() else sign.encode("unicode_escape").decode() for sign in found)
+    return found if most is None or len(found) <= most else found[:most - 2] + ".."

@@ -5,11 +5,11 @@ import os
 import pathlib
 
 from shb_common import known, result, stacks
-from shb_common.printable import printable
 from shb_common.programs import Origin
 from shb_common.report import BadReport, Report
 from shb_common.sarif import Access
 from shb_common.standard import tell
+from shb_common.words import printable
 from shb_farm import passes
 from shb_farm.traces import LEADS_OUT, SUFFIXES, is_below
 

@@ -11,10 +11,9 @@ import traceback
 
 from shb_common import known
 from shb_common.commands import Parser, number
-from shb_common.faults import Refused
 from shb_common.parts import ANALYSER, NO_ANALYSER, part
 from shb_common.standard import open_standard_files, tell, words_of, write_texts
-from shb_common.words import counted
+from shb_common.words import Refused, counted
 from shb_farm import engines, limits, merging, outcomes, passes, since, tables, traces
 from shb_farm.calls import Calls
 from shb_farm.sources import Sources

@@ -14,10 +14,9 @@ import tempfile
 import time
 
 from shb_common.children import end_with
-from shb_common.faults import Refused
 from shb_common.progress import Progress
 from shb_common.standard import tell
-from shb_common.words import counted
+from shb_common.words import Refused, counted
 from shb_farm import limits, passes
 
 # Without a PATH Python doesn't know its own name. A job needs nothing of this machine's packages, whose start costs time.

@@ -9,10 +9,9 @@ import json
 import os
 
 from shb_common import known, result
-from shb_common.faults import Refused
 from shb_common.files import open_regular
 from shb_common.locations import parts_of
-from shb_common.printable import printable
+from shb_common.words import Refused, printable
 
 MOST_BYTES = 1 << 30
 NAME = "places.json"

@@ -6,7 +6,7 @@ import os
 from shb_common import known, result, sarif
 from shb_common.files import put
 from shb_common.places import unknown_places
-from shb_common.printable import printable
+from shb_common.words import printable
 from shb_farm import calls
 
 WIDEST = 60         # columns of the text's tables; a longer field moves what stands after it

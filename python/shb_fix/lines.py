@@ -1,7 +1,7 @@
 """From lines to events: marks, blanks, comments and other spellings."""
 
-from shb_common.printable import printable
 from shb_common.refused import BEGINNINGS, MARK, hint_of
+from shb_common.words import printable
 from shb_fix.events import Event
 
 NAMED = {b"r", b"w", b"acq", b"rel", b"fork", b"join"}

@@ -2,7 +2,7 @@
 
 import collections
 
-from shb_common.printable import printable
+from shb_common.words import printable
 from shb_fix.events import OWN
 
 

@@ -12,9 +12,9 @@ import stat
 import tempfile
 import time
 
-from shb_common.faults import Refused
 from shb_common.standard import tell
 from shb_common.stops import STOPS
+from shb_common.words import Refused
 from shb_record.running import WATCHED, Run, adopt_orphans, children
 
 

@@ -12,12 +12,10 @@ import signal
 
 from shb_common import known
 from shb_common.commands import Parser, number
-from shb_common.faults import Refused
 from shb_common.limits import MOST_EVENTS
-from shb_common.printable import printable
 from shb_common.standard import open_standard_files, words_of
 from shb_common.stops import Stops
-from shb_common.words import counted
+from shb_common.words import Refused, counted, printable
 from shb_record.at_once import jobs_of, outcomes
 from shb_record.looking import Look
 from shb_record.parts import LIBRARY, check_parts, say

@@ -10,11 +10,10 @@ import subprocess
 import tempfile
 
 from shb_common.children import apart
-from shb_common.faults import Refused
 from shb_common.stacks import BadStacks, Stacks
 from shb_common.sums import sha256
 from shb_common.uses import BadUses, Uses
-from shb_common.words import counted
+from shb_common.words import Refused, counted
 from shb_record.parts import CONVERTER
 from shb_record.listing import Contradiction
 

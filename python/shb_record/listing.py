@@ -6,8 +6,8 @@ import tempfile
 
 from shb_common import analyser
 from shb_common.children import apart
-from shb_common.faults import Refused
 from shb_common.report import BadReport, Report
+from shb_common.words import Refused
 from shb_record.parts import ANALYSER
 
 

@@ -6,9 +6,8 @@ import os
 import re
 
 from shb_common import known
-from shb_common.faults import Refused
 from shb_common.programs import pair_of
-from shb_common.words import counted
+from shb_common.words import Refused, counted
 from shb_record.converting import KILLED, process_of
 from shb_record.looking import Look
 from shb_record.parts import say

@@ -3,12 +3,10 @@
 import shlex
 import sys
 
-from shb_common.faults import Refused
-from shb_common.printable import printable
 from shb_common.programs import Origin
 from shb_common.report import race_of
 from shb_common.standard import words_of
-from shb_common.words import counted
+from shb_common.words import Refused, counted, printable
 from shb_record.converting import CRASHED, KILLED, Conversion, check_room, order_of, processes
 from shb_record.modules import Modules
 from shb_record.parts import ANALYSER, now, say

@@ -10,7 +10,7 @@ import struct
 import subprocess
 
 from shb_common.files import open_regular
-from shb_common.printable import printable
+from shb_common.words import printable
 from shb_record.parts import LIBRARY
 
 # The C library's own, whose functions the recorder stands for, the loader, the C++ library, whose templates have the hooks, and what

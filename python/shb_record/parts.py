@@ -6,9 +6,8 @@ import shutil
 import time
 
 from shb_common import parts
-from shb_common.faults import Refused
-from shb_common.printable import printable
 from shb_common.standard import tell
+from shb_common.words import Refused, printable
 
 LIBRARY = pathlib.Path(parts.part("../recorder/lib/libtsan.so", "libtsan.so")).parent
 CONVERTER = parts.part("../recorder/shb-std", "shb-std")

@@ -9,7 +9,7 @@ import re
 import shutil
 import tempfile
 
-from shb_common.faults import Refused
+from shb_common.words import Refused
 from shb_record.parts import now, say
 
 LIST = "made-by-shb-record.txt"

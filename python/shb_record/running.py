@@ -12,9 +12,8 @@ import signal
 import subprocess
 import time
 
-from shb_common.faults import Refused
 from shb_common.stops import STOPS
-from shb_common.words import counted
+from shb_common.words import Refused, counted
 from shb_record.modules import is_behind
 from shb_record.parts import LIBRARY, say
 

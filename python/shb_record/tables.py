@@ -6,13 +6,12 @@ import re
 import shlex
 import urllib.parse
 
+from shb_common.words import counted, in_html
 import shb_view
 from shb_common import result, sarif
 from shb_common.places import unknown_places
-from shb_common.printable import in_html
 from shb_common.programs import pair_of
 from shb_common.stacks import Frame
-from shb_common.words import counted
 from shb_record.places import count, table
 
 

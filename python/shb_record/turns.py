@@ -6,7 +6,7 @@ import os
 import re
 import stat
 
-from shb_common.faults import Refused
+from shb_common.words import Refused
 
 HEADER_BYTES, ENTRY_BYTES, MOST_BYTES = 4096, 8, 128 << 20
 HEADER = re.compile(rb"shb-turns 3\ncommand (?P<command>[^\n]*)\n(?:whole (?P<count>[0-9a-f]+) (?P<sum>[0-9a-f]+)\n)?\0*")

@@ -6,9 +6,9 @@ import subprocess
 import tempfile
 
 from shb_common.analyser import HEAD, REFUSED, LIST_VARIABLES, Run, rewound
-from shb_common.faults import Refused
 from shb_common.refused import line_and_hint, without_note
 from shb_common.report import BadReport, Report
+from shb_common.words import Refused
 from shb_view.names import short
 
 MOST_BYTES = 4_096  # of a verdict that are looked at

@@ -3,9 +3,9 @@ the accesses that may be shown, the events right before them."""
 
 import collections
 
-from shb_common.faults import Refused
 from shb_common.uses import SUMS
 from shb_common.variables import without_end
+from shb_common.words import Refused
 from shb_view.facts import Sites, sites_in
 from shb_view.groups import name_parts
 from shb_view.held import Held, Operations, called

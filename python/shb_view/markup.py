@@ -1,6 +1,6 @@
 """HTML, escaped by type: text becomes markup in one way alone."""
 
-from shb_common.printable import in_html
+from shb_common.words import in_html
 from shb_view.names import short
 from shb_view.words import Code
 

@@ -7,9 +7,8 @@ import os
 import re
 
 from shb_common import sources
-from shb_common.faults import Refused
 from shb_common.locations import line_of
-from shb_common.words import counted
+from shb_common.words import Refused, counted
 from shb_view.names import readable
 
 BEFORE, AFTER = 3, 2  # lines around one that is shown

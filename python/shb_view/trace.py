@@ -5,9 +5,9 @@ import collections
 import os
 import re
 
-from shb_common.faults import Refused
 from shb_common.refused import CARRIAGE_RETURNS, MARK
 from shb_common.variables import without_end
+from shb_common.words import Refused
 
 BATCH = 65_536  # bytes of lines that are read at once
 ALONE = re.compile(rb"\r[^\n]")

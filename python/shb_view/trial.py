@@ -6,9 +6,9 @@ import collections
 import tempfile
 
 from shb_common.analyser import LIST_VARIABLES
-from shb_common.faults import Refused
 from shb_common.report import Report
 from shb_common.variables import without_end
+from shb_common.words import Refused
 from shb_view.analyser import Analyser
 from shb_view.moves import Change, move_of
 from shb_view.trace import OPENS, event_of

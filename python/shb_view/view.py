@@ -8,11 +8,11 @@ import stat
 import tempfile
 
 from shb_common.analyser import FULL, LIST, VARIABLES
-from shb_common.faults import Refused
 from shb_common.report import Report, in_order
 from shb_common.result import text
 from shb_common.stacks import BadStacks, Stacks
 from shb_common.variables import without_block
+from shb_common.words import Refused
 from shb_view.analyser import MOST_LISTED, Analyser, Verdict
 from shb_view.counting import Counting, Kinds
 from shb_view.facts import RANKS

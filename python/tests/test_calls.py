@@ -4,7 +4,7 @@ import os
 import struct
 
 from farm import RACE
-from shb_common.printable import printable
+from shb_common.words import printable
 from test_sarif import Base
 
 TRACE = b"main|fork(T1)|a.c:30\nT1|w(x)|a.c:5\nmain|w(x)|a.c:7\n"

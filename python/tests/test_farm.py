@@ -11,7 +11,7 @@ from unittest import mock
 
 import farm
 from farm import BAD, BAD_WORDS, CLEAN, OTHER_ORDER, RACE
-from shb_common.faults import Refused
+from shb_common.words import Refused
 from shb_farm import command, merging
 from shb_farm.passes import Pass, key_of
 
