@@ -1,37 +1,22 @@
-"""The outcome of one trace: a file that is put in place whole and last.
-
-    shb-farm 2
-    name NAME                the trace, below the folder of the traces
-    program SUM              the program that was run
-    trace SUM                the trace that it read
-    stamp SIZE:TIME          the trace's size and time of change
-    cost SECONDS KIB BYTES   processor time and most memory of the runs, and how long the trace's text is
-    KIND WORDS               how it ended
-    at LOCATION              the places of a report
-    and LOCATION
-    on I J VARIABLE          each variable that races there, with the events of one race
-    more                     there are more variables
-    sum SUM                  of all lines before: an outcome without it isn't whole, and doesn't count
-
-KIND and WORDS are `report` and what the trace has; `refused` and the program's words; `memory`, `time` or `size` and
-the limit that didn't suffice (MiB, seconds of processor time, MiB); or `failed` and why. What failed is tried again.
-"""
+"""The outcome of one trace: a file that is put in place whole and last. It has a line with its version, an
+`Outcome` as JSON, and the sum of both lines: an outcome without it isn't whole, and doesn't count."""
 
 import collections
-import os
+import json
 import pathlib
 
 from shb_common.analyser import Place
-from shb_common.known import written
 from shb_common.sums import blake2b
 
-FIRST = b"shb-farm 2\n"
-HEAD = b"name", b"program", b"trace", b"stamp", b"cost"
+FIRST = b"shb-farm 3\n"
 
-# What a run took, and how many bytes the trace's text has (`text`).
+# What the runs took (seconds of processor time, the most memory), and how many bytes the trace's text has.
 Cost = collections.namedtuple("Cost", "seconds kib text")
 
-# `places` have by variable the events of one race.
+# The trace's name below the folder of the traces; the sums of the program that was run and of the trace that it
+# read; the trace's size and time of change (`stamp`). `kind` and `words` are `report` and what the trace has;
+# `refused` and the program's words; `memory`, `time` or `size` and the limit that didn't suffice (MiB, seconds of
+# processor time, MiB); or `failed` and why: then it is tried again. `places` have by variable a race's events.
 Outcome = collections.namedtuple("Outcome", "name program trace stamp cost kind words places")
 
 
@@ -53,52 +38,41 @@ def checksum_of_file(file):
 
 
 def text_of(outcome):
-    cost = f"{outcome.cost.seconds:.2f} {outcome.cost.kib} {outcome.cost.text}"
-    head = [f"program {outcome.program}", f"trace {outcome.trace}", f"stamp {outcome.stamp}", f"cost {cost}",
-            f"{outcome.kind} {' '.join(outcome.words.split())}"]
-    lines = FIRST + b"name %s\n" % written(os.fsencode(outcome.name))
-    lines += "".join(line + "\n" for line in head).encode("utf-8", "surrogateescape")
-    for place in outcome.places:
-        lines += b"at %s\nand %s\n" % place[:2]
-        lines += b"".join(b"on %d %d %s\n" % (*events, variable) for variable, events in place.variables.items())
-        lines += b"more\n" * place.has_more
+    places = [[text(first), text(second), [[text(name), *events] for name, events in its.items()], has_more]
+              for first, second, its, has_more in outcome.places]
+    found = outcome._replace(words=" ".join(outcome.words.split()), places=places)
+    lines = FIRST + json.dumps(found).encode() + b"\n"
     return lines + f"sum {checksum_of(lines)}\n".encode()
 
 
 def read(path, name):
     """The outcome of a trace in a file, or None where there is none or it isn't whole."""
     try:
-        text = pathlib.Path(path).read_bytes()
+        lines, _, last = pathlib.Path(path).read_bytes().rpartition(b"sum ")
     except OSError:
         return None
-    body, _, last = text.rpartition(b"sum ")
-    if not text.startswith(FIRST) or last != checksum_of(body).encode() + b"\n":
+    if not lines.startswith(FIRST) or last != checksum_of(lines).encode() + b"\n":
         return None
     try:
-        return outcome_in(body[len(FIRST):-1].split(b"\n"), name)
-    except (ValueError, IndexError):
+        found = Outcome(*json.loads(lines[len(FIRST):]))
+        seconds, kib, size = found.cost
+        cost, places = Cost(float(seconds), int(kib), int(size)), list(map(place_of, found.places))
+    except (ArithmeticError, AttributeError, RecursionError, TypeError, ValueError):
         return None     # whoever wrote its sum, it wasn't this program
+    words = found.program, found.trace, found.stamp, found.kind, found.words
+    is_ours = found.name == name and all(isinstance(word, str) for word in words)
+    return found._replace(cost=cost, places=places) if is_ours else None
 
 
-def outcome_in(lines, name):
-    fields = [line.partition(b" ") for line in lines[:len(HEAD)]]
-    if tuple(word for word, _, _ in fields) != HEAD or fields[0][2] != written(os.fsencode(name)):
-        raise ValueError
-    program, trace, stamp, cost = (rest.decode("utf-8", "surrogateescape") for _, _, rest in fields[1:])
-    seconds, kib, text = cost.split(" ")
-    kind, _, words = lines[len(HEAD)].decode("utf-8", "surrogateescape").partition(" ")
-    places = []
-    for line in lines[len(HEAD) + 1:]:
-        word, _, rest = line.partition(b" ")
-        if word == b"at":
-            places.append(Place(rest, b"", {}, False))
-        elif word == b"and":
-            places[-1] = places[-1]._replace(second=rest)
-        elif word == b"on":
-            first, second, variable = rest.split(b" ", 2)
-            places[-1].variables[variable] = int(first), int(second)
-        elif word == b"more":
-            places[-1] = places[-1]._replace(has_more=True)
-        else:
-            raise ValueError
-    return Outcome(name, program, trace, stamp, Cost(float(seconds), int(kib), int(text)), kind, words, places)
+def place_of(fields):
+    first, second, variables, has_more = fields
+    variables = {raw(name): (int(one), int(other)) for name, one, other in variables}
+    return Place(raw(first), raw(second), variables, bool(has_more))
+
+
+def text(name):
+    return name.decode("utf-8", "surrogateescape")
+
+
+def raw(name):
+    return name.encode("utf-8", "surrogateescape")

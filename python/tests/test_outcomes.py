@@ -1,6 +1,7 @@
 """Outcomes: what is kept, what is made again, and what a lost or doubled job does."""
 
 import fcntl
+import json
 import os
 import shutil
 import signal
@@ -14,28 +15,15 @@ from shb_farm.outcomes import Cost, Outcome, Place
 from shb_farm.passes import key_of
 
 COST = Cost(1.25, 4096, 34)
-TEXT = b"""\
-shb-farm 2
-name d/x\\ty.std
-program p1
-trace t1
-stamp 12:34
-cost 1.25 4096 34
-report events 2
-at a
-and b c
-on 1 2 x y
-on 3 4 z
-more
-at 
-and 
-on 5 6 v
+TEXT = rb"""shb-farm 3
+["d/x\ty.std", "p1", "t1", "12:34", [1.25, 4096, 34], "report", "events 2", """ + \
+    rb"""[["a", "b c", [["x y", 1, 2], ["z\udcff", 3, 4]], true], ["", "", [["v", 5, 6]], false]]]
 sum """
 
 
 class Files(farm.Case):
     def test_the_text_of_an_outcome(self):
-        places = [Place(b"a", b"b c", {b"x y": (1, 2), b"z": (3, 4)}, True), Place(b"", b"", {b"v": (5, 6)}, False)]
+        places = [Place(b"a", b"b c", {b"x y": (1, 2), b"z\xff": (3, 4)}, True), Place(b"", b"", {b"v": (5, 6)}, False)]
         outcome = Outcome("d/x\ty.std", "p1", "t1", "12:34", COST, "report", "events 2", places)
         text = outcomes.text_of(outcome)
         self.assertEqual(text[:-65], TEXT)
@@ -57,14 +45,22 @@ class Files(farm.Case):
         self.assertIsNone(outcomes.read(self.folder, "n"))
 
     def test_a_sum_does_not_make_one(self):
-        """Whoever can write the sum can write anything: each line is read with care."""
-        lines = [b"name n", b"program p", b"trace t", b"stamp 1:2", b"cost 1.0 2 3", b"report x", b"at a", b"and b", b"on 1 2 v"]
+        """Whoever can write the sum can write anything: each field is read with care."""
+        fields = ["n", "p", "t", "1:2", [1.0, 2, 3], "report", "x", [["a", "b", [["v", 1, 2]], False]]]
         path = self.folder / "outcome"
-        for number in range(len(lines)):
-            for bad in (b"", b"on", b"on x y z", b"and q", b"cost x", b"more"):
-                text = b"shb-farm 2\n" + b"".join(line + b"\n" for line in [*lines[:number], bad, *lines[number + 1:]])
-                path.write_bytes(text + b"sum " + outcomes.checksum_of(text).encode() + b"\n")
+        for number in range(len(fields)):
+            for bad in (None, 1, "", "x", [], [float("inf"), 2, 3], [1, float("inf"), 3], [1, 2, 3], [["a"]], [["a", "b", ["v"], False]], {"a": 1}):
+                self.put(path, json.dumps([*fields[:number], bad, *fields[number + 1:]]))
                 outcomes.read(path, "n")    # None or an outcome, and no fault
+        for bad in ("", "x", "{}", "[]", "[" * 100_000, json.dumps([*fields, 1])):
+            self.put(path, bad)
+            self.assertIsNone(outcomes.read(path, "n"))
+        self.put(path, json.dumps(fields))
+        self.assertEqual(outcomes.read(path, "n").places, [Place(b"a", b"b", {b"v": (1, 2)}, False)])
+
+    def put(self, path, text):
+        lines = b"shb-farm 3\n" + text.encode() + b"\n"
+        path.write_bytes(lines + b"sum " + outcomes.checksum_of(lines).encode() + b"\n")
 
 
 class Again(farm.Case):
