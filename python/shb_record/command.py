@@ -17,6 +17,7 @@ from shb_common.standard import open_standard_files, words_of
 from shb_common.stops import Stops
 from shb_common.words import Refused, counted, printable
 from shb_record.at_once import jobs_of, outcomes
+from shb_record.converting import Records
 from shb_record.looking import Look
 from shb_record.parts import LIBRARY, check_parts, say
 from shb_record.places import count
@@ -167,7 +168,7 @@ def record(options):
         (results.work / REPLAYED).write_bytes(options.turns.content)
     stops = Stops("shb-record: {}: what was recorded is still shown; another one ends at once, and keeps the record\n".format, options.show)
     adopt_orphans()
-    look = look_of(options)(options, results, stops)
+    look = Look(options, results, stops, source_of(options, results.work))
     try:
         run_all(look)
     except CannotRun:
@@ -195,7 +196,7 @@ def record(options):
 
 def run_all(look):
     options = look.options
-    with contextlib.closing(outcomes(options, look.results.work, look.next_one if options.live else None)) as ended:
+    with contextlib.closing(outcomes(options, look.results.work, look.look_meanwhile if options.live else None)) as ended:
         for number, run in enumerate(ended, 1):
             look.own = look.own or run.own
             look.stops.note(run.stop, run.stopped)
@@ -211,11 +212,12 @@ def run_all(look):
         raise Refused(f"{options.replay} belongs to `{options.turns.command}`, and no recorded process was that: nothing was replayed")
 
 
-def look_of(options):
+def source_of(options, folder):
+    """Where records come from."""
     if options.live:
-        from shb_record.live import Live
-        return Live
-    return Look
+        from shb_record.live import Segments
+        return Segments(folder)
+    return Records(folder)
 
 
 def status_of(look, rows):

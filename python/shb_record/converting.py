@@ -36,13 +36,29 @@ class Process(collections.namedtuple("Process", "name base command record module
         return self.modules[0] if self.modules else b""
 
 
-def processes(folder, number):
-    """What was recorded in this run, in the order of the processes' numbers."""
-    def numbers(path):
-        return [int(text) for text in re.findall(r"\d+", path.name)]
+class Records:
+    """The records of plain runs: each process has one, which is there when its run has ended."""
 
-    for record in sorted(folder.glob(f"run{number}.*.rec"), key=numbers):
-        yield process_of(record, f"run {number}, process {record.name.split('.')[1]}", record.stem)
+    meaning, dropped = [], 0
+
+    def __init__(self, folder):
+        self.folder = folder
+
+    def left(self, number):
+        """What was recorded in this run, in the order of the processes' numbers; these are looked at together."""
+        def numbers(path):
+            return [int(text) for text in re.findall(r"\d+", path.name)]
+
+        found = [process_of(record, f"run {number}, process {record.name.split('.')[1]}", record.stem)
+                 for record in sorted(self.folder.glob(f"run{number}.*.rec"), key=numbers)]
+        return [found] if found else []
+
+    def release(self, process):
+        """Deletes a record that was looked at, and isn't kept."""
+        process.record.unlink(missing_ok=True)
+
+    def counts(self, _events, _passed):
+        return ()
 
 
 def process_of(record, name, base):

@@ -7,7 +7,7 @@ from shb_common.programs import Origin
 from shb_common.report import race_of
 from shb_common.standard import words_of
 from shb_common.words import Refused, counted, printable
-from shb_record.converting import CRASHED, KILLED, Conversion, check_room, order_of, processes
+from shb_record.converting import CRASHED, KILLED, Conversion, check_room, order_of
 from shb_record.modules import Modules
 from shb_record.parts import ANALYSER, now, say
 from shb_record.places import Places
@@ -16,6 +16,7 @@ from shb_record.listing import Contradiction, listing
 
 
 KINDS = {b"r": "read", b"w": "written"}
+MOST_KEPT = 3  # segments that couldn't be looked at
 LATE = "the C library comes before the recorder's"     # the end of such a record
 
 
@@ -30,9 +31,13 @@ class Looked:
 
 
 class Look:
-    def __init__(self, options, results, stops):
-        self.options, self.results, self.stops, self.started = options, results, stops, now()[:-3]
-        self.places, self.pages, self.found = Places(options.known), [], {}
+    """Looks at the records of a source: those of runs that have ended (`Records`), or of one that goes on (`Segments`)."""
+
+    def __init__(self, options, results, stops, source):
+        self.options, self.results, self.stops, self.source, self.started = options, results, stops, source, now()[:-3]
+        self.places, self.pages, self.found = Places(options.known, options.live), [], {}
+        self.events = self.passed = self.failed = 0  # events that were looked at; segments without a page; records that can't be looked at
+        self.said = set()  # notes on segments, each of which is said once
         self.own = 0  # the program's own status, of the first run where it isn't 0
         self.unshown = 0  # places of processes that can't be shown
         self.runs = []  # of each run: the order of each process
@@ -41,29 +46,38 @@ class Look:
         self.modules, self.passed_over = Modules(), {}  # known races whose second access reads what the first wrote
         self.is_cut = self.is_killed = self.has_failed = self.is_contradicted = self.has_threads = False
 
+    def look_meanwhile(self):
+        """Looks at a segment of the run that goes on, if one is closed. Returns whether one was."""
+        process = self.source.closed()
+        if process:
+            self.look_at(1, [process])
+        return process is not None
+
     def run(self, number):
-        """Looks at the processes of a run; one that can't be looked at doesn't keep others from being shown."""
-        found = list(processes(self.results.work, number))
-        if not found:
+        """Looks at what a run left that has ended."""
+        looked = [one for found in self.source.left(number) for one in self.look_at(number, found)]
+        if len(self.runs) < number:
             raise Refused(f"{self.options.program} left no record. {cause(self.options.program)}")
-        self.runs.append([])
-        looked = self.look_at(found)
-        for process in found:
-            if process.record.exists():
-                process.record.unlink()
-        if not any(one is None or one.events for one in looked):
+        self.is_cut = self.is_cut or self.source.dropped > 0
+        if not self.options.live and not any(one is None or one.events for one in looked):
             if self.is_cut:
                 words = shlex.join(["shb-record", "env", f"LD_PRELOAD={PRELOADED}", self.options.program, *self.options.arguments])
                 late = any(one and LATE in cut for one in looked for cut in one.conversion.cuts)
                 raise Refused("nothing of the run was recorded" + f"; for a module with hooks that the program loads later run `{words}`" * late)
-            say(f"run {number}: {counted(len(found), 'recorded process', 'recorded processes')}, none with a second thread")
+            say(f"run {number}: {counted(len(looked), 'recorded process', 'recorded processes')}, none with a second thread")
 
-    def look_at(self, found):
-        """Analyses, then shows processes, as names depend on all. Returns what was found in each, or None."""
+    def look_at(self, number, found):
+        """Analyses, then shows processes of a run, as names depend on all; one that can't be looked at doesn't keep others from being shown.
+        Returns what was found in each, or None."""
+        if len(self.runs) < number:
+            self.runs.append([])
         looked = [self.tried(self.analyse, Looked(process, self.options)) for process in found]
         if self.options.known_path:
             looked = [one and self.tried(self.look_again, one) for one in looked]
-        return [one and self.tried(self.show, one) for one in looked]
+        looked = [one and self.tried(self.show, one) for one in looked]
+        for process in found:
+            self.source.release(process)
+        return looked
 
     def tried(self, do, looked):
         """Does something for a process. If it fails the record is kept, and None is returned."""
@@ -92,7 +106,9 @@ class Look:
             say_places(found)
 
     def keep_failed(self, process):
-        say(f"the record is kept: {self.results.keep(process.record, process.base + '.rec')}")
+        self.failed += 1
+        if self.failed <= MOST_KEPT or not self.options.live:
+            say(f"the record is kept: {self.results.keep(process.record, process.base + '.rec')}")
 
     def interleavings(self):
         return len({tuple(sorted(orders)) for orders in self.runs})
@@ -106,10 +122,11 @@ class Look:
         yield from self.modules.lines()
         if self.options.runs == 1 and (self.has_threads or self.places.seen):
             yield "One interleaving of many was seen; --runs N tries others, --until-found N stops at the first with a race."
+        yield from self.source.meaning
 
     def counts(self):
         """How much was looked at, where it isn't said of each process."""
-        return ()
+        return self.source.counts(self.events, self.passed)
 
     def fail(self, fault):
         say(words_of(fault))
@@ -127,8 +144,10 @@ class Look:
         self.keep_files(looked)
 
     def add_new(self, looked, places, is_behind=False):
-        """Takes some of the places of a process, as `Places.add_new` does."""
+        """Takes some of the places of a process, as `Places.add_new` does. Without a page they are those of earlier segments."""
         process = looked.process
+        if places and not looked.conversion.used:
+            return [], self.places.met_in(process, places)
         origin = Origin(None, process.program)
         if places:
             self.modules.callers |= looked.conversion.called.files
@@ -137,15 +156,20 @@ class Look:
         return self.places.add_new(process, self.results.folder / f"{process.base}.std", origin, places, looked.conversion.numbers, is_behind)
 
     def keep_files(self, looked):
-        """Moves the files of a page out of the folder of work."""
-        if not looked.places or looked.has_files:
+        """Moves the files of a page out of the folder of work; of a segment where something in it is new."""
+        if looked.has_files or not (looked.new if self.options.live else looked.places):
             return
         looked.has_files, conversion = True, looked.conversion
         conversion.trace, conversion.place_list, conversion.uses, conversion.stacks = (
             self.results.keep(path, f"{looked.process.base}{path.suffix}") for path in (conversion.trace, conversion.place_list, conversion.uses, conversion.stacks))
 
     def choose(self, process, places):
-        """The places that are to be on a page. Where the command was told to end they are said: what comes then takes its time."""
+        """The places that are to be on a page: none of a segment with those of earlier ones alone. Those of a whole record are said where
+        the command was told to end: what comes then takes its time."""
+        if self.options.live:
+            has_met = self.places.has_met(process, places)
+            self.passed += has_met and bool(places)
+            return [] if has_met else places
         if self.stops.first and places:
             say(f"{process.name}: {counted(len(places), 'place')} with races:")
             say_places((place, place.variables) for place in places)
@@ -174,12 +198,15 @@ class Look:
             self.show_places(looked, unknown)
         self.note_cuts(looked)
         self.keep_turns(process, bool(unknown))
+        self.events += looked.events
         if looked.events and self.options.runs > 1:
             self.runs[-1].append(order_of(process.record))
-        if looked.events:
-            say(f"{process.name} ({process.command}): {conversion.size}; {counted(len(looked.places), 'place')} with races")
+        if unknown if self.options.live else looked.events:
+            places = counted(len(unknown), "new place") if self.options.live else counted(len(looked.places), "place")
+            say(f"{process.name} ({process.command}): {conversion.size}; {places} with races")
         for note in conversion.notes:
-            if looked.events or note != KILLED:
+            if (looked.events or note != KILLED) and note not in self.said:
+                self.said.update([note] if self.options.live else [])
                 more = "; SHB_RECORDS=NUMBER allows more records, of 16 bytes each" * ("SHB_RECORDS is reached" in note)
                 say(f"{process.name} ({process.command}): {note}{more}")
 
