@@ -12,11 +12,11 @@ import traceback
 from shb_common import known
 from shb_common.commands import Parser, number
 from shb_common.parts import ANALYSER, NO_ANALYSER, part
+from shb_common.sources import Sources
 from shb_common.standard import open_standard_files, tell, words_of, write_texts
 from shb_common.words import Refused, counted
-from shb_farm import engines, limits, merging, outcomes, passes, since, tables, traces
+from shb_farm import engines, merging, outcomes, passes, running, since, tables, traces
 from shb_farm.calls import Calls
-from shb_farm.sources import Sources
 
 ABOUT = """\
 Analyses all traces in a folder and below, and joins what was found: one row per
@@ -118,7 +118,7 @@ def memory_of(engine):
     """The MiB of each pass, where none were asked for."""
     if engine == "slurm":
         return [256, 1024, 4096, 16384]
-    most = limits.memory_of_this_machine()
+    most = running.memory_of_this_machine()
     return [mib for mib in (256, 1024, 4096) if mib < most] + [most]
 
 
@@ -160,7 +160,7 @@ def run_passes(options, work, names, outside=()):
 def waiting_for(work, endings, is_last):
     """The traces that this pass has to run, the longest first."""
     found = [name for name, ending in endings.items() if ending.kind == "missing" and ending.size is not None
-             and (is_last or limits.memory_for(ending.size) <= work.memory)]
+             and (is_last or running.memory_for(ending.size) <= work.memory)]
     found = [name for name in found if merging.ending_of(work, name).kind == "missing"]     # not those that it didn't suffice for
     return sorted(found, key=lambda name: -endings[name].size)
 

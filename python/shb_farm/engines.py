@@ -17,7 +17,7 @@ from shb_common.children import end_with
 from shb_common.progress import Progress
 from shb_common.standard import tell
 from shb_common.words import Refused, counted
-from shb_farm import limits, passes
+from shb_farm import passes, running
 
 # Without a PATH Python doesn't know its own name. A job needs nothing of this machine's packages, whose start costs time.
 JOB = [sys.executable or "python3", "-I", "-S", str(pathlib.Path(__file__).resolve().with_name("job.py"))]
@@ -32,7 +32,7 @@ MANY = 100              # traces of a pass, of which some words are said meanwhi
 def run_xargs(work, path, options):
     """Runs a pass here, as many traces at once as there are processors and memory for."""
     count = len(work.names)
-    at_once = max(1, min(options.jobs, count, limits.free_memory() // work.memory))
+    at_once = max(1, min(options.jobs, count, running.free_memory() // work.memory))
     jobs = min(count, max(8 * at_once, count // TRACES_A_JOB))
     say(f"{counted(count, 'trace')} with {work.memory} MiB each, {at_once} at once")
     numbers = "".join(f"{number}\n" for number in range(jobs))

@@ -9,8 +9,7 @@ from shb_common.limits import MOST_EVENTS, MOST_TEXT, MOST_THREADS
 from shb_common.report import BadReport, Report
 from shb_common.variables import variable_of
 from shb_farm import calls, passes, running, traces
-from shb_farm.limits import memory_for
-from shb_farm.running import METER, End
+from shb_farm.running import METER, End, memory_for
 
 TOO_LONG = ("it is longer than a report with schedules may be of: what is kept is that of "
             "`shb places --list`, without schedules")

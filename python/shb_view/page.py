@@ -9,11 +9,10 @@ import shlex
 from shb_common.locations import line_of
 from shb_common.stacks import bare
 from shb_common.sums import sha256
-from shb_common.words import counted
+from shb_common.words import counted, in_html
 from shb_view.facts import RANKS, blamed_of
 from shb_view.groups import common_name
 from shb_view.issue import issue_lines, order_text
-from shb_view.markup import Markup, element, joined, marked, with_commands
 from shb_view.names import code_line, readable, short
 from shb_view.picture import picture
 from shb_view.source import excerpt
@@ -27,6 +26,36 @@ NAME, LINE = 80, 240  # columns
 MOST_STACKS, MOST_FRAMES, MOST_ORIGINS = 8, 40, 8  # of a racing line; of each; threads, blocks and locks of a group
 MOST_BYTES = 2_000_000  # of what groups are drawn from; the last of them may go beyond
 KNOWN = "known, or on an earlier page"
+VOID = {"br", "meta"}  # elements without an end
+
+
+class Markup(str):
+    """A piece of HTML. Whatever is no Markup is escaped when it is put into one."""
+
+
+def escaped(part):
+    return part if isinstance(part, Markup) else Markup(in_html(str(part)))
+
+
+def joined(parts, between=""):
+    return Markup(between.join(map(escaped, parts)))
+
+
+def element(tag, /, *parts, **attributes):
+    """An element. An attribute's name may end with `_`, and `_` inside stands for `-`; one that is None is left out."""
+    given = "".join(f' {word.rstrip("_").replace("_", "-")}="{escaped(value)}"' for word, value in attributes.items()
+                    if value is not None)
+    return Markup(f"<{tag}{given}>") if tag in VOID else Markup(f"<{tag}{given}>{joined(parts)}</{tag}>")
+
+
+def with_commands(text):
+    """Words of our own, with what stands between backticks as code."""
+    return joined(element("code", part) if number % 2 else part for number, part in enumerate(text.split("`")))
+
+
+def marked(parts, most):
+    """Parts of `words`, the names as code."""
+    return joined(element("code", short(part, most)) if isinstance(part, Code) else part for part in parts)
 
 
 def page_parts(view):

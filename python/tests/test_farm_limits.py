@@ -5,7 +5,7 @@ import subprocess
 
 import farm
 from farm import BAD, RACE
-from shb_farm import limits, running
+from shb_farm import running
 from shb_farm.passes import Pass, key_of
 from shb_farm.running import End
 
@@ -71,7 +71,7 @@ exit 4
     def test_the_first_pass_has_room_for_a_trace_as_recorded(self):
         """Address space that was measured for `shb places`, in MiB, and the size of the trace."""
         for size, measured in ((0, 11), (19, 185), (129, 364), (229, 412), (1001, 1134)):
-            self.assertGreaterEqual(limits.memory_for(size * MIB), measured - 64)
+            self.assertGreaterEqual(running.memory_for(size * MIB), measured - 64)
 
 
 class Time(farm.Case):

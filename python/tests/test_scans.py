@@ -4,7 +4,7 @@ import json
 
 import farm
 from farm import BAD, RACE
-from shb_farm import limits
+from shb_farm import running
 from shb_farm.passes import key_of
 
 MANY = 4_194_304        # events that a report with schedules may be of
@@ -74,4 +74,4 @@ end
         self.assertRegex(self.ends()["long.std"][1], r"^line 1026: the line has no operation field")
 
     def test_a_text_that_no_report_is_of_begins_with_little_memory(self):
-        self.assertEqual((limits.memory_for(limits.MOST_TEXT) > 1024, limits.memory_for(limits.MOST_TEXT + 1)), (True, limits.LIST_MIB))
+        self.assertEqual((running.memory_for(running.MOST_TEXT) > 1024, running.memory_for(running.MOST_TEXT + 1)), (True, running.LIST_MIB))
