@@ -16,7 +16,6 @@ from shb_common.files import read_at_most
 from shb_common.refused import BEGINNINGS, LONGEST, MARK
 from shb_common.words import Refused, printable
 
-STAR = re.compile(rb"(?<!\\)\*")
 MOST_BYTES = 64 << 20       # of a file of known places
 MOST_OFFSETS = 4            # of one block or object, that are written one by one
 MOST_STALE = 20             # lines that are said to match nothing
@@ -24,9 +23,9 @@ CALL = b"()"
 FORM = "a place is two locations or functions and a variable, with tabs between them"
 # What other files have instead, and what helps.
 FOREIGN = {
-    re.compile(rb"(race|race_top|called_from_lib|thread|mutex|signal|deadlock):"):
+    rb"(race|race_top|called_from_lib|thread|mutex|signal|deadlock):":
         "ThreadSanitizer's `race:NAME` is written `*:NAME()`, `*`, `*` if NAME is a function, and `*NAME:*`, `*`, `*` if it is a file",
-    re.compile(rb"[^\t]* [^\t]*"): "it has blanks",
+    rb"[^\t]* [^\t]*": "it has blanks",
 }
 # What differs from run to run in the name of a variable: the line and the number of a block, a thread's stack, an index, an address.
 BLOCK = re.compile(rb"(.+):[0-9]+#[0-9]+((?:\+[0-9]+)?)", re.S)
@@ -144,7 +143,7 @@ def lines_of(places):
 
 def pieces_of(text):
     """What stands before, between and after the stars of a field."""
-    return tuple(piece.replace(b"\\*", b"*") for piece in STAR.split(text))
+    return tuple(piece.replace(b"\\*", b"*") for piece in re.split(rb"(?<!\\)\*", text))
 
 
 def matches(pieces, text):
@@ -215,7 +214,7 @@ class Known:
     def add(self, line, number):
         fields = (line[1:] if line.lstrip(b"\\").startswith(b"#") else line).split(b"\t")
         if len(fields) not in (2, 3):
-            hint = next((f": {hint}" for pattern, hint in FOREIGN.items() if pattern.match(line)), "")
+            hint = next((f": {hint}" for pattern, hint in FOREIGN.items() if re.match(pattern, line)), "")
             raise BadLine(f"line {number}: {FORM}; this is `{printable(line, LONGEST)}`{hint}")
         sides = tuple(map(side_in, fields[:2]))
         self.lines.append(Line(number, line, sides, pieces_of(fields[2]) if len(fields) == 3 else None))

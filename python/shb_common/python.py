@@ -1,9 +1,11 @@
 """Which Python the commands need. An older one, or one without its whole library, can read this file and the commands' own, and says so."""
 
+import gc
 import importlib
 import sys
 
 NEEDED = (3, 8)
+COLLECT_EVERY = 100_000  # objects that are kept: Python's own 700 cost a short run a twentieth of its time
 
 
 def run(command, status):
@@ -21,4 +23,5 @@ def run(command, status):
     if sys.version_info < NEEDED:
         end("Python %d.%d or later is needed, and this is %d.%d" % (NEEDED + sys.version_info[:2]))
     sys.excepthook = told
+    gc.set_threshold(COLLECT_EVERY)
     sys.exit(importlib.import_module(command.replace("-", "_") + ".command").main(sys.argv[1:]))

@@ -5,7 +5,7 @@ import re
 from shb_common.limits import LINE_ROOM, MOST_EVENTS, MOST_TEXT, MOST_THREADS
 from shb_common.words import printable
 
-NUMBER = re.compile(r"(?:.*: )?line ([1-9][0-9]{0,18}): ")
+NUMBER = r"(?:.*: )?line ([1-9][0-9]{0,18}): "
 LONGEST = 60        # columns of the line that are shown
 WORDS = {b"r", b"w", b"acq", b"rel", b"fork", b"join", b"begin", b"end"}
 KIN = {b"read": "r", b"write": "w", b"lock": "acq", b"acquire": "acq", b"unlock": "rel", b"release": "rel", b"start": "fork"}
@@ -56,7 +56,7 @@ def explained(words, file):
 def line_and_hint(words, file):
     """The line of an open file that the words of a refusal name, without its end, and what may be wrong with it, nothing where
     there is no guess; None where they name no line. Of a long line the front."""
-    found = NUMBER.match(words)
+    found = re.match(NUMBER, words)
     if not found:
         return None
     file.seek(0)

@@ -5,7 +5,6 @@ import functools
 import itertools
 import mmap
 import os
-import re
 import struct
 import subprocess
 
@@ -15,8 +14,8 @@ from shb_record.parts import LIBRARY
 
 # The C library's own, whose functions the recorder stands for, the loader, the C++ library, whose templates have the hooks, and what
 # compilers add, which orders nothing but by the C library.
-OF_THE_SYSTEM = re.compile(rb"linux-vdso|linux-gate|ld-linux|ld-musl|lib(c|m|dl|rt|pthread|resolv|util|gcc_s|tsan|stdc\+\+|c\+\+|c\+\+abi"
-                           rb"|gfortran|quadmath|ubsan|asan)[.-]")
+OF_THE_SYSTEM = {b"lib" + name for name in b"c m dl rt pthread resolv util gcc_s tsan stdc++ c++ c++abi gfortran quadmath ubsan asan".split()}
+LOADERS = b"linux-vdso", b"linux-gate", b"ld-linux", b"ld-musl"
 STOOD_FOR = (b"libgomp.so",)  # what of it isn't recorded is known by the calls, so it may stand in call stacks
 ORDERS_NOTHING = b"omp_get_"
 MOST_NAMED = 6
@@ -37,7 +36,7 @@ class Modules:
 
     def add(self, paths):
         for path in paths:
-            if b"/" in path and not OF_THE_SYSTEM.match(os.path.basename(path)) and not path.startswith(bytes(LIBRARY)):
+            if b"/" in path and not is_of_the_system(os.path.basename(path)) and not path.startswith(bytes(LIBRARY)):
                 self.kinds.setdefault(path, None)
         self.kinds.update((path, read_in(path, kind_of)) for path, kind in self.kinds.items() if kind is None)
 
@@ -85,6 +84,10 @@ class Modules:
         files = {path: files_in(path) for path in known if not self.kinds[path].has_hooks}
         others = set().union(*(files_in(path) for path in known if path not in files)) if any(files.values()) else set()
         return {(file, name) for path in files for name in [os.path.basename(path)] for file in {name, *files[path] - others}}
+
+
+def is_of_the_system(name):
+    return name.startswith(LOADERS) or name.replace(b"-", b".").partition(b".")[0] in OF_THE_SYSTEM
 
 
 def named(paths, called):
