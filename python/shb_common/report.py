@@ -141,12 +141,12 @@ class Report:
 
     def read_places(self):
         [count] = self.lines.numbers(PLACES, "places P")
-        found = {}
+        found, locations = {}, {}
         for number in range(1, count + 1):
             [races] = self.lines.numbered(PLACE, f"place {number}: C", number)
             [first] = self.lines.next(AT, "at LOCATION")
             [second] = self.lines.next(AND, "and LOCATION")
-            found[first, second] = races
+            found[locations.setdefault(first, first), locations.setdefault(second, second)] = races
         return found
 
     def races(self):
@@ -158,7 +158,7 @@ class Report:
             places[place] = places.get(place, 0) + 1
             yield race, accesses
         self.lines.end()
-        if list(self.places.items()) != list(places.items()):
+        if self.places != places or any(one != other for one, other in zip(self.places, places)):
             raise BadReport("the places that the report begins with aren't those of its races")
 
     def read_race(self, number):

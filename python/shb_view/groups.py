@@ -22,6 +22,8 @@ class Pair:
     """Two lines that race, whichever comes first. `orders` has how many races each of its places has, and `closest` is the listed one
     whose events are closest in the trace."""
 
+    __slots__ = "locations", "closest", "orders"  # a trace may have very many
+
     def __init__(self, locations, race, orders=()):
         self.locations, self.closest, self.orders = locations, race, dict(orders)
 
@@ -67,7 +69,6 @@ class Gathered:
         self.locals = {}  # by a variable on a stack: the local that it is
         self.pairs = {}  # by the two locations, the lesser first
         self.above = {}  # by location pair or variable: another one of its group
-        self.joined = set()  # pairs of accesses whose lines and variable are of one group by it
         self.lines = {}  # the line of each event that is named
         self.races = {}  # by variable, by place: the races that were read
         self.variables = {}  # by place: how many races each variable has, by its name in the trace
@@ -77,12 +78,10 @@ class Gathered:
         place = first.location, second.location
         by_variable = self.variables.setdefault(place, {})
         by_variable[first.name] = by_variable.get(first.name, 0) + races
-        if (first, second) not in self.joined:
-            self.joined.add((first, second))
-            atomic = atomic_of(first, second)
-            if atomic:
-                self.atomics[first.name] = atomic
-            self.above[self.top(atomic or first.name)] = self.top(tuple(sorted(place)))
+        atomic = atomic_of(first, second)
+        if atomic:
+            self.atomics[first.name] = atomic
+        self.above[self.top(atomic or first.name)] = self.top(tuple(sorted(place)))
         its = Between(race.first, race.second, first.thread, second.thread, self.atomics.get(first.name, first.name), (first.word, second.word))
         self.races.setdefault(first.name, {}).setdefault(place, {})[its] = None
 

@@ -7,7 +7,7 @@ import shlex
 import stat
 import tempfile
 
-from shb_common.analyser import FULL, LIST, VARIABLES
+from shb_common.analyser import FULL, VARIABLES
 from shb_common.report import Report, in_order
 from shb_common.result import text
 from shb_common.stacks import BadStacks, Stacks
@@ -132,15 +132,29 @@ def with_run(view, run):
 
 
 def analysed(shb, file, gathered, progress, room):
-    """The races of an open trace."""
-    analyser = Analyser(shb, file)
-    head = analyser.head(gathered.share)
+    """The races of an open trace: the nearest of each place, with its schedule if these aren't too long."""
+    analyser, nearest = Analyser(shb, file), {}
+
+    def take(race, *accesses):
+        gathered.share(race, *accesses)
+        place = tuple(access.location for access in accesses)
+        before, *_ = nearest.setdefault(place, (race, *accesses))
+        if (race.second, -race.first) < (before.second, -before.first):
+            nearest[place] = race, *accesses
+
+    head = analyser.head(take)
     is_sample = head.count > MOST_LISTED
     if is_sample:
-        analyser.share_variables(gathered.share)
-    given = own_report(analyser, head, room)
-    if head.count:
+        analyser.share_variables(take)
+    given = NO_REPORT._replace(verdict=TOO_LONG, places=head.places)
+    if len(head.places) * head.counts.events * NUMBER <= MOST_REPORT:
+        given = Given(FULL, room.enter_context(tempfile.TemporaryFile()), OWN, head.places)
+    if head.count and given.file:
+        analyser.write(FULL, given.file)
         read_report(given, gathered, progress)
+    else:
+        for its in sorted(nearest.values(), key=lambda it: (it[0].second, it[0].first)):
+            gathered.add(*its, head.places)
     return Subject(given, head.counts, head.count, is_sample, head.counts.events)
 
 
@@ -198,16 +212,6 @@ def open_regular(path):
     if path == "-" or not stat.S_ISREG(os.stat(path).st_mode):
         raise Refused(f"{readable(os.fsencode(path))} isn't a regular file: the trace is read more than once, so save it to a file")
     return open(path, "rb")
-
-
-def own_report(analyser, head, room):
-    """A report of one race of each place, with schedules if it isn't too long. Without races none is made."""
-    file = room.enter_context(tempfile.TemporaryFile())
-    with_schedules = len(head.places) * head.counts.events * NUMBER <= MOST_REPORT
-    words = FULL if with_schedules else LIST
-    if head.count:
-        analyser.write(words, file)
-    return Given(words, file, OWN if with_schedules else TOO_LONG, head.places)
 
 
 def read_report(given, gathered, progress):
