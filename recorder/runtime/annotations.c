@@ -1,10 +1,7 @@
 /* What a program tells ThreadSanitizer of itself, by the names of its library: so each program that was built for it runs.
    What orders threads is recorded; what asks for silence (benign races, accesses to be ignored) is not followed (forward.S). */
-#include <stdlib.h>
-#include <string.h>
-#include <sys/mman.h>
-#include <ucontext.h>
 #include "runtime.h"
+#include <ucontext.h>
 
 /* ---- order ---- */
 #define NOTES(name, operation, ...) PUBLIC void name(__VA_ARGS__ void *p) { note(operation, p, CALLER); }

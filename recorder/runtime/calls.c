@@ -2,10 +2,8 @@
    begins and as it ends (also where an exception leaves it).  A *context* is a function with those further out: a node of a tree
    that all threads share, found again by its call.  So a hook moves a pointer and writes nothing: the record gets a context, with
    a number, before its first access, and later the number. */
-#define _GNU_SOURCE
-#include <setjmp.h>
-#include <sys/mman.h>
 #include "hold.h"
+#include <setjmp.h>
 
 int records_calls = 1;
 

@@ -1,20 +1,13 @@
 /* Descriptors: the order that they give, and the recorder's own, which the program never meets. */
-#define _GNU_SOURCE
-#include <errno.h>
+#include "library.h"
 #include <fcntl.h>
-#include <limits.h>
 #include <netinet/in.h>
-#include <stdarg.h>
-#include <string.h>
 #include <sys/epoll.h>
 #include <sys/eventfd.h>
 #include <sys/socket.h>
 #include <sys/stat.h>
-#include <sys/syscall.h>
 #include <sys/uio.h>
 #include <sys/un.h>
-#include <unistd.h>
-#include "library.h"
 
 /* ---- what is written, closed or added to an epoll comes before what reads it, gets its number or is woken ---- */
 enum { DESCRIPTORS = 1 << 16 };

@@ -1,21 +1,12 @@
 /* The file of the record, and /proc.  Their descriptors have numbers that programs aren't given, and are spared where they
    close all that they have; what reached one nevertheless is seen before each use, for then the number may stand for a file
    of the program's.  Whatever fails leaves errno. */
-#define _GNU_SOURCE
-#include <errno.h>
+#include "runtime.h"
 #include <fcntl.h>
-#include <limits.h>
-#include <stdarg.h>
-#include <stdio.h>
-#include <string.h>
 #include <sys/file.h>
-#include <sys/mman.h>
 #include <sys/resource.h>
 #include <sys/stat.h>
-#include <sys/syscall.h>
 #include <sys/vfs.h>
-#include <unistd.h>
-#include "runtime.h"
 
 enum { HIGHEST_DESCRIPTOR = 1023 };    /* the kernel's tables grow with the highest */
 typedef struct { dev_t device; ino_t inode; } identity;

@@ -1,10 +1,7 @@
 /* Formatted output and input: the format says which arguments are addresses of what is read or written.  Of numbered
    arguments ("%1$s"), and of what follows a conversion that isn't known here, nothing is recorded. */
-#define _GNU_SOURCE
-#include <stdio.h>
-#include <string.h>
-#include <wchar.h>
 #include "library.h"
+#include <wchar.h>
 
 enum direction { OUTPUT, INPUT };
 struct conversion {

@@ -1,8 +1,4 @@
 /* GLib's locks, conditions, queues and one-time initializations. Its threads are POSIX', which are seen as such. */
-#define _GNU_SOURCE
-#include <sys/syscall.h>
-#include <time.h>
-#include <unistd.h>
 #include "libraries.h"
 
 typedef int gboolean;

@@ -1,11 +1,8 @@
 /* What else a program may call of ThreadSanitizer's library by name, so that each program that was built for it is linked and
    runs: questions about blocks and reports, what a compiler calls to measure coverage, and the barrier of the library's tests. */
-#include <limits.h>
+#include "runtime.h"
 #include <linux/futex.h>
 #include <malloc.h>
-#include <sys/syscall.h>
-#include <unistd.h>
-#include "runtime.h"
 
 /* ---- blocks: they are the C library's, which can't say whether a block is there ---- */
 PUBLIC size_t __sanitizer_get_estimated_allocated_size(size_t size) { return size; }

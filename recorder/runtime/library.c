@@ -1,25 +1,18 @@
 /* What functions of the C library read and write.  Those that move memory are in memory.c, formatted output and input in
    formats.c, what goes through descriptors in descriptors.c.  A null pointer that a function accepts stands for nothing. */
-#define _GNU_SOURCE
+#include "library.h"
 #include <arpa/inet.h>
 #include <ctype.h>
-#include <errno.h>
 #include <grp.h>
 #include <inttypes.h>
 #include <netdb.h>
 #include <pwd.h>
-#include <stdio.h>
-#include <stdlib.h>
-#include <string.h>
 #include <strings.h>
 #include <sys/random.h>
 #include <sys/time.h>
 #include <sys/times.h>
 #include <sys/utsname.h>
-#include <time.h>
-#include <unistd.h>
 #include <wchar.h>
-#include "library.h"
 
 uint64_t begin_call(uint64_t caller) {
     if (!others || !instrumented(caller)) return 0;

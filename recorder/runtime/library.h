@@ -1,10 +1,5 @@
 /* How the accesses of a function of the C library are recorded: as those of its caller, where that was compiled with
    -fsanitize=thread.  They are measured outside of a hook, so memory that isn't there is a fault of the program's own. */
-#include <errno.h>
-#include <stdarg.h>
-#include <stddef.h>
-#include <stdio.h>
-#include <string.h>
 #include "runtime.h"
 
 /* The caller, and then the thread has the turn; or 0 where nothing is to be recorded. */

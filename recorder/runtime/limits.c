@@ -1,16 +1,10 @@
 /* Limits that a program sets on itself: they may end the recording and not the program, and nothing here counts in them. And
    what else a program asks of the system by prctl. */
-#define _GNU_SOURCE
-#include <errno.h>
-#include <linux/futex.h>
-#include <stdarg.h>
-#include <sys/mman.h>
-#include <sys/prctl.h>
-#include <sys/resource.h>
-#include <sys/syscall.h>
-#include <unistd.h>
 #include "runtime.h"
 #include "cells.h"
+#include <linux/futex.h>
+#include <sys/prctl.h>
+#include <sys/resource.h>
 
 /* With the turn, so nobody uses the cells. */
 static void end_with(const char *reason) {

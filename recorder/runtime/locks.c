@@ -1,15 +1,8 @@
 /* The calls that order threads: each is recorded and passed on.  A call that takes something (a lock, a token) is
    recorded after it, one that gives something before it; a call that may wait does so without the turn. */
-#define _GNU_SOURCE
-#include <errno.h>
-#include <semaphore.h>
-#include <stdio.h>
-#include <sys/syscall.h>
-#include <threads.h>
-#include <time.h>
-#include <unistd.h>
-
 #include "ordering.h"
+#include <semaphore.h>
+#include <threads.h>
 
 typedef const struct timespec *deadline;
 

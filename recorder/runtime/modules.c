@@ -1,15 +1,7 @@
 /* The modules of code in the program: which are instrumented, and the functions that the wrappers here stand for. */
-#define _GNU_SOURCE
-#include <dlfcn.h>
-#include <errno.h>
-#include <limits.h>
-#include <link.h>
-#include <stdio.h>
-#include <string.h>
-#include <sys/mman.h>
-#include <sys/syscall.h>
-#include <unistd.h>
 #include "runtime.h"
+#include <dlfcn.h>
+#include <link.h>
 
 enum { MAX_MODULES = 256 };
 struct module modules[MAX_MODULES];

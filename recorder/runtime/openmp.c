@@ -1,9 +1,7 @@
 /* gcc's OpenMP. Its library hands over by system calls that nobody sees; so what orders threads is told here, at the calls
    that the compiler makes into it: a region's begin and end, barriers, critical and ordered sections, locks and tasks. */
-#include <stdbool.h>
-#include <stdlib.h>
-#include <string.h>
 #include "runtime.h"
+#include <stdbool.h>
 
 typedef char object[16];               /* its address is what it is known by */
 typedef void (*function)(void *);

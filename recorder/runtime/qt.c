@@ -1,7 +1,7 @@
 /* The locks, semaphores, conditions and threads of Qt 5 and 6, by the names that C++ gives their functions. Of Qt 6 code that has hooks
    takes a QMutex in lines of its own, and tells of it as of a lock that the program makes itself (annotations.c). */
-#include <stdbool.h>
 #include "libraries.h"
+#include <stdbool.h>
 
 typedef struct { int64_t time; uint32_t more, type; } deadline_timer;
 #define NO_TIME (deadline_timer){0}

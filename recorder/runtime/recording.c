@@ -1,19 +1,11 @@
 /* The record: it is mapped, and its file grows in steps.  Whatever fails ends the recording and not the program.
    Of a process made by fork the record stays in memory until it starts a thread, or has no room there.
    Of a program that runs on it is in segments: each is a record of its own, and the oldest are deleted. */
-#define _GNU_SOURCE
-#include <errno.h>
-#include <fcntl.h>
-#include <stdio.h>
-#include <string.h>
-#include <sys/mman.h>
-#include <sys/resource.h>
-#include <sys/syscall.h>
-#include <sys/sysinfo.h>
-#include <time.h>
-#include <unistd.h>
 #include "runtime.h"
 #include "cells.h"
+#include <fcntl.h>
+#include <sys/resource.h>
+#include <sys/sysinfo.h>
 
 #define STEP_BYTES (4 << 20)           /* the file grows by so much; the record of a child has so much in memory */
 

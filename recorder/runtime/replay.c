@@ -14,15 +14,9 @@
    In a replay only the thread of the next entry gets the turn, and loses it after as many steps.  What it waits for is no
    lock and no signal but that turn, at whose begin it takes the lock.  The replay is left where that thread doesn't come:
    then a wait for a condition ends, which may be at any time. */
-#define _GNU_SOURCE
-#include <fcntl.h>
-#include <stdio.h>
-#include <string.h>
-#include <sys/mman.h>
-#include <sys/stat.h>
-#include <sys/syscall.h>
-#include <unistd.h>
 #include "runtime.h"
+#include <fcntl.h>
+#include <sys/stat.h>
 
 #define TURNS_MAGIC ANY_TURNS "3\n"     /* another number where steps are counted otherwise */
 enum { HEADER = 4096, STEP_BYTES = 1 << 20, MOST_BYTES = 128 << 20, FEW = 1 << 15 };

@@ -1,10 +1,19 @@
-/* What the parts of the run-time library share. */
+/* What the parts of the run-time library share, with the headers that most of them need. Each includes it first. */
 #pragma once
+#define _GNU_SOURCE
+#include <errno.h>
+#include <limits.h>
 #include <pthread.h>
 #include <signal.h>
+#include <stdarg.h>
 #include <stdatomic.h>
-#include <stdint.h>
-#include <sys/types.h>
+#include <stdio.h>
+#include <stdlib.h>
+#include <string.h>
+#include <sys/mman.h>
+#include <sys/syscall.h>
+#include <time.h>
+#include <unistd.h>
 #include "../record.h"
 
 #pragma GCC visibility push(hidden)

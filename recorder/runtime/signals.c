@@ -1,11 +1,7 @@
 /* Signals: no handler runs inside a hook.  One that comes there is blocked, sent again, and comes after it.  What a
    handler does is recorded as its thread's own. */
-#define _GNU_SOURCE
-#include <errno.h>
-#include <sys/syscall.h>
-#include <ucontext.h>
-#include <unistd.h>
 #include "runtime.h"
+#include <ucontext.h>
 
 static struct sigaction handlers[NSIG];
 enum { HANDLER_HOOKS = 1000 };         /* so many before a handler may give the turn up: an access may lie under it */

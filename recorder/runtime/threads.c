@@ -1,17 +1,8 @@
 /* The begin and the end of the program and of its threads. */
-#define _GNU_SOURCE
-#include <errno.h>
-#include <limits.h>
-#include <linux/futex.h>
-#include <stdarg.h>
-#include <stdlib.h>
-#include <string.h>
-#include <sys/auxv.h>
-#include <sys/syscall.h>
-#include <threads.h>
-#include <time.h>
-#include <unistd.h>
 #include "hold.h"
+#include <linux/futex.h>
+#include <sys/auxv.h>
+#include <threads.h>
 
 typedef const struct timespec *deadline;
 enum { CELL_MEGABYTES = 1024 };        /* without SHB_CELLS */

@@ -22,18 +22,10 @@
    raises the count, but for one that had begun; and only then the waiter reads the word.  It begins to doubt where the word was
    the same for a whole patience, and doubts as long as it is.
    tests/model.py searches all interleavings of this. */
-#define _GNU_SOURCE
-#include <errno.h>
-#include <linux/futex.h>
-#include <linux/membarrier.h>
-#include <stdlib.h>
-#include <string.h>
-#include <sys/mman.h>
-#include <sys/syscall.h>
-#include <time.h>
-#include <unistd.h>
 #include "runtime.h"
 #include "cells.h"
+#include <linux/futex.h>
+#include <linux/membarrier.h>
 
 #define NOBODY 0
 #define HOLDER(word) ((uint32_t)((word) >> 48))

@@ -1,5 +1,5 @@
 /* Calls that often wait. */
-#define _GNU_SOURCE
+#include "runtime.h"
 #include <mqueue.h>
 #include <poll.h>
 #include <signal.h>
@@ -9,12 +9,8 @@
 #include <sys/select.h>
 #include <sys/sem.h>
 #include <sys/stat.h>
-#include <sys/syscall.h>
 #include <sys/wait.h>
 #include <threads.h>
-#include <time.h>
-#include <unistd.h>
-#include "runtime.h"
 
 typedef const struct timespec *deadline;
 
