@@ -230,13 +230,10 @@ static void leave_functions(jmp_buf buffer) {
     if (t->inside) t->limit ? end_quick_atomic(0) : leave(t);           /* an atomic operation that faulted is made in its hook */
 }
 
-/* Looked up before a handler of a signal may ask for them. */
 #define LEAVES_FUNCTIONS(name) \
-    static __typeof__(&name) find_##name(void) { return REAL(name); } \
-    __attribute__((constructor(101))) static void know_##name(void) { find_##name(); } \
     PUBLIC void name(jmp_buf buffer, int value) { \
         leave_functions(buffer); \
-        find_##name()(buffer, value); \
+        REAL(name)(buffer, value); \
         __builtin_unreachable(); \
     }
 extern void __longjmp_chk(jmp_buf, int) __attribute__((noreturn));

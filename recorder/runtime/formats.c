@@ -61,7 +61,6 @@ static size_t wide_text(const wchar_t *s, size_t most) { return least(wcsnlen(s,
    may give the functions of the C standard other names. */
 #define ALL(...) __VA_ARGS__
 #define IN_BOTH_FORMS(name, vname, parameters, ...) \
-    KNOW(vname); \
     int as_##vname(ALL parameters, va_list more) __asm__(#vname); \
     PUBLIC int as_##vname(ALL parameters, va_list more) { \
         uint64_t seen = begin_call(CALLER); \
@@ -105,7 +104,7 @@ static void note_output(uint64_t seen, const char *format, va_list given) {
 #define OUTPUTS(vname, arguments, sends, ...) \
         if (seen) note_output(seen, format, more); \
         if (seen) { sends; } \
-        int r = KNOWN(vname, __typeof__(&as_##vname))(ALL arguments, more); \
+        int r = REAL_OF_NAME(#vname, __typeof__(&as_##vname))(ALL arguments, more); \
         if (seen && r >= 0) { __VA_ARGS__; }
 #define PRINTS(name, vname, parameters, arguments, ...) PRINTS_TO(name, vname, parameters, arguments, , __VA_ARGS__)
 #define PRINTS_TO(name, vname, parameters, arguments, sends, ...) IN_BOTH_FORMS(name, vname, parameters, OUTPUTS(vname, arguments, sends, __VA_ARGS__))
@@ -157,7 +156,7 @@ static void note_input(uint64_t seen, const char *format, va_list more, int stor
         va_list given; \
         va_copy(given, more); \
         if (seen) { __VA_ARGS__; } \
-        int r = KNOWN(vname, __typeof__(&as_##vname))(ALL arguments, more); \
+        int r = REAL_OF_NAME(#vname, __typeof__(&as_##vname))(ALL arguments, more); \
         if (seen) { gets; } \
         if (seen && r >= 0) note_input(seen, format, given, r); \
         va_end(given);

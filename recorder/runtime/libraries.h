@@ -3,16 +3,6 @@
 #pragma once
 #include "ordering.h"
 
-/* modules.c: the function of a library, wherever the loader has it; 0 where none has it, or the program ends. */
-void *library_symbol(const char *name);
-void *needed_symbol(const char *name);
-#undef REAL
-#define REAL(f) ({ \
-    static __typeof__(&f) real_; \
-    if (!real_) real_ = (__typeof__(&f))needed_symbol(#f); \
-    real_; \
-})
-
 #define LOCKS(name, try, operation) TAKES_BY(void, name, operation, m, DONE(REAL(name)(m)), r, !REAL(try)(m), 1, (void *m))
 #define TRIES_LOCK(type, name, operation) TRIES_BY(type, name, operation, m, REAL(name)(m), 0, r, (void *m))
 #define UNLOCKS(name, operation) GIVES_BY(void, name, operation, m, 0, DONE(REAL(name)(m)), (void *m))

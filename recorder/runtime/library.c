@@ -106,12 +106,11 @@ AFTER(char *, strtok_r, (char *s, const char *set, char **rest), (s, set, rest),
 /* By their symbols, for a header may give the first of each pair the name of the second. Of a base that there isn't, nothing
    is said of the end. */
 #define NUMBER(type, name) \
-    KNOW(name); \
     type as_##name(const char *s, char **end, int base) __asm__(#name); \
     PUBLIC type as_##name(const char *s, char **end, int base) { \
         uint64_t seen = begin_call(CALLER); \
         char *stop; \
-        type r = KNOWN(name, __typeof__(&as_##name))(s, end ? end : &stop, base); \
+        type r = REAL_OF_NAME(#name, __typeof__(&as_##name))(s, end ? end : &stop, base); \
         if (!seen || base < 0 || base == 1 || base > 36) return r; \
         READS(s, up_to(s, end ? *end : stop) + 1); \
         WRITES(end, sizeof *end); \
@@ -144,12 +143,7 @@ AFTER(void *, memrchr, (const void *p, int c, size_t n), (p, c, n), READS(r ? r 
 AFTER(void *, memmem, (const void *p, size_t n, const void *q, size_t m), (p, n, q, m),
       READS(p, r ? up_to(p, r) + m : n), READS(q, m))
 BEFORE(void *, mempcpy, (void *to, const void *from, size_t n), (to, from, n), READS(from, n), WRITES(to, n))
-KNOW(bzero);
-PUBLIC void bzero(void *p, size_t n) {
-    uint64_t seen = begin_call(CALLER);
-    if (seen) WRITES(p, n);
-    KNOWN(bzero, __typeof__(&bzero))(p, n);
-}
+BEFORE(void, bzero, (void *p, size_t n), (p, n), WRITES(p, n))
 
 /* What -D_FORTIFY_SOURCE makes of them. */
 typedef size_t room;                   /* of what is written to */
@@ -166,21 +160,14 @@ AFTER(char *, __strncat_chk, (char *to, const char *from, size_t n, room k), (to
 
 /* Elements are moved between calls of a function that may give up the turn: so from the beginning on they are others. (bsearch
    reads elements by that function alone.) */
-KNOW(qsort);
-KNOW(qsort_r);
 static void sorts(uint64_t seen, void *p, size_t count, size_t size) {
-    if (!seen || count < 2) return;
+    if (count < 2) return;
     READS(p, array(count, size));
     WRITES(p, array(count, size));
 }
-PUBLIC void qsort(void *p, size_t count, size_t size, int (*order)(const void *, const void *)) {
-    sorts(begin_call(CALLER), p, count, size);
-    KNOWN(qsort, __typeof__(&qsort))(p, count, size, order);
-}
-PUBLIC void qsort_r(void *p, size_t count, size_t size, int (*order)(const void *, const void *, void *), void *more) {
-    sorts(begin_call(CALLER), p, count, size);
-    KNOWN(qsort_r, __typeof__(&qsort_r))(p, count, size, order, more);
-}
+BEFORE(void, qsort, (void *p, size_t count, size_t size, __compar_fn_t order), (p, count, size, order), sorts(seen, p, count, size))
+BEFORE(void, qsort_r, (void *p, size_t count, size_t size, __compar_d_fn_t order, void *more), (p, count, size, order, more),
+       sorts(seen, p, count, size))
 
 /* ---- files: what goes out is read before, for the call may wait ---- */
 BEFORE(int, puts, (const char *s), (s), READS(s, text(s)))

@@ -23,28 +23,20 @@ static inline void note_stream(enum operation operation, FILE *f, uint64_t calle
 static inline size_t text(const char *s) { return strlen(s) + 1; }
 static inline size_t text_within(const char *s, size_t n) { return least(strnlen(s, n) + 1, n); }
 
-/* names.c: the function of the C library, looked up before a handler of a signal may ask for it. */
-struct forwarded { const char *name; void *function; };
-void *find_forwarded(struct forwarded *which);
-#define KNOW(name) static struct forwarded real_##name __attribute__((section("forwarded"), aligned(16), used)) = {#name, 0}
-#define KNOWN(name, type) ((type)(real_##name.function ? real_##name.function : find_forwarded(&real_##name)))
-
 /* A function whose accesses are known after it, by its result r.  It doesn't wait, so they are recorded where they are made. */
 #define AFTER(type, name, parameters, arguments, ...) \
-    KNOW(name); \
     type name parameters; \
     PUBLIC type name parameters { \
         uint64_t seen = begin_call(CALLER); \
-        type r = KNOWN(name, __typeof__(&name)) arguments; \
+        type r = REAL(name) arguments; \
         if (seen) { __VA_ARGS__; } \
         return r; \
     }
 /* One whose accesses are known before it. */
 #define BEFORE(type, name, parameters, arguments, ...) \
-    KNOW(name); \
     type name parameters; \
     PUBLIC type name parameters { \
         uint64_t seen = begin_call(CALLER); \
         if (seen) { __VA_ARGS__; } \
-        return KNOWN(name, __typeof__(&name)) arguments; \
+        return REAL(name) arguments; \
     }

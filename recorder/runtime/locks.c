@@ -1,5 +1,4 @@
-/* The calls that order threads: each is recorded and passed on.  A call that takes something (a lock, a token) is
-   recorded after it, one that gives something before it; a call that may wait does so without the turn. */
+/* The calls of POSIX, C11 and C++ that order threads. */
 #include "ordering.h"
 #include <semaphore.h>
 #include <threads.h>
@@ -172,23 +171,21 @@ static int plain_release(char *byte) {
     __atomic_store_n(byte, 1, __ATOMIC_RELEASE);
     return plain_abort(byte);
 }
-static int real_acquire(char *byte) { return REAL(__cxa_guard_acquire) ? REAL(__cxa_guard_acquire)(byte) : plain_acquire(byte); }
-static int real_release(char *byte) { return REAL(__cxa_guard_release) ? REAL(__cxa_guard_release)(byte) : plain_release(byte); }
-static int real_abort(char *byte) { return REAL(__cxa_guard_abort) ? REAL(__cxa_guard_abort)(byte) : plain_abort(byte); }
+#define REAL_OR(plain, name) (REAL_IF_ANY(name) ? REAL_IF_ANY(name) : plain)
 PUBLIC int __cxa_guard_acquire(char *byte) {
     let_others_run();
-    int r = real_acquire(byte);
+    int r = REAL_OR(plain_acquire, __cxa_guard_acquire)(byte);
     note_atomic(OP_ATOMIC_LOAD, byte, 1, CALLER);
     return r;
 }
 /* What was done for the variable until here comes before what the next thread does for it, also where it threw. */
-#define LEAVES_GUARD(name, real) \
+#define LEAVES_GUARD(name, plain) \
     PUBLIC int name(char *byte) { \
         note_atomic(OP_ATOMIC_STORE, byte, 1, CALLER); \
-        return real(byte); \
+        return REAL_OR(plain, name)(byte); \
     }
-LEAVES_GUARD(__cxa_guard_release, real_release)
-LEAVES_GUARD(__cxa_guard_abort, real_abort)
+LEAVES_GUARD(__cxa_guard_release, plain_release)
+LEAVES_GUARD(__cxa_guard_abort, plain_abort)
 
 /* of C++: a promise's value that is there when its thread ends. The C++ library stores that in code without hooks; so it is recorded
    right before. Its own words are std::__at_thread_exit_elt, a weak_ptr to the state, and in this the status. */
@@ -200,12 +197,9 @@ static void comes_to_its_end(void *value_) {
     if (*(int *)(value->count + USERS) > 0) note_atomic(OP_ATOMIC_STORE, value->state + STATUS, sizeof(int), CALLER);
     sets_status(value);
 }
-#define SETS_AT_END _ZNSt13__future_base13_State_baseV211_Make_ready6_M_setEv
-void SETS_AT_END(value_at_end *);
-PUBLIC void SETS_AT_END(value_at_end *value) {
-    static void (*real)(value_at_end *);
-    if (!real) real = (void (*)(value_at_end *))next_symbol("_ZNSt13__future_base13_State_baseV211_Make_ready6_M_setEv");
-    real(value);
+void _ZNSt13__future_base13_State_baseV211_Make_ready6_M_setEv(value_at_end *);
+PUBLIC void _ZNSt13__future_base13_State_baseV211_Make_ready6_M_setEv(value_at_end *value) {
+    REAL(_ZNSt13__future_base13_State_baseV211_Make_ready6_M_setEv)(value);
     sets_status = value->function;
     value->function = comes_to_its_end;
 }

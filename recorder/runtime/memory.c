@@ -111,7 +111,7 @@ static void *called_new(new_function real, size_t n, size_t align, const void *n
 
 #define NEW(name, parameters, align, nothrow) \
     void *name parameters; \
-    PUBLIC void *name parameters { return called_new((new_function)(void *)REAL(name), n, align, nothrow, CALLER); }
+    PUBLIC void *name parameters { return called_new((new_function)(void *)REAL_IF_ANY(name), n, align, nothrow, CALLER); }
 NEW(_Znwm, (size_t n), 0, 0)
 NEW(_Znam, (size_t n), 0, 0)
 NEW(_ZnwmRKSt9nothrow_t, (size_t n, const void *nothrow), 0, nothrow)
@@ -125,7 +125,7 @@ NEW(_ZnamSt11align_val_tRKSt9nothrow_t, (size_t n, size_t align, const void *not
 #define DELETES(name) \
     void name(void *, size_t, size_t); \
     PUBLIC void name(void *p, size_t second, size_t third) { \
-        if (has_own_forms() && REAL(name)) return REAL(name)(p, second, third); \
+        if (has_own_forms() && REAL_IF_ANY(name)) return REAL(name)(p, second, third); \
         will_free(p, CALLER); \
         __libc_free(p); \
     }

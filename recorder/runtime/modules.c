@@ -126,11 +126,16 @@ void *library_symbol(const char *name) {
     return p;
 }
 
-void *needed_symbol(const char *name) {
-    void *p = library_symbol(name);
-    if (p) return p;
-    tell("shb recorder: no library has %s\n", name);
+void *find_forwarded(struct forwarded *which) {
+    which->function = library_symbol(which->name);
+    if (which->function) return which->function;
+    tell("shb recorder: no library has %s\n", which->name);
     _exit(127);                        /* as the loader does */
+}
+
+extern struct forwarded __start_forwarded[] __attribute__((visibility("hidden"))), __stop_forwarded[] __attribute__((visibility("hidden")));
+__attribute__((constructor(101))) static void find_all_forwarded(void) {
+    for (struct forwarded *f = __start_forwarded; f < __stop_forwarded; f++) function_if_any(f);
 }
 
 int is_behind_the_c_library(void) {

@@ -257,14 +257,23 @@ static inline const struct module *module_of(uint64_t code) {          /* the on
 static inline int instrumented(uint64_t caller) { return module_of(caller) != 0; }
 int tells_its_own_order(uint64_t caller);                    /* the begin and end of its objects are not recorded */
 void *next_symbol(const char *name);
+void *library_symbol(const char *name);                      /* also of a library that came by dlopen */
 int program_has(const char *name);     /* or a library before this one: a function that this one has, too */
 int is_behind_the_c_library(void);     /* do calls of the program go to that, and not to this library? */
 void note_modules(void);
-#define REAL(f) ({ \
-    static __typeof__(&f) real_; \
-    if (!real_) real_ = (__typeof__(&f))next_symbol(#f); \
-    real_; \
+
+/* A function that one here stands for. All are looked up when the program begins, for a handler of a signal may not look for a name. */
+struct forwarded { const char *name; void *function; };
+void *find_forwarded(struct forwarded *which);               /* of one that wasn't there then; the program ends where no library has it */
+static inline void *function_if_any(struct forwarded *f) { return f->function ? f->function : (f->function = next_symbol(f->name)); }
+static inline void *function_of_name(struct forwarded *f) { return f->function ? f->function : find_forwarded(f); }
+#define FORWARDED(name) ({ \
+    static struct forwarded forwarded_ __attribute__((section("forwarded"), aligned(16), used)) = {name, 0}; \
+    &forwarded_; \
 })
+#define REAL_IF_ANY(f) ((__typeof__(&f))function_if_any(FORWARDED(#f)))
+#define REAL_OF_NAME(name, type) ((type)function_of_name(FORWARDED(name)))
+#define REAL(f) REAL_OF_NAME(#f, __typeof__(&f))
 
 /* accesses.c: a quick hook (hold.h) of a range whose cells have the use already, in their first phase. Is it held back? */
 int hold_range(enum operation operation, uint64_t address, uint64_t size, uint64_t caller);

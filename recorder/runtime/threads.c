@@ -197,6 +197,10 @@ EXECS_LISTED(execl, execv(path, array))
 EXECS_LISTED(execlp, execvp(path, array))
 EXECS_LISTED(execle, execve(path, array, va_arg(more, char **)))
 
+/* A program may have it from a part of the C library that is linked into it. */
+int __cxa_atexit(void (*)(void *), void *, void *);
+PUBLIC int atexit(void (*function)(void)) { return __cxa_atexit((void (*)(void *))function, 0, 0); }
+
 /* ---- threads ---- */
 static void *run(void *t_) {
     thread *t = t_;
