@@ -119,17 +119,6 @@ static void after_atomic(thread *t, uint64_t last) {
     leave(t);
 }
 
-/* It may be quick again and again. */
-int load_acquire(const int *p, uint64_t caller) {
-    uint64_t inside = size_and_order(sizeof *p, __ATOMIC_ACQUIRE);
-    int is_quick = self && !self->inside && begin_quick_atomic(OP_ATOMIC_LOAD, (uint64_t)p, sizeof *p, inside, caller);
-    thread *t = is_quick ? 0 : before_atomic(OP_ATOMIC_LOAD, p, inside, caller);
-    int value = __atomic_load_n(p, __ATOMIC_SEQ_CST);
-    if (is_quick) end_quick_atomic(0);
-    else after_atomic(t, 0);
-    return value;
-}
-
 /* Whether a compare-and-exchange is an update or a load is known after it. */
 static void after_exchange(thread *t, int done, const volatile void *p, uint64_t size_and_order, uint64_t caller) {
     if (t && others) put(t, done ? OP_ATOMIC_UPDATE : OP_ATOMIC_LOAD, p, size_and_order, caller);
@@ -155,48 +144,32 @@ ATOMIC static uint128_t load_16(const volatile uint128_t *p) {
     return value;
 }
 
-#define FETCH_16(name, new_value) \
-    ATOMIC static uint128_t name##_16(volatile uint128_t *p, uint128_t value, int order) { \
-        uint128_t old = load_16(p); \
-        while (!exchange_16(p, &old, new_value)) ; \
-        return old; \
-    }
-FETCH_16(exchange_n, value)
-FETCH_16(fetch_add, old + value)
-FETCH_16(fetch_sub, old - value)
-FETCH_16(fetch_and, old & value)
-FETCH_16(fetch_or, old | value)
-FETCH_16(fetch_xor, old ^ value)
-FETCH_16(fetch_nand, ~(old & value))
+ATOMIC static void store_16(volatile uint128_t *p, uint128_t value) {
+    uint128_t old = load_16(p);
+    while (!exchange_16(p, &old, value)) ;
+}
 
 /* The operations as the macros below name them: of up to 8 bytes the compiler's own. */
 #define LOAD(p) __atomic_load_n(p, __ATOMIC_SEQ_CST)
 #define STORE(p, value) __atomic_store_n(p, value, __ATOMIC_SEQ_CST)
-#define STORE_16(p, value) exchange_n_16(p, value, __ATOMIC_SEQ_CST)
 #define EXCHANGE(p, expected, value) __atomic_compare_exchange_n(p, expected, value, 0, __ATOMIC_SEQ_CST, __ATOMIC_SEQ_CST)
-#define OF_COMPILER(name) __atomic_##name
-#define OF_16_BYTES(name) name##_16
 
-#define IS_QUICK(operation, bits, p, order) \
-    begin_quick_atomic(operation, (uint64_t)(p), bits / 8, size_and_order(bits / 8, order), CALLER)
-/* Whether it changes the value is known by what it takes: once it is done the object may be gone, where no turn keeps other threads away. */
-#define NEW_exchange(old, value) value
-#define NEW_fetch_add(old, value) old + value
-#define NEW_fetch_sub(old, value) old - value
-#define NEW_fetch_and(old, value) old & value
-#define NEW_fetch_or(old, value) old | value
-#define NEW_fetch_xor(old, value) old ^ value
-#define NEW_fetch_nand(old, value) ~(old & value)
-#define UPDATE(bits, type, name, perform) \
-    ATOMIC PUBLIC type __tsan_atomic##bits##_##name(volatile type *p, type value, int order) { \
-        int is_quick = IS_QUICK(OP_ATOMIC_UPDATE, bits, p, order); \
-        thread *t = is_quick ? 0 : before_atomic(OP_ATOMIC_UPDATE, p, size_and_order(bits / 8, order), CALLER); \
-        type old = perform(p, value, __ATOMIC_SEQ_CST); \
-        uint64_t last = last_of((type)(NEW_##name(old, value)) != old, p, CALLER); \
-        if (is_quick) end_quick_atomic(last); \
-        else after_atomic(t, last); \
-        return old; \
+#define ATOMICALLY(operation, bits, perform, last) \
+    if (begin_quick_atomic(operation, (uint64_t)p, bits / 8, size_and_order(bits / 8, order), caller)) { \
+        perform; \
+        end_quick_atomic(last); \
+    } else { \
+        thread *t = before_atomic(operation, p, size_and_order(bits / 8, order), caller); \
+        perform; \
+        after_atomic(t, last); \
     }
+
+int load_acquire(const int *p, uint64_t caller) {
+    int value, order = __ATOMIC_ACQUIRE;
+    if (self && self->inside) return LOAD(p);
+    ATOMICALLY(OP_ATOMIC_LOAD, 32, value = LOAD(p), 0)
+    return value;
+}
 
 /* `old` is the parameter that has the expected value, at this address. */
 #define COMPARE_EXCHANGE(bits, type, name, exchange, result, r, old, address) \
@@ -207,49 +180,41 @@ FETCH_16(fetch_nand, ~(old & value))
         return r; \
     }
 
-#define ATOMICS(bits, type, load, store, exchange) \
+/* Whether it changes the value is known by what it takes: once it is done the object may be gone, where no turn keeps other threads away. */
+#define UPDATE(bits, type, name, load, exchange, new_value) \
+    ATOMIC PUBLIC type __tsan_atomic##bits##_##name(volatile type *p, type value, int order) { \
+        uint64_t caller = CALLER; \
+        type old, new; \
+        ATOMICALLY(OP_ATOMIC_UPDATE, bits, \
+                   old = load(p); do new = new_value; while (!exchange(p, &old, new)), last_of(new != old, p, caller)) \
+        return old; \
+    }
+#define ATOMICS(bits, type, load, store, compare) \
     ATOMIC PUBLIC type __tsan_atomic##bits##_load(const volatile type *p, int order) { \
-        if (IS_QUICK(OP_ATOMIC_LOAD, bits, p, order)) { \
-            type now = load(p); \
-            end_quick_atomic(last_of(0, p, CALLER)); \
-            return now; \
-        } \
-        thread *t = before_atomic(OP_ATOMIC_LOAD, p, size_and_order(bits / 8, order), CALLER); \
-        type value = load(p); \
-        after_atomic(t, last_of(0, p, CALLER)); \
+        uint64_t caller = CALLER; \
+        type value; \
+        ATOMICALLY(OP_ATOMIC_LOAD, bits, value = load(p), last_of(0, p, caller)) \
         return value; \
     } \
     ATOMIC PUBLIC void __tsan_atomic##bits##_store(volatile type *p, type value, int order) { \
-        if (IS_QUICK(OP_ATOMIC_STORE, bits, p, order)) { \
-            store(p, value); \
-            return end_quick_atomic(0); \
-        } \
-        thread *t = before_atomic(OP_ATOMIC_STORE, p, size_and_order(bits / 8, order), CALLER); \
-        store(p, value); \
-        after_atomic(t, 0); \
+        uint64_t caller = CALLER; \
+        ATOMICALLY(OP_ATOMIC_STORE, bits, store(p, value), 0) \
     } \
-    COMPARE_EXCHANGE(bits, type, strong, exchange, int, done, *expected, expected) \
-    COMPARE_EXCHANGE(bits, type, weak, exchange, int, done, *expected, expected) \
-    COMPARE_EXCHANGE(bits, type, val, exchange, type, expected, expected, &expected)
-
-#define UPDATES(bits, type, of) \
-    UPDATE(bits, type, exchange, of(exchange_n)) \
-    UPDATE(bits, type, fetch_add, of(fetch_add)) \
-    UPDATE(bits, type, fetch_sub, of(fetch_sub)) \
-    UPDATE(bits, type, fetch_and, of(fetch_and)) \
-    UPDATE(bits, type, fetch_or, of(fetch_or)) \
-    UPDATE(bits, type, fetch_xor, of(fetch_xor)) \
-    UPDATE(bits, type, fetch_nand, of(fetch_nand))
+    UPDATE(bits, type, exchange, load, compare, value) \
+    UPDATE(bits, type, fetch_add, load, compare, old + value) \
+    UPDATE(bits, type, fetch_sub, load, compare, old - value) \
+    UPDATE(bits, type, fetch_and, load, compare, old & value) \
+    UPDATE(bits, type, fetch_or, load, compare, old | value) \
+    UPDATE(bits, type, fetch_xor, load, compare, old ^ value) \
+    UPDATE(bits, type, fetch_nand, load, compare, ~(old & value)) \
+    COMPARE_EXCHANGE(bits, type, strong, compare, int, done, *expected, expected) \
+    COMPARE_EXCHANGE(bits, type, weak, compare, int, done, *expected, expected) \
+    COMPARE_EXCHANGE(bits, type, val, compare, type, expected, expected, &expected)
 ATOMICS(8, uint8_t, LOAD, STORE, EXCHANGE)
-UPDATES(8, uint8_t, OF_COMPILER)
 ATOMICS(16, uint16_t, LOAD, STORE, EXCHANGE)
-UPDATES(16, uint16_t, OF_COMPILER)
 ATOMICS(32, uint32_t, LOAD, STORE, EXCHANGE)
-UPDATES(32, uint32_t, OF_COMPILER)
 ATOMICS(64, uint64_t, LOAD, STORE, EXCHANGE)
-UPDATES(64, uint64_t, OF_COMPILER)
-ATOMICS(128, uint128_t, load_16, STORE_16, exchange_16)
-UPDATES(128, uint128_t, OF_16_BYTES)
+ATOMICS(128, uint128_t, load_16, store_16, exchange_16)
 
 PUBLIC void __tsan_atomic_thread_fence(int order) {
     thread *t = others ? enter(MAY_YIELD) : 0;
