@@ -214,31 +214,23 @@ WAITS_FOR_TASKS(GOMP_taskwait_depend, (void **depend), (depend), now->children)
 WAITS_FOR_TASKS(GOMP_taskgroup_end, (void), (), now->team->tasks)
 
 /* ---- what isn't seen: each is said once ---- */
-enum unseen { TASKLOOP, DOACROSS, TARGET, TEAMS, UNSEEN_KINDS };
-static const char *const unseen_texts[UNSEEN_KINDS] = {
-    "taskloop, whose order isn't seen: false races are possible\n",
-    "doacross loops, whose order isn't seen: false races are possible\n",
-    "target regions. What runs on another device isn't seen, and the order of those with nowait isn't: false races are possible\n",
-    "teams, which gcc's library runs one after the other: races between teams are missed\n",
-};
-
-static void tell_of(enum unseen what) {
-    static _Atomic int told[UNSEEN_KINDS];
-    if (!recording || atomic_exchange(&told[what], 1)) return;
-    tell("shb recorder: the program uses OpenMP's %s", unseen_texts[what]);
+static void tell_of(_Atomic int *told, const char *what) {
+    if (recording && !atomic_exchange(told, 1))
+        tell("shb recorder: the program uses OpenMP's %s, of which not all is recorded: races may be false, or missed\n", what);
 }
 
 typedef void (*copy_function)(void *, void *);
 #define UNSEEN(what, name, parameters, arguments) \
     PUBLIC void name parameters { \
-        tell_of(what); \
+        static _Atomic int told; \
+        tell_of(&told, what); \
         REAL(name) arguments; \
     }
-UNSEEN(TASKLOOP, GOMP_taskloop, (function f, void *data, copy_function copy, long size, long align, unsigned flags, unsigned long n, int priority,
+UNSEEN("taskloop", GOMP_taskloop, (function f, void *data, copy_function copy, long size, long align, unsigned flags, unsigned long n, int priority,
        long from, long to, long step), (f, data, copy, size, align, flags, n, priority, from, to, step))
-UNSEEN(DOACROSS, GOMP_doacross_post, (long *counts), (counts))
-UNSEEN(TARGET, GOMP_target, (int device, function f, const void *unused, size_t count, void **addresses, size_t *sizes, unsigned char *kinds),
-       (device, f, unused, count, addresses, sizes, kinds))
-UNSEEN(TARGET, GOMP_target_ext, (int device, function f, size_t count, void **addresses, size_t *sizes, unsigned short *kinds, unsigned flags,
-       void **depend, void **arguments), (device, f, count, addresses, sizes, kinds, flags, depend, arguments))
-UNSEEN(TEAMS, GOMP_teams_reg, (function f, void *data, unsigned teams, unsigned most, unsigned flags), (f, data, teams, most, flags))
+UNSEEN("doacross loops", GOMP_doacross_post, (long *counts), (counts))
+UNSEEN("target regions", GOMP_target, (int device, function f, const void *unused, size_t count, void **addresses, size_t *sizes,
+       unsigned char *kinds), (device, f, unused, count, addresses, sizes, kinds))
+UNSEEN("target regions", GOMP_target_ext, (int device, function f, size_t count, void **addresses, size_t *sizes, unsigned short *kinds,
+       unsigned flags, void **depend, void **arguments), (device, f, count, addresses, sizes, kinds, flags, depend, arguments))
+UNSEEN("teams", GOMP_teams_reg, (function f, void *data, unsigned teams, unsigned most, unsigned flags), (f, data, teams, most, flags))
