@@ -1,6 +1,6 @@
-/* The file of the record, and /proc.  Their descriptors have numbers that programs aren't given, and are spared where they
-   close all that they have; what reached one nevertheless is seen before each use, for then the number may stand for a file
-   of the program's.  Whatever fails leaves errno. */
+/* The files of the record and of its list of turns, and /proc.  Their descriptors have numbers that programs aren't given,
+   and are spared where they close all that they have; what reached one nevertheless is seen before each use, for then the
+   number may stand for a file of the program's.  Whatever fails leaves errno. */
 #include "runtime.h"
 #include <fcntl.h>
 #include <sys/file.h>
@@ -11,11 +11,13 @@
 enum { HIGHEST_DESCRIPTOR = 1023 };    /* the kernel's tables grow with the highest */
 typedef struct { dev_t device; ino_t inode; } identity;
 
-enum { RECORD, PROC, KEPT };
-static struct { int number; identity of; } kept[KEPT] = {{.number = -1}, {.number = -1}};
+static struct { int number, flags; identity of; char path[PATH_MAX]; } kept[] = {
+    [RECORD] = {-1, O_RDWR}, [TURNS] = {-1, O_RDWR}, [PROC] = {-1, O_PATH | O_DIRECTORY, .path = "/proc"},
+};
+enum { KEPT = sizeof kept / sizeof *kept };
+static char *const path = kept[RECORD].path;
 static identity of_messages;
 static char pattern[PATH_MAX];         /* the path of the record, as it was asked for */
-static char path[PATH_MAX];            /* of this process's */
 
 /* ---- which file a descriptor stands for ---- */
 static identity identity_of(int descriptor) {
@@ -58,9 +60,26 @@ static int highest(void) {
 
 static int has(int which) { return is_file(kept[which].number, kept[which].of); }
 
-static void keep(int which, int opened) {
+/* Opens it by its path. */
+static int keep(int which, int flags) {
+    int opened = syscall(SYS_openat, AT_FDCWD, kept[which].path, kept[which].flags | flags | O_CLOEXEC, 0666);
+    if (opened < 0) return 0;
     kept[which].number = moved_up(opened, highest());
     kept[which].of = identity_of(kept[which].number);
+    return 1;
+}
+
+/* The record's descriptor, which is the caller's from here on; or -1. */
+int take_file(void) {
+    int file = has(RECORD) ? kept[RECORD].number : -1;
+    kept[RECORD].number = -1;
+    return file;
+}
+
+/* A process made by fork would hold its parent's open and locked. */
+void leave_file(enum kept_file which) {
+    if (has(which)) syscall(SYS_close, kept[which].number);
+    kept[which].number = -1;
 }
 
 /* The lowest number from `from` on that is the recorder's, or one that no descriptor has. */
@@ -84,37 +103,26 @@ void leave_number(int descriptor) {
 }
 
 /* Is it still the recorder's?  If not it is opened again by its path, unless that leads elsewhere now. */
-static int have(int which, const char *path, int flags) {
+static int have(int which) {
+    identity before = kept[which].of;
     if (has(which)) return 1;
-    int again = syscall(SYS_openat, AT_FDCWD, path, flags | O_CLOEXEC, 0);
-    if (again < 0) return 0;
-    if (!is_file(again, kept[which].of)) {
-        syscall(SYS_close, again);
-        errno = ENOENT;
-        return 0;
-    }
-    kept[which].number = moved_up(again, highest());
-    return 1;
+    if (!keep(which, 0)) return 0;
+    if (is_file(kept[which].number, before)) return 1;
+    leave_file(which);
+    kept[which].of = before;
+    errno = ENOENT;
+    return 0;
 }
-
-static int have_file(void) { return have(RECORD, path, O_RDWR); }
 
 /* ---- /proc, which a program may lose by chroot ---- */
-enum { LOOKS = O_PATH | O_DIRECTORY };
-
-int open_proc(void) {
-    int opened = syscall(SYS_openat, AT_FDCWD, "/proc", LOOKS | O_CLOEXEC, 0);
-    if (opened < 0) return 0;
-    keep(PROC, opened);
-    return 1;
-}
+int open_proc(void) { return keep(PROC, 0); }
 
 /* Reads a file of one of the process's threads; returns how many bytes, or an error below 0.  The calls of the C library would
    be points where a thread may be cancelled. */
 int read_task_file(pid_t system_id, const char *leaf, char *text, int size) {
     char name[64];
     snprintf(name, sizeof name, "self/task/%d/%s", system_id, leaf);
-    if (!have(PROC, "/proc", LOOKS)) return -errno;
+    if (!have(PROC)) return -errno;
     int f = syscall(SYS_openat, kept[PROC].number, name, O_RDONLY | O_CLOEXEC, 0);
     if (f < 0) return -errno;
     int n = syscall(SYS_read, f, text, size - 1), error = errno;
@@ -127,7 +135,7 @@ int read_task_file(pid_t system_id, const char *leaf, char *text, int size) {
 /* ---- disk space: taken before it is written, for a full disk would be a SIGBUS at the write ---- */
 uint64_t free_space(void) {
     struct statfs disk;
-    if (!have_file() || syscall(SYS_fstatfs, kept[RECORD].number, &disk) || !disk.f_blocks) return -1;
+    if (!have(RECORD) || syscall(SYS_fstatfs, kept[RECORD].number, &disk) || !disk.f_blocks) return -1;
     return disk.f_bavail * (disk.f_frsize ? disk.f_frsize : disk.f_bsize);
 }
 
@@ -138,9 +146,10 @@ static int may_have(uint64_t bytes) {  /* past the limit of a file's size a sign
     return 0;
 }
 
-static int add_space_in(int file, uint64_t from, uint64_t bytes) {
+int add_space(enum kept_file which, uint64_t from, uint64_t bytes) {
     static const char zeros[1 << 16];
-    if (!may_have(from + bytes)) return 0;
+    if (!have(which) || !may_have(from + bytes)) return 0;
+    int file = kept[which].number;
     if (syscall(SYS_fallocate, file, 0, from, bytes) == 0) return 1;
     if (errno != EOPNOTSUPP && errno != ENOSYS) return 0;
     for (uint64_t at = from; at < from + bytes; at += sizeof zeros)      /* this file system has no such call */
@@ -148,10 +157,8 @@ static int add_space_in(int file, uint64_t from, uint64_t bytes) {
     return 1;
 }
 
-int add_space(uint64_t from, uint64_t bytes) { return have_file() && add_space_in(kept[RECORD].number, from, bytes); }
-
 int write_file(const char *from, uint64_t bytes) {
-    if (!have_file()) return 0;
+    if (!have(RECORD)) return 0;
     for (uint64_t done = 0; done < bytes;) {
         ssize_t n = syscall(SYS_pwrite64, kept[RECORD].number, from + done, bytes - done, done);
         if (n <= 0) return 0;
@@ -160,14 +167,14 @@ int write_file(const char *from, uint64_t bytes) {
     return 1;
 }
 
-void cut_file(uint64_t bytes) {
-    int failed = have_file() && syscall(SYS_ftruncate, kept[RECORD].number, bytes);
-    (void)failed;                                            /* then zeros stay after the records */
+void cut_file(enum kept_file which, uint64_t bytes) {
+    int failed = have(which) && syscall(SYS_ftruncate, kept[which].number, bytes);
+    (void)failed;                                            /* then zeros stay after what is written */
 }
 
-void *map_file(void *at, uint64_t bytes) {
+void *map_file(enum kept_file which, void *at, uint64_t bytes) {
     int flags = MAP_SHARED | MAP_NORESERVE | (at ? MAP_FIXED : 0);
-    return have_file() ? mmap(at, bytes, PROT_READ | PROT_WRITE, flags, kept[RECORD].number, 0) : MAP_FAILED;
+    return have(which) ? mmap(at, bytes, PROT_READ | PROT_WRITE, flags, kept[which].number, 0) : MAP_FAILED;
 }
 
 /* ---- begin and end ---- */
@@ -243,9 +250,7 @@ static void tell_what_is_replaced(const char *command) {
 /* Opens the file and locks it: cut by a second process it would be a SIGBUS in the first.  Says why it can't. */
 int open_file(const char *command, uint64_t first_bytes, uint64_t segment) {
     number_path(segment);
-    int opened = syscall(SYS_openat, AT_FDCWD, path, O_RDWR | O_CREAT | O_CLOEXEC, 0666);
-    if (opened < 0) return refuse(path);
-    keep(RECORD, opened);
+    if (!keep(RECORD, O_CREAT)) return refuse(path);
     int file = kept[RECORD].number;
     if (flock(file, LOCK_EX | LOCK_NB) && errno == EWOULDBLOCK) {
         tell("shb recorder: another process records to %s; the program runs unrecorded (%%p in the path gives "
@@ -257,59 +262,15 @@ int open_file(const char *command, uint64_t first_bytes, uint64_t segment) {
         return 0;
     }
     if (!has_number()) tell_what_is_replaced(command);
-    if (!may_have(first_bytes) || (ftruncate(file, 0) && errno != EINVAL) || !add_space(0, HEADER_BYTES)) return refuse(path);
+    if (!may_have(first_bytes) || (ftruncate(file, 0) && errno != EINVAL) || !add_space(RECORD, 0, HEADER_BYTES)) return refuse(path);
     return 1;
 }
 
-/* The record's descriptor, which is the caller's from here on; or -1. */
-int take_file(void) {
-    int file = has(RECORD) ? kept[RECORD].number : -1;
-    kept[RECORD].number = -1;
-    return file;
-}
-
-/* In a process made by fork, which would hold its parent's open and locked. */
-void leave_file(void) {
-    int file = take_file();
-    if (file >= 0) syscall(SYS_close, file);
-}
-
-/* ---- the list of turns, beside the record: its file is opened for each change of its size, and these are few ---- */
-static char turns_path[PATH_MAX];
-static identity of_turns;
-
-static int open_turns(int flags) {
-    int file = syscall(SYS_openat, AT_FDCWD, turns_path, O_RDWR | O_CLOEXEC | flags, 0666);
-    if (file < 0 || flags || is_file(file, of_turns)) return file;
-    syscall(SYS_close, file);
-    return -1;
-}
-
-/* PATH.turns of PATH.rec, and of another PATH. */
-static int name_turns(void) {
+/* The list of turns is beside the record: PATH.turns of PATH.rec, and of another PATH. */
+int open_turns(uint64_t first_bytes) {
     size_t n = strlen(path), end = strlen(".rec");
     if (n > end && !strcmp(path + n - end, ".rec")) n -= end;
-    return snprintf(turns_path, sizeof turns_path, "%.*s.turns", (int)n, path) < (int)sizeof turns_path;
-}
-
-void *map_turns(uint64_t first_bytes, uint64_t most_bytes) {
-    int file = name_turns() ? open_turns(O_CREAT) : -1;
-    if (file < 0) return MAP_FAILED;
-    of_turns = identity_of(file);
-    int has_space = !is_foreign(file, ANY_TURNS) && !ftruncate(file, 0) && add_space_in(file, 0, first_bytes);
-    void *map = has_space ? mmap(0, most_bytes, PROT_READ | PROT_WRITE, MAP_SHARED | MAP_NORESERVE, file, 0) : MAP_FAILED;
-    syscall(SYS_close, file);
-    return map;
-}
-
-int add_space_for_turns(uint64_t from, uint64_t bytes) {
-    int file = open_turns(0), done = file >= 0 && add_space_in(file, from, bytes);
-    if (file >= 0) syscall(SYS_close, file);
-    return done;
-}
-
-void cut_turns(uint64_t bytes) {
-    int file = open_turns(0), failed = file >= 0 && syscall(SYS_ftruncate, file, bytes);
-    (void)failed;                                            /* then zeros stay after the turns */
-    if (file >= 0) syscall(SYS_close, file);
+    if (snprintf(kept[TURNS].path, PATH_MAX, "%.*s.turns", (int)n, path) >= PATH_MAX || !keep(TURNS, O_CREAT)) return 0;
+    int file = kept[TURNS].number;
+    return !is_foreign(file, ANY_TURNS) && !ftruncate(file, 0) && add_space(TURNS, 0, first_bytes);
 }

@@ -63,7 +63,7 @@ static int add_step(uint64_t have) {
     errno = ENOSPC;
     if (reserve && space < reserve + STEP_BYTES) return 0;
     tell_half(have, space);
-    return add_space(HEADER_BYTES + have * sizeof *records, STEP_BYTES);
+    return add_space(RECORD, HEADER_BYTES + have * sizeof *records, STEP_BYTES);
 }
 
 /* What is written is in the file, and read no more: else it would count as the program's memory. */
@@ -369,7 +369,7 @@ int open_recording(const char *path, uint64_t most, uint64_t cells) {
     keep_reserve();
     most_cells = cells;
     begin_counting(0);
-    if (!use_map(map_file(0, map_bytes()))) return refuse(path);
+    if (!use_map(map_file(RECORD, 0, map_bytes()))) return refuse(path);
     note_text(RECORD_MAGIC);
     note_text(command);
     begin_cells(most_cells);
@@ -414,12 +414,12 @@ static int add_state(void) {
 
 /* The next segment's file takes the place of this one's, which is whole from there on: where it can't be had, the recording ends in this one. */
 static int change_file(void) {
-    cut_file(HEADER_BYTES + written * sizeof *records);
+    cut_file(RECORD, HEADER_BYTES + written * sizeof *records);
     if (segment > MOST_SEGMENTS) drop_segment(segment - MOST_SEGMENTS);
     int before = take_file(), done = open_file(command, HEADER_BYTES + STEP_BYTES, segment + 1) && write_file(header, ENDED_AT);
     if (done) note_whole();
     syscall(SYS_close, before);
-    return done && use_map(map_file(header, map_bytes()));
+    return done && use_map(map_file(RECORD, header, map_bytes()));
 }
 
 static int begin_segment(void) {
@@ -443,7 +443,8 @@ void next_segment(thread *t) {
 int leave_recording(void) {
     char *parents = header;
     header = 0;
-    leave_file();
+    leave_file(RECORD);
+    leave_file(TURNS);
     in_memory = 1;
     int going_on = has_number() && use_map(mmap(0, map_bytes(), PROT_READ | PROT_WRITE,
                                                 MAP_PRIVATE | MAP_ANONYMOUS | MAP_NORESERVE, -1, 0));
@@ -467,7 +468,7 @@ int move_to_file(void) {
     keep_reserve();
     atomic_store(&room, written);
     in_memory = 0;
-    if (moved && use_map(map_file(header, map_bytes()))) return 1;
+    if (moved && use_map(map_file(RECORD, header, map_bytes()))) return 1;
     stop_recording("its record cannot be written");
     return 0;
 }
@@ -478,7 +479,7 @@ void close_recording(void) {
     thread *t = enter(NEVER_YIELD);
     end_turns();
     if (!t) return;
-    if (!in_memory) cut_file(HEADER_BYTES + written * sizeof *records);
+    if (!in_memory) cut_file(RECORD, HEADER_BYTES + written * sizeof *records);
     note_whole();
     leave(t);
 }

@@ -39,7 +39,7 @@ void open_list(void) {
     static int is_opened;
     if (is_opened || segment_records) return;              /* of a program that runs on it would be long */
     is_opened = 1;
-    char *map = map_turns(STEP_BYTES, MOST_BYTES);
+    char *map = open_turns(STEP_BYTES) ? map_file(TURNS, 0, MOST_BYTES) : MAP_FAILED;
     if (map == MAP_FAILED) return;
     snprintf(map, HEADER, TURNS_MAGIC "%s", own_command());
     atomic_store(&room, (STEP_BYTES - HEADER) / sizeof *turns);
@@ -51,7 +51,7 @@ void open_list(void) {
 void extend_list(void) {
     uint64_t from = HEADER + atomic_load(&room) * sizeof *turns;
     if (!turns || count + FEW < atomic_load(&room) || from >= MOST_BYTES || atomic_exchange(&is_growing, 1)) return;
-    if (add_space_for_turns(from, STEP_BYTES)) atomic_fetch_add(&room, STEP_BYTES / sizeof *turns);
+    if (add_space(TURNS, from, STEP_BYTES)) atomic_fetch_add(&room, STEP_BYTES / sizeof *turns);
     atomic_store(&is_growing, 0);
 }
 
@@ -72,7 +72,7 @@ void close_list(void) {
     for (uint64_t i = 0; i < count; i++) sum += ((uint64_t *)(header + HEADER))[i];
     size_t at = strlen(header);
     snprintf(header + at, HEADER - at, "whole %lx %lx\n", count, sum);
-    cut_turns(HEADER + count * sizeof *turns);
+    cut_file(TURNS, HEADER + count * sizeof *turns);
     munmap(header, MOST_BYTES);
     header = 0;
     turns = 0;

@@ -182,7 +182,8 @@ void pop_frame(thread *t, const interrupted *before);
 static inline int is_numbered(const context *c) { return c->number <= (1 << CONTEXT_BITS) - 1; }
 static inline uint32_t recordable_depth(const thread *t) { return t->depth < MOST_FRAMES ? t->depth : MOST_FRAMES; }
 
-/* file.c: the file of the record and its descriptor. */
+/* file.c: the files and their descriptors. */
+enum kept_file { RECORD, TURNS, PROC };
 enum { COMMAND_BYTES = 1024 };         /* of the header's line with the command, with its end */
 void begin_messages(void);
 void tell(const char *format, ...) __attribute__((format(printf, 1, 2)));   /* on standard error, if it still is that */
@@ -194,16 +195,14 @@ int has_number(void);                  /* is there a record for each process? */
 int refuse(const char *path);          /* says that it can't be written, as errno has it; returns 0 */
 int open_file(const char *command, uint64_t first_bytes, uint64_t segment);             /* will it be allowed so many? */
 void drop_segment(uint64_t segment);   /* deletes its file, if that is there */
-int add_space(uint64_t from, uint64_t bytes);
 #define ANY_TURNS "shb-turns "        /* a list of turns begins with that */
-void *map_turns(uint64_t first_bytes, uint64_t most_bytes);  /* the list beside the record; or MAP_FAILED */
-int add_space_for_turns(uint64_t from, uint64_t bytes);
-void cut_turns(uint64_t bytes);
+int open_turns(uint64_t first_bytes);  /* the list beside the record */
+int add_space(enum kept_file which, uint64_t from, uint64_t bytes);
 int write_file(const char *from, uint64_t bytes);
-void cut_file(uint64_t bytes);
-void *map_file(void *at, uint64_t bytes);                    /* or MAP_FAILED */
+void cut_file(enum kept_file which, uint64_t bytes);
+void *map_file(enum kept_file which, void *at, uint64_t bytes);          /* or MAP_FAILED */
 int take_file(void);
-void leave_file(void);
+void leave_file(enum kept_file which);
 int open_proc(void);
 int read_task_file(pid_t system_id, const char *leaf, char *text, int size);
 uint64_t free_space(void);             /* bytes that the disk has for more of the record; -1 where nobody says */
