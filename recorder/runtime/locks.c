@@ -3,8 +3,6 @@
 #include <semaphore.h>
 #include <threads.h>
 
-typedef const struct timespec *deadline;
-
 #define TAKES(name, operation, object, busy, quick, done, parameters, arguments) \
     TAKES_BY(int, name, operation, object, REAL(name) arguments, busy, quick, done, parameters)
 #define TRIES(name, operation, object, busy, done, parameters, arguments) \

@@ -101,11 +101,12 @@ static uint64_t module_with(void *p) {
 int program_has(const char *name) { return module_with(dlsym(RTLD_DEFAULT, name)) != module_with((void *)program_has); }
 
 /* ---- functions of libraries that the program may have by dlopen, so that they aren't behind this one ---- */
-typedef struct { const char *at[MAX_MODULES]; int count; } module_names;
+typedef struct { struct { struct module bounds; const char *name; } at[MAX_MODULES]; int count; } loaded;
 
-static int add_name(struct dl_phdr_info *info, size_t size, void *names_) {
-    module_names *names = names_;
-    if (*info->dlpi_name && names->count < MAX_MODULES) names->at[names->count++] = info->dlpi_name;
+static int add_loaded(struct dl_phdr_info *info, size_t size, void *loaded_) {
+    loaded *all = loaded_;
+    struct module m = bounds_of(info);
+    if (m.high && all->count < MAX_MODULES) all->at[all->count++] = (__typeof__(*all->at)){m, info->dlpi_name};
     return 0;
 }
 
@@ -118,10 +119,10 @@ static void *found_in(const char *module, const char *name) {
 void *library_symbol(const char *name) {
     void *p = next_symbol(name);
     thread *t = self && !self->inside ? self : 0;
-    module_names names = {.count = 0};
+    loaded all = {.count = 0};
     if (t) begin_inside(t);
-    if (!p) dl_iterate_phdr(add_name, &names);
-    for (int i = 0; i < names.count && !p; i++) p = found_in(names.at[i], name);
+    if (!p) dl_iterate_phdr(add_loaded, &all);
+    for (int i = 0; i < all.count && !p; i++) p = *all.at[i].name ? found_in(all.at[i].name, name) : 0;
     if (t) end_inside(t);
     return p;
 }
@@ -164,20 +165,7 @@ PUBLIC void __tsan_init(void) {        /* called by each instrumented file's con
 
 /* ---- modules that go: no other one comes to their addresses, for the record names code and variables by these ---- */
 enum { MOST_GONE = 200 };              /* then others may: a table of modules has an end */
-typedef struct { struct module at[MAX_MODULES]; int count; } loaded;
-
-static int add_loaded(struct dl_phdr_info *info, size_t size, void *loaded_) {
-    loaded *l = loaded_;
-    struct module m = bounds_of(info);
-    if (m.high && l->count < MAX_MODULES) l->at[l->count++] = m;
-    return 0;
-}
-
-static int is_loaded(const loaded *l, uint64_t low) {
-    for (int i = 0; i < l->count; i++)
-        if (l->at[i].low == low) return 1;
-    return 0;
-}
+static int begins_at(struct dl_phdr_info *info, size_t size, void *low) { return bounds_of(info).low == *(uint64_t *)low; }
 
 static void keep_addresses(struct module gone) {
     static _Atomic int kept;
@@ -189,12 +177,11 @@ static void keep_addresses(struct module gone) {
 
 PUBLIC int dlclose(void *handle) {
     if (!recording) return REAL(dlclose)(handle);
-    loaded before = {.count = 0}, after = {.count = 0};
+    loaded before = {.count = 0};
     dl_iterate_phdr(add_loaded, &before);
     int error = REAL(dlclose)(handle), saved = errno;
-    dl_iterate_phdr(add_loaded, &after);
     for (int i = 0; i < before.count; i++)
-        if (!is_loaded(&after, before.at[i].low)) keep_addresses(before.at[i]);
+        if (!dl_iterate_phdr(begins_at, &before.at[i].bounds.low)) keep_addresses(before.at[i].bounds);
     errno = saved;
     return error;
 }

@@ -273,22 +273,17 @@ void put_of(thread *t, const thread *ended, enum operation operation, const vola
     t->works = 0;
 }
 
-static void add_piece_of_name(const thread *named, const char *piece, uint64_t before) {
-    uint64_t one = 0, other = 0;
-    memcpy(&one, piece, NAME_PIECE / 2);
-    memcpy(&other, piece + NAME_PIECE / 2, NAME_PIECE / 2);
-    add(named, OP_NAME, one, before, other);
-}
-
 static void add_name(const thread *named) {
-    char pieces[2 * NAME_PIECE] = "";
-    strcpy(pieces, named->name);
-    add_piece_of_name(named, pieces, 0);
-    if (strlen(pieces) > NAME_PIECE) add_piece_of_name(named, pieces + NAME_PIECE, NAME_PIECE);
+    uint64_t one = 0, other = 0;
+    for (size_t before = 0; !before || before < strlen(named->name); before += NAME_PIECE) {
+        memcpy(&one, named->name + before, NAME_PIECE / 2);
+        memcpy(&other, named->name + before + NAME_PIECE / 2, NAME_PIECE / 2);
+        add(named, OP_NAME, one, before, other);
+    }
 }
 
 void put_name(thread *t, thread *named, const char *name) {
-    snprintf(named->name, NAME_ROOM, "%s", name);
+    strncpy(named->name, name, NAME_ROOM - 1);
     if (begin_work(t) && make_room(2)) add_name(named);
     t->works = 0;
 }

@@ -74,7 +74,7 @@ typedef struct thread {
     char is_cancelled_anywhere;        /* by pthread_setcanceltype */
     int cancel_state;                  /* when its hook ends */
     uint64_t range;                    /* how many bytes its last record accesses */
-    char name[NAME_ROOM];              /* that the program gave it */
+    char name[2 * NAME_PIECE];         /* that the program gave it, and zeros */
     char idles;                        /* in a replay: it waits for what others are to do, so it is in no hurry */
     struct thread *next_ended;
     int exit_rounds;                   /* of destructors of thread-specific data */
@@ -89,6 +89,8 @@ typedef struct thread {
 } thread;
 
 static inline uint64_t function_of(const thread *t) { return t->c11_function ? (uint64_t)t->c11_function : (uint64_t)t->function; }
+
+typedef const struct timespec *deadline;
 
 static inline size_t least(size_t n, size_t m) { return n < m ? n : m; }
 

@@ -4,7 +4,6 @@
 #include <sys/auxv.h>
 #include <threads.h>
 
-typedef const struct timespec *deadline;
 enum { CELL_MEGABYTES = 1024 };        /* without SHB_CELLS */
 #define MOST_SET (1ull << 40)          /* of records and megabytes: no machine has as many */
 volatile int others;

@@ -12,8 +12,6 @@
 #include <sys/wait.h>
 #include <threads.h>
 
-typedef const struct timespec *deadline;
-
 /* ---- calls that often block; one that is not here keeps the turn until a waiter finds it asleep ---- */
 void let_others_run(void) {
     thread *t = self;
