@@ -1,4 +1,4 @@
-/* What std::map, set and list read and write in functions of the C++ library, which have no hooks: by their
+/* What std::map, set, list and string read and write in functions of the C++ library, which have no hooks: by their
    symbols, of the library's present layout, which its programs have in them. An insertion or removal writes the
    ends of a tree, whichever node it is of, for by the C++ standard it changes the container: a search or walk
    that nothing orders with it is a race. A step reads the node's own links; those of the nodes that it passes
@@ -6,6 +6,7 @@
    The symbols are hidden from linkers: a C++ library that is linked into a program has its own. */
 #include "hold.h"
 #include "libraries.h"
+#include "library.h"
 
 typedef struct tree_node { int color; struct tree_node *parent, *left, *right; } tree_node;
 typedef struct list_node { struct list_node *next, *previous; } list_node;
@@ -87,3 +88,77 @@ static void swaps(list_node *x, uint64_t caller) {
     WRITES_LINK(previous->next);
 }
 LIST(4swapERS0_S1_, (list_node *x, list_node *y), (x, y), swaps(x, caller); swaps(y, caller))
+
+/* ---- strings ---- */
+/* By the standard each call that isn't const changes the string, but for those that only give access to characters.
+   So it writes the words that say where these are and how many, which all others read. Of the characters a call reads
+   and writes those that it uses; and where the block may become another one, it writes all of the old one.
+   strings.py says which calls there are. */
+typedef unsigned __int128 two_words;   /* what a call returns, if not where its first word says */
+typedef struct { char *characters; uint64_t length, capacity; } string;         /* short ones are where the capacity is */
+typedef union { uint64_t n; const char *text; string *s; } word;                 /* an argument */
+typedef struct { uint64_t caller, added; string was; } string_call;
+#define ALL (~0ull)
+#define APART static __attribute__((noinline))      /* two hundred calls are made of them */
+
+static int is_short(const string *s) { return s->characters == (char *)&s->capacity; }
+static uint64_t capacity_of(const string *s) { return is_short(s) ? 2 * sizeof s->capacity - 1 : s->capacity; }
+
+static void note_words(string_call *its, enum operation operation, string *s) {
+    note_link(operation, &s->characters, its->caller);
+    note_link(operation, &s->length, its->caller);
+}
+APART int is_seen(uint64_t caller) { return others && instrumented(caller); }
+APART void reads_words(string_call *its, string *s) { note_words(its, OP_READ, s); }
+APART void writes_words(string_call *its, string *s) { note_words(its, OP_WRITE, s); }
+APART void writes(string_call *its, const char *from, uint64_t count) { note_range(its->caller, OP_WRITE, from, count); }
+APART void reads_text(string_call *its, const char *from, uint64_t count) {
+    note_range(its->caller, OP_READ, from, count);
+    its->added += count;
+}
+APART void reads_part(string_call *its, string *s, uint64_t from, uint64_t count) {
+    reads_words(its, s);
+    if (from < s->length) reads_text(its, s->characters + from, least(count, s->length - from));
+}
+/* From the first character that was looked at to the last. */
+APART void found(string_call *its, string *s, uint64_t first, uint64_t last) {
+    reads_part(its, s, first, last < first ? 0 : least(last, s->length) - first + its->added);
+}
+
+APART void made(string_call *its, string *s) {
+    writes_words(its, s);
+    writes(its, s->characters, s->length + 1);
+}
+APART void ends(string_call *its, string *s) { made(its, s); }
+/* Its block goes as it is. */
+APART void moves(string_call *its, string *s) {
+    writes_words(its, s);
+    if (is_short(s)) writes(its, s->characters, s->length + 1);
+}
+APART void grows(string_call *its, const string *s, uint64_t length) { its->added = length - least(length, s->length); }
+APART void will_change(string_call *its, string *s) {
+    writes_words(its, s);
+    its->was = *s;
+    if (its->added > capacity_of(s) - s->length) writes(its, s->characters, s->length + 1);
+}
+/* From there on; only so many where block and length are what they were. */
+APART void changed(string_call *its, string *s, uint64_t from, uint64_t count) {
+    int is_moved = s->characters != its->was.characters;
+    if (is_moved || s->length != its->was.length) count = ALL;
+    if (is_moved) from = 0;
+    if (from <= s->length) writes(its, s->characters + from, least(s->length - from + 1, count));
+}
+APART void changed_end(string_call *its, string *s) { changed(its, s, least(its->was.length, s->length), 1); }
+
+#define STRING(version, name, before, after) \
+    two_words name(word a, word b, word c, word d, word e, word f); \
+    __asm__(".symver hooked_" #name ", " #name "@" #version); \
+    PUBLIC two_words hooked_##name(word a, word b, word c, word d, word e, word f) { \
+        string_call its = {.caller = CALLER}; \
+        int seen = is_seen(its.caller); \
+        if (seen) { before; } \
+        two_words r = REAL(name)(a, b, c, d, e, f); \
+        if (seen) { after; } \
+        return r; \
+    }
+#include "strings.inc"

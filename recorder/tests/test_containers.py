@@ -1,47 +1,62 @@
-"""What the C++ library's functions without hooks do to maps, sets and lists is found in each run, and nothing else."""
+"""What the C++ library's functions without hooks do to maps, sets, lists and strings is found in each run, and nothing else."""
+
+import shutil
 
 import recorder
 
 PROGRAM = recorder.PROGRAMS / "container_uses.cc"
 SEEDS = range(1, 6)
+GCC = ["g++", "-B{}/lib/"]
+CLANG = ["clang++", "-fno-sanitize-link-runtime", "-L{}/lib", "-Wl,--no-as-needed", "-ltsan"]
 
 
 class Containers(recorder.Case):
-    def build(self, *how):
+    def build(self, source, compiler, *how):
         program = self.folder / "app"
-        words = ["-w", "-g", "-O1", "-fsanitize=thread", "-pthread", f"-B{recorder.BUILT}/lib/", PROGRAM, "-o", program]
-        recorder.must(recorder.call("g++", *words, *how))
+        words = [word.format(recorder.BUILT) for word in compiler[1:]]
+        recorder.must(recorder.call(compiler[0], "-w", "-g", "-fsanitize=thread", "-pthread", *how, source, "-o", program, *words))
         return program
 
-    def places_of(self, *defined):
-        """In each seed's run: the pairs of racing lines."""
-        program, record = self.build(*(f"-D{name}" for name in defined)), self.folder / "app.rec"
-        for seed in SEEDS:
-            recorder.must(recorder.call(program, env=recorder.settings(record, seed, recorder.OWN_SLICES)))
-            yield recorder.places(recorder.must(recorder.convert(record)).stdout)
+    def record(self, program, seed, *words):
+        record = self.folder / "app.rec"
+        how = recorder.settings(record, seed, recorder.OWN_SLICES, LD_LIBRARY_PATH=f"{recorder.BUILT}/lib")
+        ran = recorder.must(recorder.call(program, *words, env=how))
+        return ran.stdout, recorder.places(recorder.must(recorder.convert(record)).stdout)
 
-    def check(self, container):
+    def check(self, *how, compiler=GCC, uses="iew"):
         lines = list(enumerate(PROGRAM.read_text().splitlines(), 1))
         missing = [f"{PROGRAM.name}:{number}" for number, line in lines if "MISSING */" in line]
         change, = (f"{PROGRAM.name}:{number}" for number, line in lines if "RACE */" in line)
-        for use, line in zip(("INSERTS", "ERASES", "WALKS"), missing):
-            with self.subTest(use=use):
-                found = list(self.places_of(container, use))
-                self.assertEqual(found, [{tuple(sorted((change, line)))}] * len(SEEDS))
-                found = list(self.places_of(container, use, "LOCKED"))
+        program = self.build(PROGRAM, compiler, *how)
+        for use, line in zip("iew", missing):
+            with self.subTest(use=use, how=how, compiler=compiler[0]):
+                found = [self.record(program, seed, use)[1] for seed in SEEDS if use in uses]
+                self.assertEqual(found, [{tuple(sorted((change, line)))}] * len(found))
+                found = [self.record(program, seed, use, "locked")[1] for seed in SEEDS]
                 self.assertEqual(found, [set()] * len(SEEDS))
 
     def test_maps(self):
-        self.check("MAP")
+        self.check("-O1", "-DMAP")
 
     def test_sets(self):
-        self.check("SET")
+        self.check("-O1", "-DSET")
 
     def test_lists(self):
-        self.check("LIST")
+        self.check("-O1", "-DLIST")
+
+    def test_strings(self):
+        for how in ("-std=c++17", "-O0"), ("-std=c++17", "-O2"), ("-std=c++20", "-O0"), ("-std=c++20", "-O2"):
+            self.check(*how)
+
+    def test_strings_of_clang(self):
+        """It says no line of a load that it takes out of a loop."""
+        if not shutil.which("clang++"):
+            self.skipTest("clang++ isn't installed")
+        for standard in "-std=c++17", "-std=c++20":
+            self.check(standard, "-O0", compiler=CLANG)
+            self.check(standard, "-O2", compiler=CLANG, uses="ie")
 
     def test_linked_into_the_program(self):
         """The C++ library's functions are the program's own, and it runs as before."""
-        for container in ("MAP", "LIST"):
-            program = self.build("-static-libstdc++", f"-D{container}", "-DINSERTS")
-            recorder.must(recorder.call(program, env=recorder.settings(self.folder / "app.rec")))
+        for container in "-DMAP", "-DLIST", "-DSTRING":
+            self.record(self.build(PROGRAM, GCC, "-static-libstdc++", "-O1", container), 1, "i")

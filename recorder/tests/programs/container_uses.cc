@@ -1,9 +1,11 @@
-/* A map, a set or a list that one thread changes under the lock, and another inserts into, erases from or walks:
-   with the lock if LOCKED is defined, else without. The line that the lock is missing at is marked. */
+/* A map, a set, a list or a string that one thread changes under the lock, and another inserts into, erases from or walks
+   (the first word: i, e or w): with the lock if there is a second word, else without. The line that the lock is missing at
+   is marked. */
 #include <list>
 #include <map>
 #include <mutex>
 #include <set>
+#include <string>
 #include <thread>
 
 static std::mutex lock;
@@ -13,30 +15,32 @@ static std::map<int, int> values;
 #elif defined SET
 static std::set<int> values;
 #define PUT(k) values.insert(k)
-#else
+#elif defined LIST
 static std::list<int> values;
 #define PUT(k) values.push_back(k)
-#endif
-static int seen;
-
-static void use() {
-    for (int k = 0; k < 5; k++) {
-#ifdef LOCKED
-        std::lock_guard<std::mutex> hold(lock);
-#endif
-#ifdef INSERTS
-        PUT(100 + k); /* MISSING */
-#elif defined ERASES
-        values.erase(values.begin()); /* MISSING */
 #else
-        for (auto at = values.begin(); at != values.end(); ++at) seen++; /* MISSING */
+static std::string values;
+#define PUT(k) values.push_back('a' + (k) % 26)
 #endif
+static volatile int seen;
+
+__attribute__((noinline)) static void use(char how) {
+    if (how == 'i') PUT(100 + seen++); /* MISSING */
+    if (how == 'e') values.erase(values.begin()); /* MISSING */
+    if (how == 'w') for (auto at = values.begin(); at != values.end(); ++at) seen++; /* MISSING */
+}
+
+static void use_often(char how, bool is_locked) {
+    for (int k = 0; k < 5; k++) {
+        std::unique_lock<std::mutex> hold(lock, std::defer_lock);
+        if (is_locked) hold.lock();
+        use(how);
     }
 }
 
-int main() {
+int main(int count, char **words) {
     for (int k = 0; k < 64; k++) PUT(k);
-    std::thread t(use);
+    std::thread t(use_often, words[1][0], count > 2);
     for (int k = 0; k < 5; k++) {
         std::lock_guard<std::mutex> hold(lock);
         PUT(1000 + k); /* RACE */
