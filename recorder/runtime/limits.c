@@ -92,6 +92,12 @@ static int often_waits(long number, long second) {
     }
 }
 
+/* Who was woken, or found another word, has what was stored there: locks of code without hooks too are taken so. */
+static void note_waited(const void *word, long result, uint64_t caller) {
+    uint64_t inside = sizeof(int) | __ATOMIC_ACQUIRE << ATOMIC_SIZE_BITS;
+    if (others && (!result || result == -EAGAIN)) note_bytes(YIELDS_BY_LIST, OP_ATOMIC_LOAD, word, inside, caller);
+}
+
 PUBLIC long syscall(long number, ...) {
     va_list more;
     va_start(more, number);
@@ -103,6 +109,7 @@ PUBLIC long syscall(long number, ...) {
     register long r10 __asm__("r10") = d, r8 __asm__("r8") = e, r9 __asm__("r9") = f;
     __asm__ volatile("syscall" : "=a"(result)
                      : "a"(number), "D"(a), "S"(b), "d"(c), "r"(r10), "r"(r8), "r"(r9) : "rcx", "r11", "memory");
+    if (number == SYS_futex && is_waiting_futex(b)) note_waited((void *)a, result, CALLER);
     if (result >= 0 || result < -4095) return result;
     errno = -result;
     return -1;
