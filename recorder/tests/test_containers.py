@@ -23,14 +23,14 @@ class Containers(recorder.Case):
         ran = recorder.must(recorder.call(program, *words, env=how))
         return ran.stdout, recorder.places(recorder.must(recorder.convert(record)).stdout)
 
-    def check(self, *how, compiler=GCC, uses="iew"):
+    def check(self, *how, compiler=GCC):
         lines = list(enumerate(PROGRAM.read_text().splitlines(), 1))
         missing = [f"{PROGRAM.name}:{number}" for number, line in lines if "MISSING */" in line]
         change, = (f"{PROGRAM.name}:{number}" for number, line in lines if "RACE */" in line)
         program = self.build(PROGRAM, compiler, *how)
         for use, line in zip("iew", missing):
             with self.subTest(use=use, how=how, compiler=compiler[0]):
-                found = [self.record(program, seed, use)[1] for seed in SEEDS if use in uses]
+                found = [self.record(program, seed, use)[1] for seed in SEEDS]
                 self.assertEqual(found, [{tuple(sorted((change, line)))}] * len(found))
                 found = [self.record(program, seed, use, "locked")[1] for seed in SEEDS]
                 self.assertEqual(found, [set()] * len(SEEDS))
@@ -44,17 +44,18 @@ class Containers(recorder.Case):
     def test_lists(self):
         self.check("-O1", "-DLIST")
 
+    def check_strings(self, compiler):
+        for standard in "-std=c++17", "-std=c++20":
+            for level in "-O0", "-O2":
+                self.check(standard, level, compiler=compiler)
+
     def test_strings(self):
-        for how in ("-std=c++17", "-O0"), ("-std=c++17", "-O2"), ("-std=c++20", "-O0"), ("-std=c++20", "-O2"):
-            self.check(*how)
+        self.check_strings(GCC)
 
     def test_strings_of_clang(self):
-        """It says no line of a load that it takes out of a loop."""
         if not shutil.which("clang++"):
             self.skipTest("clang++ isn't installed")
-        for standard in "-std=c++17", "-std=c++20":
-            self.check(standard, "-O0", compiler=CLANG)
-            self.check(standard, "-O2", compiler=CLANG, uses="ie")
+        self.check_strings(CLANG)
 
     def test_linked_into_the_program(self):
         """The C++ library's functions are the program's own, and it runs as before."""

@@ -24,17 +24,16 @@ static std::string values;
 #endif
 static volatile int seen;
 
-__attribute__((noinline)) static void use(char how) {
-    if (how == 'i') PUT(100 + seen++); /* MISSING */
-    if (how == 'e') values.erase(values.begin()); /* MISSING */
-    if (how == 'w') for (auto at = values.begin(); at != values.end(); ++at) seen++; /* MISSING */
-}
+#define USE __attribute__((noinline)) static void
+USE inserts() { PUT(100 + seen++); } /* MISSING */
+USE erases() { values.erase(values.begin()); } /* MISSING */
+USE walks() { for (auto at = values.begin(); at != values.end(); ++at) seen++; } /* MISSING */
 
 static void use_often(char how, bool is_locked) {
     for (int k = 0; k < 5; k++) {
         std::unique_lock<std::mutex> hold(lock, std::defer_lock);
         if (is_locked) hold.lock();
-        use(how);
+        how == 'i' ? inserts() : how == 'e' ? erases() : walks();
     }
 }
 
