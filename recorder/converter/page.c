@@ -63,14 +63,15 @@ static void add_race(u64 first, u64 second, char *variable) {
     map_text(&page.names, variable);
 }
 
-/* The spans of races that are near each other are one; it begins and ends with the run where that is short. */
+/* The spans of races that are near each other are one; it begins and ends with the run where that is short. One of a single access doesn't. */
 static void join_spans(u64 run_events) {
     u64 count = 0;
     qsort(page.spans.at, page.spans.count, sizeof *page.spans.at, by_number);
     EACH(s, page.spans.at, page.spans.count) {
-        span next = {s->first > SHORT_RUN ? s->first - BEFORE : 1, s->last + BEHIND};
+        u64 from_begin = s->first < s->last ? SHORT_RUN : BEFORE;
+        span next = {s->first > from_begin ? s->first - BEFORE : 1, s->last + BEHIND};
         span *before = count ? &page.spans.at[count - 1] : 0;
-        if (next.last < SHORT_RUN) next.last = SHORT_RUN;
+        if (from_begin == SHORT_RUN && next.last < SHORT_RUN) next.last = SHORT_RUN;
         if (next.last > run_events) next.last = run_events;
         if (!before || next.first > before->last + 1) page.spans.at[count++] = next;
         else if (before->last < next.last) before->last = next.last;
