@@ -25,11 +25,14 @@ def arguments():
     parser.add_argument("--private", type=int, default=30, help="accesses of own variables, in 100")
     parser.add_argument("--section", type=int, default=6, help="accesses in a locked section")
     parser.add_argument("--reads", type=int, default=67, help="reads, in 100 accesses")
-    parser.add_argument("--alive", type=int, help="how many threads run at once (all of them where it is left out)")
-    parser.add_argument("--races", type=int, default=0, help="unprotected pairs of writes, in a million steps")
+    parser.add_argument("--alive", type=int, help="how many threads run at once (all of them where it is "
+                                                  "left out)")
+    parser.add_argument("--races", type=int, default=0,
+                        help="unprotected pairs of writes, in a million steps")
     parser.add_argument("--open", type=int, default=16, help="variables that nothing protects")
     parser.add_argument("--hot", action="store_true", help="one variable under one lock")
-    parser.add_argument("--late", action="store_true", help="one unprotected write by each of two threads at the very end")
+    parser.add_argument("--late", action="store_true",
+                        help="one unprotected write by each of two threads at the very end")
     parser.add_argument("--recorded", action="store_true", help="long names, memory in order, runs of steps")
     parser.add_argument("--seed", type=int, default=1)
     return parser.parse_args()
@@ -67,9 +70,11 @@ class ShortNames:
 
 
 class RecordedNames:
-    """A piece of memory is named by the line that asked for it, which of its answers it is, and the place in it."""
+    """A piece of memory is named by the line that asked for it, which of its answers it is, and the
+    place in it."""
 
-    FILES = ("cache/table_entries.cc", "codec/block_compressor.cc", "io/buffered_writer.cc", "net/connection_state.cc")
+    FILES = ("cache/table_entries.cc", "codec/block_compressor.cc", "io/buffered_writer.cc",
+             "net/connection_state.cc")
     BLOCK = 512  # variables of 8 bytes
 
     def thread(self, thread):

@@ -1,7 +1,7 @@
 #!/usr/bin/env python3
-"""Shows how time grows with a trace: for each shape of traces the processor time for a number of events and for four
-times as many, with one worker, and the ratio, which is about 4 where time is linear. By hand, on the built program.
-`list` is `shb races --list`, `places` is `shb places`, and `check` checks what `places` wrote.
+"""Shows how time grows with a trace: for each shape of traces the processor time for a number of events and
+for four times as many, with one worker, and the ratio, which is about 4 where time is linear. By hand, on the
+built program. `list` is `shb races --list`, `places` is `shb places`, and `check` checks what `places` wrote.
 
     growth.py [--events N] [--only WORD] [PROGRAM]
 """
@@ -18,7 +18,8 @@ FORMS = {"list": ["races", "--list"], "places": ["places"]}
 
 def under_a_lock(threads, access):
     """Threads in turn take one lock for an access of one variable."""
-    return lambda n: ("T{0}|acq(l)\nT{0}|{1}(x)\nT{0}|rel(l)\n".format(k % threads, access) for k in range(n // 3))
+    return lambda n: ("T{0}|acq(l)\nT{0}|{1}(x)\nT{0}|rel(l)\n".format(k % threads, access)
+                      for k in range(n // 3))
 
 
 def after_a_race(threads, access):
@@ -62,7 +63,8 @@ SHAPES = {
     "1,000 threads read": lambda n: (f"T{k % 1000}|r(x)\n" for k in range(n)),
     "1,000 threads read what one wrote": lambda n: ["T0|w(x)\n", *(f"T{k % 1000}|r(x)\n" for k in range(n))],
     "one writes what 1,000 threads read": lambda n: [*(f"T{k % 1000}|r(x)\n" for k in range(n)), "T0|w(x)\n"],
-    "each reads what the one before wrote": lambda n: (f"T{k % 250}|r(c{k})\nT{k % 250}|w(c{k + 1})\n" for k in range(n // 2)),
+    "each reads what the one before wrote": lambda n: (f"T{k % 250}|r(c{k})\nT{k % 250}|w(c{k + 1})\n"
+                                                       for k in range(n // 2)),
     "1,000 threads write under a lock": under_a_lock(1000, "w"),
     "8 threads write under a lock, after a race": after_a_race(8, "w"),
     "64 threads write under a lock, after a race": after_a_race(64, "w"),
@@ -85,7 +87,8 @@ def measured(program, shape, events, folder):
     text, report = folder / "trace.std", folder / "report"
     with open(text, "w", encoding="ascii") as out:
         out.writelines(shape(events))
-    times = {form: seconds([program, *words, "--workers", "1", text], report) for form, words in FORMS.items()}
+    times = {form: seconds([program, *words, "--workers", "1", text], report)
+             for form, words in FORMS.items()}
     if report.stat().st_size:
         times["check"] = seconds([program, "check", text], folder / "verdict", report)
     return times
@@ -104,7 +107,8 @@ def main():
             if options.only in name:
                 few, many = (measured(program, shape, k * options.events, pathlib.Path(room)) for k in (1, 4))
                 for form, time in few.items():
-                    print(f"| {name} | {form} | {time:.3f} | {many[form]:.3f} | {many[form] / max(time, 0.001):.1f} |", flush=True)
+                    print(f"| {name} | {form} | {time:.3f} | {many[form]:.3f} | "
+                          f"{many[form] / max(time, 0.001):.1f} |", flush=True)
 
 
 if __name__ == "__main__":

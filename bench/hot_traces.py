@@ -1,10 +1,13 @@
 #!/usr/bin/env python3
 """Writes a trace whose number of races grows with the square of its length to standard output.
 
-    hot_traces.py counter N T SEED     T threads add 1 to a variable N times each, without a lock; they change places
-                                       between a read and its write, as in a recorded run, so that updates are lost
+    hot_traces.py counter N T SEED     T threads add 1 to a variable N times each, without a lock; they change
+                                       places
+                                       between a read and its write, as in a recorded run, so that
+                                       updates are lost
     hot_traces.py progress N T SEED    one thread writes a variable N times, T - 1 others read it each time
-    hot_traces.py mixed N T SEED       N locked updates of 160 variables; 4 variables of statistics without a lock
+    hot_traces.py mixed N T SEED       N locked updates of 160 variables; 4 variables of statistics without a
+                                       lock
     hot_traces.py array N T SEED       N variables, each written by two of T threads at one of 20 locations
     hot_traces.py places N T SEED      T threads access one variable N times in all, at 1,000 locations
 
@@ -73,7 +76,8 @@ SHAPES = {"counter": counter, "progress": progress, "mixed": mixed, "array": arr
 
 
 def lines(shape, times, threads, seed):
-    """The lines of a trace: a first thread forks the others, these access the variables, and it joins them."""
+    """The lines of a trace: a first thread forks the others, these access the variables, and
+    it joins them."""
     names = [f"T{k}" for k in range(1, threads + 1)]
     for name in names:
         yield f"main|fork({name})|main.c:9\n"

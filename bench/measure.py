@@ -1,8 +1,8 @@
 #!/usr/bin/env python3
-"""Times the built program on made traces, or on the given ones, and prints a table: for each trace, form of the
-report and number of workers the least wall time of some runs, its ratio to that with one worker, the processor
-time of that run and the most memory; and, of one worker, the ratio to `wc -l` of the trace. All is of this one
-run. Of given traces list reports are made, or with --full full ones.
+"""Times the built program on made traces, or on the given ones, and prints a table: for each trace, form of
+the report and number of workers the least wall time of some runs, its ratio to that with one worker, the
+processor time of that run and the most memory; and, of one worker, the ratio to `wc -l` of the trace. All is
+of this one run. Of given traces list reports are made, or with --full full ones.
 
     measure.py [--large] [--repeats N] [--only WORD] [PROGRAM]
     measure.py [--full] [--repeats N] PROGRAM TRACE..
@@ -39,13 +39,17 @@ TRACES = [
     Trace("a million, 4 locks", million("--locks", "4", *SOME_RACES)),
     Trace("a million, one hot variable", million("--hot")),
     Trace("a million, 200,000 variables", million("--variables", "200000", *SOME_RACES)),
-    Trace("a million, names as recorded, 260,000 variables", million("--threads", "8", "--variables", "200000", "--own", "8000", "--recorded", *SOME_RACES)),
+    Trace("a million, names as recorded, 260,000 variables",
+          million("--threads", "8", "--variables", "200000", "--own", "8000", "--recorded", *SOME_RACES)),
     Trace("a million, mostly reads", million("--reads", "95", *SOME_RACES)),
     Trace("a million, 32 threads", million("--threads", "32", *SOME_RACES)),
     Trace("a million, 1,024 threads", million("--threads", "1024", *SOME_RACES)),
-    Trace("a million, 1,000 threads forked and joined, 16 at once", million("--threads", "1000", "--alive", "16", *SOME_RACES)),
+    Trace("a million, 1,000 threads forked and joined, 16 at once",
+          million("--threads", "1000", "--alive", "16", *SOME_RACES)),
     Trace("a million, one late race", million("--late"), ("full",)),
-    Trace("a hundred thousand, many races, long schedules", ["--events", "100000", "--races", "20000"], ("list", "full")),
+    Trace(
+        "a hundred thousand, many races, long schedules", ["--events", "100000", "--races",
+                                                           "20000"], ("list", "full")),
     Trace("four million", ["--events", "4000000", *SOME_RACES], is_large=True),
     Trace("four million, 32 threads", ["--events", "4000000", "--threads", "32", *SOME_RACES], is_large=True),
 ]
@@ -114,13 +118,15 @@ def arguments():
     parser.add_argument("--repeats", type=int, default=3)
     parser.add_argument("--only", default="", help="traces whose names have this word")
     parser.add_argument("program", nargs="?", default=HERE.parent / "bin" / "shb", type=pathlib.Path)
-    parser.add_argument("traces", nargs="*", type=pathlib.Path, help="recorded traces, in place of the made ones")
+    parser.add_argument("traces", nargs="*", type=pathlib.Path,
+                        help="recorded traces, in place of the made ones")
     return parser.parse_args()
 
 
 def main():
     options = arguments()
-    print("| trace | events | MB | form | races | report MB | workers | wall s | x 1 worker | processor s | peak MB | x wc -l |")
+    print("| trace | events | MB | form | races | report MB | workers | wall s | x 1 worker | processor s | "
+          "peak MB | x wc -l |")
     print("|---|---|---|---|---|---|---|---|---|---|---|---|")
     program = options.program.resolve()
     with tempfile.TemporaryDirectory() as room:

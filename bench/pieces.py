@@ -128,7 +128,8 @@ def build(folder):
     measure = folder / "crates" / "measure"
     (measure / "src").mkdir(parents=True)
     (measure / "src" / "main.rt").write_text(MAIN)
-    done = subprocess.run(["rt", "run", "--jobs", "2", "--", "1", "0", "1", "1"], cwd=measure, capture_output=True, text=True)
+    done = subprocess.run(["rt", "run", "--jobs", "2", "--", "1", "0", "1", "1"], cwd=measure,
+                          capture_output=True, text=True)
     if done.returncode != 0:
         sys.exit(done.stdout + done.stderr)
     return measure / "out" / "measure"
@@ -156,7 +157,8 @@ def main():
         for pieces, turns in ROWS:
             for workers in WORKERS:
                 times, processor = measured(program, pieces, turns, workers, calls)
-                print(f"| {pieces} | {turns} | {workers} | {min(times)} | {statistics.median(times):.0f} | {processor:.0f} |", flush=True)
+                print(f"| {pieces} | {turns} | {workers} | {min(times)} | {statistics.median(times):.0f} | "
+                      f"{processor:.0f} |", flush=True)
 
 
 if __name__ == "__main__":

@@ -3,8 +3,8 @@
 
     places.py [--repeats N] [--only WORD] [--beside COMMAND] [PROGRAM] [TRACE ..]
 
-With --beside the ratios to another analyser are printed too: COMMAND is a program and its words, to which the trace is
-added. Both run in turn.
+With --beside the ratios to another analyser are printed too: COMMAND is a program and its words, to which the
+trace is added. Both run in turn.
 """
 
 import argparse
@@ -49,7 +49,8 @@ def row(options, folder, path):
             best[k] = ran if best[k] is None else measure.Timed(*map(min, best[k], ran))
     cells = [f"{best[0].processor:.3f}", f"{best[0].megabytes:.0f}"]
     if options.beside:
-        cells += [f"{best[0].processor / best[1].processor:.2f}", f"{best[0].megabytes / best[1].megabytes:.2f}"]
+        cells += [f"{best[0].processor / best[1].processor:.2f}",
+                  f"{best[0].megabytes / best[1].megabytes:.2f}"]
     with open(path, "rb") as text:
         events = sum(1 for _ in text)
     print(f"| {path.stem} | {events} | {path.stat().st_size / 1e6:.1f} | {' | '.join(cells)} |", flush=True)

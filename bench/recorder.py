@@ -3,9 +3,9 @@
 
     recorder.py PLAIN TSAN [WORD..]
 
-The two are the same program, built without -fsanitize=thread and with it; the second is run by itself and recorded.
-Each is run with the WORDs, its output thrown away. The trace is then made and analysed. Times are wall and processor
-seconds, the least of three runs. The built analyser is bin/shb, or what SHB names.
+The two are the same program, built without -fsanitize=thread and with it; the second is run by itself and
+recorded. Each is run with the WORDs, its output thrown away. The trace is then made and analysed. Times are
+wall and processor seconds, the least of three runs. The built analyser is bin/shb, or what SHB names.
 """
 
 import os
@@ -30,7 +30,8 @@ def processor_seconds():
 
 
 def measure(words, **how):
-    """The least wall and processor time of some runs of a command, and what the last one said on standard error."""
+    """The least wall and processor time of some runs of a command, and what the last one said
+    on standard error."""
     wall, processor = [], []
     for _ in range(RUNS):
         begin, before = time.monotonic(), processor_seconds()

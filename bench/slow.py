@@ -1,11 +1,12 @@
 #!/usr/bin/env python3
-"""Looks for traces that are slow to analyse: draws traces of few parameters, counts instructions for each byte that is read
-or written (valgrind's callgrind, one worker), and climbs from the dearest to its neighbours. By hand, on the built program.
+"""Looks for traces that are slow to analyse: draws traces of few parameters, counts instructions for each
+byte that is read or written (valgrind's callgrind, one worker), and climbs from the dearest to its
+neighbours. By hand, on the built program.
 
     slow.py [--minutes N] [--events N] [--seed N] [--form places|races] [PROGRAM]
 
-It prints each trace that is dearer than all before. `slow.py --write EVENTS PARAMETERS` writes the trace of printed
-parameters to standard output.
+It prints each trace that is dearer than all before. `slow.py --write EVENTS PARAMETERS` writes the trace of
+printed parameters to standard output.
 """
 
 import argparse
@@ -83,7 +84,8 @@ def cost(program, form, point, events, folder):
     """Instructions for each byte that is read or written; 0 where no analysis came to an end."""
     trace, report = folder / "trace.std", folder / "report"
     trace.write_text("".join(lines(point, events)))
-    words = ["valgrind", "--tool=callgrind", "--callgrind-out-file=/dev/null", program, form, "--list", "--workers", "1", trace]
+    words = ["valgrind", "--tool=callgrind", "--callgrind-out-file=/dev/null", program, form, "--list",
+             "--workers", "1", trace]
     with open(report, "wb") as out:
         ran = subprocess.run(words, stdout=out, stderr=subprocess.PIPE, timeout=600)
     counted = COLLECTED.search(ran.stderr)

@@ -1,12 +1,13 @@
 #!/usr/bin/env python3
-"""Measures `shb places --list` on streams of any length, which are made meanwhile, and prints time and memory.
+"""Measures `shb places --list` on streams of any length, which are made meanwhile, and prints
+time and memory.
 
     streams.py [--events N,..] [--beside COMMAND] [PROGRAM]
 
-A stream is one round of a made-up program again and again: threads take locks, use what these protect and memory of their own, and now
-and then what nothing protects. Its first and its last event race. So its places are those of two rounds and one more, whatever its
-length; that is checked. With --beside another program is given the same streams, as words to which nothing is added; what it writes
-isn't looked at.
+A stream is one round of a made-up program again and again: threads take locks, use what these protect and
+memory of their own, and now and then what nothing protects. Its first and its last event race. So its places
+are those of two rounds and one more, whatever its length; that is checked. With --beside another program is
+given the same streams, as words to which nothing is added; what it writes isn't looked at.
 """
 
 import argparse
@@ -52,20 +53,23 @@ def feed(pipe, text, rounds):
 
 
 def megabytes(process):
-    """The most that a process had until now. (What the system says of an ended one counts this program, too, which started it.)"""
+    """The most that a process had until now. (What the system says of an ended one counts this program, too,
+    which started it.)"""
     status = pathlib.Path(f"/proc/{process.pid}/status").read_text()
     return int(re.search(r"VmHWM:\s+(\d+)", status)[1]) / 1024
 
 
 def analyse(command, text, rounds, out):
-    """The processor seconds of a command on a stream of so many rounds, and its megabytes when nearly all was read."""
+    """The processor seconds of a command on a stream of so many rounds, and its megabytes when nearly
+    all was read."""
     process = subprocess.Popen(command, stdin=subprocess.PIPE, stdout=out)
     feed(process.stdin, text, rounds)
     most = megabytes(process)
     process.stdin.close()
     _, status, usage = os.wait4(process.pid, 0)
     if status:
-        raise SystemExit(f"{shlex.join(map(str, command))} ended with status {os.waitstatus_to_exitcode(status)}")
+        raise SystemExit(f"{shlex.join(map(str, command))} ended with status "
+                         f"{os.waitstatus_to_exitcode(status)}")
     return usage.ru_utime + usage.ru_stime, most
 
 
@@ -76,12 +80,14 @@ def places(file):
 
 def main():
     parser = argparse.ArgumentParser(description=__doc__.splitlines()[0])
-    parser.add_argument("--events", default="5000000,10000000,20000000", help="how many events, about, with commas between")
+    parser.add_argument("--events", default="5000000,10000000,20000000",
+                        help="how many events, about, with commas between")
     parser.add_argument("--beside", default="", help="another program, with its words")
     parser.add_argument("program", nargs="?", default=measure.HERE.parent / "bin" / "shb", type=pathlib.Path)
     options = parser.parse_args()
     text, count = round_of_steps()
-    commands = [[options.program.resolve(), "places", "--list"], *[shlex.split(options.beside)] * bool(options.beside)]
+    commands = [[options.program.resolve(), "places", "--list"],
+                *[shlex.split(options.beside)] * bool(options.beside)]
     with tempfile.TemporaryFile() as out:
         analyse(commands[0], text, 2, out)
         wanted = places(out)
@@ -92,7 +98,8 @@ def main():
             out.truncate()
             start = time.monotonic()
             seconds, most = analyse(commands[0], text, rounds, out)
-            cells = [f"{rounds * count + 2}", f"{rounds * len(text) / 1e9:.2f}", f"{time.monotonic() - start:.1f}", f"{seconds:.1f}", f"{most:.0f}"]
+            cells = [f"{rounds * count + 2}", f"{rounds * len(text) / 1e9:.2f}",
+                     f"{time.monotonic() - start:.1f}", f"{seconds:.1f}", f"{most:.0f}"]
             if places(out) != wanted:
                 raise SystemExit(f"of {rounds} rounds it lists other places than of 2")
             if options.beside:

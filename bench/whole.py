@@ -1,13 +1,15 @@
 #!/usr/bin/env python3
 """Prints what all of shb-record costs beside ThreadSanitizer, for docs/BENCHMARKS.md.
 
-    whole.py [RUNS [KIND..]]                     whole.c and examples/account.c, built by gcc -O2 -fsanitize=thread
+    whole.py [RUNS [KIND..]]                     whole.c and examples/account.c, built by gcc -O2
+                                                 -fsanitize=thread
     whole.py RUNS -- PROGRAM [WORD..]            a program that was built with the flag, with these words
 
-Each is run with gcc's library, which reports nothing, and by shb-record with seed 1, in turn, in a folder of its own; the built analyser is
-bin/shb, or what SHB names. The first run compiles Python's modules; an installation has compiled ones. CPU seconds are user and system time
-with those of all processes that were started, the least of RUNS runs (3); memory is the most that one of them had. The aim is
-ThreadSanitizer's time and 0.4 microseconds for each event.
+Each is run with gcc's library, which reports nothing, and by shb-record with seed 1, in turn, in a folder of
+its own; the built analyser is bin/shb, or what SHB names. The first run compiles Python's modules; an
+installation has compiled ones. CPU seconds are user and system time with those of all processes that were
+started, the least of RUNS runs (3); memory is the most that one of them had. The aim is ThreadSanitizer's
+time and 0.4 microseconds for each event.
 """
 
 import os
@@ -25,7 +27,8 @@ EVENT = 0.4e-6
 
 def processor_seconds(words, status, **how):
     """What one run takes, and the most memory of one of its processes, in MB."""
-    running = subprocess.Popen([str(word) for word in words], stdout=subprocess.DEVNULL, stderr=subprocess.DEVNULL, **how)
+    running = subprocess.Popen([str(word) for word in words], stdout=subprocess.DEVNULL,
+                               stderr=subprocess.DEVNULL, **how)
     _, ended, usage = os.wait4(running.pid, 0)
     running.returncode = ended
     if os.WEXITSTATUS(ended) not in (0, status):
@@ -35,21 +38,25 @@ def processor_seconds(words, status, **how):
 
 def events_of(record):
     """How many events the run's trace has."""
-    said = subprocess.run([TOP / "recorder/shb-std", "--list", record], stdout=subprocess.DEVNULL, stderr=subprocess.PIPE, check=True).stderr
+    said = subprocess.run([TOP / "recorder/shb-std", "--list", record], stdout=subprocess.DEVNULL,
+                          stderr=subprocess.PIPE, check=True).stderr
     return int(re.search(rb"(\d+) events", said)[1])
 
 
 def build(kind, folder):
     """The words that run a program of this kind."""
-    source, rounds = (TOP / "examples/account.c", []) if kind == "account" else (TOP / "bench/whole.c", [kind, ROUNDS[kind]])
-    subprocess.run(["gcc", "-O2", "-g", "-w", "-fsanitize=thread", "-pthread", source, "-o", folder / kind], check=True)
+    source, rounds = ((TOP / "examples/account.c", []) if kind == "account"
+                      else (TOP / "bench/whole.c", [kind, ROUNDS[kind]]))
+    subprocess.run(["gcc", "-O2", "-g", "-w", "-fsanitize=thread", "-pthread", source, "-o", folder / kind],
+                   check=True)
     return folder / kind, *rounds
 
 
 def print_row(name, words, runs, folder):
     record, least, memory = folder / "app.rec", {}, 0
     ways = {"tsan": (words, {"TSAN_OPTIONS": "report_bugs=0"}),
-            "all": ([sys.executable, TOP / "python/shb-record", "-o", folder / "results", *words], {"SHB_SEED": "1"})}
+            "all": ([sys.executable, TOP / "python/shb-record", "-o", folder / "results",
+                     *words], {"SHB_SEED": "1"})}
     compiled = {**os.environ, "PYTHONPYCACHEPREFIX": str(folder / "compiled")}
     compiled.pop("PYTHONDONTWRITEBYTECODE", None)
     for _ in range(runs):
@@ -57,20 +64,24 @@ def print_row(name, words, runs, folder):
             taken, had = processor_seconds(command, A_PLACE, cwd=folder, env={**compiled, **more})
             least[way] = min(taken, least.get(way, 1e9))
             memory = max(memory, had) if way == "all" else memory
-    recorded = {**os.environ, "SHB_SEED": "1", "SHB_RECORD": str(record), "LD_LIBRARY_PATH": str(TOP / "recorder/lib")}
+    recorded = {**os.environ, "SHB_SEED": "1", "SHB_RECORD": str(record),
+                "LD_LIBRARY_PATH": str(TOP / "recorder/lib")}
     subprocess.run([str(word) for word in words], env=recorded, stdout=subprocess.DEVNULL, check=True)
     events = events_of(record)
     tsan, all_ = least["tsan"], least["all"]
-    print(f"| {name} | {events:,} | {tsan:.3f} | {all_:.2f} | {all_ / tsan:.1f} | {tsan + EVENT * events:.2f} | {memory:,} |", flush=True)
+    print(f"| {name} | {events:,} | {tsan:.3f} | {all_:.2f} | {all_ / tsan:.1f} | "
+          f"{tsan + EVENT * events:.2f} | {memory:,} |", flush=True)
 
 
 def main(runs="3", *words):
-    print("| Program | Events | ThreadSanitizer | shb-record | Ratio | Aim | Memory, MB |\n|---|---|---|---|---|---|---|")
+    print("| Program | Events | ThreadSanitizer | shb-record | Ratio | Aim | Memory, MB "
+          "|\n|---|---|---|---|---|---|---|")
     for kind in ["--"] if words[:1] == ("--",) else words or ROUNDS:
         with tempfile.TemporaryDirectory() as name:
             folder = pathlib.Path(name)
             if kind == "--":
-                print_row(" ".join(os.path.basename(word) for word in words[1:]), words[1:], int(runs), folder)
+                print_row(" ".join(os.path.basename(word) for word in words[1:]), words[1:], int(runs),
+                          folder)
             else:
                 print_row(kind, build(kind, folder), int(runs), folder)
 

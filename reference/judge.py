@@ -80,7 +80,8 @@ def read_report(text):
     """The four counts, the places (None in a report of version 1) and the blocks; or BadLine."""
     lines = Lines(text)
     [version] = lines.numbers(rb"shb-report ([12])")
-    counts = lines.numbers(rb" ".join(name + rb" " + NUMBER for name in (b"events", b"threads", b"locks", b"variables")))
+    counts = lines.numbers(
+        rb" ".join(name + rb" " + NUMBER for name in (b"events", b"threads", b"locks", b"variables")))
     [races] = lines.numbers(rb"races " + NUMBER)
     places = read_places(lines) if version == 2 else None
     blocks = []

@@ -4,8 +4,8 @@
     shb.py [--places [--variables]] [--list] < TRACE
 
 writes the report of all races to standard output; with --places that of the nearest race of each place, with
---variables of each place and variable; with --list without schedules. A refused trace ends with status 2 and its
-fault on standard error.
+--variables of each place and variable; with --list without schedules. A refused trace ends with status 2 and
+its fault on standard error.
 """
 
 import math
@@ -177,7 +177,8 @@ def races_and_schedules(events):
     for j, later in enumerate(events):
         for i in range(j):
             if conflict(events[i], later) and i not in learned[j]:
-                first_access = next(k for k, e in enumerate(events) if e[1] in (b"r", b"w") and e[2] == later[2])
+                first_access = next(k for k, e in enumerate(events) if e[1] in (b"r", b"w")
+                                    and e[2] == later[2])
                 found.append((first_access, j, i, sorted(learned[i] | learned[j])))
     return [(i, j, schedule) for _, j, i, schedule in sorted(found)]
 
@@ -201,8 +202,9 @@ def places_of(races, lines):
 
 
 def nearest_races(races, site):
-    """Of all races at a site the one whose later event comes first, and of those with this event the one whose earlier
-    event comes last: such a race of each site, in the order of the later events, then of the earlier ones."""
+    """Of all races at a site the one whose later event comes first, and of those with this event the one
+    whose earlier event comes last: such a race of each site, in the order of the later events, then of the
+    earlier ones."""
     at = {}
     for race in races:
         at.setdefault(site(race), []).append(race)

@@ -29,7 +29,8 @@ def end_of_parameters(text, at):
 
 
 def parts(text, sign, of_types=False):
-    """The parts of a text between signs that stand outside of brackets, in types outside of those of parameters too."""
+    """The parts of a text between signs that stand outside of brackets, in types outside of those
+    of parameters too."""
     out, begin, at = [], 0, 0
     while at < len(text):
         if text[at] in CLOSES:

@@ -1,7 +1,8 @@
 #!/usr/bin/env python3
-"""Makes each public call of the library's crates, and compares the answers with worked examples. The calls are a crate of
-their own, in tests/calls, which is put into a copy of the repository and run there without a proof: it costs a minute, and so
-no proof is made dearer by an example. Ends with the line 'N passed, N failed'.
+"""Makes each public call of the library's crates, and compares the answers with worked examples. The calls
+are a crate of their own, in tests/calls, which is put into a copy of the repository and run there without a
+proof: it costs a minute, and so no proof is made dearer by an example. Ends with the line 'N passed, N
+failed'.
 """
 
 import pathlib
@@ -30,11 +31,13 @@ def make_copy(room):
 
 def wanted_tests():
     """The tests of the crate, each as its module and its name."""
-    return {f"{file.stem}::{name}" for file in CALLS.glob("src/*.rt") for name in TEST.findall(file.read_text())}
+    return {f"{file.stem}::{name}" for file in CALLS.glob("src/*.rt")
+            for name in TEST.findall(file.read_text())}
 
 
 def judged(wanted, said, status):
-    """How many of the wanted tests passed and failed, by what `rt` said and its status. A run that failed otherwise is one that failed."""
+    """How many of the wanted tests passed and failed, by what `rt` said and its status. A run that failed
+    otherwise is one that failed."""
     passed = {name for name, result in RESULT.findall(said) if result == "ok"} & wanted
     return len(passed), len(wanted - passed) or int(status != 0)
 
@@ -42,7 +45,8 @@ def judged(wanted, said, status):
 def main():
     with tempfile.TemporaryDirectory(prefix="calls-") as room:
         words = ["rt", "try", "--test", "--seconds", str(SECONDS), "--steps", str(STEPS)]
-        ran = subprocess.run(words, cwd=make_copy(pathlib.Path(room)), stdin=subprocess.DEVNULL, stdout=subprocess.PIPE, stderr=subprocess.STDOUT)
+        ran = subprocess.run(words, cwd=make_copy(pathlib.Path(room)), stdin=subprocess.DEVNULL,
+                             stdout=subprocess.PIPE, stderr=subprocess.STDOUT)
     said = ran.stdout.decode(errors="replace")
     passed, failed = judged(wanted_tests(), said, ran.returncode)
     if failed:

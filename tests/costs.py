@@ -1,16 +1,17 @@
 #!/usr/bin/env python3
-"""Counts what the built program costs on some traces, in instructions or memory, and compares this with bounds. No clause of a
-contract speaks of cost, so only this step notices a table that isn't found again, or a search that looks twice.
+"""Counts what the built program costs on some traces, in instructions or memory, and compares this with
+bounds. No clause of a contract speaks of cost, so only this step notices a table that isn't found again, or a
+search that looks twice.
 
     costs.py [--only WORD] [--write] [PROGRAM]
 
-Each shape of traces (shapes.py) is analysed with a number of events and with twice as many, by valgrind's callgrind,
-with one worker. The first count has its own bound, in costs.tsv; the second may be at most 2.3 times the first. Of
-recorded traces there is the first count alone. Of some shapes the most memory that the program has at a time is
-bounded in the same way; that of a stream whose events are of names that are known may grow by 15 % alone. Where a
-change makes a trace dearer, its bound is changed in the same commit, with the reason in the commit's message; --write
-writes bounds a tenth above what this program costs, and half above it for a list that is cut. Ends with the line
-'N passed, N failed'; a machine without valgrind fails.
+Each shape of traces (shapes.py) is analysed with a number of events and with twice as many, by valgrind's
+callgrind, with one worker. The first count has its own bound, in costs.tsv; the second may be at most 2.3
+times the first. Of recorded traces there is the first count alone. Of some shapes the most memory that the
+program has at a time is bounded in the same way; that of a stream whose events are of names that are known
+may grow by 15 % alone. Where a change makes a trace dearer, its bound is changed in the same commit, with the
+reason in the commit's message; --write writes bounds a tenth above what this program costs, and half above it
+for a list that is cut. Ends with the line 'N passed, N failed'; a machine without valgrind fails.
 """
 
 import argparse
@@ -38,7 +39,8 @@ RECORDED = HERE / "recorded"
 GROWTH = 2.3
 SAME = 1.15  # the growth of memory that doesn't depend on how long a trace is
 ROOM = 1.1
-CUT_ROOM = 1.5  # of a list that is cut: on a machine of two cores a worker made a fifth more before the write failed
+# of a list that is cut: on a machine of two cores a worker made a fifth more before the write failed
+CUT_ROOM = 1.5
 FIRST = 65_536  # of a list that is too long, so many bytes are written
 CUT_RUNS = 3
 AT_ONCE = 2
@@ -54,16 +56,18 @@ sys.exit(status >> 8)
 
 
 class Unit(typing.NamedTuple):
-    """What is counted: the words before those of the program, after which standard error has the count; and how much is one
-    of the unit."""
+    """What is counted: the words before those of the program, after which standard error has the count; and
+    how much is one of the unit."""
 
     name: str
     words: tuple
     size: int
 
 
-INSTRUCTIONS = Unit("thousand instructions", ("valgrind", "--tool=callgrind", "--fair-sched=yes", "--callgrind-out-file=/dev/null"), 1000)
-MEMORY = Unit("KiB", (sys.executable, "-I", "-S", "-c", PEAK), 1)  # by a small process, since what starts another counts too
+INSTRUCTIONS = Unit("thousand instructions", ("valgrind", "--tool=callgrind", "--fair-sched=yes",
+                                              "--callgrind-out-file=/dev/null"), 1000)
+# by a small process, since what starts another counts too
+MEMORY = Unit("KiB", (sys.executable, "-I", "-S", "-c", PEAK), 1)
 
 
 class Cost(typing.NamedTuple):
@@ -125,11 +129,13 @@ def costs():
     }
     for name, parts in ours.items():
         yield Cost(name, STREAM, parts, 20_000)
-    for name in ("8 threads write under a lock", "256 threads write under a lock", "256 threads read under a lock"):
+    for name in ("8 threads write under a lock", "256 threads write under a lock",
+                 "256 threads read under a lock"):
         yield Cost(name, RACES, ours[name], 20_000)
     for name in ("8 threads write under a lock", "turns at one location", "a chain of 250 threads"):
         yield Cost(name, PLACES, ours[name], 20_000)
-    yield Cost("places of many variables, the last one first", RACES, shapes.variables_backwards, 6_000, cut=True, unit=MEMORY)
+    yield Cost("places of many variables, the last one first", RACES, shapes.variables_backwards, 6_000,
+               cut=True, unit=MEMORY)
     yield Cost("few and many races by turns", RACES, shapes.few_and_many_races, 40_000, cut=True)
     yield Cost("40 variables with many races each", RACES, shapes.many_hot_variables, 20_000, cut=True)
     yield Cost("a counter of 2 threads", RACES, hot("counter", 2, 4), 20_000, cut=True)
@@ -147,7 +153,8 @@ def costs():
         yield Cost("schedules of 780 races after threads alone", words, shapes.late_crowd, 10_000)
         yield Cost("schedules of 780 races, with threads alone in between", words, shapes.early_crowd, 10_000)
     yield Cost("an array", RACES, hot("array", 8, 2), 20_000)
-    yield Cost("one hot location beside many of a thread alone", RACES, shapes.hot_beside_alone, 20_000, cut=True)
+    yield Cost("one hot location beside many of a thread alone", RACES, shapes.hot_beside_alone, 20_000,
+               cut=True)
     yield Cost("200 threads at 200 locations", RACES, shapes.crowd_at_locations, 10_000, cut=True)
     yield Cost("numbers that are far apart", STREAM, shapes.far_numbers, 20_000)
     yield Cost("numbers that are far apart", STREAM, shapes.far_numbers, 50_000, unit=MEMORY)
@@ -155,21 +162,25 @@ def costs():
     yield Cost("variables whose reads waited for a write", STREAM, shapes.opened_late, 20_000)
     yield Cost("2,500 threads forked and joined", STREAM, shapes.forked_and_joined, 7_500, unit=MEMORY)
     yield Cost("a lock handed on by 3,000 threads", STREAM, shapes.handed_on, 6_000, unit=MEMORY)
-    yield Cost("a variable for each section of 1,000 threads under a lock", STREAM, shapes.variables_of_many_threads, 180_000, unit=MEMORY)
-    yield Cost("variables that 200 threads write under a lock again and again", STREAM, shapes.variables_under_a_lock, 1_500_000,
+    yield Cost("a variable for each section of 1,000 threads under a lock", STREAM,
+               shapes.variables_of_many_threads, 180_000, unit=MEMORY)
+    yield Cost("variables that 200 threads write under a lock again and again", STREAM,
+               shapes.variables_under_a_lock, 1_500_000,
                unit=MEMORY, growth=SAME)
     yield Cost("another variable has many locations", RACES, shapes.other_locations, 40_000, cut=True)
     yield Cost("1,000 threads with variables of their own", RACES, shapes.other_threads, 40_000, cut=True)
     yield Cost("60 threads that come late", RACES, shapes.late_threads, 40_000, cut=True)
     yield Cost("one thread", RACES, growth.SHAPES["one thread"], 400_000, unit=MEMORY)
-    yield Cost("races of one that joined 500 threads", SCHEDULES, shapes.races_after_joined, 10_000, unit=MEMORY)
+    yield Cost("races of one that joined 500 threads", SCHEDULES, shapes.races_after_joined, 10_000,
+               unit=MEMORY)
     for path in sorted(RECORDED.glob("*.std.xz")):
         for words in (STREAM, PLACES, RACES):
             yield Cost(path.name, words, recorded(path), 0, grows=False)
 
 
 def limit_files():
-    """Lets a write fail that makes a file longer than FIRST, so that a count doesn't depend on when a reader leaves."""
+    """Lets a write fail that makes a file longer than FIRST, so that a count doesn't depend on when
+    a reader leaves."""
     resource.setrlimit(resource.RLIMIT_FSIZE, (FIRST, FIRST))
 
 
@@ -180,26 +191,33 @@ def counted_once(program, cost, times):
         with open(trace, "w", encoding="latin-1") as out:
             out.writelines(cost.parts(times * cost.events))
         with open(pathlib.Path(room) / "written", "wb") as out, open(said, "wb") as err:
-            ran = subprocess.run([*cost.unit.words, program, *cost.words, trace], stdout=out, stderr=err, cwd=room, timeout=SECONDS,
+            ran = subprocess.run([*cost.unit.words, program, *cost.words, trace], stdout=out, stderr=err,
+                                 cwd=room, timeout=SECONDS,
                                  restore_signals=False, preexec_fn=limit_files if cost.cut else None)
         found = COLLECTED.search(said.read_bytes())
         if not found or (ran.returncode not in ENDED and not cost.cut):
-            raise RuntimeError(f"{cost.name}: status {ran.returncode}: {said.read_bytes()[-400:].decode(errors='replace')}")
+            raise RuntimeError(f"{cost.name}: status {ran.returncode}: "
+                               f"{said.read_bytes()[-400:].decode(errors='replace')}")
         return int(found[1])
 
 
 def counted(program, cost, times):
-    """The least of some counts of a list that is cut: how much more a worker makes before the write fails differs with load."""
+    """The least of some counts of a list that is cut: how much more a worker makes before the write fails
+    differs with load."""
     return min(counted_once(program, cost, times) for _ in range(CUT_RUNS if cost.cut else 1))
 
 
 def key(cost):
-    command, memory = " ".join(word for word in cost.words if word not in ONE_WORKER), ", memory" if cost.unit is MEMORY else ""
+    command, memory = (" ".join(word for word in cost.words if word not in ONE_WORKER),
+                       ", memory" if cost.unit is MEMORY else "")
     return f"{command}: {cost.name}{memory}"
 
 
 def bounds():
-    return {name: int(bound) for name, bound in (line.split("\t") for line in BOUNDS.read_text().splitlines() if line)} if BOUNDS.exists() else {}
+    return (
+        {name: int(bound)
+         for name, bound in (line.split("\t") for line in BOUNDS.read_text().splitlines() if line)}
+        if BOUNDS.exists() else {})
 
 
 def complaints(cost, once, twice, bound):
@@ -228,13 +246,16 @@ def main():
     chosen = [cost for cost in costs() if options.only in key(cost)]
     known, failed = bounds(), 0
     with concurrent.futures.ThreadPoolExecutor(AT_ONCE) as pool:
-        for cost, (once, twice) in zip(chosen, pool.map(lambda cost: measured(options.program.resolve(), cost), chosen)):
+        for cost, (once, twice) in zip(chosen,
+                                       pool.map(lambda cost: measured(options.program.resolve(), cost),
+                                                chosen)):
             if options.write:
                 known[key(cost)] = cost.bound(once)
             wrong = [*complaints(cost, once, twice, known.get(key(cost)))]
             failed += bool(wrong)
             growing = f", {twice / once:.2f} times for twice the events" if twice else ""
-            print(f"{'FAIL' if wrong else 'ok  '} {key(cost)}: {once // cost.unit.size} {cost.unit.name}{growing}", *wrong, sep="\n     ", flush=True)
+            print(f"{'FAIL' if wrong else 'ok  '} {key(cost)}: {once // cost.unit.size} "
+                  f"{cost.unit.name}{growing}", *wrong, sep="\n     ", flush=True)
     if options.write:
         BOUNDS.write_text("".join(f"{name}\t{bound}\n" for name, bound in known.items()))
     print(f"{len(chosen) - failed} passed, {failed} failed")

@@ -1,12 +1,12 @@
 #!/usr/bin/env python3
-"""Finds in the documents what the repository doesn't have: names in back quotes, files, links, headings, commits,
-and numbers of lines. Also finds where a document, a paragraph or a sentence is too long, and where docs/*.md and READMEs together
-are. Ends with the line 'N passed, N failed'.
+"""Finds in the documents what the repository doesn't have: names in back quotes, files, links, headings,
+commits, and numbers of lines. Also finds where a document, a paragraph or a sentence is too long, and where
+docs/*.md and READMEs together are. Ends with the line 'N passed, N failed'.
 
-Documents are the files *.md. A word in back quotes has to occur in another file of the repository, in the name of one,
-or in OUTSIDE, and `crate::word` in that crate. A path has to be the end of a file's or folder's path, or stand in MADE;
-in it NAME, F and the like, '*' and what stands in braces are any text. In code blocks only paths below the folders of
-the repository are looked at.
+Documents are the files *.md. A word in back quotes has to occur in another file of the repository, in the
+name of one, or in OUTSIDE, and `crate::word` in that crate. A path has to be the end of a file's or folder's
+path, or stand in MADE; in it NAME, F and the like, '*' and what stands in braces are any text. In code blocks
+only paths below the folders of the repository are looked at.
 """
 
 import fnmatch
@@ -27,7 +27,8 @@ OUTSIDE = {
     "a message of Slurm": "Duplicate jobid",
     "options of gcc": "func instrument lubsan param",
     "settings of CMake, Meson and make": "DCMAKE_CXX_FLAGS DCMAKE_C_FLAGS Db_sanitize LDFLAGS",
-    "names of ThreadSanitizer's that the recorder leaves out": "__interceptor_* __sanitizer_syscall_pre_* _post_*",
+    "names of ThreadSanitizer's that the recorder leaves out": "__interceptor_* __sanitizer_syscall_pre_* "
+                                                               "_post_*",
     "others of these, and one that it makes by macros": "__tsan_default_suppressions __tsan_read4_pc",
     "a descriptor": "fd5",
     "a service": "gitlab",
@@ -44,7 +45,8 @@ MADE = {
 }
 
 # The most lines of a document, and the most words of a sentence in it.
-LENGTHS = {"README.md": (110, 25), "docs/GUIDE.md": (245, 25), "docs/RECORDER.md": (240, 35), "recorder/README.md": (70, 35)}
+LENGTHS = {"README.md": (110, 25), "docs/GUIDE.md": (245, 25), "docs/RECORDER.md": (240, 35),
+           "recorder/README.md": (70, 35)}
 MOST_OF_PARAGRAPH = 80      # words of a paragraph or an item; tables and code are none
 MOST_OF_ALL = 34000         # words of docs/*.md and READMEs together, as `wc -w` counts
 
@@ -59,11 +61,13 @@ HEADING = re.compile(r"^#+ +(.*)$", re.M)
 BLOCK = re.compile(r"^```[\s\S]*?^```$|(?:^(?: {4}|\t)[^\n]*\n)+", re.M)
 COMMIT = re.compile(r"(?=[a-f]*\d)[0-9a-f]{7,40}")
 PLACEHOLDER = re.compile(r"\b(?:DIR|F|FILE|FOLDER|M|N|NAME|PROCESS|VERSION|WHAT)\b|\{[^}]*\}")
-SUFFIXES = ("antt", "c", "cc", "css", "edit", "h", "js", "md", "png", "py", "report", "rt", "sh", "std", "sums", "txt")
+SUFFIXES = ("antt", "c", "cc", "css", "edit", "h", "js", "md", "png", "py", "report", "rt", "sh", "std",
+            "sums", "txt")
 NAMES_FILE = re.compile(r"[\w*{},.<>-]+\.(?:%s)" % "|".join(SUFFIXES))
 COUNTED = re.compile(r"`([^`]+)` \((\d[\d,]*) lines\b")
 ROW = re.compile(r"^\| `([^` ]+\.\w+)` \| (\d[\d,]*) \|", re.M)
-PART = re.compile(r"\n\s*\n|\n(?=[-#|])|\|\s")       # where no sentence goes on: a paragraph, an item, a heading, a cell
+# where no sentence goes on: a paragraph, an item, a heading, a cell
+PART = re.compile(r"\n\s*\n|\n(?=[-#|])|\|\s")
 SENTENCE_END = re.compile(r"(?<=[.!?])[\"')*`]*\s+")
 SUM = re.compile(r"(\d[\d,]*) files, (\d[\d,]*) lines[^\n]*\n\n((?:\|.*\n)+)")
 
@@ -73,13 +77,15 @@ def number(text):
 
 
 class Repository:
-    """The files of a folder, the words in those that aren't documents, and the commits before the present one."""
+    """The files of a folder, the words in those that aren't documents, and the commits before
+    the present one."""
 
     def __init__(self, root, paths, commits=None):
         """`paths` are the files to look at, from `root`; `commits` says of a name whether it is a commit."""
         self.root, self.paths, self.has_commit = root, paths, commits or (lambda name: True)
         self.documents = [path for path in paths if path.endswith(".md")]
-        self.places = set(paths) | {str(parent) for path in paths for parent in pathlib.PurePath(path).parents}
+        self.places = set(paths) | {str(parent) for path in paths
+                                    for parent in pathlib.PurePath(path).parents}
         self.words, self.of_crate = set(), {}
         for path in paths:
             self.add(path)
@@ -113,7 +119,8 @@ class Repository:
 
 
 def paths_in(quoted):
-    """What stands for a file or folder in a text in back quotes, and the rest of the text. Rattle.a.b is a module."""
+    """What stands for a file or folder in a text in back quotes, and the rest of the text. Rattle.a.b
+    is a module."""
     found, rest = [], []
     for word in quoted.split():
         bare = word.strip("'\",;:()").partition(":")[0]
@@ -132,7 +139,8 @@ def faults_of_quoted(repository, document, quoted):
     faults += [f"no such word: {word}" for word in STARRED.findall(rest) if not repository.has_word(word)]
     for crate, path in re.findall(r"\b(\w+)::([\w:]+)", rest):
         has = repository.of_crate.get(crate)
-        faults += [f"not in {crate}: {word}" for word in WORD.findall(path) if has is not None and word not in has]
+        faults += [f"not in {crate}: {word}" for word in WORD.findall(path) if has is not None
+                   and word not in has]
     return faults
 
 
@@ -193,7 +201,8 @@ def is_counted(document):
 def faults_of_length(document, text):
     """Where a paragraph is longer than it may be, or a document or a sentence in it than LENGTHS allows."""
     long = [it for it in paragraphs(text) if len(it) > MOST_OF_PARAGRAPH] if is_counted(document) else []
-    return [f"a paragraph of {len(it)} words: {' '.join(it[:12])} .." for it in long] + faults_of_sentences(document, text)
+    return ([f"a paragraph of {len(it)} words: {' '.join(it[:12])} .." for it in long]
+            + faults_of_sentences(document, text))
 
 
 def faults_of_sentences(document, text):
@@ -202,15 +211,18 @@ def faults_of_sentences(document, text):
         return []
     lines, words = LENGTHS[document]
     faults = [f"more than {lines} lines"] if text.count("\n") > lines else []
-    return faults + [f"a sentence of {len(found)} words: {' '.join(found)}" for found in sentences(text) if len(found) > words]
+    return faults + [f"a sentence of {len(found)} words: {' '.join(found)}"
+                     for found in sentences(text) if len(found) > words]
 
 
 def faults_of(repository, document):
     """What is wrong with a document."""
     text = (repository.root / document).read_text()
     plain = BLOCK.sub("\n", text)
-    faults = [fault for _, quoted in QUOTED.findall(plain) for fault in faults_of_quoted(repository, document, quoted)]
-    faults += [fault for target in LINK.findall(plain) for fault in faults_of_link(repository, document, target)]
+    faults = [fault for _, quoted in QUOTED.findall(plain)
+              for fault in faults_of_quoted(repository, document, quoted)]
+    faults += [fault for target in LINK.findall(plain)
+               for fault in faults_of_link(repository, document, target)]
     tops = "|".join(sorted({re.escape(path.split("/")[0]) for path in repository.paths if "/" in path}))
     for path in re.findall(rf"(?<![\w./-])(?:{tops})/[\w.*{{}}<>/-]+", QUOTED.sub("", text)):
         if not repository.has_path(path.rstrip("."), document):
@@ -220,9 +232,11 @@ def faults_of(repository, document):
 
 
 # Texts in which a fault has to be found, and texts in which none is, in a repository of the files below.
-FILES = {"crates/one/src/read.rt": "fn read_all() {}\n\n", "crates/two/src/list.rt": "fn list_all() {}\n", "docs/A.md": "# The first one\n"}
+FILES = {"crates/one/src/read.rt": "fn read_all() {}\n\n", "crates/two/src/list.rt": "fn list_all() {}\n",
+         "docs/A.md": "# The first one\n"}
 PLANTED = (
-    "`read_some`", "`read_some*`", "`one::list_all`", "`src/write.rt`", "`write.rt`", "see crates/three/src", "`docs/B.md`",
+    "`read_some`", "`read_some*`", "`one::list_all`", "`src/write.rt`", "`write.rt`", "see crates/three/src",
+    "`docs/B.md`",
     "`docs/OTHER.md`", "[one](docs/B.md)", "[a](docs/A.md#second)", "`abcdef1`", "`src/read.rt` (3 lines)",
     "| `one/src/read.rt` | 1 |", "1 files, 3 lines:\n\n| `one/src/read.rt` | 2 |\n", "    crates/three/src\n",
     "    read_some\n\n`read_some`", "```\nread_some\n```\n\n`read_some`",
@@ -232,9 +246,11 @@ PLANTED = (
 RIGHT = (
     "`read_all`", "`read_a*`", "`*_all`", "`one::read_all`", "`src/read.rt`", "`crates/NAME/src/*.rt`",
     "[one](docs/A.md#the-first-one)", "`1234567`", "`src/read.rt` (2 lines)", "[x](https://x.y/z)",
-    "1 files, 2 lines:\n\n| `one/src/read.rt` | 2 |\n", "    read_some crates/two/src\n", "```\nread_some\n```\n",
+    "1 files, 2 lines:\n\n| `one/src/read.rt` | 2 |\n", "    read_some crates/two/src\n",
+    "```\nread_some\n```\n",
     "One.\n\n" + "Two words. " * 40 + "\n\n- Three.\n- Four.\n", "| " + "Two words. " * 50 + " |\n",
-    "a. a\n\n" * 54, "One.\n- " + "word " * 24 + "end. More.", "| " + "word " * 20 + "| " + "word " * 20 + "|", "    " + "word " * 40 + "\n",
+    "a. a\n\n" * 54, "One.\n- " + "word " * 24 + "end. More.",
+    "| " + "word " * 20 + "| " + "word " * 20 + "|", "    " + "word " * 40 + "\n",
 )
 
 
@@ -246,7 +262,8 @@ def failed_tests():
             (root / path).parent.mkdir(parents=True, exist_ok=True)
             (root / path).write_text(text)
         repository = Repository(root, sorted(FILES), lambda name: name == "1234567")
-        if faults_of_trusted("one: itoa\n", "### Trusted\n`itoa`\n") or not faults_of_trusted("one: itoa\n", "`itoa`\n### Trusted\n\n## B\n`itoa`"):
+        if (faults_of_trusted("one: itoa\n", "### Trusted\n`itoa`\n")
+            or not faults_of_trusted("one: itoa\n", "`itoa`\n### Trusted\n\n## B\n`itoa`")):
             yield "the list of crates"
         for text in PLANTED + RIGHT:
             (root / "README.md").write_text(text + "\n")
@@ -266,7 +283,8 @@ def is_commit(name):
 
 def faults_of_all(repository):
     """Where the documents are longer together than they may be."""
-    count = sum(len((repository.root / document).read_text().split()) for document in repository.documents if is_counted(document))
+    count = sum(len((repository.root / document).read_text().split())
+                for document in repository.documents if is_counted(document))
     return [f"{count:,} words, more than {MOST_OF_ALL:,}"] if count > MOST_OF_ALL else []
 
 
@@ -275,7 +293,9 @@ def faults_of_trusted(crates, text):
     lines = [line.partition(":") for line in crates.splitlines()]
     own = {name.split()[0] for name, _, _ in lines if name.split()}
     section = text.partition("### Trusted\n")[2].partition("\n#")[0]
-    return [f"not among what is trusted: {name}" for name in sorted({word for _, _, used in lines for word in used.split()} - own) if f"`{name}`" not in section]
+    return [f"not among what is trusted: {name}"
+            for name in sorted({word for _, _, used in lines for word in used.split()} - own)
+            if f"`{name}`" not in section]
 
 
 def main():
@@ -284,7 +304,8 @@ def main():
     wrong = {text: ["the test of this script"] for text in failed_tests()}
     wrong["docs/*.md and READMEs together"] = faults_of_all(repository)
     wrong.update((document, faults_of(repository, document)) for document in repository.documents)
-    wrong["crates.txt"] = faults_of_trusted((ROOT / "crates.txt").read_text(), (ROOT / "docs/GUARANTEES.md").read_text())
+    wrong["crates.txt"] = faults_of_trusted(
+        (ROOT / "crates.txt").read_text(), (ROOT / "docs/GUARANTEES.md").read_text())
     for name, faults in wrong.items():
         for fault in faults:
             print(f"{name}: {fault}")

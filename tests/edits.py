@@ -1,11 +1,12 @@
 #!/usr/bin/env python3
-"""Applies each must-fail edit to a copy of its file and has all copies parsed, so that an edit which is refused for a
-misspelling is told from one that a contract refuses. Ends with the line 'N passed, N failed'.
+"""Applies each must-fail edit to a copy of its file and has all copies parsed, so that an edit which is
+refused for a misspelling is told from one that a contract refuses. Ends with the line 'N passed, N failed'.
 
-An edit is a line 'file: PATH', and then pairs of lines 'old: TEXT' and 'new: TEXT'; the file may be named again between
-pairs. Each old text stands once in the file.
+An edit is a line 'file: PATH', and then pairs of lines 'old: TEXT' and 'new: TEXT'; the file may be named
+again between pairs. Each old text stands once in the file.
 
-It also refuses a function that a crate exports and that no edit is named after, unless exports.txt lists it (exports.py).
+It also refuses a function that a crate exports and that no edit is named after, unless exports.txt
+lists it (exports.py).
 """
 
 import collections
@@ -39,7 +40,8 @@ def edited(path):
     words = list(words_of(path))
     files = {text for word, text in words if word == "file"}
     changes = [(word, text) for word, text in words if word != "file"]
-    if words[0][0] != "file" or len(files) > 1 or [word for word, _ in changes] != ["old", "new"] * (len(changes) // 2):
+    if (words[0][0] != "file" or len(files) > 1 or [word for word, _ in changes]
+        != ["old", "new"] * (len(changes) // 2)):
         raise Wrong("it isn't a file and then pairs of old and new")
     file = path.parent.parent / files.pop()
     text = file.read_text()
@@ -53,7 +55,8 @@ def edited(path):
 
 
 def misspelled(texts):
-    """What the formatter says of the files of Rattle with these names and texts that don't parse, line by line."""
+    """What the formatter says of the files of Rattle with these names and texts that don't parse,
+    line by line."""
     with tempfile.TemporaryDirectory() as room:
         folder = pathlib.Path(room)
         source = folder / "crates" / "edits" / "src"

@@ -1,16 +1,17 @@
 #!/usr/bin/env python3
-"""Finds where code could wait without an end. No contract speaks of that: what it promises holds for a call that returns. Ends
-with the line 'N passed, N failed'.
+"""Finds where code could wait without an end. No contract speaks of that: what it promises holds for a call
+that returns. Ends with the line 'N passed, N failed'.
 
-A function of Rattle waits only by a runtime with the bound `Wait`, sleeps by one with `Clock`, and reads a device by one with
-`Input` or `Files`. All functions through which a run starts threads have the bound `Wait`, so it doesn't tell which of them
-wait. But each call of the standard library that waits is one of `std::sync`, `std::thread` or `std::time`, and a loop without
-an end is `rt.forever()`. So these are refused but in the files below, where they stand just so often: the two waits for the
-ring, the loop of a worker, the wait for a refusal that was told, the sleep in a wait, and the start of threads, which waits
-for their end. A loop needs no bound to go round 2^64 times: so the end of a range and what a `while` asks may have no greatest
-number of a type of 64 bits, no turned or shifted one, none in hexadecimal, none of six digits and more, and no constant that is greater
-than 65,536 or isn't a number as it stands; a loop that ends with its source is listed. A number that is computed or handed on
-isn't seen, nor are ranges in one another.
+A function of Rattle waits only by a runtime with the bound `Wait`, sleeps by one with `Clock`, and reads a
+device by one with `Input` or `Files`. All functions through which a run starts threads have the bound `Wait`,
+so it doesn't tell which of them wait. But each call of the standard library that waits is one of `std::sync`,
+`std::thread` or `std::time`, and a loop without an end is `rt.forever()`. So these are refused but in the
+files below, where they stand just so often: the two waits for the ring, the loop of a worker, the wait for a
+refusal that was told, the sleep in a wait, and the start of threads, which waits for their end. A loop needs
+no bound to go round 2^64 times: so the end of a range and what a `while` asks may have no greatest number of
+a type of 64 bits, no turned or shifted one, none in hexadecimal, none of six digits and more, and no constant
+that is greater than 65,536 or isn't a number as it stands; a loop that ends with its source is listed. A
+number that is computed or handed on isn't seen, nor are ranges in one another.
 
 Looked for in the crates of the program, and not in those of tests.
 """
@@ -46,12 +47,14 @@ NAMED = {
 
 # Loops that could take years: what ends a range or is asked by a `while`, and what may not stand there.
 ENDS = re.compile(r"\.\.=?[^{};\n]*|\bwhile\b(?! let\b)[^{;]*")
-LONG = re.compile(r"(?:u64|u128|usize|i64|i128|isize)::MAX\b|![0-9]\w*|[\w)]+\s*<<|\b0x\w+|\b[0-9](?:_?[0-9]){5,}")
+LONG = re.compile(
+    r"(?:u64|u128|usize|i64|i128|isize)::MAX\b|![0-9]\w*|[\w)]+\s*<<|\b0x\w+|\b[0-9](?:_?[0-9]){5,}")
 NAME = re.compile(r"(?<!::)\b[A-Z][A-Z0-9_]+\b")
 CONSTANT = re.compile(r"\bconst (\w+): \w+ = ([0-9_]+);")
 MOST_ROUNDS = 65_536
 # Loops that may: of each file what ends them, and why they end.
-LOOPS = {("shb_lines/src/event_reader.rt", "while self.line < u64::MAX"): "each round reads a line, so it ends where the source does"}
+LOOPS = {("shb_lines/src/event_reader.rt", "while self.line < u64::MAX"): "each round reads a line, so it "
+         "ends where the source does"}
 
 
 def constants_in(code):
@@ -70,7 +73,8 @@ def long_loops(code):
     known = {**constants_of_all(), **constants_in(code)}
     small = {name for name, value in known.items() if value <= MOST_ROUNDS}
     for end in ENDS.finditer(code):
-        found = LONG.search(end.group()) or next((it for it in NAME.finditer(end.group()) if it.group() not in small), None)
+        found = (LONG.search(end.group())
+                 or next((it for it in NAME.finditer(end.group()) if it.group() not in small), None))
         if found:
             yield end.start() + found.start(), " ".join(end.group()[: found.end()].split())
 
@@ -78,7 +82,8 @@ def long_loops(code):
 def wrong_in(name, text):
     """Where a file of this name below crates/ has what it may not have, or not so often as it must."""
     code = COMMENT.sub("", text)
-    wrong = [f"{name}:{code.count(chr(10), 0, place) + 1}: {what}" for place, what in long_loops(code) if (name, what) not in LOOPS]
+    wrong = [f"{name}:{code.count(chr(10), 0, place) + 1}: {what}"
+             for place, what in long_loops(code) if (name, what) not in LOOPS]
     for word, files in NAMED.items():
         found = list(re.finditer(word, code))
         wanted = files.get(name, 0)

@@ -1,5 +1,5 @@
-"""A second reader of the facts: it knows what docs/FORMATS.md says of each form, and looks through the whole trace for each word. It shares
-no code with the view."""
+"""A second reader of the facts: it knows what docs/FORMATS.md says of each form, and looks through the whole
+trace for each word. It shares no code with the view."""
 
 import bisect
 import collections
@@ -7,26 +7,31 @@ import itertools
 import re
 import struct
 
-KNOWN = ("mixed", "published", "freed", "plain", "uncounted", "read-lock", "without", "sometimes", "apart", "no-lock", "ordered")
+KNOWN = ("mixed", "published", "freed", "plain", "uncounted", "read-lock", "without", "sometimes", "apart",
+         "no-lock", "ordered")
 NUMBERS = re.compile(r"(?<=#)[0-9]+|(?<=\[)[0-9]+(?=\])")  # of a block, and of an element
 MOST_CHOICES = 4_096  # of a lock for each variable
 READER = re.compile(r"(.+)@reader\..+", re.S)
 STAND_IN = re.compile(r".+@[0-9]+(?:[<>].+)?", re.S)
 Use = collections.namedtuple("Use", "event name thread location kind order again", defaults=("",))
 # `count` is 1 of an event, and more where they are of the sums of a file of uses, and have no number.
-Access = collections.namedtuple("Access", "number thread word name location held shared is_free is_atomic local count")
+Access = collections.namedtuple("Access", "number thread word name location held shared is_free is_atomic "
+                                          "local count")
 Named = collections.namedtuple("Named", [*Access._fields, "variable"])
 
 
 class Reader:
     def __init__(self, trace, stacks=None, uses=None):
-        """The bytes of a trace, those of its file of stacks, and those of the uses of the run that it is a part of."""
+        """The bytes of a trace, those of its file of stacks, and those of the uses of the run that it is
+        a part of."""
         self.uses, self.frees, self.locals = [], [], collections.defaultdict(list)
-        self.events, self.by_name = [], collections.defaultdict(list)  # of the uses: their events, in order; their places, of fences without a name
+        # of the uses: their events, in order; their places, of fences without a name
+        self.events, self.by_name = [], collections.defaultdict(list)
         self.parts, self.repeated = [], set()
         lines = [line.rstrip("\r") for line in trace.decode("latin-1").split("\n")]
         self.lines = events = list(filter(None, lines))
-        self.frames, self.innermost, self.numbers = [], {}, ()  # the system's function of a frame, of a stack's innermost
+        # the system's function of a frame, of a stack's innermost
+        self.frames, self.innermost, self.numbers = [], {}, ()
         if stacks:
             begin = 34 + 4 * int(stacks[13:33])
             self.numbers = [number for [number] in struct.iter_unpack("<I", stacks[34:begin])]
@@ -47,9 +52,11 @@ class Reader:
                 locks = {lock for lock, count in held[thread].items() if count > 0}
                 is_free = word == "w" and any(first <= number <= last for first, last in self.frees)
                 self.traced.append(Access(number, thread, word, name, location, *told_apart(locks), is_free,
-                                          word == "w" and name.endswith("!" + thread), self.local_of(name, number), 1))
+                                          word == "w" and name.endswith("!" + thread),
+                                          self.local_of(name, number), 1))
         self.private = {lock for lock, its in lockers.items() if lock.startswith("stack.") and len(its) == 1}
-        self.counted = list(self.uses_of_run(uses.decode("latin-1"), lasting)) if uses is not None else self.traced
+        self.counted = (list(self.uses_of_run(uses.decode("latin-1"), lasting)) if uses is not None
+                        else self.traced)
 
     def uses_of_run(self, text, lasting):
         for line in text.split("\n"):
@@ -61,9 +68,12 @@ class Reader:
             elif kind == "use":
                 word, name, local, location, *sums = fields
                 is_local = name.startswith("stack.")
-                for count, thread, locks in accesses_of(list(zip(sums[::3], map(int, sums[1::3]), sums[2::3]))):
-                    yield Access(None, thread, "r" if word == "r" else "w", name, location, *(frozenset(lasting.get(lock, lock) for lock in its) for its in locks),
-                                 word == "f", word == "a", local if is_local else lasting.get(name, ""), count)
+                for count, thread, locks in accesses_of(
+                        list(zip(sums[::3], map(int, sums[1::3]), sums[2::3]))):
+                    yield Access(None, thread, "r" if word == "r" else "w", name, location,
+                                 *(frozenset(lasting.get(lock, lock) for lock in its) for its in locks),
+                                 word == "f", word == "a", local if is_local else lasting.get(name, ""),
+                                 count)
 
     def read_stacks(self, text):
         for line in text.split("\n"):
@@ -98,7 +108,8 @@ class Reader:
     def faults(self, groups):
         """What is wrong in the facts of some groups: each a fact with the pairs of lines of its group."""
         for fact, pairs in groups:
-            yield from (f"{fact['form']} of {fact['group'][:3]}: {fault}" for fault in Group(self, fact, pairs).faults())
+            yield from (f"{fact['form']} of {fact['group'][:3]}: {fault}"
+                        for fault in Group(self, fact, pairs).faults())
 
 
 class Clocks:
@@ -146,22 +157,27 @@ def lock_of(name, lasting):
 
 
 def accesses_of(sums):
-    """Accesses that these sums may be of: how many, by which thread, and with which locks. Each of those that hold some has one, and locks that
-    differ by digits alone are held one after the other."""
+    """Accesses that these sums may be of: how many, by which thread, and with which locks. Each of those that
+    hold some has one, and locks that differ by digits alone are held one after the other."""
     def of(*kinds):
         return [(name, count) for kind, count, name in sums if kind in kinds]
 
     ends = list(itertools.accumulate(count for _, count in of("by")))
     bare, held = (sum(count for _, count in of(*kinds)) for kinds in (("bare",), ("held", "many")))
     arcs, at = [], 0  # from an access on, of those that hold locks, which begin again behind the last
-    for kind, count, name in sorted((sum for sum in sums if sum[0] in ("under", "reading")), key=lambda it: (re.sub("[0-9]", "", it[2]), it)):
+    for kind, count, name in sorted((sum for sum in sums if sum[0] in ("under", "reading")),
+                                    key=lambda it: (re.sub("[0-9]", "", it[2]), it)):
         arcs.append((kind, name, at, count))
         at = (at + count) % held
-    bounds = sorted({0, bare, bare + held, *ends, *(bare + place % held for _, _, start, count in arcs for place in (start, start + count))})
+    bounds = sorted(
+        {0, bare, bare + held, *ends,
+         *(bare + place % held for _, _, start, count in arcs for place in (start, start + count))})
     for begin, end in zip(bounds, bounds[1:]):
         thread = of("by")[bisect.bisect(ends, begin)][0]
-        its = [(kind, name) for kind, name, start, count in arcs if begin >= bare and (begin - bare - start) % held < count]
-        yield end - begin, thread, [{name for kind, name in its if kind == which} for which in ("under", "reading")]
+        its = [(kind, name) for kind, name, start, count in arcs if begin >= bare
+               and (begin - bare - start) % held < count]
+        yield (end - begin,
+               thread, [{name for kind, name in its if kind == which} for which in ("under", "reading")])
 
 
 def told_apart(locks):
@@ -171,18 +187,21 @@ def told_apart(locks):
 
 
 def is_beside(locks, variables):
-    """Whether each variable and its lock are members of one object: their names have the same begin, and a block or a function in common."""
+    """Whether each variable and its lock are members of one object: their names have the same begin, and a
+    block or a function in common."""
     def thing(name):
-        found = re.fullmatch(r"(.*?)((?:\.[A-Za-z_]\w*|\[[0-9]+\])*(?:\+[0-9]+)?)( of .+?)?(#[0-9]+)?", name, re.S)
+        found = re.fullmatch(r"(.*?)((?:\.[A-Za-z_]\w*|\[[0-9]+\])*(?:\+[0-9]+)?)( of .+?)?(#[0-9]+)?", name,
+                             re.S)
         two = re.fullmatch(r"(.+#[0-9]+)((?:\.[A-Za-z_]\w*|\[[0-9]+\])*(?:\+[0-9]+)?)", name, re.S)
         found = (two[1], two[2]) if two and two[2] else (found[1], found[2], found[3], found[4])
         return (found[0], *found[2:]) if found[1] and not name.startswith("stack.") else None
-    return all(variable in locks and thing(variable) and thing(variable) == thing(locks[variable]) for variable in variables)
+    return all(variable in locks and thing(variable) and thing(variable) == thing(locks[variable])
+               for variable in variables)
 
 
 class Group:
-    """A fact with its group. `traced` are the accesses of its variables that the trace has, `all` those that facts count. The name of what a
-    thread writes atomically is that of the atomic here."""
+    """A fact with its group. `traced` are the accesses of its variables that the trace has, `all` those that
+    facts count. The name of what a thread writes atomically is that of the atomic here."""
 
     def __init__(self, reader, fact, pairs):
         self.reader, self.fact, self.pairs = reader, fact, {frozenset(pair) for pair in pairs}
@@ -195,7 +214,8 @@ class Group:
         """A variable on a stack is a local where it is that one at all its races; else all accesses count."""
         names, locals = {*self.fact["group"], *self.atomics}, self.fact.get("locals", {})
         return [Named(*access, self.base(access.name)) for access in accesses
-                if access.name in names and (not locals.get(access.name) or access.local == locals[access.name])]
+                if access.name in names
+                and (not locals.get(access.name) or access.local == locals[access.name])]
 
     def base(self, name):
         base = name.rpartition("!")[0]
@@ -296,7 +316,8 @@ class Group:
         return bool(keys) and (self.races_left(keys) or self.comes_again(keys))
 
     def comes_again(self, keys):
-        """Whether an access that races was repeated, with a store of its thread between the last one alike and it."""
+        """Whether an access that races was repeated, with a store of its thread between the last one
+        alike and it."""
         by_number = {access.number: access for access in self.traced}
         racing = {(by_number[event].thread, by_number[event].word) for event, _ in self.races_of_form()}
         stores = [use for use in self.reader.uses
@@ -318,12 +339,15 @@ class Group:
         named = {access.number: access.name for access in self.traced}
         races = [race for race in self.races_of_form() if named.get(race[0]) in names]
         lines = {access.number: access.location for access in self.traced}
-        return Group(self.reader, {**self.fact, "group": names, "all_races": races}, {(lines[first], lines[second]) for first, second in races})
+        return Group(self.reader, {**self.fact, "group": names,
+                                   "all_races": races}, {(lines[first], lines[second])
+                                                         for first, second in races})
 
     def check_alone(self):
         """A fact holds of each variable in the same form: no earlier one holds of one of them alone."""
         for variable in {self.base(name) for name in self.fact["group"]}:
-            one, form = self.alone([name for name in self.fact["group"] if self.base(name) == variable]), self.fact["form"]
+            one, form = (self.alone([name for name in self.fact["group"] if self.base(name) == variable]),
+                         self.fact["form"])
             for earlier in KNOWN[1:KNOWN.index(form)]:
                 applies = getattr(one, "has_" + earlier.replace("-", "_"), None)
                 if one.pairs and applies and applies():
@@ -337,22 +361,29 @@ class Group:
             yield "not the variables"
         if {frozenset(pair) for part in parts for pair in part["pairs"]} != self.pairs:
             yield "not the pairs of lines"
-        if len({part["form"] for part in parts}) < 2 and len({repr({**part, "group": 0, "pairs": 0, "all_races": 0}) for part in parts}) < 2:
+        if (len({part["form"] for part in parts}) < 2
+            and len({repr({**part, "group": 0, "pairs": 0, "all_races": 0}) for part in parts}) < 2):
             yield "the parts are alike"
         if {part["form"] for part in parts} == {"without"} and self.has_without():
             yield "without holds of all, with a lock of each variable's own"
         for part in parts:
-            yield from (f"{part['group'][:2]}: {fault}" for fault in Group(self.reader, {**self.fact, **part}, part["pairs"]).faults())
+            yield from (f"{part['group'][:2]}: {fault}"
+                        for fault in Group(self.reader, {**self.fact, **part}, part["pairs"]).faults())
 
-    # ---- published: between the two accesses of each race one and the same atomic was handed on, without an order ----
+    # ---- published: between the two accesses of each race one and the same atomic was handed on, without an
+    # order ----
     def order(self, at, event):
-        """The order of a load, as it is seen from an event of its thread: one before a fence with acquire is one with acquire."""
+        """The order of a load, as it is seen from an event of its thread: one before a fence with acquire is
+        one with acquire."""
         load, fences = self.reader.uses[at], self.reader.by_name[""]
-        is_fenced = any(fence > at and self.reader.uses[fence].thread == load.thread and self.reader.uses[fence].event <= event for fence in fences)
-        return {"relaxed": "acquire", "release": "both"}.get(load.order, load.order) if is_fenced else load.order
+        is_fenced = any(fence > at and self.reader.uses[fence].thread == load.thread
+                        and self.reader.uses[fence].event <= event for fence in fences)
+        return ({"relaxed": "acquire", "release": "both"}.get(load.order, load.order) if is_fenced
+                else load.order)
 
     def sources(self, at, event):
-        """The stores and updates after an event that left what the load at this place in the list reads, or of which updates made it."""
+        """The stores and updates after an event that left what the load at this place in the list reads, or
+        of which updates made it."""
         places = self.reader.by_name[self.reader.uses[at].name]
         for place in range(bisect.bisect_left(places, at) - 1, -1, -1):
             use = self.reader.uses[places[place]]
@@ -371,21 +402,28 @@ class Group:
         begin, end = (bisect.bisect_right(self.reader.events, access.number) for access in (first, second))
         for at in range(begin, end) if not first.is_free else ():
             load = uses[at]
-            if load.kind in ("load", "update") and load.thread == second.thread and load.name != first.variable:
+            if (load.kind in ("load", "update") and load.thread == second.thread
+                and load.name != first.variable):
                 stores = [store for store in self.sources(at, first.number) if store.thread == first.thread]
                 load = load._replace(order=self.order(at, second.number)) if stores else load
-                found.update((store.name, store.location, load.location, store.kind, load.kind, store.order, load.order) for store in stores
-                             if self.misses(store, load) and (second.is_free or not store.kind == load.kind == "update"))
+                found.update((store.name, store.location, load.location, store.kind, load.kind, store.order,
+                              load.order) for store in stores
+                             if self.misses(store, load)
+                             and (second.is_free or not store.kind == load.kind == "update"))
         return found
 
     @staticmethod
     def misses(store, load):
-        return [order for order, has in (("release", store.order in ("release", "both")), ("acquire", load.order in ("acquire", "both"))) if not has]
+        return [order
+                for order, has in (
+                    ("release", store.order in ("release", "both")), (
+                        "acquire", load.order in ("acquire", "both"))) if not has]
 
     def check_published(self):
         by_number, places = {access.number: access for access in self.traced}, set()
         for by in self.fact["by"]:
-            store, load = (Use(use["event"], by["atomic"], use["thread"], use["location"], use["kind"], use["order"]) for use in (by["store"], by["load"]))
+            store, load = (Use(use["event"], by["atomic"], use["thread"], use["location"], use["kind"],
+                               use["order"]) for use in (by["store"], by["load"]))
             uses = [use._replace(again="") for use in self.reader.uses]
             if store not in uses or load._replace(order="") not in [use._replace(order="") for use in uses]:
                 yield "no such use"
@@ -393,15 +431,18 @@ class Group:
                 yield "missing is wrong"
             for first, second in by["races"]:
                 first, second = by_number.get(first), by_number.get(second)
-                if not first or not second or first.thread == second.thread or "w" not in first.word + second.word:
+                if (not first or not second or first.thread == second.thread
+                    or "w" not in first.word + second.word):
                     yield "no race"
-                elif (by["atomic"], store.location, load.location, store.kind, load.kind, store.order, load.order) not in self.handed(first, second):
+                elif ((by["atomic"], store.location, load.location, store.kind, load.kind, store.order,
+                       load.order) not in self.handed(first, second)):
                     yield f"nothing is handed on between {first.number} and {second.number}"
                 else:
                     places.add(frozenset((first.location, second.location)))
         if places != self.pairs:
             yield "not of each place"
-        if any(by["store"]["kind"] == "update" for by in self.fact["by"]) and self.has_without() and not self.has_read_lock():
+        if (any(by["store"]["kind"] == "update" for by in self.fact["by"]) and self.has_without()
+            and not self.has_read_lock()):
             yield "an update, beside a lock"
 
     def races_of_form(self):
@@ -433,12 +474,15 @@ class Group:
             yield "not all frees"
         if self.has_without(are_kept=True):
             yield "a lock that the uses lack is held at the frees"
-        if set(self.fact["uses"]) != {line for pair in self.pairs if pair & frees and len(pair) == 2 for line in pair
+        if set(self.fact["uses"]) != {line for pair in self.pairs if pair & frees and len(pair) == 2
+                                      for line in pair
                                       if any(other in frees for other in pair - {line})}:
             yield "other uses"
         for line in self.fact["after"]:
-            if not any(free.is_free and not use.is_free and free.number < use.number and free.thread != use.thread and free.variable == use.variable
-                       and frozenset((free.location, use.location)) in self.pairs for free in self.traced for use in self.traced if use.location == line):
+            if not any(free.is_free and not use.is_free and free.number < use.number
+                       and free.thread != use.thread and free.variable == use.variable
+                       and frozenset((free.location, use.location)) in self.pairs for free in self.traced
+                       for use in self.traced if use.location == line):
                 yield f"no use at {line} after a free"
 
     def has_freed(self):
@@ -461,14 +505,15 @@ class Group:
 
     # ---- locks: a free is no access here ----
     def used(self, line=None):
-        return [access for access in self.all if not access.is_free and (line is None or access.location == line)]
+        return [access for access in self.all if not access.is_free
+                and (line is None or access.location == line)]
 
     def used_racing(self):
         return [access for access in self.used() if access.location in self.lines]
 
     def check_name(self):
-        """A lock has its own name, but where variables have different ones: numbers of blocks and elements are `*` then. It is that lock of
-        its kind which most accesses of the variable hold."""
+        """A lock has its own name, but where variables have different ones: numbers of blocks and elements
+        are `*` then. It is that lock of its kind which most accesses of the variable hold."""
         of, name = self.fact["locks"], self.fact["name"]
         if not self.reader.private.isdisjoint(of.values()):
             yield "one thread alone uses the lock"
@@ -479,7 +524,8 @@ class Group:
             for access in self.all:
                 for lock in access.held | access.shared if access.variable == variable and not access.is_free else ():
                     held[lock] += access.count
-            if any(count > held[of[variable]] for lock, count in held.items() if NUMBERS.sub("*", lock) == name) and not self.is_merged():
+            if (any(count > held[of[variable]] for lock, count in held.items()
+                    if NUMBERS.sub("*", lock) == name) and not self.is_merged()):
                 yield f"{of[variable]} isn't the lock that most accesses of {variable} hold"
 
     def is_merged(self):
@@ -489,7 +535,8 @@ class Group:
     def check_read_lock(self):
         yield from self.check_name()
         for line in self.fact["lines"]:
-            if not any(access.word == "w" and self.fact["locks"].get(access.variable) in access.shared for access in self.used(line)) or line not in self.lines:
+            if (not any(access.word == "w" and self.fact["locks"].get(access.variable) in access.shared
+                        for access in self.used(line)) or line not in self.lines):
                 yield f"no write under a read lock at {line}"
 
     def has_read_lock(self):
@@ -501,15 +548,18 @@ class Group:
         lines, some, holding = set(fact["lines"]), set(fact["sometimes"]), set(fact["holding"])
         uses = self.all if "frees" in fact else self.used()  # a free under the lock is a write
         holds = {access: self.has(access, of.get(access.variable)) for access in uses}
-        if not lines or not lines <= self.lines or not self.lines <= lines | holding or lines & holding or not holding or not some <= lines:
+        if (not lines or not lines <= self.lines or not self.lines <= lines | holding or lines & holding
+            or not holding or not some <= lines):
             yield "not the lines"
         is_bare = not any(access.held or access.shared for line in lines for access in self.used(line))
         if not is_bare and not some and len(holding) <= len(lines):
             yield "the lines hold other locks, and are not fewer"
-        if not is_beside(of, self.variables) and not any(access.word == "w" for line in holding for access in self.at(line)) and any(
-                access.word == "r" for line in lines for access in self.used(line)):
+        if (not is_beside(of, self.variables)
+            and not any(access.word == "w" for line in holding for access in self.at(line)) and any(
+                access.word == "r" for line in lines for access in self.used(line))):
             yield "readers alone hold it"
-        if len(set(of.values())) > 1 and len({re.sub(r"(#|\[)[0-9]+", r"\1", lock) for lock in of.values()}) > 1:
+        if (len(set(of.values())) > 1
+            and len({re.sub(r"(#|\[)[0-9]+", r"\1", lock) for lock in of.values()}) > 1):
             yield "locks of several kinds"
         for variable in self.variables:
             if not any(held for access, held in holds.items() if access.variable == variable):
@@ -521,12 +571,15 @@ class Group:
             if len({held for access, held in holds.items() if access.location == line}) != 2:
                 yield f"{line} doesn't hold it at times"
         for line in holding:
-            if not all(held for access, held in holds.items() if access.location == line) or not (self.used(line) or line in fact.get("frees", ())):
+            if (not all(held for access, held in holds.items() if access.location == line)
+                or not (self.used(line) or line in fact.get("frees", ()))):
                 yield f"{line} doesn't hold it always"
         scope = fact["scope"]
         said = {"writes": lambda access: access.word == "w", "reads": lambda access: access.word == "r",
-                "all": lambda access: access.location not in lines, "lines": lambda access: access.location in holding}[scope]
-        if not all(held for access, held in holds.items() if said(access)) or not any(said(access) for access in holds):
+                "all": lambda access: access.location not in lines,
+                "lines": lambda access: access.location in holding}[scope]
+        if (not all(held for access, held in holds.items() if said(access))
+            or not any(said(access) for access in holds)):
             yield f"not all {scope} hold it"
         if scope in ("writes", "reads") and any(said(access) for line in lines for access in self.used(line)):
             yield f"the lines are no others than {scope}"
@@ -536,16 +589,20 @@ class Group:
         """Locks that are held at each access of a line."""
         for line, locks in held.items():
             for of in locks:
-                if not self.used(line) or not all(self.has(access, of.get(access.variable)) for access in self.used(line)):
+                if (not self.used(line)
+                    or not all(self.has(access, of.get(access.variable)) for access in self.used(line))):
                     yield f"{line} doesn't hold {of}"
         for line in lines:
             every = [self.locks(access) for access in self.used(line)]
-            if len(self.variables) == 1 and every and frozenset.intersection(*every) != {lock for of in held.get(line, ()) for lock in of.values()}:
+            if (len(self.variables) == 1 and every
+                and frozenset.intersection(*every)
+                != {lock for of in held.get(line, ()) for lock in of.values()}):
                 yield f"{line} holds others"
 
     def has_without(self, are_kept=False):
-        """Whether locks of one kind, one for each variable, are held at each access of some lines, and all racing lines without them hold none,
-        or hold these at times, or are fewer. With `are_kept` frees are accesses, and hold these."""
+        """Whether locks of one kind, one for each variable, are held at each access of some lines, and all
+        racing lines without them hold none, or hold these at times, or are fewer. With `are_kept` frees are
+        accesses, and hold these."""
         kinds = collections.defaultdict(lambda: collections.defaultdict(set))
         for access in self.used():
             for lock in (access.held | access.shared) - self.reader.private:
@@ -553,7 +610,8 @@ class Group:
         frees = [access for access in self.racing() if access.is_free] if are_kept else ()
         choices = (dict(zip(by, locks)) for by in kinds.values() if self.variables <= set(by)
                    for locks in itertools.islice(itertools.product(*by.values()), MOST_CHOICES))
-        return any(all(self.has(free, of.get(free.variable)) for free in frees) and self.is_without(of, self.all if are_kept else self.used()) for of in choices)
+        return any(all(self.has(free, of.get(free.variable)) for free in frees)
+                   and self.is_without(of, self.all if are_kept else self.used()) for of in choices)
 
     def is_without(self, of, uses):
         by_line = collections.defaultdict(list)
@@ -571,9 +629,11 @@ class Group:
     def check_sometimes(self):
         yield from self.check_name()
         for line, (some, all) in self.fact["lines"].items():
-            holds = [(self.has(access, self.fact["locks"].get(access.variable)), access.count) for access in self.used(line)]
+            holds = [(self.has(access, self.fact["locks"].get(access.variable)), access.count)
+                     for access in self.used(line)]
             found = [sum(count for has, count in holds if has), sum(count for _, count in holds)]
-            if len({has for has, _ in holds}) != 2 or line not in self.lines or not self.is_merged() and found != [some, all]:
+            if (len({has for has, _ in holds}) != 2 or line not in self.lines or not self.is_merged()
+                and found != [some, all]):
                 yield f"{line} holds it at {found}"
             if not any(access.word == "w" for access in self.used(line)):
                 yield f"{line} only reads"
@@ -583,8 +643,11 @@ class Group:
     def has_sometimes(self):
         """Of one variable: a racing line that writes and holds some lock at some accesses."""
         return len(self.variables) == 1 and any(
-            len({self.has(access, lock) for access in self.used(line)}) == 2 and any(access.word == "w" for access in self.used(line))
-            and not all(any(re.sub("[0-9]", "", other) == re.sub("[0-9]", "", lock) for other in self.locks(access)) for access in self.used(line))
+            len({self.has(access, lock) for access in self.used(line)}) == 2
+            and any(access.word == "w" for access in self.used(line))
+            and not all(
+                any(re.sub("[0-9]", "", other) == re.sub("[0-9]", "", lock) for other in self.locks(access))
+                for access in self.used(line))
             for line in self.lines
             for lock in self.held_at(line) - self.reader.private)
 
@@ -607,9 +670,11 @@ class Group:
     def check_no_lock(self):
         if any(access.held or access.shared for access in self.used()):
             yield "a lock is held"
-        if set(self.fact["writes"]) != {access.location for access in self.used_racing() if access.word == "w"}:
+        if set(self.fact["writes"]) != {access.location
+                                        for access in self.used_racing() if access.word == "w"}:
             yield "other lines write"
-        if set(self.fact["writers"]) != {access.thread for access in self.used_racing() if access.word == "w"}:
+        if set(self.fact["writers"]) != {access.thread
+                                         for access in self.used_racing() if access.word == "w"}:
             yield "other threads write"
 
     def check_ordered(self):

@@ -1,5 +1,5 @@
-"""Made traces for the facts: objects with a lock each, reader locks, atomics that hand something on, plain uses of atomics, and frees. Each has
-its file of stacks, as the recorder writes both."""
+"""Made traces for the facts: objects with a lock each, reader locks, atomics that hand something on, plain
+uses of atomics, and frees. Each has its file of stacks, as the recorder writes both."""
 
 import collections
 import random
@@ -15,11 +15,17 @@ class Made:
         self.style, self.objects = pick.randrange(3), list(range(1, pick.randint(1, 3) + 1))
         self.dead = set()
         self.code = {thread: [] for thread in self.threads}
-        # how often a line uses a field, a global variable, an atomic in a way, all that is handed on, and frees
-        self.weights = pick.choice(((8, 3, 2, 2, 1, 1, 1, 1, 1), (1, 0, 1, 1, 3, 0, 1, 6, 6), (1, 0, 1, 1, 3, 0, 1, 6, 6), (8, 0, 0, 0, 0, 0, 1, 0, 0), (2, 0, 1, 1, 2, 3, 0, 1, 1),
+        # how often a line uses a field, a global variable, an atomic in a way, all that is handed on,
+        # and frees
+        self.weights = pick.choice(
+            ((8, 3, 2, 2, 1, 1, 1, 1, 1), (1, 0, 1, 1, 3, 0, 1, 6,
+                                           6), (1, 0, 1, 1, 3, 0, 1, 6,
+                                                6), (8, 0, 0, 0, 0, 0, 1, 0, 0), (2, 0, 1, 1, 2, 3, 0, 1, 1),
                                     (4, 0, 0, 0, 3, 0, 2, 2, 2)))
-        self.guards = pick.choice(((6, 2, 2, 1, 3, 1), (1, 0, 0, 0, 9, 0), (9, 0, 0, 0, 2, 1), (1, 0, 5, 3, 1, 0)))
-        self.is_short = self.weights[-1] >= 6    # long traces have few atomics that are handed on in each race
+        self.guards = pick.choice(
+            ((6, 2, 2, 1, 3, 1), (1, 0, 0, 0, 9, 0), (9, 0, 0, 0, 2, 1), (1, 0, 5, 3, 1, 0)))
+        # long traces have few atomics that are handed on in each race
+        self.is_short = self.weights[-1] >= 6
         if self.is_short:
             self.threads, self.objects = [b"T0", b"T1", b"T2"][:pick.choice((2, 3))], [1]
             self.held = {thread: [] for thread in self.threads}
@@ -28,7 +34,8 @@ class Made:
         self.ways = [self.way(number) for number in range(1, pick.randint(2, 4 if self.is_short else 6) + 1)]
 
     def field(self, thing, name):
-        return (b"o[%d].%c" % (thing, name), b"N.%c of f.c:3#%d" % (name, thing), b"f.c:3#%d+%d" % (thing, name))[self.style]
+        return (b"o[%d].%c" % (thing, name), b"N.%c of f.c:3#%d" % (name, thing),
+                b"f.c:3#%d+%d" % (thing, name))[self.style]
 
     def lock_of(self, thing):
         return (b"o[%d].l" % thing, b"N.l of f.c:3#%d" % thing, b"f.c:3#%d" % thing)[self.style]
@@ -36,15 +43,18 @@ class Made:
     def way(self, number):
         """A line of code: what it does, and under which lock."""
         pick = self.pick
-        kind = pick.choices(("use", "global", "store", "load", "update", "plain", "free", "hand", "taken"), self.weights)[0]
+        kind = pick.choices(("use", "global", "store", "load", "update", "plain", "free", "hand", "taken"),
+                            self.weights)[0]
         if self.is_short and number <= 2:
             kind = ("hand", "taken")[number - 1]
         elif self.is_short and number == 3 and pick.random() < 0.6:
             kind = "update"
         guards = (1, 1, 0, 0, 12, 0) if self.is_short else self.guards
         lock = pick.choices(("own", "global", "read", "write", "none", "both"), guards)[0]
-        return (b"f.c:%d" % (10 * number), kind, lock, pick.choice((b"r", b"w", b"rw")), 97 if self.is_short else pick.choice((97, 98)),
-                pick.choice((b"relaxed", b"release", b"acquire", b"both")), pick.choice((b"B",) * 9 + (b"A",) if self.is_short else (b"A", b"B")),
+        return (b"f.c:%d" % (10 * number), kind, lock, pick.choice((b"r", b"w", b"rw")),
+                97 if self.is_short else pick.choice((97, 98)),
+                pick.choice((b"relaxed", b"release", b"acquire", b"both")),
+                pick.choice((b"B",) * 9 + (b"A",) if self.is_short else (b"A", b"B")),
                 pick.random() < 0.15)
 
     def event(self, thread, word, name, line):
@@ -59,24 +69,30 @@ class Made:
             ways = [ways[number]] if number < 2 and (number or not has_given) else ways[2:] or ways[1:]
         line, kind, lock, words, name, order, atomic, sloppy = self.pick.choice(ways)
         thing = self.pick.choice(self.objects)
-        locks = {"own": [(self.lock_of(thing), 0)], "global": [(b"m", 0)], "read": [(b"rw", 1)], "write": [(b"rw", 0)], "none": [],
+        locks = {"own": [(self.lock_of(thing), 0)], "global": [(b"m", 0)], "read": [(b"rw", 1)],
+                 "write": [(b"rw", 0)], "none": [],
                  "both": [(b"m", 0), (self.lock_of(thing), 0)]}[lock]
         if sloppy and self.pick.random() < 0.4:
             locks = []
         found = [("take", one) for one in locks]
         if kind in ("use", "global"):
             variable = self.field(thing, name) if kind == "use" else b"g"
-            found += [("access", word, variable, line) for word in ((b"r", b"w") if words == b"rw" else (words,))]
+            found += [("access", word, variable, line)
+                      for word in ((b"r", b"w") if words == b"rw" else (words,))]
         elif kind == "free":
             found.append(("free", thing, line))
         elif kind == "hand":
-            found += [("access", b"w", self.field(thing, name), line), ("store", atomic, order if order in (b"relaxed", b"release") else b"relaxed", line + b"1")]
+            found += [("access", b"w", self.field(thing, name),
+                       line), ("store", atomic, order if order in (b"relaxed", b"release") else b"relaxed",
+                               line + b"1")]
         elif kind == "taken":
-            found += [("load", atomic, order if order in (b"relaxed", b"acquire") else b"relaxed", line + b"1"), ("if-handed", atomic, self.field(thing, name), line)]
+            found += [("load", atomic, order if order in (b"relaxed", b"acquire") else b"relaxed",
+                       line + b"1"), ("if-handed", atomic, self.field(thing, name), line)]
         elif kind == "plain":
             found.append(("plain", words[:1], line))
         else:
-            order = {"store": order if order in (b"relaxed", b"release") else b"release", "load": b"acquire" if order == b"release" else
+            order = {"store": order if order in (b"relaxed", b"release") else b"release",
+                     "load": b"acquire" if order == b"release" else
                      b"relaxed" if order == b"both" else order, "update": order}[kind]
             found.append((kind, atomic, order, line))
         return found + [("drop", one) for one in reversed(locks)]
@@ -85,7 +101,8 @@ class Made:
         if step[0] != "take":
             return True
         lock, shared = step[1]
-        return not any(other == lock and not (shared and its) for one in self.threads if one != thread for other, its in self.held[one]) \
+        return not any(other == lock and not (shared and its) for one in self.threads if one != thread
+                       for other, its in self.held[one]) \
             and not any(other == lock for other, _ in self.held[thread])
 
     def do(self, thread, step):
@@ -119,7 +136,8 @@ class Made:
                         self.event(thread, b"rel", b"rw@1<" + other, b"f.c:1")
         elif kind == "access":
             word, variable, line = more
-            if self.stands_in:             # as the recorder has locks that tell an atomic's order, each of two threads and one moment
+            # as the recorder has locks that tell an atomic's order, each of two threads and one moment
+            if self.stands_in:
                 stand_in = b"A@%d>%s" % (len(self.lines), thread)
                 self.event(thread, b"acq", stand_in, line)
                 self.event(thread, word, variable, line)
@@ -202,8 +220,10 @@ class Made:
         for _ in range(1_000):
             if len(self.lines) >= length and not any(self.code.values()):
                 break
-            ready = [thread for thread in self.threads if self.code[thread] and self.can(thread, self.code[thread][0])]
-            idle = [thread for thread in self.threads if not self.code[thread]] if len(self.lines) < length else []
+            ready = [thread for thread in self.threads if self.code[thread]
+                     and self.can(thread, self.code[thread][0])]
+            idle = ([thread for thread in self.threads if not self.code[thread]] if len(self.lines) < length
+                    else [])
             if not ready and not idle:
                 break
             thread = self.pick.choice(ready + idle)
@@ -221,7 +241,8 @@ def whole(lines):
 def handed_on(second):
     """Between two accesses an atomic is stored, used by a third thread in a way, and loaded."""
     trace = b"T0|w(x)|f.c:1\nT0|r(B)|f.c:2\nT2|r(B)|f.c:3\nT1|r(B)|f.c:4\nT1|r(x)|f.c:5\n"
-    uses = b"use 2\tB\tT0\tf.c:2\tstore relaxed\nuse 3\tB\tT2\tf.c:3\t%s relaxed\nuse 4\tB\tT1\tf.c:4\tload relaxed\n" % second
+    uses = (b"use 2\tB\tT0\tf.c:2\tstore relaxed\nuse 3\tB\tT2\tf.c:3\t%s relaxed\nuse 4\tB\tT1\tf.c:4\tload "
+            b"relaxed\n" % second)
     return trace, b"shb-stacks 1 %020d\n" % 5 + bytes(20) + uses
 
 
@@ -235,7 +256,8 @@ def freed_and_handed_on():
 def fenced(store, before):
     """An atomic is stored in an order, and loaded relaxed; a fence with acquire comes before this event."""
     trace = b"T0|w(x)|f.c:1\nT0|r(B)|f.c:2\nT1|r(B)|f.c:4\nT1|r(x)|f.c:5\nT1|r(y)|f.c:6\n"
-    uses = b"use 2\tB\tT0\tf.c:2\tstore %b\nuse 3\tB\tT1\tf.c:4\tload relaxed\nuse %d\t\tT1\tf.c:7\tfence acquire\n" % (store, before)
+    uses = (b"use 2\tB\tT0\tf.c:2\tstore %b\nuse 3\tB\tT1\tf.c:4\tload relaxed\nuse %d\t\tT1\tf.c:7\tfence "
+            b"acquire\n" % (store, before))
     return trace, b"shb-stacks 1 %020d\n" % 5 + bytes(20) + uses
 
 
@@ -254,7 +276,8 @@ def counted():
 
 
 def counted_beside():
-    """A counter that one thread updates and the other loads between their accesses, the first of which holds a lock."""
+    """A counter that one thread updates and the other loads between their accesses, the first of which
+    holds a lock."""
     trace = b"T0|acq(m)|f.c:1\nT0|w(x)|f.c:2\nT0|rel(m)|f.c:3\nT0|r(B)|f.c:4\nT1|r(B)|f.c:5\nT1|r(x)|f.c:6\n"
     uses = b"use 4\tB\tT0\tf.c:4\tupdate relaxed\nuse 5\tB\tT1\tf.c:5\tload relaxed\n"
     return trace, b"shb-stacks 1 %020d\n" % 6 + bytes(24) + uses
@@ -262,15 +285,18 @@ def counted_beside():
 
 def handed_by_others():
     """Two races of one place, between the accesses of each of which another atomic is handed on."""
-    trace = (b"T0|w(x)|f.c:1\nT0|r(B)|f.c:2\nT1|r(B)|f.c:3\nT1|r(x)|f.c:4\nT1|acq(l)|f.c:5\nT1|rel(l)|f.c:5\nT0|acq(l)|f.c:6\nT0|rel(l)|f.c:6\n"
+    trace = (
+        b"T0|w(x)|f.c:1\nT0|r(B)|f.c:2\nT1|r(B)|f.c:3\nT1|r(x)|f.c:4\nT1|acq(l)|f.c:5\nT1|rel(l)|f.c:5\nT0|acq(l)|f.c:6\nT0|rel(l)|f.c:6\n"
              b"T0|w(x)|f.c:1\nT0|r(C)|f.c:7\nT1|r(C)|f.c:8\nT1|r(x)|f.c:4\n")
     uses = b"".join(b"use %d\t%b\tT%d\tf.c:%d\t%b relaxed\n" % use for use in (
-        (2, b"B", 0, 2, b"store"), (3, b"B", 1, 3, b"load"), (10, b"C", 0, 7, b"store"), (11, b"C", 1, 8, b"load")))
+        (2, b"B", 0, 2, b"store"), (3, b"B", 1, 3,
+                                    b"load"), (10, b"C", 0, 7, b"store"), (11, b"C", 1, 8, b"load")))
     return trace, b"shb-stacks 1 %020d\n" % 12 + bytes(48) + uses
 
 
 def both_locks():
-    """Two objects with a lock each; one thread uses each under its own lock and, once, under both, another one without."""
+    """Two objects with a lock each; one thread uses each under its own lock and, once, under both,
+    another one without."""
     lines = []
     for one, other in ((1, 2), (2, 1)):
         for locks in ([one], [one, other]):
@@ -281,11 +307,15 @@ def both_locks():
 
 
 def crossed_locks():
-    """Two objects with a lock each; one thread uses each at three lines under its own lock, another one under the other's, and under none."""
+    """Two objects with a lock each; one thread uses each at three lines under its own lock, another one under
+    the other's, and under none."""
     lines = []
     for one, other in ((1, 2), (2, 1)):
-        lines += [b"T0|acq(o[%d].l)|f.c:1" % one, *[b"T0|w(o[%d].a)|f.c:%d" % (one, line) for line in (7, 8, 9)], b"T0|rel(o[%d].l)|f.c:3" % one]
-        lines += [b"T1|acq(o[%d].l)|f.c:4" % other, b"T1|w(o[%d].a)|f.c:5" % one, b"T1|rel(o[%d].l)|f.c:6" % other, b"T1|r(o[%d].a)|f.c:2" % one]
+        lines += [b"T0|acq(o[%d].l)|f.c:1" % one,
+                  *[b"T0|w(o[%d].a)|f.c:%d" % (one, line) for line in (7, 8, 9)],
+                  b"T0|rel(o[%d].l)|f.c:3" % one]
+        lines += [b"T1|acq(o[%d].l)|f.c:4" % other, b"T1|w(o[%d].a)|f.c:5" % one,
+                  b"T1|rel(o[%d].l)|f.c:6" % other, b"T1|r(o[%d].a)|f.c:2" % one]
     return whole(lines)
 
 
@@ -293,34 +323,42 @@ def at_times():
     """A line that writes and one that reads hold a lock at times."""
     lines = []
     for thread, word, line in ((0, b"w", 2), (1, b"r", 4)):
-        lines += [b"T%d|%b(x)|f.c:%d" % (thread, word, line), b"T%d|acq(m)|f.c:1" % thread, b"T%d|%b(x)|f.c:%d" % (thread, word, line), b"T%d|rel(m)|f.c:3" % thread]
+        lines += [b"T%d|%b(x)|f.c:%d" % (thread, word, line), b"T%d|acq(m)|f.c:1" % thread,
+                  b"T%d|%b(x)|f.c:%d" % (thread, word, line), b"T%d|rel(m)|f.c:3" % thread]
     return whole(lines)
 
 
 def freed_after():
-    """A line writes under a lock, another one reads without it, and at last the block is freed without it, in no race."""
-    trace = b"T0|fork(T1)|f.c:1\nT0|acq(m)|f.c:2\nT0|w(x)|f.c:3\nT0|rel(m)|f.c:4\nT1|r(x)|f.c:5\nT0|join(T1)|f.c:6\nT0|w(x)|f.c:7\n"
+    """A line writes under a lock, another one reads without it, and at last the block is freed without it,
+    in no race."""
+    trace = (
+        b"T0|fork(T1)|f.c:1\nT0|acq(m)|f.c:2\nT0|w(x)|f.c:3\nT0|rel(m)|f.c:4\nT1|r(x)|f.c:5\nT0|join(T1)|f.c:6\nT0|w(x)|f.c:7\n")
     return trace, b"shb-stacks 1 %020d\n" % 7 + bytes(28) + b"free 7 7\n"
 
 
 def nested():
     """A lock that is taken twice."""
-    lines = [b"T0|%s|f.c:%d" % (word, line) for line, word in enumerate((b"acq(l)", b"acq(l)", b"w(x)", b"rel(l)", b"w(x)", b"rel(l)"), 1)]
+    lines = [b"T0|%s|f.c:%d" % (word, line)
+             for line, word in enumerate((b"acq(l)", b"acq(l)", b"w(x)", b"rel(l)", b"w(x)", b"rel(l)"), 1)]
     lines.append(b"T1|w(x)|f.c:7")
     return whole(lines)
 
 
 def two_variables(lock):
-    """A line uses two variables without a lock; at three others one of them is used under a lock, and the other under some lock, or nowhere."""
+    """A line uses two variables without a lock; at three others one of them is used under a lock, and the
+    other under some lock, or nowhere."""
     lines = [b"T%d|w(%b)|f.c:1" % (thread, name) for name in (b"x", b"y") for thread in (0, 1)]
     for number, (name, its) in enumerate(((b"x", b"m"), (b"x", b"m"), (b"x", b"m"), (b"y", lock)), 2):
-        lines += [b"T2|acq(%b)|f.c:9" % its, b"T2|w(%b)|f.c:%d" % (name, number), b"T2|rel(%b)|f.c:9" % its] if its else []
+        lines += ([b"T2|acq(%b)|f.c:9" % its, b"T2|w(%b)|f.c:%d" % (name, number), b"T2|rel(%b)|f.c:9" % its]
+                  if its else [])
     return whole(lines)
 
 
 def read_locked():
-    """A line that races with none writes under a read lock; another one writes under the write lock, and a third reads without it."""
-    lines = [b"T0|acq(l@reader.T0)|f.c:1", b"T0|w(x)|f.c:2", b"T0|rel(l@reader.T0)|f.c:3", b"T0|fork(T1)|f.c:4", b"T0|acq(l)|f.c:5", b"T0|w(x)|f.c:6",
+    """A line that races with none writes under a read lock; another one writes under the write lock, and a
+    third reads without it."""
+    lines = [b"T0|acq(l@reader.T0)|f.c:1", b"T0|w(x)|f.c:2", b"T0|rel(l@reader.T0)|f.c:3",
+             b"T0|fork(T1)|f.c:4", b"T0|acq(l)|f.c:5", b"T0|w(x)|f.c:6",
              b"T0|rel(l)|f.c:7", b"T1|r(x)|f.c:8"]
     return whole(lines)
 

@@ -1,6 +1,6 @@
 #!/usr/bin/env python3
-"""Formats a copy of each crate, and says which files 'rt fmt' would change. `rt ci` refuses a crate with such a file,
-but only once it has proved those below it. Ends with the line 'N passed, N failed'.
+"""Formats a copy of each crate, and says which files 'rt fmt' would change. `rt ci` refuses a crate with such
+a file, but only once it has proved those below it. Ends with the line 'N passed, N failed'.
 """
 
 import filecmp

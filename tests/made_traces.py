@@ -60,7 +60,8 @@ def changed(pick, text):
         return text[:place] + bytes([pick.choice(b"0123456789 :abT|\r\n")]) + text[place + 1 :]
     elif way == 4:
         words = lines[at].split(b" ")
-        words[-1] = pick.choice([b"0", b"1", b"2", b"3", b"01", b"18446744073709551615", b"18446744073709551616", b""])
+        words[-1] = pick.choice([b"0", b"1", b"2", b"3", b"01", b"18446744073709551615",
+                                 b"18446744073709551616", b""])
         lines[at] = b" ".join(words)
     else:
         other = pick.randrange(len(lines))

@@ -28,8 +28,8 @@ def run(words, given=b"", **how):
 
 
 def start(words, seconds=LONG_SECONDS, **how):
-    """Starts the program, whose output is read in parts. One that still runs after so long is killed, which ends its output
-    and gives it a status that no test wants."""
+    """Starts the program, whose output is read in parts. One that still runs after so long is killed, which
+    ends its output and gives it a status that no test wants."""
     started = subprocess.Popen([PATH, *words], stdout=subprocess.PIPE, stderr=subprocess.PIPE, **how)
     limit = threading.Timer(seconds, started.kill)
     limit.daemon = True
@@ -60,5 +60,6 @@ class Case(side_by_side.Case):
         self.assertEqual(answer, Answer(status, out, err))
 
     def expect_refused(self, answer, first):
-        """The trace is refused: nothing was written, and this is the first line that is said. What follows it tells of the line."""
+        """The trace is refused: nothing was written, and this is the first line that is said. What follows it
+        tells of the line."""
         self.assertEqual((answer.status, answer.out, answer.err.split(b"\n")[0]), (2, b"", first))

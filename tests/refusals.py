@@ -1,17 +1,19 @@
 #!/usr/bin/env python3
-"""Finds where a refusal of memory could be made up, and where secret keys of a table could be chosen. `NoMemory` of shb_io has a
-private field: only the file below that converts the kit's errors makes one, and each other error for want of memory carries one.
-But the kit's errors can be written by any line; so their names are refused outside the files that convert them. `Keys` of shb_io
-has private fields too: a random source alone gives them, and one file makes a hasher of them. Ends with the line
-'N passed, N failed'.
+"""Finds where a refusal of memory could be made up, and where secret keys of a table could be chosen.
+`NoMemory` of shb_io has a private field: only the file below that converts the kit's errors makes one, and
+each other error for want of memory carries one. But the kit's errors can be written by any line; so their
+names are refused outside the files that convert them. `Keys` of shb_io has private fields too: a random
+source alone gives them, and one file makes a hasher of them. Ends with the line 'N passed, N failed'.
 
-Looked for in the files of the crates, those of tests too: the errors of the kit's allocator, by each of their names and by that
-of the error that is converted into one; an allocator or a random source of the repository's own; and what makes hashers.
+Looked for in the files of the crates, those of tests too: the errors of the kit's allocator, by each of their
+names and by that of the error that is converted into one; an allocator or a random source of the repository's
+own; and what makes hashers.
 
-A refusal is also had by asking for more memory than there is. So in the crates but those of tests each request for memory of
-some size is looked at: its size has to have one of the few forms below (`Sizes.is_bounded`). A size that is an argument of the
-function is looked at in each call of this function; but not of a method whose argument is below 2^32 by its type, since a
-method is known by its name and its number of arguments alone.
+A refusal is also had by asking for more memory than there is. So in the crates but those of tests each
+request for memory of some size is looked at: its size has to have one of the few forms below
+(`Sizes.is_bounded`). A size that is an argument of the function is looked at in each call of this function;
+but not of a method whose argument is below 2^32 by its type, since a method is known by its name and its
+number of arguments alone.
 """
 
 import pathlib
@@ -44,7 +46,8 @@ NAMED = {
 
 # The calls that ask for memory of some size, and which of their arguments it is.
 REQUESTS = {
-    "with_capacity": 1, "with_capacity_and_hasher": 1, "reserve": 0, "reserve_exact": 0, "try_reserve": 0, "try_reserve_exact": 0,
+    "with_capacity": 1, "with_capacity_and_hasher": 1, "reserve": 0, "reserve_exact": 0, "try_reserve": 0,
+    "try_reserve_exact": 0,
     "resize": 0, "resize_with": 0, "repeat": 1, "repeat_n": 1,
 }
 REQUEST = re.compile(rf"\b({'|'.join(REQUESTS)})\b(?!_)")
@@ -55,7 +58,8 @@ LIST = re.compile(r"\bvec!\s*\[")
 COUNTS = "threads locks variables events pieces count".split()
 # Other sizes that the code needs, by the file, with what bounds them.
 OTHERS = {
-    ("shb_lines/src/read.rt", "limits.text"): "the most bytes of a text, at most 2^30 by the condition of `parse`",
+    ("shb_lines/src/read.rt", "limits.text"): "the most bytes of a text, at most 2^30 by the condition of "
+                                              "`parse`",
     ("shb_fan/src/streaming.rt", "workers.get()"): "at most 64 by its type",
     ("shb_numbers/src/dense.rt", "at"): "the word of a number of 32 bits, so below 2^26",
     ("shb_stamps/src/row_list.rt", "room"): "half as many again as there are rows, or their cells or chunks",
@@ -70,7 +74,8 @@ CLAUSE = re.compile(r"\b(?:requires|ensures|decreases)\b[ \w]*\Z")
 
 
 class Function:
-    """A function of a file: its name, with its type where it has one, the types of its arguments by their names, and its text."""
+    """A function of a file: its name, with its type where it has one, the types of its arguments by their
+    names, and its text."""
 
     def __init__(self, file, name, arguments, start, text):
         self.file, self.name, self.arguments, self.start, self.text = file, name, arguments, start, text
@@ -83,15 +88,18 @@ def functions_in(name, code):
     for number, found in enumerate(starts):
         begins = code.index("(", end_of_parameters(code, found.end()))
         ends = end_of(code, begins)
-        arguments = dict(re.fullmatch(r"(?:mut )?([^:]*?)(?:\s*:\s*(.*))?", it, re.S).groups("") for it in parts(code[begins + 1 : ends - 1], ",", True))
+        arguments = dict(re.fullmatch(r"(?:mut )?([^:]*?)(?:\s*:\s*(.*))?", it, re.S).groups("")
+                         for it in parts(code[begins + 1 : ends - 1], ",", True))
         owner = re.findall(r"(?m)^impl\b(?:<.*?>)? (?:.* for )?(\w+)|^(\})", code[: found.start()])
         owner = owner[-1][0] if owner else ""
         body = body_at(code, ends)
-        yield Function(name, f"{owner}::{found[1]}" if owner else found[1], arguments, body, code[body : end_of(code, body)])
+        yield Function(name, f"{owner}::{found[1]}" if owner else found[1], arguments, body,
+                       code[body : end_of(code, body)])
 
 
 def body_at(code, at):
-    """The place of the bracket that opens the body of the function whose arguments end here; of the end, where it has none."""
+    """The place of the bracket that opens the body of the function whose arguments end here; of the end,
+    where it has none."""
     while at < len(code) and code[at] != ";":
         if code[at] == "{" and not CLAUSE.search(code[max(0, at - 60) : at]):
             return at
@@ -107,7 +115,8 @@ class Sizes:
         self.codes = {name: COMMENT.sub("", text) for name, text in files.items()}
         self.functions = [it for name, code in self.codes.items() for it in functions_in(name, code)]
         self.constants = {}
-        for name, value in (found.groups() for code in self.codes.values() for found in CONSTANT.finditer(code)):
+        for name, value in (found.groups() for code in self.codes.values()
+                            for found in CONSTANT.finditer(code)):
             number, _, shift = value.replace("_", "").partition("<<")
             self.constants[name] = max(int(number) << int(shift or 0), self.constants.get(name, 0))
         self.passed_on, self.used, self.wrong = [], set(), []
@@ -133,7 +142,8 @@ class Sizes:
         return self.is_known(size, function)
 
     def is_known(self, size, function):
-        """Whether a size that is no sum, product or bound of others is a number, a constant, a length, a count, or a name of one."""
+        """Whether a size that is no sum, product or bound of others is a number, a constant, a length, a
+        count, or a name of one."""
         if re.fullmatch(r"[0-9][0-9_]*", size):
             return int(size.replace("_", "")) <= MOST_NUMBER
         if re.fullmatch(r"[A-Z][A-Z0-9_]*", size):
@@ -142,7 +152,8 @@ class Sizes:
             return True
         if not re.fullmatch(r"[a-z_]\w*", size):
             return False
-        made = re.findall(rf"\b(?:let|for) (?:mut )?{size}\b|\b{size}\s*(?:[-+*/%|&^]|<<|>>)?=(?!=)", function.text)
+        made = re.findall(rf"\b(?:let|for) (?:mut )?{size}\b|\b{size}\s*(?:[-+*/%|&^]|<<|>>)?=(?!=)",
+                          function.text)
         if size in function.arguments and not made:
             is_small = function.takes_self and function.arguments[size] in ("u8", "u16", "u32")
             self.passed_on += [(function, size)] * (not is_small and (function, size) not in self.passed_on)
@@ -178,14 +189,18 @@ class Sizes:
     def look_at_calls(self, callee, argument):
         """Looks at a size that is passed to a function, in each call of it."""
         owner, _, name = callee.name.rpartition("::")
-        place, count = [*callee.arguments].index(argument) - callee.takes_self, len(callee.arguments) - callee.takes_self
-        head = r"\." if callee.takes_self else (rf"\b(?:{owner}|Self)(?:::<[^()]*>)?::" if owner else r"(?<![\w.:])")
+        place, count = ([*callee.arguments].index(argument) - callee.takes_self,
+                        len(callee.arguments) - callee.takes_self)
+        head = (
+            r"\." if callee.takes_self
+            else (rf"\b(?:{owner}|Self)(?:::<[^()]*>)?::" if owner else r"(?<![\w.:])"))
         for function in self.functions:
             for found in re.finditer(rf"{head}{name}(?:::<[^()]*>)?(?=\()", function.text):
                 ends = end_of(function.text, found.end())
                 arguments = parts(function.text[found.end() + 1 : ends - 1], ",")
                 if len(arguments) == count:
-                    self.look_at(arguments[place], function, found.start(), function.text[found.start() : ends])
+                    self.look_at(arguments[place], function, found.start(),
+                                 function.text[found.start() : ends])
 
     def all_wrong(self):
         for name, code in self.codes.items():
@@ -194,7 +209,9 @@ class Sizes:
             self.look_at_requests(function)
         for callee, argument in self.passed_on:  # it grows meanwhile
             self.look_at_calls(callee, argument)
-        return self.wrong + [f"{file}: {size} is no size there" for file, size in OTHERS if file in self.codes and (file, size) not in self.used]
+        return (
+            self.wrong + [f"{file}: {size} is no size there"
+                          for file, size in OTHERS if file in self.codes and (file, size) not in self.used])
 
 
 def wrong_in(name, text):
@@ -209,7 +226,8 @@ def wrong_in(name, text):
 
 
 def main():
-    files = {file.relative_to(CRATES).as_posix(): file.read_text() for file in sorted(CRATES.glob("*/src/**/*.rt"))}
+    files = {file.relative_to(CRATES).as_posix(): file.read_text()
+             for file in sorted(CRATES.glob("*/src/**/*.rt"))}
     wrong = [what for name, text in files.items() for what in wrong_in(name, text)]
     wrong += Sizes(files).all_wrong()
     for what in wrong:

@@ -1,4 +1,5 @@
-"""What all tests share: a test with a folder of its own, and a run of tests that ends with the line 'N passed, N failed'."""
+"""What all tests share: a test with a folder of its own, and a run of tests that ends with the line 'N
+passed, N failed'."""
 
 import concurrent.futures
 import pathlib

@@ -1,6 +1,7 @@
 #!/usr/bin/env python3
-"""Looks whether the crates export what a user of one of them alone builds on: each item of the table below (surface.txt), with
-its fields, its variants in their order, and the types of its signature. Ends with the line 'N passed, N failed'.
+"""Looks whether the crates export what a user of one of them alone builds on: each item of the table below
+(surface.txt), with its fields, its variants in their order, and the types of its signature. Ends with the
+line 'N passed, N failed'.
 
 In the table a crate's name begins a line, and its items follow, a line each:
 
@@ -13,9 +14,9 @@ In the table a crate's name begins a line, and its items follow, a line each:
     TYPE::METHOD(TYPES) -> TYPE
     mod NAME                               the lines of its items begin with `NAME::` after the first word
 
-Types are written as in the sources, but for lifetimes; what is ghost isn't looked at. What a crate exports besides is named in
-exports.txt (exports.py). If a form isn't the plain one that the item's name lets expect, the line ends with '# ' and words of
-docs/DECISIONS.md that give the reason.
+Types are written as in the sources, but for lifetimes; what is ghost isn't looked at. What a crate exports
+besides is named in exports.txt (exports.py). If a form isn't the plain one that the item's name lets expect,
+the line ends with '# ' and words of docs/DECISIONS.md that give the reason.
 """
 
 import pathlib
@@ -47,8 +48,10 @@ def signature(text, at):
     """The types of the function whose name ends at this place, and the place after them."""
     begins = text.index("(", end_of_parameters(text, at))
     ends = end_of(text, begins)
-    arguments = [it if it.split()[-1].endswith("self") else it.split(":", 1)[1] for it in parts(text[begins + 1 : ends - 1], ",", True)]
-    answer = re.compile(r"\s*->\s*(.*?)\s*(?=\n\s*(?:requires|ensures|where)\b|\{|;|$)", re.S).match(text, ends)
+    arguments = [it if it.split()[-1].endswith("self") else it.split(":", 1)[1]
+                 for it in parts(text[begins + 1 : ends - 1], ",", True)]
+    answer = re.compile(r"\s*->\s*(.*?)\s*(?=\n\s*(?:requires|ensures|where)\b|\{|;|$)",
+                        re.S).match(text, ends)
     return plain(f"({', '.join(arguments)})" + (f" -> {answer[1]}" if answer else ""))
 
 
@@ -68,10 +71,12 @@ class Sources:
     """The sources of the crates: `files` are their texts, by the crate and the path below src."""
 
     def __init__(self, files):
-        self.codes = {crate: {path: COMMENT.sub("", text) for path, text in of.items()} for crate, of in files.items()}
+        self.codes = {crate: {path: COMMENT.sub("", text) for path, text in of.items()}
+                      for crate, of in files.items()}
 
     def exported(self, crate, module=""):
-        """The names that a crate exports, or one of its modules: of each the crate that has it, and its name there."""
+        """The names that a crate exports, or one of its modules: of each the crate that has it, and
+        its name there."""
         paths = [f"{module}.rt", f"{module}/mod.rt"] if module else ["lib.rt", "main.rt"]
         root = next((self.codes[crate][it] for it in paths if it in self.codes[crate]), "")
         names = {it[1]: (crate, it[1]) for it in MODULE.finditer(root)}
@@ -121,7 +126,9 @@ class Sources:
             return ";"
         if kind == "trait":
             types = [f"type {it}" for it in re.findall(r"(?m)^    type (\w+)", inner)]
-            return " { %s }" % "; ".join(types + [f"{name}{types}" for name, types in functions(inner, False).items()])
+            return (
+                " { %s }"
+                % "; ".join(types + [f"{name}{types}" for name, types in functions(inner, False).items()]))
         found = members(inner)
         if kind == "struct" and not all(it.startswith("pub ") for it in found):
             return ""
@@ -160,7 +167,8 @@ def wrong_in(table, sources, reasons):
         count += 1
         found = found_of(sources, crate, wanted) if crate in sources.codes else None
         if found != wanted:
-            wrong.append(f"{crate} has to export\n    {wanted}\nand has\n    {found or 'nothing of this name and kind'}")
+            wrong.append(f"{crate} has to export\n    {wanted}\nand has\n    "
+                         f"{found or 'nothing of this name and kind'}")
         elif reason and reason not in reasons:
             wrong.append(f"docs/DECISIONS.md doesn't say '{reason}', the reason for\n    {wanted}")
     return wrong, count

@@ -39,7 +39,8 @@ class Build(side_by_side.Case):
 
     def run_it(self, *words):
         return subprocess.run(words, cwd=self.top, env={"PATH": str(self.tools)}, stdin=subprocess.DEVNULL,
-                              stdout=subprocess.PIPE, stderr=subprocess.PIPE, universal_newlines=True, timeout=120)
+                              stdout=subprocess.PIPE, stderr=subprocess.PIPE, universal_newlines=True,
+                              timeout=120)
 
     def test_make_alone_says_what_can_be_made_and_makes_nothing(self):
         self.add_kit(f"a-kit logic {LOGIC}")
@@ -55,7 +56,8 @@ class Build(side_by_side.Case):
         for target in ("build", "run", "install", "dist", "bench"):
             ran = self.run_it("make", "-s", target)
             self.assertNotEqual(ran.returncode, 0, target)
-            self.assertIn("build.sh: rt isn't on the PATH. It is in the folder bin of the Rattle kit", ran.stderr)
+            self.assertIn("build.sh: rt isn't on the PATH. It is in the folder bin of the Rattle kit",
+                          ran.stderr)
             self.assertIn("make install SHB=PATH", ran.stderr)
             self.assertNotIn("not found", ran.stderr)
         self.assertFalse((self.top / "bin").exists())
@@ -64,7 +66,8 @@ class Build(side_by_side.Case):
         self.add_kit("a-kit logic 0123456789abcdef")
         ran = self.run_it("make", "-s", "build")
         self.assertNotEqual(ran.returncode, 0)
-        self.assertIn(f"the kit on the PATH is 'a-kit logic 0123456789abcdef', and the proofs are for logic {LOGIC}", ran.stderr)
+        self.assertIn("the kit on the PATH is 'a-kit logic 0123456789abcdef', and the proofs are for logic "
+                      f"{LOGIC}", ran.stderr)
         self.assertFalse((self.top / "bin").exists())
 
     def test_a_kit_of_any_name_with_the_logic_builds(self):

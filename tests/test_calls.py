@@ -7,7 +7,8 @@ import unittest
 
 import calls
 
-SAID = "test fan::tickets_in_turn ... ok\n    a warning\ntest words::help_is_asked_for ... %s\ntest result: %s\n"
+SAID = ("test fan::tickets_in_turn ... ok\n    a warning\ntest words::help_is_asked_for ... %s\ntest result: "
+        "%s\n")
 WANTED = {"fan::tickets_in_turn", "words::help_is_asked_for"}
 
 
@@ -31,7 +32,8 @@ class Calls(unittest.TestCase):
         with tempfile.TemporaryDirectory() as room:
             folder = calls.make_copy(pathlib.Path(room))
             crates = {it.name for it in folder.parent.iterdir() if it.is_dir()}
-            lines = {it.split(":")[0].split()[0] for it in (folder.parent.parent / "crates.txt").read_text().splitlines() if ":" in it}
+            lines = {it.split(":")[0].split()[0]
+                     for it in (folder.parent.parent / "crates.txt").read_text().splitlines() if ":" in it}
             self.assertEqual(crates, lines)
             self.assertIn("shb_calls", crates)
             self.assertFalse([*folder.parent.glob("*/out")])

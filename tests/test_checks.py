@@ -102,7 +102,9 @@ LINES = [
 
 
 def places(count):
-    return b"places %d\n" % count + b"".join(b"place %d: 1\nat \nand \n" % number for number in range(1, count + 1))
+    return (
+        b"places %d\n" % count + b"".join(b"place %d: 1\nat \nand \n" % number
+                                          for number in range(1, count + 1)))
 
 
 # Changes of the places.

@@ -1,5 +1,5 @@
-"""The step that counts instructions and memory (costs.py) complains where a trace is dearer than its bound, where twice the events take
-too much more, and where it has no bound."""
+"""The step that counts instructions and memory (costs.py) complains where a trace is dearer than its bound,
+where twice the events take too much more, and where it has no bound."""
 
 import unittest
 

@@ -12,14 +12,16 @@ README = (TOP / "README.md").read_text()
 GUIDE = (TOP / "docs" / "GUIDE.md").read_text()
 FORMATS = (TOP / "docs" / "FORMATS.md").read_text()
 LOGS = TOP / "examples" / "logs"
-# What examples/logs log, by thread, since the threads run at once; a seller may look at `ready` more than once.
+# What examples/logs log, by thread, since the threads run at once; a seller may look at `ready` more
+# than once.
 LOGGED = {
     "main": ["fork(seller)", "w(price)", "vw(ready)", "r(count)", "join(seller)"],
     "seller": ["vr(ready)", "r(price)", "acq(door)", "w(count)", "rel(door)"],
 }
 FIX = [sys.executable, TOP / "python" / "shb-fix", "--quiet"]
 
-# A trace for each reason, with the line that is refused. The texts of three are long, and other tests have them.
+# A trace for each reason, with the line that is refused. The texts of three are long, and other tests
+# have them.
 REFUSED = {
     "the text is longer than 1073741824 bytes": None,
     "the line is longer than 4096 bytes": (b"T|r(x)|" + b"a" * 4090 + b"\n", 1),
@@ -59,7 +61,8 @@ class Documents(program.Case):
     def test_what_a_parser_needs(self):
         """Locations that are empty, and a schedule without events."""
         answer = program.run(["races"], b"T1|w(x)\nT2|w(x)\n")
-        self.assertTrue(answer.out.endswith(b"\nplace 1: 1\nat \nand \nrace 1: 1 2\nfirst T1|w(x)\nsecond T2|w(x)\nschedule 0:\nend\n"), answer.out)
+        self.assertTrue(answer.out.endswith(b"\nplace 1: 1\nat \nand \nrace 1: 1 2\nfirst T1|w(x)\nsecond "
+                                            b"T2|w(x)\nschedule 0:\nend\n"), answer.out)
 
     def logged(self, *words):
         """The log of a program that is run in a folder of its own."""
@@ -67,14 +70,16 @@ class Documents(program.Case):
         return (self.folder / "app.std").read_bytes()
 
     def look_at(self, log, lines):
-        """A log has the events of each thread, and once repaired one race, at the lines of the sources that have these texts."""
+        """A log has the events of each thread, and once repaired one race, at the lines of the sources that
+        have these texts."""
         events = [line.split("|") for line in log.decode().splitlines()]
         for thread, wanted in LOGGED.items():
             found = [operation for name, operation, _ in events if name == thread]
             while found[:2] == ["vr(ready)"] * 2:
                 del found[0]
             self.assertEqual(found, wanted)
-        fixed = subprocess.run(FIX, input=log, stdout=subprocess.PIPE, stderr=subprocess.DEVNULL, timeout=program.SECONDS).stdout
+        fixed = subprocess.run(FIX, input=log, stdout=subprocess.PIPE, stderr=subprocess.DEVNULL,
+                               timeout=program.SECONDS).stdout
         listed = program.run(["places", "--list"], fixed).out.decode()
         self.assertEqual(set(re.findall(r"^(?:at|and) (.*)$", listed, re.M)), lines)
         self.assertIn("\nplaces 1\n", listed)
@@ -84,7 +89,8 @@ class Documents(program.Case):
         lines = source.read_text().splitlines()
         for line in block_from(GUIDE, 'EVENT("w(count)"').splitlines():
             self.assertIn(line, [line.strip() for line in lines])
-        subprocess.run(["cc", "-Wall", "-Wextra", "-Werror", "-pthread", "-o", self.folder / "logged", source], check=True)
+        subprocess.run(["cc", "-Wall", "-Wextra", "-Werror", "-pthread", "-o", self.folder / "logged",
+                        source], check=True)
         at = [number for number, line in enumerate(lines, 1) if '"w(count)"' in line or '"r(count)"' in line]
         self.look_at(self.logged(self.folder / "logged"), {f"{source}:{number}" for number in at})
 
@@ -92,22 +98,27 @@ class Documents(program.Case):
         if not shutil.which("javac"):
             self.skipTest("javac isn't installed")
         lines = (LOGS / "Logged.java").read_text().splitlines()
-        subprocess.run(["javac", "-d", self.folder, *LOGS.glob("*.java")], check=True, timeout=program.SECONDS)
+        subprocess.run(["javac", "-d", self.folder, *LOGS.glob("*.java")], check=True,
+                       timeout=program.SECONDS)
         at = [number for number, line in enumerate(lines, 1) if '"w(count)"' in line or '"r(count)"' in line]
-        self.look_at(self.logged("java", "-cp", self.folder, "Logged"), {f"Logged.java:{number}" for number in at})
+        self.look_at(self.logged("java", "-cp", self.folder,
+                                 "Logged"), {f"Logged.java:{number}" for number in at})
 
     def test_what_is_refused(self):
         table = FORMATS[FORMATS.index("| Reason |"):FORMATS.index("## A race")]
         self.assertEqual(re.findall(r"^\| `(.*?)` \|", table, re.M), list(REFUSED))
         for reason, row in REFUSED.items():
             if row:
-                self.expect(program.run(["races"], row[0]), 2, b"", b"line %d: %s\n" % (row[1], reason.encode()))
+                self.expect(program.run(["races"], row[0]), 2, b"",
+                            b"line %d: %s\n" % (row[1], reason.encode()))
         for trace, reason in BOTH:
-            self.expect(program.run(["races"], trace), 2, b"", b"line %d: %s\n" % (trace.count(b"\n"), reason.encode()))
+            self.expect(program.run(["races"], trace), 2, b"",
+                        b"line %d: %s\n" % (trace.count(b"\n"), reason.encode()))
 
     def test_the_answers_of_check(self):
         """Each line of the table, of a report that was changed by hand."""
-        trace, good = (TOP / "examples" / "fork-join.std"), (TOP / "examples" / "fork-join.report").read_bytes()
+        trace, good = (
+            (TOP / "examples" / "fork-join.std"), (TOP / "examples" / "fork-join.report").read_bytes())
         changed = {
             "bad line 1": b"x" + good,
             "bad counts": good.replace(b"events 7 ", b"events 8 "),
@@ -118,4 +129,5 @@ class Documents(program.Case):
         table = re.findall(r"^\| `((?:bad|ok) [^`]*)` \|", FORMATS, re.M)
         self.assertEqual(table, ["bad line N", "bad counts", "bad race K", "bad places", "ok R"])
         for line, report in changed.items():
-            self.expect(program.run(["check", trace], report), 0 if line[0] == "o" else 5, line.encode() + b"\n")
+            self.expect(program.run(["check", trace], report), 0 if line[0] == "o" else 5,
+                        line.encode() + b"\n")

@@ -41,14 +41,17 @@ class Endless(unittest.TestCase):
         ):
             code = "const LONG: u64 = 999_999_999;\n" + SEARCH
             self.wrong(code % f"for _ in 0..{end} {{}}", f"8: ..{found}")
-        self.wrong(SEARCH % "for k in 0..races {}\n    for k in 0..1_000 {}\n    let none = u64::MAX;\n    &bytes[1 << 3..];")
+        self.wrong(SEARCH % "for k in 0..races {}\n    for k in 0..1_000 {}\n    let none = u64::MAX;\n    "
+                            "&bytes[1 << 3..];")
         self.wrong("const FEW: u64 = 1_000;\n" + SEARCH % "for _ in 0..=FEW {}")
 
     def test_a_loop_of_years_by_what_it_asks(self):
-        for asked in ("n < u64::MAX", "n < !0", "n >> 3 < 1 << 60", "n < 0xFFFF_FFFF", "n != 4_294_967_296", "n < LONG"):
+        for asked in ("n < u64::MAX", "n < !0", "n >> 3 < 1 << 60", "n < 0xFFFF_FFFF", "n != 4_294_967_296",
+                      "n < LONG"):
             (found,) = endless.wrong_in(FILE, SEARCH % f"while {asked} {{ n += 1; }}")
             self.assertTrue(found.startswith(f"{FILE}:7: while n"), found)
-        self.wrong(SEARCH % "while n < races && left >= 10_000 { n += 1; }\n    while let Some(k) = next(u64::MAX) {}")
+        self.wrong(SEARCH % "while n < races && left >= 10_000 { n += 1; }\n    while let Some(k) = "
+                            "next(u64::MAX) {}")
 
     def test_calls_that_wait(self):
         for line, found in (
@@ -87,12 +90,15 @@ class Endless(unittest.TestCase):
         planted = text + "park_timeout(rt)\n"
         lines = [n for n, line in enumerate(planted.splitlines(), 1) if "park_timeout" in line]
         wanted = rf"{file}: 1 of \bpark_timeout\b are wanted"
-        self.assertEqual(endless.wrong_in(file, planted), [f"{file}:{n}: park_timeout" for n in lines] + [wanted])
+        self.assertEqual(endless.wrong_in(file, planted), [f"{file}:{n}: park_timeout" for n in lines]
+                         + [wanted])
         (line,) = lines[:-1]
-        self.assertEqual(endless.wrong_in(file, text.replace("park_timeout", "park")), [wanted, f"{file}:{line}: park"])
+        self.assertEqual(
+            endless.wrong_in(file, text.replace("park_timeout", "park")), [wanted, f"{file}:{line}: park"])
 
     def test_what_waits_for_nothing(self):
-        self.wrong("// std::sync::Mutex, rt.forever()\n/// Waits for nothing: `park`.\n" + SEARCH % "stream(rt, alloc, job)?;")
+        self.wrong("// std::sync::Mutex, rt.forever()\n/// Waits for nothing: `park`.\n" + SEARCH
+                   % "stream(rt, alloc, job)?;")
 
 
 if __name__ == "__main__":

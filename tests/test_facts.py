@@ -1,4 +1,5 @@
-"""The facts of the view, read again by facts_reader.py: of made traces, and of programs with a line to blame where the recorder is built."""
+"""The facts of the view, read again by facts_reader.py: of made traces, and of programs with a line to blame
+where the recorder is built."""
 
 import collections
 import os
@@ -23,8 +24,8 @@ MADE = int(os.environ.get("SHB_FACTS", 300))  # traces
 
 
 def facts_of(trace, stacks, written=None):
-    """The facts of a trace's groups, each with the pairs of lines of its group, as `places.json` has them. `written` is a report, where it
-    isn't the trace's own."""
+    """The facts of a trace's groups, each with the pairs of lines of its group, as `places.json` has them.
+    `written` is a report, where it isn't the trace's own."""
     with tempfile.TemporaryFile() as file, tempfile.TemporaryFile() as report, tempfile.NamedTemporaryFile() as beside:
         file.write(trace)
         report.write(written or shb.report(trace, False))
@@ -40,7 +41,9 @@ def facts_of(trace, stacks, written=None):
         made = view.Subject(given, counts, 0, False, counts.events)
         how = asked()._replace(has_windows=False)
         for section in view.make_sections(how, kinds, made, Trace(file, QUIET), gathered.groups())[1]:
-            yield result.group_entry(shown, section), [tuple(map(text, pair.locations)) for pair in section.group.pairs]
+            yield (
+                result.group_entry(shown, section), [tuple(map(text, pair.locations))
+                                                     for pair in section.group.pairs])
 
 
 def read_again(traces):
@@ -62,11 +65,17 @@ class Facts(program.Case):
     def test_a_report_of_no_race(self):
         """A report may be wrong: accesses that hold one lock don't race, and that is the fact."""
         lines = [b"%b|%b|a.c:%d" % (thread, operation, number) for number, (thread, operation) in enumerate(
-            (thread, operation) for thread in (b"T0", b"T1") for operation in (b"acq(m)", b"w(x)", b"rel(m)"))]
-        report = (b"shb-report 2\nevents 6 threads 2 locks 1 variables 1\nraces 1\nplaces 1\nplace 1: 1\nat a.c:1\nand a.c:4\n"
-                  b"race 1: 2 5\nfirst %b\nsecond %b\nend\n" % (lines[1], lines[4]))
+            (thread, operation) for thread in (b"T0", b"T1")
+            for operation in (b"acq(m)", b"w(x)", b"rel(m)"))]
+        report = (b"shb-report 2\nevents 6 threads 2 locks 1 variables 1\nraces 1\nplaces 1\nplace 1: 1\nat "
+                  b"a.c:1\nand a.c:4\nrace 1: 2 5\nfirst %b\nsecond %b\nend\n" % (lines[1], lines[4]))
         trace = b"".join(line + b"\n" for line in lines)
-        [(fact, pairs)] = facts_of(trace, b"shb-stacks 1 %020d\n" % len(lines) + bytes(4 * len(lines)), report)
-        self.assertEqual((fact["form"], list(facts_reader.Reader(trace).faults([(fact, pairs)]))), ("ordered", []))
+        [(fact, pairs)] = facts_of(trace, b"shb-stacks 1 %020d\n" % len(lines) + bytes(4 * len(lines)),
+                                   report)
+        self.assertEqual(
+            (fact["form"], list(facts_reader.Reader(trace).faults([(fact, pairs)]))), ("ordered", []))
         fact["form"] = "apart"
-        self.assertNotEqual(list(facts_reader.Reader(trace).faults([({**fact, "lines": ["a.c:1", "a.c:4"], "held": {}, "all_hold": False}, pairs)])), [])
+        self.assertNotEqual(
+            list(
+                facts_reader.Reader(trace).faults(
+                    [({**fact, "lines": ["a.c:1", "a.c:4"], "held": {}, "all_hold": False}, pairs)])), [])

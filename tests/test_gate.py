@@ -39,7 +39,8 @@ LEFT = "file: src/lib.rt\nold:     n + 1\nnew:     1 + n\n"
 
 
 class Edits(side_by_side.Case):
-    """Each test has a crate `low` with the functions `first` and `Pair::second`, and says what the checker answers."""
+    """Each test has a crate `low` with the functions `first` and `Pair::second`, and says what
+    the checker answers."""
 
     def setUp(self):
         super().setUp()
@@ -67,11 +68,13 @@ class Edits(side_by_side.Case):
 
         fakes = {"check": check, "try_alone": try_alone, "functions_of": lambda _: {"first", "Pair::second"}}
         with mock.patch.multiple(kit, **fakes):
-            return {said.split("/")[1].split(":")[0]: is_refused for is_refused, said in joint.tried(self.crate, edits)}
+            return {said.split("/")[1].split(":")[0]: is_refused
+                    for is_refused, said in joint.tried(self.crate, edits)}
 
     def test_two_functions_are_one_check(self):
         edits = [self.edit("first.same", FIRST), self.edit("second.other", SECOND)]
-        said = "fn low::first: not proved\nfn low::Pair::second: no proof: expected answers in proofs/x\nlogic=not-proved"
+        said = ("fn low::first: not proved\nfn low::Pair::second: no proof: expected answers in "
+                "proofs/x\nlogic=not-proved")
         self.assertEqual(self.tried(edits, (1, said)), {"first.same.edit": True, "second.other.edit": True})
         self.assertEqual([functions for _, functions in self.checks], [{"first", "Pair::second"}])
         self.assertIn("    n\n", self.checks[0][0])
@@ -80,22 +83,28 @@ class Edits(side_by_side.Case):
 
     def test_two_edits_of_a_function_are_two_checks(self):
         edits = [self.edit("first.left", LEFT), self.edit("first.same", FIRST)]
-        self.tried(edits, (1, "fn low::first: not proved; it calls low::f\n"), (1, "fn low::first: not proved\n"))
+        self.tried(edits, (1, "fn low::first: not proved; it calls low::f\n"), (1, "fn low::first: not "
+                                                                                "proved\n"))
         self.assertEqual([functions for _, functions in self.checks], [{"first"}, {"first"}])
         self.assertEqual(self.alone, [])
 
     def test_an_edit_outside_of_functions_is_a_check_of_its_own(self):
-        edits = [self.edit("first.outside", "file: src/lib.rt\nold: /// One more.\nnew: /// One less.\n"), self.edit("second.other", SECOND)]
-        told = self.tried(edits, (1, "fn low::Pair::second: not proved\n"), (1, "fn low::first: not proved\n"))
+        edits = [self.edit("first.outside", "file: src/lib.rt\nold: /// One more.\nnew: /// One less.\n"),
+                 self.edit("second.other", SECOND)]
+        told = self.tried(
+            edits, (1, "fn low::Pair::second: not proved\n"), (1, "fn low::first: not proved\n"))
         self.assertEqual(told, {"first.outside.edit": True, "second.other.edit": True})
         self.assertEqual([functions for _, functions in self.checks], [{"Pair::second"}, {"first"}])
 
     def test_what_the_kit_says_of_one_edit_is_one_of_its_answers(self):
-        kinds = {"REFUSED": "refused", "AT_LIMIT": "limit", "BAD": "bad", "MISSED": "missed", "UNSURE": "unsure"}
+        kinds = {"REFUSED": "refused", "AT_LIMIT": "limit", "BAD": "bad", "MISSED": "missed",
+                 "UNSURE": "unsure"}
         for kind in kinds.values():
             rt = types.SimpleNamespace(**kinds, must_fail=lambda *_: (kind, f"must-fail low/x.edit: {kind}"))
             with self.subTest(kind), mock.patch.object(kit, "command", lambda: rt):
-                self.assertEqual(kit.try_alone(self.crate, "x.edit"), (kind in ("refused", "limit"), f"must-fail low/x.edit: {kind}"))
+                self.assertEqual(kit.try_alone(self.crate,
+                                               "x.edit"), (kind in ("refused", "limit"),
+                                                           f"must-fail low/x.edit: {kind}"))
         for answer in (True, False):  # of a kit that says no more
             rt = types.SimpleNamespace(must_fail=lambda *_, answer=answer: (answer, "said"))
             with self.subTest(answer), mock.patch.object(kit, "command", lambda: rt):
@@ -107,7 +116,8 @@ class Edits(side_by_side.Case):
     def test_a_kit_is_asked_to_prove_anew_where_it_knows_the_word(self):
         script = self.folder / "rt"
         with mock.patch.object(kit, "command", lambda: types.SimpleNamespace(__file__=str(script))):
-            for text, anew, words in (("--anew", True, ["ci", "--anew"]), ("--anew", False, ["ci"]), ("none", True, ["ci"])):
+            for text, anew, words in (
+                    ("--anew", True, ["ci", "--anew"]), ("--anew", False, ["ci"]), ("none", True, ["ci"])):
                 script.write_text(text)
                 with self.subTest(text, anew=anew):
                     self.assertEqual(kit.proofs_from(anew), words)
@@ -115,7 +125,9 @@ class Edits(side_by_side.Case):
     def test_kits_of_one_logic_share_a_record(self):
         for line in ("kit-1 logic 0123", "kit-2 logic 0123\n"):
             (self.folder / "KIT-ID").write_text(line)
-            with self.subTest(line), mock.patch.object(kit, "command", lambda: types.SimpleNamespace(KIT=str(self.folder))):
+            with self.subTest(line), mock.patch.object(kit,
+                                                       "command", lambda: types.SimpleNamespace(
+                                                           KIT=str(self.folder))):
                 self.assertEqual(kit.logic(), "0123")
 
     def test_proved_edit_fails(self):
@@ -127,27 +139,34 @@ class Edits(side_by_side.Case):
 
     def test_refused_for_a_callee_alone_is_tried_again(self):
         edits = [self.edit("first.same", FIRST), self.edit("second.other", SECOND)]
-        said = "fn low::first: not proved\nfn low::Pair::second: no proof: it calls low::first, which is not proved\n"
+        said = ("fn low::first: not proved\nfn low::Pair::second: no proof: it calls low::first, which is "
+                "not proved\n")
         told = self.tried(edits, (1, said), (1, "fn low::Pair::second: not proved\n"))
         self.assertEqual(told, {"first.same.edit": True, "second.other.edit": True})
-        self.assertEqual([functions for _, functions in self.checks], [{"first", "Pair::second"}, {"Pair::second"}])
+        self.assertEqual(
+            [functions for _, functions in self.checks], [{"first", "Pair::second"}, {"Pair::second"}])
 
     def test_refusal_of_another_function_says_nothing(self):
         said = "fn low::first: not proved\nfn low::third: not proved\n"
         self.assertEqual(self.tried([self.edit("first.same", FIRST)], (1, said)), {"first.same.edit": False})
 
     def test_functions_that_call_one_another_are_refused_together(self):
-        said = "fn low::first: no proof: expected answers in ./proofs/+pair/Answers.antt; `search` did not prove `x`\n"
+        said = ("fn low::first: no proof: expected answers in ./proofs/+pair/Answers.antt; `search` did not "
+                "prove `x`\n")
         for other, is_refused in (("+pair", True), ("third", False)):
             with self.subTest(other):
-                both = said + f"fn low::third: no proof: expected answers in ./proofs/{other}/Answers.antt; `search` did not prove `x`\n"
-                self.assertEqual(self.tried([self.edit("first.same", FIRST)], (1, both)), {"first.same.edit": is_refused})
+                both = (said + f"fn low::third: no proof: expected answers in ./proofs/{other}/Answers.antt; "
+                               "`search` did not prove `x`\n")
+                self.assertEqual(
+                    self.tried([self.edit("first.same", FIRST)], (1, both)), {"first.same.edit": is_refused})
 
     def test_empty_answers_and_checks_that_die_say_nothing(self):
-        for status, said in ((0, ""), (1, ""), (2, "fn low::first: not proved\n"), (-9, "fn low::first: not proved\n"), (3, "")):
+        for status, said in ((0, ""), (1, ""), (2, "fn low::first: not proved\n"), (-9, "fn low::first: not "
+                                                                                    "proved\n"), (3, "")):
             with self.subTest(status=status, said=said):
                 self.alone = []
-                self.assertEqual(self.tried([self.edit("first.same", FIRST)], (status, said)), {"first.same.edit": False})
+                self.assertEqual(
+                    self.tried([self.edit("first.same", FIRST)], (status, said)), {"first.same.edit": False})
                 self.assertEqual(self.alone, ["first.same.edit"])
 
     def test_unread_text_says_nothing(self):
@@ -155,7 +174,9 @@ class Edits(side_by_side.Case):
         self.assertEqual(self.tried([self.edit("first.same", FIRST)], (1, said)), {"first.same.edit": False})
 
     def test_edit_that_does_not_apply_is_tried_alone(self):
-        for name, text in (("old.gone", "file: src/lib.rt\nold: n + 2\nnew: n\n"), ("file.gone", "file: src/no.rt\nold: n\nnew: m\n")):
+        for name, text in (
+                ("old.gone", "file: src/lib.rt\nold: n + 2\nnew: n\n"), ("file.gone", "file: src/no.rt\nold: "
+                                                                         "n\nnew: m\n")):
             with self.subTest(name):
                 self.alone = []
                 self.assertEqual(self.tried([self.edit(name, text)]), {f"{name}.edit": False})
@@ -186,7 +207,8 @@ class Records(side_by_side.Case):
         return record.Layers(self.root).state("high", logic)
 
     def test_bodies_proofs_and_comments_below_change_nothing(self):
-        self.write("crates/low/src/lib.rt", CODE.replace("    n + 1\n}", "    1 + n\n}").replace("/// One more.", "/// Two."))
+        self.write("crates/low/src/lib.rt",
+                   CODE.replace("    n + 1\n}", "    1 + n\n}").replace("/// One more.", "/// Two."))
         self.write("crates/low/proofs/first/Answers.antt", "another answer\n")
         self.assertEqual(self.state(), self.before)
 
@@ -238,7 +260,8 @@ class Records(side_by_side.Case):
 
     def test_a_change_names_the_crates_above(self):
         layers = record.Layers(self.root)
-        files = {"crates/low/src/lib.rt", "crates/high/must-fail/f.wrong.edit", "docs/x.md", "crates/none/src/lib.rt"}
+        files = {"crates/low/src/lib.rt", "crates/high/must-fail/f.wrong.edit", "docs/x.md",
+                 "crates/none/src/lib.rt"}
         self.assertEqual(changed.crates_in(files, layers.uses), {"low"})
         self.assertEqual(layers.above({"low"}), ["low", "high"])
 

@@ -1,7 +1,8 @@
-"""Sizes that small traces never reach: more than 100,000 races with schedules, more than 65,536 names, kept clocks and events of a schedule; as many
-locks, names and events of a schedule as a trace of the most events has; an empty line before each of a million events; and
-clocks of 1,024 threads, a variable with more races than memory could hold, a report with a schedule that is far longer than its trace, and one with far more places than
-races, in little memory."""
+"""Sizes that small traces never reach: more than 100,000 races with schedules, more than 65,536 names, kept
+clocks and events of a schedule; as many locks, names and events of a schedule as a trace of the most events
+has; an empty line before each of a million events; and clocks of 1,024 threads, a variable with more races
+than memory could hold, a report with a schedule that is far longer than its trace, and one with far more
+places than races, in little memory."""
 
 import resource
 
@@ -29,8 +30,8 @@ def many_races():
 
 
 def many_racing_variables():
-    """Two threads write each of many variables, with nothing between them: each variable has one race, all at one
-    place."""
+    """Two threads write each of many variables, with nothing between them: each variable has one race, all
+    at one place."""
     count = RACING_VARIABLES
     lines = [b"T1|w(v%d)|a\nT2|w(v%d)|b\n" % (k, k) for k in range(count)]
     report = [b"shb-report 2\nevents %d threads 2 locks 0 variables %d\n" % (2 * count, count)]
@@ -42,10 +43,12 @@ def many_racing_variables():
 
 
 def many_names():
-    """Two threads take a lock in turn, each time for variables of their own; at the end both write without it."""
+    """Two threads take a lock in turn, each time for variables of their own; at the end both
+    write without it."""
     lines = []
     for k in range(ROUNDS):
-        lines.append(b"T1|acq(l)\nT1|w(v%d)\nT1|rel(l)\nT2|acq(l)\nT2|r(v%d)\nT2|w(u%d)\nT2|rel(l)\n" % (k, k, k))
+        lines.append(b"T1|acq(l)\nT1|w(v%d)\nT1|rel(l)\nT2|acq(l)\nT2|r(v%d)\nT2|w(u%d)\nT2|rel(l)\n"
+                     % (k, k, k))
     lines.append(b"T1|w(z)\nT2|w(z)\n")
     events = 7 * ROUNDS + 2
     numbers = b"".join(b" %d" % k for k in range(1, events - 1))
@@ -59,8 +62,9 @@ def many_names():
 
 
 def the_most():
-    """As many events as there may be. Two threads go through groups of six events, each with a lock and a variable of
-    its own; at the end both write without a lock, and all other events stand in the schedule of this race."""
+    """As many events as there may be. Two threads go through groups of six events, each with a lock and a
+    variable of its own; at the end both write without a lock, and all other events stand in the schedule of
+    this race."""
     groups = (MOST_EVENTS - 4) // 6
     group = b"T1|acq(l%d)\nT1|w(v%d)\nT1|rel(l%d)\nT2|acq(l%d)\nT2|r(v%d)\nT2|rel(l%d)\n"
     lines = [b"T1|begin\nT2|begin\n", *(group % ((k,) * 6) for k in range(groups)), b"T1|w(z)\nT2|w(z)\n"]
@@ -75,8 +79,8 @@ def the_most():
 
 
 def random_locks(threads, rounds):
-    """The threads take locks by fixed numbers, each time for the lock's own variable; at the end two of them write
-    without one."""
+    """The threads take locks by fixed numbers, each time for the lock's own variable; at the end two of them
+    write without one."""
     lines, number = [], 1
     for k in range(rounds):
         number = (number * 1_103_515_245 + 12_345) % 2**32
@@ -85,7 +89,8 @@ def random_locks(threads, rounds):
     lines.append(b"T0|w(z)\nT1|w(z)\n")
     events = 3 * rounds + 2
     report = [
-        b"shb-report 2\nevents %d threads %d locks %d variables %d\n" % (events, threads, threads, threads + 1),
+        b"shb-report 2\nevents %d threads %d locks %d variables %d\n"
+        % (events, threads, threads, threads + 1),
         b"races 1\n" + places(1),
         b"race 1: %d %d\nfirst T0|w(z)\nsecond T1|w(z)\nend\n" % (events - 1, events),
     ]
@@ -93,8 +98,9 @@ def random_locks(threads, rounds):
 
 
 def hot_variable(writes):
-    """Two threads write one variable in turn, and nothing orders them: each write of one races with each of the other.
-    The report of a race of each place, with schedules: 2 may come before 1, and 2 and 3 may change places after 1."""
+    """Two threads write one variable in turn, and nothing orders them: each write of one races with each of
+    the other. The report of a race of each place, with schedules: 2 may come before 1, and 2 and 3 may change
+    places after 1."""
     report = [
         b"shb-report 2\nevents %d threads 2 locks 0 variables 1\n" % (2 * writes),
         b"races 2\nplaces 2\nplace 1: 1\nat a\nand b\nplace 2: 1\nat b\nand a\n",
@@ -105,8 +111,8 @@ def hot_variable(writes):
 
 
 def square_of_places(locations):
-    """One thread writes a variable at so many locations, and then another does: each pair of these is a place, and has
-    one race."""
+    """One thread writes a variable at so many locations, and then another does: each pair of these is a
+    place, and has one race."""
     count = locations * locations
     lines = [b"T%d|w(x)|%c%d\n" % (t, b"ab"[t - 1], k) for t in (1, 2) for k in range(locations)]
     pairs = [(i, j) for j in range(locations) for i in range(locations)]
@@ -114,7 +120,8 @@ def square_of_places(locations):
     report.append(b"races %d\nplaces %d\n" % (count, count))
     report += [b"place %d: 1\nat a%d\nand b%d\n" % (q, i, j) for q, (i, j) in enumerate(pairs, 1)]
     for k, (i, j) in enumerate(pairs, 1):
-        report.append(b"race %d: %d %d\nfirst T1|w(x)|a%d\nsecond T2|w(x)|b%d\n" % (k, i + 1, locations + j + 1, i, j))
+        report.append(b"race %d: %d %d\nfirst T1|w(x)|a%d\nsecond T2|w(x)|b%d\n"
+                      % (k, i + 1, locations + j + 1, i, j))
     return b"".join(lines), b"".join([*report, b"end\n"])
 
 
@@ -173,10 +180,12 @@ class Large(program.Case):
         text, report = hot_variable(writes)
         room = len(text) + 300 * 2**20
         self.assertGreater(8 * writes * writes, room)
-        listed = b"".join(line for line in report.splitlines(keepends=True) if not line.startswith(b"schedule"))
+        listed = b"".join(line for line in report.splitlines(keepends=True)
+                          if not line.startswith(b"schedule"))
         trace = self.file(text)
         for workers in ("1", "2", "64"):
-            self.expect(program.run(["places", "--list", "--workers", workers, trace], **within(room)), 0, listed)
+            self.expect(program.run(["places", "--list", "--workers", workers, trace], **within(room)), 0,
+                        listed)
         self.expect(program.run(["places", "--workers", "2", trace], **within(room)), 0, report)
         self.expect(program.run(["check", trace], report), 0, b"ok 2\n")
 
@@ -184,7 +193,8 @@ class Large(program.Case):
         text, report = square_of_places(500)
         trace = self.file(text)
         for form in ("places", "races"):
-            self.assertTrue(program.run([form, "--list", trace]) == program.Answer(0, report, b""), "the reports differ")
+            self.assertTrue(program.run([form, "--list", trace]) == program.Answer(0, report, b""),
+                            "the reports differ")
 
     def test_many_names_clocks_and_events_of_a_schedule(self):
         text, report, races = many_names()
@@ -196,7 +206,8 @@ class Large(program.Case):
 
     def test_the_most_events(self):
         text = b"T|r(x)\n" * MOST_EVENTS
-        report = b"shb-report 2\nevents %d threads 1 locks 0 variables 1\nraces 0\nplaces 0\nend\n" % MOST_EVENTS
+        report = (b"shb-report 2\nevents %d threads 1 locks 0 variables 1\nraces 0\nplaces 0\nend\n"
+                  % MOST_EVENTS)
         self.expect(program.run(["races"], text), 0, report)
         said = b"line %d: there are more than %d events\n" % (MOST_EVENTS + 1, MOST_EVENTS)
         self.expect(program.run(["races"], text + b"T|r(x)\n"), 2, b"", said)
@@ -204,7 +215,8 @@ class Large(program.Case):
         self.expect(program.run(["races"], text + b"oops\n"), 2, b"", said)
 
     def test_an_empty_line_before_each_event(self):
-        """The number of a line is searched for among all empty lines: to do so for each event would take minutes."""
+        """The number of a line is searched for among all empty lines: to do so for each event
+        would take minutes."""
         events = 1_000_000
         text = b"\nT1|r(x)\n\nT2|w(y)\n" * (events // 2)
         report = b"shb-report 2\nevents %d threads 2 locks 0 variables 2\nraces 0\nplaces 0\nend\n" % events

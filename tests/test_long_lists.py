@@ -1,6 +1,6 @@
-"""Lists of more races than events, which the program searches for more than once, a batch of variables at a time: more of them
-than fit into memory as pairs, more bytes than 32 bits count, pipes that break in the middle, and each request for memory and
-each device that fails on the way."""
+"""Lists of more races than events, which the program searches for more than once, a batch of variables at a
+time: more of them than fit into memory as pairs, more bytes than 32 bits count, pipes that break in the
+middle, and each request for memory and each device that fails on the way."""
 
 import collections
 import resource
@@ -19,8 +19,8 @@ FULL_FILE = b"cannot write\nshb: standard output: File too large (os error 27)\n
 
 
 def two_writers(rounds):
-    """One thread writes a variable so often, then another one does. Nothing orders the two, so each write of the second
-    races with each of the first."""
+    """One thread writes a variable so often, then another one does. Nothing orders the two, so each write of
+    the second races with each of the first."""
     return b"T1|w(x)|a\n" * rounds + b"T2|w(x)|b\n" * rounds
 
 
@@ -50,27 +50,32 @@ def front_of(rounds, length):
 
 
 def two_writers_of_each(rounds):
-    """For each of these numbers a variable, which one thread writes so often; then another thread does, all variables in the
-    same order. Nothing orders the two."""
-    return b"".join(b"T%d|w(%d)|%d\n" % (thread, x, x % 2) * many for thread in (1, 2) for x, many in enumerate(rounds))
+    """For each of these numbers a variable, which one thread writes so often; then another thread does, all
+    variables in the same order. Nothing orders the two."""
+    return b"".join(b"T%d|w(%d)|%d\n" % (thread, x, x % 2) * many for thread in (1, 2)
+                    for x, many in enumerate(rounds))
 
 
 def races_of_each(rounds):
     """Their races: by the variable, then by the later write, then by the earlier."""
     events, start = sum(rounds), 1
     for x, many in enumerate(rounds):
-        yield from ((x, first, events + second) for second in range(start, start + many) for first in range(start, start + many))
+        yield from ((x, first, events + second) for second in range(start, start + many)
+                    for first in range(start, start + many))
         start += many
 
 
 def report_of_each(rounds):
     races = list(races_of_each(rounds))
-    head = b"shb-report 2\nevents %d threads 2 locks 0 variables %d\nraces %d\n" % (2 * sum(rounds), len(rounds), len(races))
+    head = (b"shb-report 2\nevents %d threads 2 locks 0 variables %d\nraces %d\n"
+            % (2 * sum(rounds), len(rounds), len(races)))
     counts = [sum(many * many for many in rounds[start::2]) for start in (0, 1)]
     places = b"places %d\n" % len([count for count in counts if count])
-    places += b"".join(b"place %d: %d\nat %d\nand %d\n" % (x + 1, count, x, x) for x, count in enumerate(counts) if count)
+    places += b"".join(b"place %d: %d\nat %d\nand %d\n" % (x + 1, count, x, x)
+                       for x, count in enumerate(counts) if count)
     block = b"race %d: %d %d\nfirst T1|w(%d)|%d\nsecond T2|w(%d)|%d\n"
-    blocks = b"".join(block % (k + 1, first, second, x, x % 2, x, x % 2) for k, (x, first, second) in enumerate(races))
+    blocks = b"".join(block % (k + 1, first, second, x, x % 2, x, x % 2)
+                      for k, (x, first, second) in enumerate(races))
     return head + places + blocks + b"end\n"
 
 
@@ -109,8 +114,10 @@ class LongLists(test_refusals.Refusing):
                 self.assertTrue(answer.out == report, "the reports differ")
 
     def test_several_batches(self):
-        """More races than events: of variables of which some fit into a batch, and of some that have more alone."""
-        for rounds in ((3,) * 40, (3,) * 20 + (50,) + (2,) * 30, (60, 70), (1, 30, 1, 1, 40), (7, 3, 3, 5), (1,) * 9 + (30,)):
+        """More races than events: of variables of which some fit into a batch, and of some that
+        have more alone."""
+        for rounds in ((3,) * 40, (3,) * 20 + (50,)
+                       + (2,) * 30, (60, 70), (1, 30, 1, 1, 40), (7, 3, 3, 5), (1,) * 9 + (30,)):
             trace, report = self.file(two_writers_of_each(rounds)), report_of_each(rounds)
             self.assertGreater(sum(many * many for many in rounds), 2 * sum(rounds))
             for workers in ("1", "4", "64"):
@@ -119,7 +126,8 @@ class LongLists(test_refusals.Refusing):
                 self.assertTrue(answer.out == report, f"the reports of {rounds} differ")
 
     def test_more_races_than_fit_into_memory_as_pairs(self):
-        """A pair has 8 bytes. The reader goes away after the front, in the middle of the search that writes."""
+        """A pair has 8 bytes. The reader goes away after the front, in the middle of the
+        search that writes."""
         room = 48 * 2**20
         self.assertGreater(8 * ROUNDS * ROUNDS, room)
         trace, wanted = self.file(two_writers(ROUNDS)), front_of(ROUNDS, FRONT)
@@ -127,7 +135,8 @@ class LongLists(test_refusals.Refusing):
             self.expect_front(["--workers", workers, trace], room, wanted)
 
     def test_more_races_than_can_be_gone_through(self):
-        """2^42 races of the most events, more than 4 * 10^12: counted at once, and as little memory is taken as for few."""
+        """2^42 races of the most events, more than 4 * 10^12: counted at once, and as little memory is taken
+        as for few."""
         self.assertEqual(MANY_ROUNDS * MANY_ROUNDS, 2**42)
         trace, wanted = self.file(two_writers(MANY_ROUNDS)), front_of(MANY_ROUNDS, FRONT)
         self.expect_front([trace], 2**30, wanted)
@@ -144,13 +153,15 @@ class LongLists(test_refusals.Refusing):
             self.assertTrue(written.read_bytes() == report[:size], "another front")
 
     def test_memory(self):
-        """Each request of all searches is refused in turn. Six threads have fifteen races with twelve events."""
+        """Each request of all searches is refused in turn. Six threads have fifteen races
+        with twelve events."""
         self.assertIn(b"\nraces 15\n", program.run(["races", "--list"], test_refusals.racing(6)).out)
         for workers in ("1", "2"):
             self.refuse_in_turn(["races", "--list", "--workers", workers], test_refusals.racing(6))
 
     def test_memory_for_several_batches(self):
-        """With 36 events a variable of 49 races alone, in two parts, then batches of one and of two variables."""
+        """With 36 events a variable of 49 races alone, in two parts, then batches of one and
+        of two variables."""
         given = two_writers_of_each((7, 3, 3, 5))
         self.assertIn(b"\nraces 92\n", program.run(["races", "--list"], given).out)
         for workers in ("1", "2"):
@@ -158,7 +169,8 @@ class LongLists(test_refusals.Refusing):
 
 
 class WholeList(program.Case):
-    """A list is read to its end, and its last blocks are compared. A block has more than 50 bytes: more than 2^32 together."""
+    """A list is read to its end, and its last blocks are compared. A block has more than 50 bytes: more
+    than 2^32 together."""
 
     rounds = 9_300
     seconds = program.LONG_SECONDS

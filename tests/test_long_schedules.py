@@ -1,5 +1,5 @@
-"""Reports with schedules of more races than events: long ones whole, a pipe that breaks in the middle, and each
-request for memory on the way."""
+"""Reports with schedules of more races than events: long ones whole, a pipe that breaks in the middle, and
+each request for memory on the way."""
 
 import program
 import test_devices
@@ -19,8 +19,8 @@ def texts_of(numbers):
 
 
 class Report:
-    """The report with schedules of two threads that write a variable so often, first the one and then the other. Before
-    a race the one has come to its write, and the other too."""
+    """The report with schedules of two threads that write a variable so often, first the one and then the
+    other. Before a race the one has come to its write, and the other too."""
 
     def __init__(self, rounds):
         self.rounds = rounds

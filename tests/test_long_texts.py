@@ -1,5 +1,5 @@
-"""Texts of 1 GiB, the most that is read, and of one byte more. Files with holes take no room on a disk, and line feeds come
-through a pipe."""
+"""Texts of 1 GiB, the most that is read, and of one byte more. Files with holes take no room on a disk, and
+line feeds come through a pipe."""
 
 import subprocess
 
@@ -37,7 +37,8 @@ class LongTexts(program.Case):
 
     def test_one_line(self):
         self.expect_both_refuse(self.zeros(b"", LIMIT), b"line 1: the line is longer than 4096 bytes")
-        self.expect_both_refuse(self.zeros(b"", LIMIT + 1), b"line 1: the text is longer than %d bytes" % LIMIT)
+        self.expect_both_refuse(self.zeros(b"", LIMIT + 1),
+                                b"line 1: the text is longer than %d bytes" % LIMIT)
 
     def test_an_earlier_fault_wins(self):
         self.expect_both_refuse(self.zeros(b"oops\n", LIMIT + 1), b"line 1: the line has no operation field")

@@ -48,7 +48,8 @@ class MadeTraces(program.Case):
         trace = self.file(text)
         if full.status != 0:
             answer = program.run(["check", trace], b"anything")
-            self.assertEqual(answer._replace(err=answer.err.partition(b"\n")[0] + b"\n"), full)   # what the line has comes after it
+            # what the line has comes after it
+            self.assertEqual(answer._replace(err=answer.err.partition(b"\n")[0] + b"\n"), full)
             return
         self.compare_verdict(trace, text, full.out, b"ok %d\n" % full.out.count(b"\nrace "))
         for _ in range(CHANGES):

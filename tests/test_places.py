@@ -1,5 +1,5 @@
-"""One race of each place, or of each place and variable, with its schedule and without: reports worked by hand, and the plain
-program of the definitions."""
+"""One race of each place, or of each place and variable, with its schedule and without: reports worked by
+hand, and the plain program of the definitions."""
 
 import random
 import re
@@ -36,7 +36,8 @@ def listed(wanted):
 
 NOTHING = one_each((0, 0, 0, 0), [])
 
-# Both writes race with both reads, at one place. Event 3 is the least later one, and 2 the greatest that races with it.
+# Both writes race with both reads, at one place. Event 3 is the least later one, and 2 the greatest that
+# races with it.
 NEAREST = (
     b"T1|w(x)|a\nT1|w(x)|a\nT2|r(x)|b\nT2|r(x)|b\n",
     one_each((4, 2, 0, 1), [(b"2 3", b"a", b"b", b"T1|w(x)|a", b"T2|r(x)|b", b"1: 1")]),
@@ -47,7 +48,8 @@ CROSSED = (
     b"T1|w(x)|a\nT2|w(x)|b\nT3|w(y)|b\nT4|w(y)|a\nT5|w(z)|a\nT6|w(z)|b\n",
     one_each(
         (6, 6, 0, 3),
-        [(b"1 2", b"a", b"b", b"T1|w(x)|a", b"T2|w(x)|b", b"0:"), (b"3 4", b"b", b"a", b"T3|w(y)|b", b"T4|w(y)|a", b"0:")],
+        [(b"1 2", b"a", b"b", b"T1|w(x)|a", b"T2|w(x)|b",
+          b"0:"), (b"3 4", b"b", b"a", b"T3|w(y)|b", b"T4|w(y)|a", b"0:")],
     ),
 )
 
@@ -69,11 +71,13 @@ CROSSWISE = (
     b"T1|w(x)|a\nT1|w(y)|b\nT2|w(y)|c\nT2|w(x)|d\n",
     one_each(
         (4, 2, 0, 2),
-        [(b"2 3", b"b", b"c", b"T1|w(y)|b", b"T2|w(y)|c", b"1: 1"), (b"1 4", b"a", b"d", b"T1|w(x)|a", b"T2|w(x)|d", b"1: 3")],
+        [(b"2 3", b"b", b"c", b"T1|w(y)|b", b"T2|w(y)|c",
+          b"1: 1"), (b"1 4", b"a", b"d", b"T1|w(x)|a", b"T2|w(x)|d", b"1: 3")],
     ),
 )
 
-# No second bar, and nothing after it: both locations are empty, and each line is as it stands. Further bars are kept.
+# No second bar, and nothing after it: both locations are empty, and each line is as it stands. Further bars
+# are kept.
 EMPTY = (
     b"T1|w(x)\nT2|w(x)|\nT3|r(x)|a|b\nT4|w(y)|\nT5|w(y)|||\n",
     one_each(
@@ -99,7 +103,8 @@ RETURNS = (
     ),
 )
 
-# Names are bytes; what is a name here may look like an operation. Threads and variables don't share their names.
+# Names are bytes; what is a name here may look like an operation. Threads and variables don't share
+# their names.
 NAMES = (
     b" |w(f(a))|p\n\x00\xff|r(f(a))|q\nw(x)|w(w(x))|\xc3\n |r(w(x))|r(\n",
     one_each(
@@ -111,7 +116,8 @@ NAMES = (
     ),
 )
 
-# A read learns of the write that it reads: 1 and 2 race, 1 and 3 don't. The lock orders 5 and 9, and nothing 7 and 10.
+# A read learns of the write that it reads: 1 and 2 race, 1 and 3 don't. The lock orders 5 and 9, and nothing
+# 7 and 10.
 ORDERS = (
     b"T1|w(x)|a\nT2|r(x)|b\nT2|w(x)|c\nT3|acq(l)\nT3|w(y)|d\nT3|rel(l)\nT3|w(z)|e\nT4|acq(l)\nT4|w(y)|f\nT4|w(z)|g\nT4|rel(l)\n",
     one_each(
@@ -134,7 +140,8 @@ LOOP = (
     b"T1|w(x)|a\nT1|w(x)|a\nT1|w(y)|b\nT2|acq(l)|c\nT2|w(x)|d\nT2|w(y)|e\nT2|w(x)|d\nT2|rel(l)|c\n",
     one_each(
         (8, 2, 1, 2),
-        [(b"2 5", b"a", b"d", b"T1|w(x)|a", b"T2|w(x)|d", b"2: 1 4"), (b"3 6", b"b", b"e", b"T1|w(y)|b", b"T2|w(y)|e", b"4: 1 2 4 5")],
+        [(b"2 5", b"a", b"d", b"T1|w(x)|a", b"T2|w(x)|d",
+          b"2: 1 4"), (b"3 6", b"b", b"e", b"T1|w(y)|b", b"T2|w(y)|e", b"4: 1 2 4 5")],
     ),
 )
 
@@ -153,7 +160,8 @@ TWO = (
     report(
         (6, 2, 0, 2),
         [(2, b"a", b"b")],
-        [(b"3 4", b"T1|w(x)|a", b"T2|w(x)|b", b"2: 1 2"), (b"2 5", b"T1|w(f(y))|a", b"T2|w(f(y))|b", b"2: 1 4")],
+        [(b"3 4", b"T1|w(x)|a", b"T2|w(x)|b", b"2: 1 2"), (b"2 5", b"T1|w(f(y))|a", b"T2|w(f(y))|b",
+                                                           b"2: 1 4")],
     ),
 )
 
@@ -168,12 +176,14 @@ LATER = (
     ),
 )
 
-# A place stands where its first race is listed, and counts the variables that race there also after those of other places.
+# A place stands where its first race is listed, and counts the variables that race there also after those of
+# other places.
 COUNTED = (
     b"T1|w(x)|a\nT1|w(y)|c\nT1|w(z)|a\nT2|w(x)|b\nT2|w(y)|d\nT2|w(z)|b\n",
     one_each(
         (6, 2, 0, 3),
-        [(b"1 4", b"a", b"b", b"T1|w(x)|a", b"T2|w(x)|b", b"0:"), (b"2 5", b"c", b"d", b"T1|w(y)|c", b"T2|w(y)|d", b"2: 1 4")],
+        [(b"1 4", b"a", b"b", b"T1|w(x)|a", b"T2|w(x)|b",
+          b"0:"), (b"2 5", b"c", b"d", b"T1|w(y)|c", b"T2|w(y)|d", b"2: 1 4")],
     ),
     report(
         (6, 2, 0, 3),
@@ -273,7 +283,8 @@ class Places(program.Case):
     def test_the_places_are_those_of_all_races(self):
         for trace in [*EXAMPLES.glob("*.std"), *(program.HERE / "rows").glob("*.std")]:
             for option, _ in FORMS:
-                ways = [program.run(words).out for words in (["races", "--list", trace], ["places", "--list", *option, trace])]
+                ways = [program.run(words).out
+                        for words in (["races", "--list", trace], ["places", "--list", *option, trace])]
                 self.assertEqual(*map(sorted, map(places_in, ways)))
 
     def test_many_schedules_at_once(self):
@@ -289,13 +300,17 @@ class Places(program.Case):
         self.expect(program.run(["places", "--help"]), 0, program.run(["help", "places"]).out)
         text = program.run(["help", "places"]).out.decode()
         self.assertLessEqual(max(map(len, text.splitlines())), 80)
-        for wanted in ("Usage: shb places [OPTIONS] [TRACE]", "  --list ", "  --variables ", "4294967294 events,\n65535 threads", "4096 bytes"):
+        for wanted in ("Usage: shb places [OPTIONS] [TRACE]", "  --list ", "  --variables ",
+                       "4294967294 events,\n65535 threads", "4096 bytes"):
             self.assertIn(wanted, text)
         command, shown = re.search(r"^Example:\n  \$ (.*) \| shb places\n((?:  .*\n)+)", text, re.M).groups()
         trace = subprocess.run(["sh", "-c", command], stdout=subprocess.PIPE, check=True).stdout
-        self.expect(program.run(["places"], trace), 0, "".join(line[2:] + "\n" for line in shown.splitlines()).encode())
+        self.expect(program.run(["places"], trace), 0,
+                    "".join(line[2:] + "\n" for line in shown.splitlines()).encode())
 
     def test_refused_words(self):
-        for words in (["places", "a", "b"], ["places", "--workers", "0"], ["places", "--workers", "65"], ["places", "--all"], ["races", "--variables"]):
+        for words in (["places", "a", "b"], ["places", "--workers",
+                                             "0"], ["places", "--workers",
+                                                    "65"], ["places", "--all"], ["races", "--variables"]):
             answer = program.run(words)
             self.assertEqual((answer.status, answer.out, answer.err[:7]), (3, b"", b"error: "))

@@ -46,12 +46,13 @@ class Refusing(program.Case):
         self.fail("there is no end of requests")
 
     def expect_promised(self, answer, ample, number):
-        """The answer of ample memory; or nothing or the front of it, all before the first race at least, with a word;
-        or, of a refused trace, its status and the first of the lines that are said, perhaps none."""
+        """The answer of ample memory; or nothing or the front of it, all before the first race at least, with
+        a word; or, of a refused trace, its status and the first of the lines that are said, perhaps none."""
         least = ample.out.partition(b"race 1: ")[0].removesuffix(b"end\n")
         is_cut = not answer.out or (ample.out.startswith(answer.out) and answer.out.startswith(least))
         is_front = answer.status == 4 and answer.err == b"out of memory\n" and is_cut
-        is_unsaid = ample.status == 2 and answer[:2] == (2, b"") and ample.err.startswith(answer.err) and answer.err[-1:] in (b"", b"\n")
+        is_unsaid = (ample.status == 2 and answer[:2] == (2, b"") and ample.err.startswith(answer.err)
+                     and answer.err[-1:] in (b"", b"\n"))
         self.assertTrue(answer == ample or is_front or is_unsaid, f"at request {number}: {answer}")
 
 
@@ -108,7 +109,8 @@ class Refusals(Refusing):
             ample = program.run(["races"], text)
             for workers in (1, 2, 3, 64):
                 for first in (1, 2, 3, 40):
-                    answer, _ = self.run_refused(["races", "--workers", str(workers)], text, REFUSE_THREADS=first)
+                    answer, _ = self.run_refused(["races", "--workers", str(workers)], text,
+                                                 REFUSE_THREADS=first)
                     self.assertEqual(answer, ample)
 
     def test_that_threads_are_refused(self):
@@ -119,10 +121,12 @@ class Refusals(Refusing):
         return next(k for k in range(1000) if not self.run_refused(words, text, REFUSE_THREADS=k + 1)[1])
 
     def test_numbers_of_workers(self):
-        """Each worker is a thread where pairs or texts are made of the races that were kept, and one when schedules are made; 4 where no
-        number is named. A list of more races than events is written by batches of so many races, 65,536 where there are fewer
-        events, for each of which workers start: fifteen races of twelve events are one. `places --list` has no workers."""
-        trace, many, few = self.file(racing(64)), self.file(racing(6), "many.std"), self.file(LOCKED, "few.std")
+        """Each worker is a thread where pairs or texts are made of the races that were kept, and one when
+        schedules are made; 4 where no number is named. A list of more races than events is written by batches
+        of so many races, 65,536 where there are fewer events, for each of which workers start: fifteen races
+        of twelve events are one. `places --list` has no workers."""
+        trace, many, few = (self.file(racing(64)), self.file(racing(6), "many.std"),
+                            self.file(LOCKED, "few.std"))
         for words, wanted in (
             (["races", "--list", few], 4),
             (["races", "--list", many], 4),
@@ -140,6 +144,12 @@ class Refusals(Refusing):
 
     def test_nothing_is_read_after_the_end(self):
         trace, report = self.file(LOCKED), program.run(["races"], LOCKED).out
-        for words, given in (([], LOCKED), (["races"], b""), (["races", trace], b""), (["places", "--list"], LOCKED), (["places", "--list", trace], b""), (["places", trace], b""), (["check", trace], report), (["check", trace], b"")):
+        for words, given in (([], LOCKED), (["races"],
+                                            b""), (["races", trace],
+                                                   b""), (["places", "--list"],
+                                                          LOCKED), (["places", "--list", trace],
+                                                                    b""), (["places", trace],
+                                                                           b""), (["check", trace], report), (
+                                                                               ["check", trace], b"")):
             answer, is_refused = self.run_refused(words, given, WATCH_READS=1)
             self.assertEqual((answer, is_refused), (program.run(words, given), False))

@@ -1,5 +1,5 @@
-"""Bugs that were found once by strangers' files: each folder of regressions/ has the files of one, and `case` with what is run on
-them in a copy of the folder, the status, and what is said."""
+"""Bugs that were found once by strangers' files: each folder of regressions/ has the files of one, and `case`
+with what is run on them in a copy of the folder, the status, and what is said."""
 
 import os
 import shutil
@@ -10,7 +10,8 @@ import program
 
 CASES = program.HERE / "regressions"
 TOP = program.HERE.parent
-COMMANDS = {"shb-view": TOP / "python/shb-view", "shb-farm": TOP / "python/shb-farm", "shb-fix": TOP / "python/shb-fix"}
+COMMANDS = {"shb-view": TOP / "python/shb-view", "shb-farm": TOP / "python/shb-farm",
+            "shb-fix": TOP / "python/shb-fix"}
 
 
 class Regressions(program.Case):
@@ -26,7 +27,8 @@ class Regressions(program.Case):
         lines = [line.partition(" ")[::2] for line in (case / "case").read_text().splitlines()]
         [words], [status] = ([rest for word, rest in lines if word == wanted] for wanted in ("run", "status"))
         command, *words = words.replace("OUT", f"{self.folder}/out-{case.name}").split(" ")
-        ran = subprocess.run([sys.executable, "-B", COMMANDS[command], *words], cwd=folder, env={**os.environ, "SHB": str(program.PATH)},
+        ran = subprocess.run([sys.executable, "-B", COMMANDS[command], *words], cwd=folder,
+                             env={**os.environ, "SHB": str(program.PATH)},
                              stdout=subprocess.PIPE, stderr=subprocess.STDOUT, timeout=program.SECONDS)
         said = ran.stdout.decode()
         self.assertEqual(ran.returncode, int(status), said)

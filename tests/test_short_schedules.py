@@ -1,4 +1,5 @@
-"""Every short list of events as the schedule of every conflicting pair of some small traces, against the plain judge."""
+"""Every short list of events as the schedule of every conflicting pair of some small traces, against
+the plain judge."""
 
 import itertools
 
@@ -57,5 +58,6 @@ class ShortSchedules(program.Case):
                     status = 0 if wanted == b"ok 1\n" else 5
                     self.assertEqual(program.run(["check", trace], given), (status, wanted, b""), given)
                     good += status == 0
-        # of the second trace two lists for the first pair, and one for the other; of the others at most one each
+        # of the second trace two lists for the first pair, and one for the other; of the others at most
+        # one each
         self.assertEqual(good, 9)

@@ -1,6 +1,7 @@
-"""As many of each thing as a trace may have, or as fit into the memory of a small machine: names, locks, racing variables,
-pieces of work, races that are kept, reads, locations, places, clocks and blocks. docs/GUARANTEES.md has a table of
-these sizes. Each report is worked out from its trace by a formula, and what is long is compared by its digest."""
+"""As many of each thing as a trace may have, or as fit into the memory of a small machine: names, locks,
+racing variables, pieces of work, races that are kept, reads, locations, places, clocks and blocks.
+docs/GUARANTEES.md has a table of these sizes. Each report is worked out from its trace by a formula, and what
+is long is compared by its digest."""
 
 import hashlib
 import itertools
@@ -18,7 +19,8 @@ OTHER_VARIABLES = 70_000
 
 
 def head(events, threads, locks, variables, races):
-    return b"shb-report 2\nevents %d threads %d locks %d variables %d\nraces %d\n" % (events, threads, locks, variables, races)
+    return (b"shb-report 2\nevents %d threads %d locks %d variables %d\nraces %d\n"
+            % (events, threads, locks, variables, races))
 
 
 def one_place(count):
@@ -48,7 +50,8 @@ def filled(form, *columns):
 
 
 def other_variables(count):
-    """Reads of so many variables, so that the next one has a number above them. No other thread comes to them."""
+    """Reads of so many variables, so that the next one has a number above them. No other thread
+    comes to them."""
     return b"".join(b"T|r(y%d)\n" % k for k in range(count))
 
 
@@ -62,13 +65,15 @@ def report_of_racing_variables(count):
     yield head(2 * count, 2, 0, count, count) + b"places %d\n" % count
     yield from filled(b"place %d: 1\nat %d\nand %d\n", itertools.count(1), names, names)
     block = b"race %d: %d %d\nfirst T|w(%d)|%d\nsecond U|w(%d)|%d\n"
-    yield from filled(block, itertools.count(1), itertools.count(1, 2), itertools.count(2, 2), names, names, names, names)
+    yield from filled(block, itertools.count(1), itertools.count(1, 2), itertools.count(2, 2), names, names,
+                      names, names)
     yield b"end\n"
 
 
 class Writes:
-    """So many threads write one variable, one after the other, and perhaps a second time. Each write is at a location of its
-    own, and races with all those of other threads. Before a race a thread that comes to its second write has made the first."""
+    """So many threads write one variable, one after the other, and perhaps a second time. Each write is at a
+    location of its own, and races with all those of other threads. Before a race a thread that comes to its
+    second write has made the first."""
 
     def __init__(self, threads, times):
         self.threads = threads
@@ -85,7 +90,8 @@ class Writes:
 
     def report(self, with_schedules, marks=0):
         """The report of the trace and of so many marks after it."""
-        yield head(self.events + marks, self.threads, 0, 1, len(self.pairs)) + b"places %d\n" % len(self.pairs)
+        yield (head(self.events + marks, self.threads, 0, 1, len(self.pairs)) + b"places %d\n"
+               % len(self.pairs))
         for q, (i, j) in enumerate(self.pairs, 1):
             yield b"place %d: 1\nat l%d\nand l%d\n" % (q, i, j)
         for k, (i, j) in enumerate(self.pairs, 1):
@@ -96,33 +102,38 @@ class Writes:
 
 
 class LongSchedules:
-    """Two of some threads read by turns, and then each thread writes one variable. Before a race of the two all reads have
-    come; before one of the first, every other of them, and so of the second; before one of two others none."""
+    """Two of some threads read by turns, and then each thread writes one variable. Before a race of the two
+    all reads have come; before one of the first, every other of them, and so of the second; before one of two
+    others none."""
 
     def __init__(self, threads, reads):
         self.threads, self.reads = threads, reads
         self.pairs = [(i, j) for j in range(threads) for i in range(j)]
 
     def trace(self):
-        return b"T0|r(y)\nT1|r(z)\n" * (self.reads // 2) + b"".join(b"T%d|w(x)\n" % t for t in range(self.threads))
+        return (b"T0|r(y)\nT1|r(z)\n" * (self.reads // 2)
+                + b"".join(b"T%d|w(x)\n" % t for t in range(self.threads)))
 
     def schedules(self):
         """That of the two, one of the first, one of the second, and one of two others."""
-        for numbers in (range(1, self.reads + 1), range(1, self.reads + 1, 2), range(2, self.reads + 1, 2), ()):
+        for numbers in (range(1, self.reads + 1), range(1, self.reads + 1, 2),
+                        range(2, self.reads + 1, 2), ()):
             yield b"schedule %d:" % len(numbers) + b"".join(b" %d" % k for k in numbers) + b"\n"
 
     def report(self):
         both, first, second, none = self.schedules()
-        yield head(self.reads + self.threads, self.threads, 0, 3, len(self.pairs)) + one_place(len(self.pairs))
+        yield (head(self.reads + self.threads, self.threads, 0, 3, len(self.pairs))
+               + one_place(len(self.pairs)))
         for k, (i, j) in enumerate(self.pairs, 1):
-            yield b"race %d: %d %d\nfirst T%d|w(x)\nsecond T%d|w(x)\n" % (k, self.reads + i + 1, self.reads + j + 1, i, j)
+            yield (b"race %d: %d %d\nfirst T%d|w(x)\nsecond T%d|w(x)\n"
+                   % (k, self.reads + i + 1, self.reads + j + 1, i, j))
             yield both if j == 1 else (first, second)[i] if i < 2 else none
         yield b"end\n"
 
 
 class Locations:
-    """One thread writes a variable at so many locations, at the first of them once more, and then another thread writes it
-    three times at one location. The variable has a number above those of other variables."""
+    """One thread writes a variable at so many locations, at the first of them once more, and then another
+    thread writes it three times at one location. The variable has a number above those of other variables."""
 
     later = 3
 
@@ -135,26 +146,30 @@ class Locations:
 
     def report(self):
         races, at = self.later * self.writes, range(self.locations)
-        yield head(self.others + self.writes + self.later, 2, 0, self.others + 1, races) + b"places %d\n" % self.locations
+        yield (head(self.others + self.writes + self.later, 2, 0, self.others + 1, races) + b"places %d\n"
+               % self.locations)
         counts = (self.later * len(range(q, self.writes, self.locations)) for q in at)
         yield from filled(b"place %d: %d\nat %d\nand u\n", itertools.count(1), counts, at)
         block = b"race %d: %d %d\nfirst T|w(x)|%d\nsecond U|w(x)|u\n"
         for u in range(self.later):
-            numbers, firsts = itertools.count(u * self.writes + 1), range(self.others + 1, self.others + self.writes + 1)
-            yield from filled(block, numbers, firsts, itertools.repeat(firsts[-1] + u + 1), itertools.cycle(at))
+            numbers, firsts = (itertools.count(u * self.writes + 1),
+                               range(self.others + 1, self.others + self.writes + 1))
+            yield from filled(block, numbers, firsts, itertools.repeat(firsts[-1] + u + 1),
+                              itertools.cycle(at))
         yield b"end\n"
 
 
 class SquareOfPlaces:
-    """One thread writes a variable at so many locations, and then another does: each pair of these is a place, and has one
-    race. The variable has a number above those of other variables."""
+    """One thread writes a variable at so many locations, and then another does: each pair of these is a
+    place, and has one race. The variable has a number above those of other variables."""
 
     def __init__(self, others, locations):
         self.others, self.locations = others, locations
         self.pairs = [(i, j) for j in range(locations) for i in range(locations)]
 
     def trace(self):
-        written = (b"%c|w(x)|%c%d\n" % (t, l, k) for t, l in ((b"T", b"a"), (b"U", b"b")) for k in range(self.locations))
+        written = (b"%c|w(x)|%c%d\n" % (t, l, k) for t, l in ((b"T", b"a"), (b"U", b"b"))
+                   for k in range(self.locations))
         return other_variables(self.others) + b"".join(written)
 
     def report(self):
@@ -186,8 +201,8 @@ class ReadsByTurns:
 
 
 def locks_with_clocks(threads, locks):
-    """Each lock is taken by a thread, and then by the next one, which learns of the first there: then all releases have
-    clocks that differ. At the end two threads write without a lock."""
+    """Each lock is taken by a thread, and then by the next one, which learns of the first there: then all
+    releases have clocks that differ. At the end two threads write without a lock."""
     held = b"T%d|acq(l%d)\nT%d|rel(l%d)\n"
     turns = [((k + turn) % threads, k) for turn in (0, 1) for k in range(locks)]
     return b"".join(held % (t, k, t, k) for t, k in turns) + b"T0|w(z)\nT1|w(z)\n"
@@ -198,7 +213,8 @@ def beginnings(threads):
 
 
 def reads_after_a_race(threads, reads):
-    """Two threads write a variable, and then a third one reads it so often. All that it learns is the second write."""
+    """Two threads write a variable, and then a third one reads it so often. All that it learns is
+    the second write."""
     return beginnings(threads) + b"T0|w(x)|a\nT1|w(x)|b\n" + b"T2|r(x)|c\n" * reads
 
 
@@ -216,8 +232,8 @@ def report_of_reads(threads, reads):
 
 
 def reads_of_writes(readers, rounds):
-    """Each round a thread takes a lock of each other one, and writes a variable. Then each other thread reads it, and takes its
-    own lock. So each read races with the write that it saw, and with no other."""
+    """Each round a thread takes a lock of each other one, and writes a variable. Then each other thread reads
+    it, and takes its own lock. So each read races with the write that it saw, and with no other."""
     theirs = b"".join(b"W|acq(l%d)\nW|rel(l%d)\n" % (t, t) for t in range(readers))
     read = b"T%d|r(x)|r\nT%d|acq(l%d)\nT%d|rel(l%d)\n"
     return (theirs + b"W|w(x)|w\n" + b"".join(read % ((t,) * 5) for t in range(readers))) * rounds
@@ -252,14 +268,16 @@ class SmallSizes(program.Case):
         self.expect_report(ReadsByTurns(5).trace(), ReadsByTurns(5).report())
         self.expect_report(ReadsByTurns(5).trace(b"T|join(U)\n"), [without_races(12, 2, 0, 1)])
         self.expect_report(Locations(3, 4, 7).trace(), Locations(3, 4, 7).report())
-        self.expect_report(SquareOfPlaces(3, 4).trace(), SquareOfPlaces(3, 4).report(), report=shb.places_report)
+        self.expect_report(SquareOfPlaces(3, 4).trace(), SquareOfPlaces(3, 4).report(),
+                           report=shb.places_report)
         self.expect_report(locks_with_clocks(4, 6), [report_of_locks(4, 6)])
         self.expect_report(LongSchedules(4, 6).trace(), LongSchedules(4, 6).report(), with_schedules=True)
         self.expect_report(reads_after_a_race(4, 5), report_of_reads(4, 5))
         self.expect_report(reads_of_writes(3, 4), report_of_writes(3, 4))
         for threads, times in ((5, 1), (2, 2), (4, 2)):
             self.expect_report(Writes(threads, times).trace(), Writes(threads, times).report(False))
-            self.expect_report(Writes(threads, times).trace(), Writes(threads, times).report(True), with_schedules=True)
+            self.expect_report(Writes(threads, times).trace(), Writes(threads, times).report(True),
+                               with_schedules=True)
 
 
 class Sizes(program.Case):
@@ -302,8 +320,8 @@ class Sizes(program.Case):
         self.expect(program.run(["races"], text), 0, without_races(MOST_EVENTS, 1, 1, 0))
 
     def test_the_most_racing_variables(self):
-        """Each is a piece of work of its own, and there are as many races: 32,768 rounds of the ring's 64 places. Each race
-        has a place of its own, so `places` lists them all."""
+        """Each is a piece of work of its own, and there are as many races: 32,768 rounds of the ring's 64
+        places. Each race has a place of its own, so `places` lists them all."""
         count = MOST_EVENTS // 2
         trace = self.file(racing_variables(count))
         wanted = digest(report_of_racing_variables(count))
@@ -317,7 +335,8 @@ class Sizes(program.Case):
             self.expect(program.run(["races"], text), 0, shb.report(text, True))
 
     def test_many_reads_by_turns(self):
-        """None of them is ordered after the one before. After a join of the other thread the write has no race."""
+        """None of them is ordered after the one before. After a join of the other thread the write
+        has no race."""
         made = ReadsByTurns(600_000)
         self.assertEqual(self.digest_of(["races", "--list", self.file(made.trace())]), digest(made.report()))
         trace = made.trace(b"T|join(U)\n")
@@ -347,15 +366,17 @@ class Sizes(program.Case):
         self.expect(answer, 0, b"".join(parts))
 
     def test_that_clocks_are_shared(self):
-        """A clock of 1,024 threads has 4 KiB: one for each read doesn't fit. The reads of a thread that learns nothing share
-        one, and so do threads that read one write."""
+        """A clock of 1,024 threads has 4 KiB: one for each read doesn't fit. The reads of a thread that
+        learns nothing share one, and so do threads that read one write."""
         room, reads, readers, rounds = 96 * 2**20, 100_000, MOST_THREADS - 1, 100
         self.assertGreater(4 * MOST_THREADS * reads, 4 * room)
-        self.expect_within(room, reads_after_a_race(MOST_THREADS, reads), report_of_reads(MOST_THREADS, reads))
+        self.expect_within(room, reads_after_a_race(MOST_THREADS, reads),
+                           report_of_reads(MOST_THREADS, reads))
         self.expect_within(room, reads_of_writes(readers, rounds), report_of_writes(readers, rounds))
 
     def test_races_that_are_kept_with_schedules(self):
-        """100 threads have 4,950 races, and with as many marks after these there are no more races than events."""
+        """100 threads have 4,950 races, and with as many marks after these there are no more
+        races than events."""
         made, marks = Writes(100, 1), 5_000
         self.assertEqual(len(made.pairs), 4_950)
         trace, report = self.file(made.trace() + b"T1|begin(m)\n" * marks), b"".join(made.report(True, marks))
@@ -377,11 +398,13 @@ class Sizes(program.Case):
         """`check` doesn't mind that a race is listed more than once."""
         count = 5_000_000
         blocks = filled(b"race %d: 1 2\nfirst T|w(x)\nsecond U|w(x)\nschedule 0:\n", range(1, count + 1))
-        report, _ = self.written(itertools.chain([head(2, 2, 0, 1, count) + one_place(count)], blocks, [b"end\n"]))
+        report, _ = self.written(itertools.chain([head(2, 2, 0, 1, count) + one_place(count)],
+                                                 blocks, [b"end\n"]))
         self.expect_good(self.file(b"T|w(x)\nU|w(x)\n"), report, count)
 
     def test_schedules_of_the_most_events(self):
-        """One schedule has all events but ten, and sixteen have every other of these: more than 37 million numbers."""
+        """One schedule has all events but ten, and sixteen have every other of these: more than
+        37 million numbers."""
         made = LongSchedules(10, MOST_EVENTS - 10)
         trace = self.file(made.trace())
         report, wanted = self.written(made.report())
@@ -393,5 +416,7 @@ class Sizes(program.Case):
         rounds = 1_500
         numbers = range(1, rounds * rounds + 1)
         front = test_long_lists.head_of(rounds)
-        wanted = digest(itertools.chain([front], (test_long_lists.block(rounds, k) for k in numbers), [b"end\n"]))
-        self.assertEqual(self.digest_of(["races", "--list", self.file(test_long_lists.two_writers(rounds))]), wanted)
+        wanted = digest(
+            itertools.chain([front], (test_long_lists.block(rounds, k) for k in numbers), [b"end\n"]))
+        self.assertEqual(self.digest_of(["races", "--list", self.file(test_long_lists.two_writers(rounds))]),
+                         wanted)

@@ -1,4 +1,5 @@
-"""`places --list`, which reads a trace once: bytes that come in any parts, the limits of a long trace, and devices that fail."""
+"""`places --list`, which reads a trace once: bytes that come in any parts, the limits of a long trace, and
+devices that fail."""
 
 import subprocess
 
@@ -26,7 +27,8 @@ def list_of(counts, races):
 
 def written(pieces, **how):
     """What the program answers where its standard input is a pipe into which these pieces are written."""
-    started = subprocess.Popen([program.PATH, *LIST], stdin=subprocess.PIPE, stdout=subprocess.PIPE, stderr=subprocess.PIPE, **how)
+    started = subprocess.Popen([program.PATH, *LIST], stdin=subprocess.PIPE, stdout=subprocess.PIPE,
+                               stderr=subprocess.PIPE, **how)
     try:
         for piece in pieces:
             started.stdin.write(piece)
@@ -47,7 +49,8 @@ class Streams(program.Case):
             self.expect(of_file, status, out, err)
 
     def test_check_misses_the_first_schedule(self):
-        """Four lines of the head, three for each of two places and three of the first race are those of a report."""
+        """Four lines of the head, three for each of two places and three of the first race are those
+        of a report."""
         for option in ([], ["--variables"]):
             text = COUNTED[0]
             report = program.run([*LIST, *option], text).out
@@ -92,12 +95,14 @@ class Streams(program.Case):
         wanted = list_of((2, 2, 0, 1), [(b"1 2", first[8:], second[8:], first, second)])
         self.expect_both(first + b"\n" + second, 0, wanted)
         for end in (b"b", b"\r\n", b"b\r\n"):
-            self.expect_both(first + b"\n" + second + end, 2, b"", b"line 2: the line is longer than 4096 bytes\n")
+            self.expect_both(first + b"\n" + second + end, 2, b"",
+                             b"line 2: the line is longer than 4096 bytes\n")
 
     def test_more_events_than_a_trace_may_have(self):
         """Five million events through a pipe, with races at both ends, in memory that none of them needs."""
         turns = MANY // 2 - 1
-        loop = [b"T1|w(x)|a\nT2|w(x)|b\n" * 1_000] * (turns // 1_000) + [b"T1|w(x)|a\nT2|w(x)|b\n" * (turns % 1_000)]
+        loop = ([b"T1|w(x)|a\nT2|w(x)|b\n" * 1_000] * (turns // 1_000)
+                + [b"T1|w(x)|a\nT2|w(x)|b\n" * (turns % 1_000)])
         text = [b"T3|w(z)|first\n", *loop, b"T4|w(z)|last\n"]
         wanted = list_of(
             (MANY, 4, 0, 2),
@@ -124,4 +129,5 @@ class Streams(program.Case):
             answer = program.run(LIST, text, stdout=file, **test_long_lists.written_at_most(room))
         front = out.read_bytes()
         self.assertEqual((answer.status, answer.err), (4, test_long_lists.FULL_FILE))
-        self.assertTrue(whole.startswith(front) and len(front) <= room, "what was written is no front of the list")
+        self.assertTrue(whole.startswith(front) and len(front) <= room,
+                        "what was written is no front of the list")

@@ -1,4 +1,5 @@
-"""What tests/surface.py finds in the sources of crates that it is given, and that its table has every crate of the library."""
+"""What tests/surface.py finds in the sources of crates that it is given, and that its table has every crate
+of the library."""
 
 import re
 import unittest
@@ -7,7 +8,8 @@ import exports
 import surface
 
 LOW = {
-    "lib.rt": "mod kinds;\npub mod machine;\n\npub use kinds::{Kind, Pair, Room, make_pair};\npub use machine::advance as go_on;\n",
+    "lib.rt": "mod kinds;\npub mod machine;\n\npub use kinds::{Kind, Pair, Room, make_pair};\npub use "
+              "machine::advance as go_on;\n",
     "kinds.rt": """/// A kind.
 #[derive(Clone, Copy)]
 pub enum Kind {
@@ -50,8 +52,9 @@ pub fn make_pair<R: Into<Pair>>(
     1
 }
 """,
-    "machine.rt": "pub trait Step<T> {\n    type Error;\n\n    ghost leaves: { Self };\n\n    fn step(&mut self, k: u64) -> Result<(), Self::Error>\n"
-                  "        ensures { self.new };\n}\n\npub fn advance(step: &dyn Step<u32>) {}\n\npub struct Unit;\n",
+    "machine.rt": "pub trait Step<T> {\n    type Error;\n\n    ghost leaves: { Self };\n\n    fn step(&mut "
+                  "self, k: u64) -> Result<(), Self::Error>\n        ensures { self.new };\n}\n\npub fn "
+                  "advance(step: &dyn Step<u32>) {}\n\npub struct Unit;\n",
 }
 HIGH = {"lib.rt": "pub use low::{\n    Kind, Pair as Two,\n};\npub use low::Room;\n"}
 TABLE = """low
@@ -93,35 +96,51 @@ class Surface(unittest.TestCase):
         self.assertEqual(self.changed("Kind, ", "", "lib.rt"), [lines[1], lines[11]])
 
     def test_a_deleted_or_renamed_item(self):
-        self.assertEqual(self.changed("pub fn bytes", "pub fn all_bytes"), ["Room::bytes(&self, u32) -> Result<&[u8], Pair>"] * 2)
-        self.assertEqual(self.changed("pub fn bytes", "fn bytes"), ["Room::bytes(&self, u32) -> Result<&[u8], Pair>"] * 2)
+        self.assertEqual(self.changed("pub fn bytes", "pub fn all_bytes"), ["Room::bytes(&self, u32) -> "
+                                                                            "Result<&[u8], Pair>"] * 2)
+        self.assertEqual(self.changed("pub fn bytes", "fn bytes"), ["Room::bytes(&self, u32) -> "
+                                                                    "Result<&[u8], Pair>"] * 2)
         self.assertEqual(len(self.changed("pub struct Pair", "pub struct Couple")), 2)
-        self.assertEqual(self.changed("pub fn advance", "pub fn proceed", "machine.rt"), ["fn machine::advance(&dyn Step<u32>)"])
+        self.assertEqual(self.changed("pub fn advance", "pub fn proceed",
+                                      "machine.rt"), ["fn machine::advance(&dyn Step<u32>)"])
 
     def test_another_signature(self):
-        bytes_of, make = "Room::bytes(&self, u32) -> Result<&[u8], Pair>", "fn make_pair(&R, Vec<(Pair, Room<u8>)>) -> Pair"
+        bytes_of, make = ("Room::bytes(&self, u32) -> Result<&[u8], Pair>",
+                          "fn make_pair(&R, Vec<(Pair, Room<u8>)>) -> Pair")
         self.assertEqual(self.changed("mut from: u32", "from: u64"), [bytes_of] * 2)
         self.assertEqual(self.changed("&self, mut", "&mut self, mut"), [bytes_of] * 2)
         self.assertEqual(self.changed("mut from: u32", "from: u32, to: u32"), [bytes_of] * 2)
         self.assertEqual(self.changed("Result<&'a [u8], Pair>", "&'a [u8]"), [bytes_of] * 2)
-        self.assertEqual(self.changed("Room<'_, u8>)>,\n) -> Pair", "Room<'_, u8>)>,\n) -> Option<Pair>"), [make])
-        self.assertEqual(self.changed("(step: &dyn Step<u32>)", "()", "machine.rt"), ["fn machine::advance(&dyn Step<u32>)"])
+        self.assertEqual(self.changed("Room<'_, u8>)>,\n) -> Pair",
+                                      "Room<'_, u8>)>,\n) -> Option<Pair>"), [make])
+        self.assertEqual(self.changed("(step: &dyn Step<u32>)", "()",
+                                      "machine.rt"), ["fn machine::advance(&dyn Step<u32>)"])
         self.assertEqual(self.changed("k: u64", "k: u32", "machine.rt"), [TABLE.split("\n")[7].strip()])
 
     def test_other_fields_and_variants(self):
         kind, pair = TABLE.split("\n")[1].strip(), TABLE.split("\n")[2].strip()
-        for old, new in (("First,", "First,\n    Fourth,"), ("First,", ""), ("First,", "Primary,"), ("{ at: usize }", "(usize)"), ("(u32, Pair)", "(u32)")):
+        for old, new in (
+                ("First,", "First,\n    Fourth,"), ("First,",
+                                                    ""), ("First,",
+                                                          "Primary,"), ("{ at: usize }",
+                                                                        "(usize)"), ("(u32, Pair)", "(u32)")):
             self.assertEqual(self.changed(old, new), [kind] * 2, new)
-        for old, new in (("pub first: u32", "first: u32"), ("pub first: u32", "pub first: u64"), ("pub first: u32,", ""), ("pub second", "pub other")):
+        for old, new in (("pub first: u32", "first: u32"), ("pub first: u32",
+                                                            "pub first: u64"), ("pub first: u32,",
+                                                                                ""), ("pub second",
+                                                                                      "pub other")):
             self.assertEqual(self.changed(old, new), [pair, pair.replace("Pair", "Two")], new)
-        self.assertEqual(self.changed("pub struct Unit;", "pub struct Unit {\n    pub a: u32,\n}", "machine.rt"), ["struct machine::Unit;"])
+        self.assertEqual(self.changed("pub struct Unit;", "pub struct Unit {\n    pub a: u32,\n}",
+                                      "machine.rt"), ["struct machine::Unit;"])
         self.assertEqual(self.changed("    type Error;\n", "", "machine.rt"), [TABLE.split("\n")[7].strip()])
 
     def test_variants_in_another_order(self):
-        self.assertEqual(len(self.changed("First,\n    Second(u32, Pair),", "Second(u32, Pair),\n    First,")), 2)
+        self.assertEqual(
+            len(self.changed("First,\n    Second(u32, Pair),", "Second(u32, Pair),\n    First,")), 2)
 
     def test_a_reason_that_isnt_given(self):
-        self.assertEqual(self.wrong(reasons="- **Another**"), ["Room::bytes(&self, u32) -> Result<&[u8], Pair>"])
+        self.assertEqual(self.wrong(reasons="- **Another**"), ["Room::bytes(&self, u32) -> Result<&[u8], "
+                                                               "Pair>"])
 
     def test_a_crate_that_isnt_there(self):
         self.assertEqual(self.wrong(table="middle\n    struct Room\n"), ["struct Room"])
@@ -130,13 +149,16 @@ class Surface(unittest.TestCase):
         """What nothing calls would be found needless again: tests/calls is its user."""
         lines = [it for it in surface.TABLE.read_text().split("\n") if it.startswith(" ")]
         names = {re.match(r" +(?:(?:struct|enum|trait|fn|mod) )?(?:\w+::)*(\w+)", it)[1] for it in lines}
-        names |= {name for it in lines if " trait " in it for name in re.findall(r"(\w+)\(", it.partition("{")[2])}
-        used = {it for file in (surface.ROOT / "tests/calls/src").glob("*.rt") for it in re.findall(r"\w+", file.read_text())}
+        names |= {name for it in lines if " trait " in it
+                  for name in re.findall(r"(\w+)\(", it.partition("{")[2])}
+        used = {it for file in (surface.ROOT / "tests/calls/src").glob("*.rt")
+                for it in re.findall(r"\w+", file.read_text())}
         self.assertEqual(sorted(names - used), [])
 
     def test_the_table_has_the_librarys_crates(self):
         crates = [it.strip() for it in surface.TABLE.read_text().split("\n") if it and not it.startswith(" ")]
-        wanted = "shb_io shb_lines shb_discipline shb_links shb_clocks shb_nearest shb_scan shb_fan shb_pairs shb_witness shb_replay shb_report shb_run shb"
+        wanted = ("shb_io shb_lines shb_discipline shb_links shb_clocks shb_nearest shb_scan shb_fan "
+                  "shb_pairs shb_witness shb_replay shb_report shb_run shb")
         self.assertEqual(crates, wanted.split())
 
 
@@ -153,15 +175,21 @@ class Exports(unittest.TestCase):
 
     def test_names_that_the_table_lacks(self):
         table = "low\n    struct Pair\n    Room::bytes(&self)\n    mod machine\n"
-        self.assertEqual(exports.beyond(self.sources, table), {"low": {"Kind", "make_pair", "go_on"}, "high": {"laws", "Room"}})
+        self.assertEqual(exports.beyond(self.sources,
+                                        table), {"low": {"Kind", "make_pair", "go_on"},
+                                                 "high": {"laws", "Room"}})
 
     def test_functions_without_an_edit(self):
         """Those of other crates have their edits there, and laws need none."""
         self.assertEqual(set(exports.functions(self.sources, "low")), {"make_pair", "Room::bytes", "advance"})
-        self.assertEqual(exports.without_edit(self.sources, {"low": {"bytes"}}), {"low": {"make_pair", "advance"}, "high": set()})
+        self.assertEqual(
+            exports.without_edit(self.sources, {"low": {"bytes"}}), {
+                "low": {"make_pair", "advance"}, "high": set()})
 
     def test_a_new_export_and_an_old_line(self):
         listed = exports.read("low\n    also Kind, Gone\n    unedited Room::bytes\n", "also")
         self.assertEqual(listed, {"low": {"Kind", "Gone"}})
-        self.assertEqual(list(exports.differences({"low": {"Kind", "New"}}, listed, "is new", "is old")), ["low: New is new", "low: Gone is old"])
+        self.assertEqual(
+            list(exports.differences({"low": {"Kind", "New"}}, listed, "is new", "is old")), [
+                "low: New is new", "low: Gone is old"])
         self.assertEqual(list(exports.differences({"low": {"Kind", "Gone"}}, listed, "is new", "is old")), [])

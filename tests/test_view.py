@@ -120,19 +120,22 @@ places.std: 6 races at 3 places, in 1 group (4 events, 4 threads, 0 locks, 1 var
 class Text(program.Case):
     def test_examples_by_hand(self):
         for name, said, options in (("fork-join", FORK_JOIN, []), ("fork-join", FORK_JOIN_ALL, ["--all"]),
-                                    ("unlocked-read", UNLOCKED_READ, []), ("account", ACCOUNT, []), ("places", PLACES, [])):
+                                    ("unlocked-read",
+                                     UNLOCKED_READ, []), ("account", ACCOUNT, []), ("places", PLACES, [])):
             with self.subTest(name):
                 self.expect(run([*options, EXAMPLES / f"{name}.std"]), 0, said.encode())
 
     def test_no_races(self):
         self.expect(run([EXAMPLES / "hidden-by-lock.std"]), 0,
                     b"hidden-by-lock.std: 0 races (6 events, 2 threads, 1 lock, 1 variable)\n"
-                    b"Any two conflicting accesses are ordered in this trace. A run with another interleaving may have races.\n")
+                    b"Any two conflicting accesses are ordered in this trace. A run with another "
+                    b"interleaving may have races.\n")
 
     def test_no_events(self):
         with tempfile.NamedTemporaryFile(suffix=".std") as empty:
             name = pathlib.Path(empty.name).name
-            self.expect(run([empty.name]), 0, f"{name}: 0 races (0 events, 0 threads, 0 locks, 0 variables)\nThe trace has no events.\n".encode())
+            self.expect(run([empty.name]), 0, f"{name}: 0 races (0 events, 0 threads, 0 locks, 0 "
+                                              "variables)\nThe trace has no events.\n".encode())
 
     def test_colours_on_a_terminal_alone(self):
         words = [EXAMPLES / "fork-join.std"]
@@ -178,7 +181,8 @@ class Facts(program.Case):
 
     def test_lines_are_in_the_order_of_their_numbers(self):
         self.assertEqual(self.said("A w x 10", "A w x 9", "A w x 100", "B r x 4"),
-                         ["In this trace no lock is held at any access; one thread writes, at f.c:9, f.c:10 and f.c:100."])
+                         ["In this trace no lock is held at any access; one thread writes, at f.c:9, f.c:10 "
+                          "and f.c:100."])
 
     def test_a_line_that_sometimes_lacks_the_lock(self):
         self.assertEqual(self.said("A acq l 1", "A w x 2", "A rel l 3", "B r x 4", "B acq l 5", "B r x 4"),
@@ -188,45 +192,56 @@ class Facts(program.Case):
         self.assertEqual(self.said("A acq l 1", "A w x 2", "A rel l 3", "B w x 4"),
                          ["In this trace every other access holds l, and f.c:4 writes without it."])
         self.assertEqual(self.said("A acq l 1", "A w x 2", "A rel l 3", "B w x 4", "B acq l 5", "B w x 4"),
-                         ["In this trace every other access holds l, and f.c:4 writes without it at 1 of 2 accesses."])
+                         ["In this trace every other access holds l, and f.c:4 writes without it at 1 of 2 "
+                          "accesses."])
 
     def test_a_line_that_writes_and_sometimes_lacks_the_lock(self):
         """As in a helper that one caller calls without the lock; of several such lines each is said."""
-        self.assertEqual(self.said("A acq l 1", "A w x 2", "A rel l 3", "B w x 2"), ["In this trace l is held at 1 of 2 accesses at f.c:2."])
+        self.assertEqual(self.said("A acq l 1", "A w x 2", "A rel l 3", "B w x 2"), ["In this trace l is "
+                                                                                     "held at 1 of 2 "
+                                                                                     "accesses at f.c:2."])
         self.assertEqual(self.said("A acq l 1", "A w x 2", "A w x 10", "A rel l 3", "B w x 2", "B w x 10"),
                          ["In this trace l is held at 1 of 2 accesses at f.c:2 and 1 of 2 accesses at f.c:10."])
 
     def test_lines_that_hold_different_locks(self):
         """What tells most is that each holds a lock, not that one lacks the other's."""
         lines = ["A acq l 1", "A w x 2", "A rel l 3", "B acq m 4", "B w x 10", "B rel m 6"]
-        self.assertEqual(self.said(*lines), ["In this trace f.c:2 holds l and f.c:10 holds m, and no lock is common to them."])
+        self.assertEqual(self.said(*lines), ["In this trace f.c:2 holds l and f.c:10 holds m, and no lock is "
+                                             "common to them."])
         out = run_here([self.file(trace_of(*lines))])[1]
         self.assertIn("\n1. x: f.c:2 and f.c:10 hold different locks (1 race, 1 place)\n", out)
         self.assertNotIn("n't hold", out)
 
     def test_a_write_under_a_read_lock(self):
         """The recorder names what reader T of rw holds `rw@reader.T`; the writer holds `rw`."""
-        self.assertEqual(self.said("A acq rw@reader.A 1", "A w x 2", "A rel rw@reader.A 3", "B acq rw@reader.B 1", "B w x 2"),
-                         ["In this trace f.c:2 writes while holding rw for reading, as other threads can at the same time."])
+        self.assertEqual(self.said("A acq rw@reader.A 1", "A w x 2", "A rel rw@reader.A 3",
+                                   "B acq rw@reader.B 1", "B w x 2"),
+                         ["In this trace f.c:2 writes while holding rw for reading, as other threads can at "
+                          "the same time."])
 
     def test_a_read_under_the_read_lock_is_no_mistake(self):
-        lines = ["W acq rw 1", "W w x 2", "W rel rw 3", "A acq rw@reader.A 4", "A r x 5", "A rel rw@reader.A 6", "B acq rw@reader.B 4",
+        lines = ["W acq rw 1", "W w x 2", "W rel rw 3", "A acq rw@reader.A 4", "A r x 5",
+                 "A rel rw@reader.A 6", "B acq rw@reader.B 4",
                  "B r x 5", "B rel rw@reader.B 6", "C r x 7"]
-        self.assertEqual(self.said(*lines), ["In this trace every write holds rw, and f.c:7 reads without it."])
+        self.assertEqual(
+            self.said(*lines), ["In this trace every write holds rw, and f.c:7 reads without it."])
         out = run_here([self.file(trace_of(*lines))])[1]
         self.assertIn("   f.c:5: 2 reads by A and B\n     holds rw for reading\n", out)
         self.assertEqual(re.findall(r"(.*) without rw \(", out), ["1. x: f.c:7 reads"])
 
     def test_an_atomic_and_a_plain_access(self):
-        """As the recorder writes them: T's atomic write of n is `r(n)` and `w(n!T)` under a lock that the program doesn't have; a plain
-        read is `r(n)` and `r(n!T)` of each such T."""
-        lines = ["A acq n@0 1", "A r n 1", "A w n!A 1", "A rel n@0 1", "B acq n@0 2", "B r n 2", "B w n!B 2", "B rel n@0 2",
+        """As the recorder writes them: T's atomic write of n is `r(n)` and `w(n!T)` under a lock that the
+        program doesn't have; a plain read is `r(n)` and `r(n!T)` of each such T."""
+        lines = ["A acq n@0 1", "A r n 1", "A w n!A 1", "A rel n@0 1", "B acq n@0 2", "B r n 2", "B w n!B 2",
+                 "B rel n@0 2",
                  "C r n 3", "C r n!A 3", "C r n!B 3"]
-        self.assertEqual(self.said(*lines), ["In this trace f.c:1 and f.c:2 write atomically, and f.c:3 is not atomic."])
+        self.assertEqual(self.said(*lines), ["In this trace f.c:1 and f.c:2 write atomically, and f.c:3 is "
+                                             "not atomic."])
         out = run_here(["--all", self.file(trace_of(*lines))])[1]
         self.assertIn("\n1. n: f.c:3 is not atomic (2 races, 2 places)\n", out)
         self.assertNotIn("2. ", out)
-        for line in ("   f.c:1: 1 atomic write by A\n     no lock held\n", "   f.c:3: 1 read by C\n", "     atomic write by B at f.c:2 (event 7)\n",
+        for line in ("   f.c:1: 1 atomic write by A\n     no lock held\n", "   f.c:3: 1 read by C\n",
+                     "     atomic write by B at f.c:2 (event 7)\n",
                      "   data race on n: f.c:2 and f.c:3\n"):
             self.assertIn(line, out)
 
@@ -237,37 +252,46 @@ class Facts(program.Case):
         self.assertIn("   f.c:3: 1 read by C\n", out)
 
     def test_several_threads_write(self):
-        self.assertEqual(self.said("A w x 1", "B w x 2"), ["In this trace no lock is held at any access; 2 threads write, at f.c:1 and f.c:2."])
-        self.assertEqual(self.said("A w x 1", "B acq l 2", "B w x 3", "B rel l 4", "C w x 3", "D w x 5", "D acq l 2", "D r x 6"),
-                         ["In this trace every read holds l, and f.c:3, f.c:1 and f.c:5 write without it at 3 of 4 accesses."])
+        self.assertEqual(self.said("A w x 1", "B w x 2"), ["In this trace no lock is held at any access; 2 "
+                                                           "threads write, at f.c:1 and f.c:2."])
+        self.assertEqual(self.said("A w x 1", "B acq l 2", "B w x 3", "B rel l 4", "C w x 3", "D w x 5",
+                                   "D acq l 2", "D r x 6"),
+                         ["In this trace every read holds l, and f.c:3, f.c:1 and f.c:5 write without it at "
+                          "3 of 4 accesses."])
 
     def test_one_thread_writes(self):
-        self.assertEqual(self.said("A w x 1", "B acq l 2", "B r x 3"), ["In this trace every read holds l, and f.c:1 writes without it."])
+        self.assertEqual(self.said("A w x 1", "B acq l 2", "B r x 3"), ["In this trace every read holds l, "
+                                                                        "and f.c:1 writes without it."])
 
     def test_a_lock_that_readers_alone_hold_is_no_rule(self):
         """The writer never holds it; so nothing says that it belongs to the variable."""
         self.assertEqual(self.said("A w x 1", "B acq l 2", "B r x 3", "B rel l 4", "C r x 5"),
-                         ["In this trace f.c:1 holds no lock, f.c:3 holds l and f.c:5 holds no lock, and no lock is common to them."])
+                         ["In this trace f.c:1 holds no lock, f.c:3 holds l and f.c:5 holds no lock, and no "
+                          "lock is common to them."])
 
     def test_many_lines_are_not_all_named(self):
         reads = [f"R{line} r x {line}" for line in range(11, 16)]
         self.assertEqual(self.said("A acq l 1", "A w x 2", "A rel l 3", *reads),
-                         ["In this trace every write holds l, and f.c:11, f.c:12, f.c:13 and 2 more read without it."])
+                         ["In this trace every write holds l, and f.c:11, f.c:12, f.c:13 and 2 more read "
+                          "without it."])
 
     def test_order_of_the_groups(self):
         """By the rule first; of one rule, most races first."""
-        lines = ["A w one 1", "R r one 2", "S r one 3", "A w two 4", "B w two 5", "A acq l 6", "A w three 7", "A rel l 8", "B r three 9",
-                 "A acq l 10", "A w four 11", "A rel l 12", "B w four 13", "A w five 14", "R r five 15", "S r five 16", "Q r five 17"]
+        lines = ["A w one 1", "R r one 2", "S r one 3", "A w two 4", "B w two 5", "A acq l 6", "A w three 7",
+                 "A rel l 8", "B r three 9",
+                 "A acq l 10", "A w four 11", "A rel l 12", "B w four 13", "A w five 14", "R r five 15",
+                 "S r five 16", "Q r five 17"]
         heads = re.findall(r"^\d+\. (\w+):", run_here([self.file(trace_of(*lines))])[1], re.M)
         self.assertEqual(heads, ["three", "four", "five", "one", "two"])
 
     def test_a_foreign_report_of_ordered_accesses(self):
         """No report of `shb` has such a pair, and the fact says why."""
         trace = trace_of("A acq l 1", "A w x 2", "A rel l 3", "B acq l 4", "B w x 5")
-        report = (b"shb-report 2\nevents 5 threads 2 locks 1 variables 1\nraces 1\nplaces 1\nplace 1: 1\nat f.c:2\nand f.c:5\n"
-                  b"race 1: 2 5\nfirst A|w(x)|f.c:2\nsecond B|w(x)|f.c:5\nend\n")
+        report = (b"shb-report 2\nevents 5 threads 2 locks 1 variables 1\nraces 1\nplaces 1\nplace 1: 1\nat "
+                  b"f.c:2\nand f.c:5\nrace 1: 2 5\nfirst A|w(x)|f.c:2\nsecond B|w(x)|f.c:5\nend\n")
         [section] = sections(trace, report, None)
-        self.assertEqual("".join(part if isinstance(part, str) else part.decode() for part in section.fact.sentences[0]),
+        self.assertEqual(
+            "".join(part if isinstance(part, str) else part.decode() for part in section.fact.sentences[0]),
                          "In this trace every access holds l: these are no races.")
 
 
@@ -280,11 +304,14 @@ class Sites(program.Case):
         return [line for line in said if "hide other races" not in line]
 
     def test_locks_held_not_held_and_sometimes(self):
-        said = self.lines("A acq l 1", "A acq m 1", "A w x 2", "A rel m 3", "A rel l 3", "B r x 4", "B acq l 5", "B r x 4", "B acq n 6",
+        said = self.lines("A acq l 1", "A acq m 1", "A w x 2", "A rel m 3", "A rel l 3", "B r x 4",
+                          "B acq l 5", "B r x 4", "B acq n 6",
                           "B r x 7", "C acq n2 8", "C r x 9")
         self.assertEqual(said[5:15], [
-            "   f.c:2: 1 write by A", "     holds l; holds m", "     races with f.c:4 (1 race) and f.c:9 (1 race)",
-            "   f.c:4: 2 reads by B", "     holds l at 1 of 2; no lock held at 1 of 2", "     races with f.c:2 (1 race)",
+            "   f.c:2: 1 write by A", "     holds l; holds m", "     races with f.c:4 (1 race) and f.c:9 (1 "
+                                                               "race)",
+            "   f.c:4: 2 reads by B", "     holds l at 1 of 2; no lock held at 1 of 2", "     races with "
+            "f.c:2 (1 race)",
             "   f.c:9: 1 read by C", "     holds n2", "     races with f.c:2 (1 race)",
             "   f.c:7: 1 read by B"])
         self.assertEqual(said[15:], ["     holds l; holds n"])
@@ -298,19 +325,22 @@ class Sites(program.Case):
 
     def test_three_locks_that_are_held_at_some_accesses_are_named(self):
         events = [part for k in range(4) for part in (f"A acq l{k} 1", "A w x 2", f"A rel l{k} 3")]
-        self.assertIn("     holds l0 at 1 of 4; holds l1 at 1 of 4; holds l2 at 1 of 4; and 1 more", self.lines(*events, "B r x 4"))
+        self.assertIn("     holds l0 at 1 of 4; holds l1 at 1 of 4; holds l2 at 1 of 4; and 1 more",
+                      self.lines(*events, "B r x 4"))
 
     def test_more_locks_than_are_counted(self):
         locks = [f"A acq l{k} 1" for k in range(65)]
         said = self.lines(*locks, "A w x 2", "B w x 3")
         self.assertIn("     locks not counted at 1 of 1", said)
         self.assertIn("   In this trace the locks held at 1 access aren't counted.", said)
-        self.assertIn("   In this trace every other access holds l0, and f.c:3 writes without it.", self.lines(*locks[:64], "A w x 2", "B w x 3"))
+        self.assertIn("   In this trace every other access holds l0, and f.c:3 writes without it.",
+                      self.lines(*locks[:64], "A w x 2", "B w x 3"))
 
     def test_no_fact_of_a_lock_where_some_locks_are_not_counted(self):
         """Both writes hold l0, and the first one too many others."""
         locks = [f"l{k}" for k in range(65)]
-        said = self.lines(*(f"A acq {lock} 1" for lock in locks), "A w x 2", *(f"A rel {lock} 3" for lock in locks),
+        said = self.lines(*(f"A acq {lock} 1" for lock in locks), "A w x 2",
+                          *(f"A rel {lock} 3" for lock in locks),
                           "C acq l0 4", "C w x 5", "C rel l0 6", "B r x 7")
         self.assertEqual([line for line in said if "In this trace" in line],
                          ["   In this trace the locks held at 1 access aren't counted."])
@@ -336,7 +366,8 @@ class Sites(program.Case):
 
     def test_three_threads_are_named(self):
         for many, named in ((3, "R0, R1 and R2"), (4, "R0, R1, R2 and 1 more"), (5, "R0, R1, R2 and 2 more")):
-            self.assertIn(f"   f.c:2: {many} reads by {named}", self.lines("A w x 1", *(f"R{k} r x 2" for k in range(many))))
+            self.assertIn(f"   f.c:2: {many} reads by {named}",
+                          self.lines("A w x 1", *(f"R{k} r x 2" for k in range(many))))
 
     def test_eight_variables_are_named(self):
         for many, more in ((8, " and x7"), (9, ", x7 and 1 more")):
@@ -351,7 +382,8 @@ class Sites(program.Case):
         said = self.lines("A w x 1", "B w x 2", "B r x 3", "A r x 1", "A w x 1")
         self.assertEqual(said[3:], [
             "   In this trace the locks held at 2 accesses aren't counted.",
-            "   f.c:1: 2 writes by A", "     no lock held", "     races with f.c:2 (2 races) and f.c:3 (2 races)",
+            "   f.c:1: 2 writes by A", "     no lock held", "     races with f.c:2 (2 races) and f.c:3 (2 "
+                                                            "races)",
             "   f.c:2: 1 write by B", "     no lock held", "     races with f.c:1 (2 races)",
             "   (further lines): 2 reads", "     locks not counted at 2 of 2"])
 
@@ -379,7 +411,8 @@ class Sites(program.Case):
 
 
 def held(events, e):
-    """For each lock that the thread of e has acquired more often than released before e, the acquire since which it is so."""
+    """For each lock that the thread of e has acquired more often than released before e, the acquire since
+    which it is so."""
     thread = events[e][0]
 
     def balance(lock, end):
@@ -387,7 +420,8 @@ def held(events, e):
         return own.count((thread, b"acq", lock)) - own.count((thread, b"rel", lock))
 
     locks = {name for _, word, name in events if word == b"acq" and balance(name, e) > 0}
-    return sorted(max(k for k in range(e) if events[k] == (thread, b"acq", lock) and balance(lock, k) == 0) for lock in locks)
+    return sorted(max(k for k in range(e) if events[k] == (thread, b"acq", lock) and balance(lock, k) == 0)
+                  for lock in locks)
 
 
 class Groups(program.Case):
@@ -398,29 +432,38 @@ class Groups(program.Case):
     def test_pairs_that_share_a_variable_are_one_group(self):
         """Lines 1 and 2 race on x, lines 1 and 3 on x and y, lines 4 and 5 on z."""
         text = trace_of("A w x 1", "B r x 2", "B w y 3", "A r y 1", "A w z 4", "B w z 5", "C r x 3")
-        found = sorted(sorted(pair.locations for pair in section.group.pairs) for section in sections(text, shb.report(text, True)))
+        found = sorted(sorted(pair.locations for pair in section.group.pairs)
+                       for section in sections(text, shb.report(text, True)))
         self.assertEqual(found, [[(b"f.c:1", b"f.c:2"), (b"f.c:1", b"f.c:3")], [(b"f.c:4", b"f.c:5")]])
 
     def test_lines_that_race_on_two_variables_are_one_group(self):
         text = trace_of("A w x 1", "A w y 1", "B w x 2", "B w y 2")
         [section] = sections(text, shb.report(text, True))
-        self.assertEqual(([pair.races for pair in section.group.pairs], section.group.variables), ([2], (b"x", b"y")))
+        self.assertEqual(([pair.races for pair in section.group.pairs],
+                          section.group.variables), ([2], (b"x", b"y")))
 
     def test_fields_of_one_block_that_lack_one_order_are_one_group(self):
-        """Blocks 1 and 2, and two objects with a name. Another lock, or other threads, are another thing that is missing."""
-        self.assertEqual(self.names("A w a.c:9#1 1", "A w a.c:9#1+4 2", "B r a.c:9#1 3", "B r a.c:9#1+4 4"), ["a.c:9#1 (2 variables)"])
-        self.assertEqual(self.names("A w a.c:9#1 1", "A w a.c:9#2 2", "B r a.c:9#1 3", "B r a.c:9#2 4"), ["a.c:9#1", "a.c:9#2"])
-        self.assertEqual(self.names("A w s.x 1", "A w s.y[1] 2", "B r s.x 3", "B r s.y[1] 4"), ["s (2 variables)"])
+        """Blocks 1 and 2, and two objects with a name. Another lock, or other threads, are another thing
+        that is missing."""
+        self.assertEqual(self.names("A w a.c:9#1 1", "A w a.c:9#1+4 2", "B r a.c:9#1 3",
+                                    "B r a.c:9#1+4 4"), ["a.c:9#1 (2 variables)"])
+        self.assertEqual(self.names("A w a.c:9#1 1", "A w a.c:9#2 2", "B r a.c:9#1 3",
+                                    "B r a.c:9#2 4"), ["a.c:9#1", "a.c:9#2"])
+        self.assertEqual(self.names("A w s.x 1", "A w s.y[1] 2", "B r s.x 3",
+                                    "B r s.y[1] 4"), ["s (2 variables)"])
         self.assertEqual(self.names("A w s 1", "A w s+4 2", "B r s 3", "C r s+4 4"), ["s", "s+4"])
-        self.assertEqual(self.names("A acq l 9", "A w s 1", "A rel l 9", "A w s+4 2", "B r s 3", "B r s+4 4"), ["s", "s+4"])
-        self.assertEqual(self.names("A w stack.A-8 1", "A w stack.A-16 2", "B r stack.A-8 3", "B r stack.A-16 4"),
+        self.assertEqual(self.names("A acq l 9", "A w s 1", "A rel l 9", "A w s+4 2", "B r s 3",
+                                    "B r s+4 4"), ["s", "s+4"])
+        self.assertEqual(self.names("A w stack.A-8 1", "A w stack.A-16 2", "B r stack.A-8 3",
+                                    "B r stack.A-16 4"),
                          ["stack.A-16", "stack.A-8"])
 
     def test_a_race_that_hides_others(self):
         """A read that took the value of the write it races with; of two writes it took the later one's."""
         lines = ["A w x 1", "B r x 2", "A w y 3", "C w y 5", "B r y 4"]
         out = run_here([self.file(trace_of(*lines))])[1]
-        hides = "   f.c:{} read what f.c:{} wrote. This racy read may hide other races: fix it and run again.\n"
+        hides = ("   f.c:{} read what f.c:{} wrote. This racy read may hide other races: fix it and run "
+                 "again.\n")
         self.assertIn(hides.format(2, 1), out)
         self.assertIn(hides.format(4, 5), out)
         self.assertEqual(out.count("hide other races"), 2)  # f.c:3 wrote before f.c:5 did
@@ -428,7 +471,8 @@ class Groups(program.Case):
     def test_a_pair_has_no_order(self):
         text = trace_of("A w x 1", "B w x 2", "A w x 1")
         [section] = sections(text, shb.report(text, True))
-        self.assertEqual([(pair.locations, pair.races) for pair in section.group.pairs], [((b"f.c:1", b"f.c:2"), 2)])
+        self.assertEqual(
+            [(pair.locations, pair.races) for pair in section.group.pairs], [((b"f.c:1", b"f.c:2"), 2)])
 
     def test_the_closest_race_is_shown(self):
         text = trace_of("A w x 1", "B r y 9", "B w x 2", "B r y 9", "C w x 1")
@@ -441,26 +485,31 @@ class Groups(program.Case):
         for variables, name in (
             ([b"x"], [b"x"]),
             ([b"cache.c:19#71+80", b"cache.c:19#43+80"], [b"cache.c:19+80", " (2 blocks)"]),
-            ([b"slabs.c:615#134+1", b"slabs.c:615#134+22", b"slabs.c:615#134"], [b"slabs.c:615#134", " (3 variables)"]),
+            ([b"slabs.c:615#134+1", b"slabs.c:615#134+22",
+              b"slabs.c:615#134"], [b"slabs.c:615#134", " (3 variables)"]),
             ([b"slabs.c:615#134+1", b"slabs.c:615#9+2"], [b"slabs.c:615", " (2 variables)"]),
             ([b"stats", b"stats+8"], [b"stats", " (2 variables)"]),
             ([b"stats", b"settings+8"], [b"stats", " and ", b"settings+8"]),
             ([b"stats", b"settings+8", b"hits"], [b"stats", " and ", "2 others"]),
             ([b"stack.T1-0x20", b"stack.T1-0x28"], [b"stack.T1", " (2 variables)"]),
             ([b"stack.T1.run-0x20", b"stack.T1.run-0x28"], [b"stack.T1.run", " (2 variables)"]),
-            ([b"lib.so.1:q.head", b"lib.so.1:q.at[1][20].x+2", b"lib.so.1:q"], [b"lib.so.1:q", " (3 variables)"]),
+            ([b"lib.so.1:q.head", b"lib.so.1:q.at[1][20].x+2",
+              b"lib.so.1:q"], [b"lib.so.1:q", " (3 variables)"]),
             ([b"count.0", b"count.1"], [b"count.0", " and ", b"count.1"]),
         ):
             self.assertEqual(groups.common_name(variables), name)
 
     def test_all_variables_whatever_the_number_of_races(self):
-        """With n accesses to each variable by each thread there are 2n² races: 80,000 are looked at one by one; of 105,800 one of each
-        variable is, and how many are of each isn't counted."""
-        for many, counts, note in ((200, {"races": 40_000}, ""), (230, {}, "The trace has too many races to look at each. "
-                                   "Call stacks are those of one race of each variable at each place.\n")):
-            events = [f"{thread} w {variable} {line}" for thread, line in (("A", 1), ("B", 2)) for _ in range(many) for variable in "xy"]
+        """With n accesses to each variable by each thread there are 2n² races: 80,000 are looked at one by
+        one; of 105,800 one of each variable is, and how many are of each isn't counted."""
+        for many, counts, note in ((200, {"races": 40_000}, ""), (230, {}, "The trace has too many races to "
+                                   "look at each. Call stacks are those of one race of each variable at each "
+                                   "place.\n")):
+            events = [f"{thread} w {variable} {line}" for thread, line in (("A", 1), ("B", 2))
+                      for _ in range(many) for variable in "xy"]
             out = run_here([self.file(trace_of(*events))])[1]
-            self.assertIn(f"\n\n1. x and y: f.c:1 and f.c:2 write without a lock ({2 * many * many:,} races, 1 place)\n", out)
+            self.assertIn(f"\n\n1. x and y: f.c:1 and f.c:2 write without a lock ({2 * many * many:,} races, "
+                          "1 place)\n", out)
             self.assertTrue(out.endswith(f"races)\n\n{note}" if note else "races)\n"), out)
             found = self.folder / "found.json"
             self.assertEqual(run_here(["--json", found, self.file(trace_of(*events))])[0], 0)
@@ -470,16 +519,20 @@ class Groups(program.Case):
     def test_places_are_counted_as_the_program_does(self):
         """Two locations that race in both orders are two."""
         for name in ("unlocked-read", "places", "account"):
-            count = int(re.search(rb"\nplaces (\d+)\n", program.run(["places", "--list", EXAMPLES / f"{name}.std"]).out)[1])
+            count = int(re.search(rb"\nplaces (\d+)\n",
+                                  program.run(["places", "--list", EXAMPLES / f"{name}.std"]).out)[1])
             found = self.folder / "found.json"
             status, out, _ = run_here(["--text", "--json", found, EXAMPLES / f"{name}.std"])
             document = json.loads(found.read_text())
-            self.assertEqual((document["summary"]["places"], sum(place["places"] for place in document["places"])), (count, count))
+            self.assertEqual((document["summary"]["places"],
+                              sum(place["places"] for place in document["places"])), (count, count))
             self.assertRegex(out, rf"races? at {count} places?, in ")
 
     def test_the_variable_of_nearly_all_races_is_named(self):
         """The list begins with the others, which the first race of each place has."""
-        events = ["A w first 1", "B w first 2"] + [f"{thread} w served {line}" for thread, line in (("A", 1), ("B", 2)) for _ in range(330)]
+        events = (
+            ["A w first 1", "B w first 2"] + [f"{thread} w served {line}"
+                                              for thread, line in (("A", 1), ("B", 2)) for _ in range(330)])
         out = run_here([self.file(trace_of(*events))])[1]
         self.assertIn("   Variables: first and served\n", out)
 
@@ -491,9 +544,12 @@ class Groups(program.Case):
             out = run_here([self.file(trace_of(*events))])[1]
             self.assertEqual(len(re.findall(r"^\d+\. ", out, re.M)), many)
             self.assertTrue(out.startswith(f"t.std: {many} races at {many} places, in {many} groups "))
-            self.assertEqual(out.split("races with f.c:399 (1 race)\n")[-1][-len(more or "\n"):] if more else "", more)
+            self.assertEqual(out.split("races with f.c:399 (1 race)\n")[-1][-len(more or "\n"):] if more
+                             else "", more)
         with unittest.mock.patch.object(view, "MOST_GROUPS", 201):
-            self.assertTrue(run_here([self.file(trace_of(*events))])[1].endswith("lock (1 race, 1 place)\n\nand 1 more group\n"))
+            self.assertTrue(run_here([self.file(trace_of(*events))])[1].endswith("lock (1 race, 1 "
+                                                                                 "place)\n\nand 1 more "
+                                                                                 "group\n"))
 
 
 class Issues(program.Case):
@@ -501,12 +557,15 @@ class Issues(program.Case):
 
     def test_locks_of_an_access(self):
         """Each with its acquire, the eight that were acquired last."""
-        for many, more in ((2, []), (8, []), (9, ["       and 1 more lock"]), (11, ["       and 3 more locks"])):
+        for many, more in (
+                (2, []), (8, []), (9, ["       and 1 more lock"]), (11, ["       and 3 more locks"])):
             locks = [f"A acq l{k} {k}" for k in range(many)]
             lines = run_here(["--all", self.file(trace_of(*locks, "A w x 50", "B w x 60"))])[1].splitlines()
             at = lines.index(f"     write by A at f.c:50 (event {many + 1})") + 1
-            held = [f"       holds l{k}, acquired at f.c:{k} (event {k + 1})" for k in range(max(many - 8, 0), many)]
-            self.assertEqual(lines[at:lines.index(f"     write by B at f.c:60 (event {many + 2})")], held + more)
+            held = [f"       holds l{k}, acquired at f.c:{k} (event {k + 1})"
+                    for k in range(max(many - 8, 0), many)]
+            self.assertEqual(lines[at:lines.index(f"     write by B at f.c:60 (event {many + 2})")],
+                             held + more)
 
 
 class Windows(program.Case):
@@ -520,13 +579,14 @@ class Windows(program.Case):
         self.assertEqual(first.accesses, (12, 13))
         self.assertEqual((first.before, first.edges), ([1, 2, 3, 7, 8, 10, 11], [(2, 10), (8, 10), (7, 11)]))
         self.assertEqual(second.accesses, (15, 16))
-        self.assertEqual((second.before, second.edges), ([1, 2, 3, 4, 5, 6, 7, 8, 9, 12, 13], [(3, 4), (1, 6), (12, 13)]))
+        self.assertEqual(
+            (second.before, second.edges), ([1, 2, 3, 4, 5, 6, 7, 8, 9, 12, 13], [(3, 4), (1, 6), (12, 13)]))
 
     def test_nothing_after_an_access_is_shown_before_it(self):
         """The second thread's acquire waits for a release that comes after the first access."""
         trace = b"A|acq(l)\nA|w(x)\nA|rel(l)\nB|acq(l)\nB|w(x)\n"
-        report = (b"shb-report 2\nevents 5 threads 2 locks 1 variables 1\nraces 1\nplaces 1\nplace 1: 1\nat \nand \n"
-                  b"race 1: 2 5\nfirst A|w(x)\nsecond B|w(x)\nend\n")
+        report = (b"shb-report 2\nevents 5 threads 2 locks 1 variables 1\nraces 1\nplaces 1\nplace 1: 1\nat "
+                  b"\nand \nrace 1: 2 5\nfirst A|w(x)\nsecond B|w(x)\nend\n")
         [window] = windows(trace, report, None)
         self.assertEqual((window.before, window.edges), ([1, 4], []))
 
@@ -548,28 +608,34 @@ class Windows(program.Case):
     def test_eight_held_locks_are_shown(self):
         trace = b"".join(b"A|acq(%d)\n" % k for k in range(9)) + b"A|r(y)\n" * 6 + b"A|w(x)\nB|w(x)\n"
         [window] = windows(trace, shb.report(trace, True))
-        self.assertEqual((window.before, window.events[16].held), ([2, 3, 4, 5, 6, 7, 8, 9, 10, 11, 12, 13, 14, 15], 9))
+        self.assertEqual(
+            (window.before, window.events[16].held), ([2, 3, 4, 5, 6, 7, 8, 9, 10, 11, 12, 13, 14, 15], 9))
 
     def test_schedules_decide_the_order(self):
-        """A schedule of another tool may have the threads in another order. One that isn't known to be good decides nothing."""
+        """A schedule of another tool may have the threads in another order. One that isn't known to be
+        good decides nothing."""
         trace = b"A|r(a)|1\nB|r(b)|2\nA|w(x)|3\nB|w(x)|4\n"
         report = shb.report(trace, True).replace(b"schedule 2: 1 2", b"schedule 2: 2 1")
         self.assertEqual(judge.verdict(trace, report), b"ok 1\n")
         self.assertEqual([(w.before, w.schedule) for w in windows(trace, report)], [([2, 1], (2, [2, 1]))])
         for is_good in (False, None):
-            self.assertEqual([(w.before, w.schedule) for w in windows(trace, report, is_good)], [([1, 2], None)])
+            self.assertEqual(
+                [(w.before, w.schedule) for w in windows(trace, report, is_good)], [([1, 2], None)])
 
     def test_events_of_made_traces(self):
         """Edges, locks held and what comes before, against the definitions."""
         edges = locks = 0
         for _, text, events in made(MADE):
-            schedules = {(i + 1, j + 1): [e + 1 for e in schedule] for i, j, schedule in shb.races_and_schedules(events)}
+            schedules = {(i + 1, j + 1): [e + 1 for e in schedule]
+                         for i, j, schedule in shb.races_and_schedules(events)}
             below, lines = shb.below_sets(events), shb.read_trace(text)[1]
             for window in windows(text, shb.report(text, True)):
                 schedule = schedules[window.accesses]
                 self.assertEqual(window.schedule, (len(schedule), schedule))
                 self.assertEqual(window.before, [e for e in schedule if e in window.before])
-                self.assertTrue(all(shb.is_edge(events, s - 1, e - 1) and events[s - 1][0] != events[e - 1][0] for s, e in window.edges))
+                self.assertTrue(
+                    all(shb.is_edge(events, s - 1, e - 1) and events[s - 1][0] != events[e - 1][0]
+                        for s, e in window.edges))
                 edges += len(window.edges)
                 for access in window.accesses:
                     own = [e for e in schedule if events[e - 1][0] == events[access - 1][0]]
@@ -583,9 +649,12 @@ class Windows(program.Case):
                     own = [e + 1 for e in range(number - 1) if events[e][0] == events[number - 1][0]]
                     self.assertEqual(shown.previous, own[-1] if own else 0)
                 for access in window.accesses:
-                    own = [e for e in range(access - 1) if events[e][0] == events[access - 1][0]][-counting.BEFORE:]
-                    self.assertEqual([window.events[e + 1].source for e in own], [source(events, e) for e in own])
-                    forks = [e + 1 for e, event in enumerate(events) if event[1:] == (b"fork", events[access - 1][0])]
+                    own = [e for e in range(access - 1) if events[e][0] == events[access - 1][0]][
+                        -counting.BEFORE:]
+                    self.assertEqual(
+                        [window.events[e + 1].source for e in own], [source(events, e) for e in own])
+                    forks = [e + 1 for e, event in enumerate(events)
+                             if event[1:] == (b"fork", events[access - 1][0])]
                     self.assertEqual(window.forks[access], forks[0] if forks else 0)
         self.assertGreater(min(edges, locks), 30)
 
@@ -604,7 +673,8 @@ class Names(program.Case):
                            (b"\x1b[2J\t\n", r"\x1b[2J\x09\x0a"), (b"\\xff", r"\\xff"), (b"a\\b", r"a\\b"),
                            (b"\x9b", r"\x9b"), ("\u009b".encode(), r"\u009b"), (b"\x7f", r"\x7f"),
                            ("a\u202eb".encode(), r"a\u202eb"), ("a\u2066b\u00a0".encode(), r"a\u2066b\u00a0"),
-                           ("x\u0301".encode(), "x\u0301"), ("\u0301x".encode(), r"\u0301x"), (b"\xed\xa0\x80", r"\xed\xa0\x80"),
+                           ("x\u0301".encode(), "x\u0301"), ("\u0301x".encode(), r"\u0301x"), (
+                               b"\xed\xa0\x80", r"\xed\xa0\x80"),
                            ("x".encode() + "\u0301".encode() * 5, "x" + "\u0301" * 3 + r"\u0301\u0301"),
                            ("\U000e0041".encode(), r"\U000e0041")):
             self.assertEqual(names.readable(name), said)
@@ -621,8 +691,9 @@ class Names(program.Case):
         self.assertEqual(names.readable("\u212b".encode()), r"\u212b")
 
     def test_names_are_told_apart(self):
-        pick, parts = random.Random(7), [b"\xff", b"\\xff", b"\\", b"\x9b", "\u009b".encode(), b"x9b", b"a", "e\u0301".encode(),
-                                         "\u00e9".encode(), "\u3164".encode(), b"u3164", b"\\u3164", b"\x1b"]
+        pick, parts = (random.Random(7), [b"\xff", b"\\xff", b"\\", b"\x9b", "\u009b".encode(), b"x9b", b"a",
+                                          "e\u0301".encode(),
+                                         "\u00e9".encode(), "\u3164".encode(), b"u3164", b"\\u3164", b"\x1b"])
         found = {}
         for _ in range(2000):
             name = b"".join(pick.choices(parts, k=pick.randrange(1, 4)))
@@ -647,7 +718,8 @@ class Names(program.Case):
     def test_short_names_are_never_longer(self):
         pick = random.Random(4)
         for _ in range(300):
-            name = "".join(pick.choices("ab漢x\u0301\u202e\u05d0\x00\udcff(", k=pick.randrange(60))).encode("utf-8", "surrogateescape")
+            name = "".join(pick.choices("ab漢x\u0301\u202e\u05d0\x00\udcff(", k=pick.randrange(60))).encode(
+                "utf-8", "surrogateescape")
             most = pick.randrange(8, 40)
             said, whole = names.short(name, most), names.readable(name)
             self.assertLessEqual(names.columns(said), most)
@@ -655,7 +727,8 @@ class Names(program.Case):
                 self.assertEqual(said, whole)
             else:
                 head, tail = said.strip("\u2068\u2069").split("…")
-                self.assertTrue(whole.strip("\u2068").startswith(head) and whole.strip("\u2069").endswith(tail))
+                self.assertTrue(whole.strip("\u2068").startswith(head)
+                                and whole.strip("\u2069").endswith(tail))
 
     def test_long_names_are_cut_in_the_text(self):
         name = "v" * 200
@@ -666,7 +739,8 @@ class Names(program.Case):
         self.assertNotIn("v" * 41, out)
 
     def test_code_keeps_its_backslashes(self):
-        self.assertEqual(names.code_line(b'puts("a\\n\\x1b");\t\x1b\xff', 80), 'puts("a\\n\\x1b");        \\x1b\\xff')
+        self.assertEqual(names.code_line(b'puts("a\\n\\x1b");\t\x1b\xff', 80),
+                         'puts("a\\n\\x1b");        \\x1b\\xff')
 
 
 class Waiting(program.Case):
@@ -685,7 +759,8 @@ class Waiting(program.Case):
         self.assertEqual(said.out.getvalue(), "\r\x1b[Kshb-view: reading 25%\r\x1b[K")
 
     def test_words_go_away_before_a_refusal(self):
-        fake = self.file(b'#!/bin/sh\nif [ $1 = places ]; then %b "$@" | sed "\$d"; else exec %b "$@"; fi\n' % ((bytes(program.PATH),) * 2), "shb")
+        fake = self.file(b'#!/bin/sh\nif [ $1 = places ]; then %b "$@" | sed "\$d"; else exec %b "$@"; fi\n'
+                         % ((bytes(program.PATH),) * 2), "shb")
         fake.chmod(0o755)
         wait, progress.WAIT = progress.WAIT, 0.0
         self.addCleanup(setattr, progress, "WAIT", wait)
@@ -693,7 +768,8 @@ class Waiting(program.Case):
         with contextlib.redirect_stderr(terminal):
             status = command.main([str(EXAMPLES / "places.std")], fake)
         self.assertEqual(status, 2)
-        self.assertRegex(terminal.getvalue(), r"\A\r\x1b\[Kshb-view: reading the report \d+%.*\r\x1b\[Kshb-view: line 26 of the report is "
+        self.assertRegex(terminal.getvalue(), r"\A\r\x1b\[Kshb-view: reading the report "
+                                              r"\d+%.*\r\x1b\[Kshb-view: line 26 of the report is "
                                               r"missing; it should be `end`\n\Z")
 
     def test_words_go_away_before_the_text(self):

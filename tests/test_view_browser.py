@@ -1,5 +1,5 @@
-"""The page of python/shb-view in a browser, where one is installed: that its script runs, that nothing is cut, and how long it is on
-paper."""
+"""The page of python/shb-view in a browser, where one is installed: that its script runs, that nothing is
+cut, and how long it is on paper."""
 
 import json
 import re
@@ -58,9 +58,11 @@ class Browser(program.Case):
 
     def shown(self, browser, page, *words):
         """What the browser makes of a page, as text."""
-        command = [browser, "--headless", "--no-sandbox", "--disable-gpu", f"--user-data-dir={self.folder}/profile",
+        command = [browser, "--headless", "--no-sandbox", "--disable-gpu",
+                   f"--user-data-dir={self.folder}/profile",
                    "--virtual-time-budget=5000", *words, "--dump-dom", page.as_uri()]
-        ran = subprocess.run(command, stdout=subprocess.PIPE, stderr=subprocess.PIPE, timeout=program.SECONDS * 2)
+        ran = subprocess.run(command, stdout=subprocess.PIPE, stderr=subprocess.PIPE,
+                             timeout=program.SECONDS * 2)
         self.assertNotIn(b"CONSOLE", ran.stderr)
         return ran.stdout.decode()
 
@@ -86,13 +88,19 @@ class Browser(program.Case):
         """Each is of a variable; the threads of the last two have other names."""
         browser = self.browser()
         if browser:
-            events = [f"{thread}{'.late' * (k > 58)}|w(v{k})|g.c:{k}\n" for k in range(1, 61) for thread in ("main", "other")]
+            events = [f"{thread}{'.late' * (k > 58)}|w(v{k})|g.c:{k}\n" for k in range(1, 61)
+                      for thread in ("main", "other")]
             found = self.tried(browser, self.page(self.file("".join(events).encode())), TRIAL)
             sixty = ",".join(map(str, range(1, 61)))
             self.assertEqual(found["all"], [sixty, "60 groups"])
-            self.assertEqual((found["line"], found["thread"]), (["57", "1 of 60 groups"], ["59,60", "2 of 60 groups"]))
-            self.assertEqual((found["none"], found["words"], found["again"]), (["", "0 of 60 groups"], ["12", "1 of 60 groups"], [sixty, "60 groups"]))
-            self.assertEqual(found["sorted"], [["1,2,3,4,", "true"], ["60,59,58", "mixed"], ["1,2,3,4,", "true"]])
+            self.assertEqual(
+                (found["line"], found["thread"]), (["57", "1 of 60 groups"], ["59,60", "2 of 60 groups"]))
+            self.assertEqual((found["none"], found["words"],
+                              found["again"]), (["",
+                                                 "0 of 60 groups"], ["12", "1 of 60 groups"], [
+                                                     sixty, "60 groups"]))
+            self.assertEqual(
+                found["sorted"], [["1,2,3,4,", "true"], ["60,59,58", "mixed"], ["1,2,3,4,", "true"]])
             self.assertEqual(found["keys"], [True, "group-2", "group-60", True])
             self.assertEqual(found["linked"], [True, 1, "group-56"])
             self.assertIn(found["copied"][0], ("Copied", "Press Ctrl+C"))
@@ -102,7 +110,8 @@ class Browser(program.Case):
         """Else names that differ look the same."""
         browser = self.browser()
         if browser:
-            events = [f"{thread}|w({name})|{place}.c:1\n" for place, name in enumerate(("a b", "a  b", "a b ")) for thread in (" T1", "T1")]
+            events = [f"{thread}|w({name})|{place}.c:1\n"
+                      for place, name in enumerate(("a b", "a  b", "a b ")) for thread in (" T1", "T1")]
             found = self.tried(browser, self.page(self.file("".join(events).encode())), BLANKS)
             self.assertEqual(found, [["a b", "a  b", "a b "], [" T1", "T1"]])
 
@@ -113,7 +122,8 @@ class Browser(program.Case):
             name = "very_long_names_of_a_program." * 12
             code = self.file(b"int x;\n" + b"    call(%b);\n" % (name.encode() * 3), "code.c")
             trace = self.file("".join(f"{thread}.{name}|{event}|code.c:2\n" for thread in "AB" for event in
-                                      (f"acq(lock.{thread}.{name})", f"w({name})", f"rel(lock.{thread}.{name})")).encode())
+                                      (f"acq(lock.{thread}.{name})", f"w({name})",
+                                       f"rel(lock.{thread}.{name})")).encode())
             page = self.page("--source", code.parent, trace)
             script = """<script>
 for (const row of rows) draw(row);

@@ -47,8 +47,10 @@ exec REAL "$@"
         status, out, err = run_here(["--shb", self.fake(script), TRACE])
         self.assertEqual((status, err), (0, ""))
         self.assertEqual(out.splitlines()[0],
-                         "fork-join.std: 900,000,000 races at 1 place, in 1 group (7 events, 2 threads, 0 locks, 2 variables)")
-        self.assertIn("\n1. count: start.c:6 and worker.c:3 write without a lock (900,000,000 races, 1 place)\n", out)
+                         "fork-join.std: 900,000,000 races at 1 place, in 1 group (7 events, 2 threads, 0 "
+                         "locks, 2 variables)")
+        self.assertIn("\n1. count: start.c:6 and worker.c:3 write without a lock (900,000,000 races, 1 "
+                      "place)\n", out)
         self.assertIn("     races with worker.c:3 (900,000,000 races)", out)
 
     def test_no_schedules_where_they_would_be_long(self):
@@ -102,7 +104,8 @@ exec REAL "$@"
     def test_what_is_said_of_the_recorder(self):
         """Text, page and the result for programs have it; it is escaped."""
         page, found = self.folder / "page.html", self.folder / "found.json"
-        status, out, err = run_here(["--text", "--html", page, "--json", found, TRACE], about=["Code of <b>lib\x1b.so isn't seen."])
+        status, out, err = run_here(["--text", "--html", page, "--json", found, TRACE],
+                                    about=["Code of <b>lib\x1b.so isn't seen."])
         self.assertEqual((status, err), (0, ""))
         self.assertIn("\nCode of <b>lib\\x1b.so isn't seen.\n", out)
         self.assertIn("Code of &lt;b&gt;lib\\x1b.so isn&#x27;t seen.", page.read_text())
@@ -110,9 +113,12 @@ exec REAL "$@"
         self.assertEqual((document["form"], document["version"], document["command"], document["notes"][-1]),
                          ("shb-places", 1, "shb-view", "Code of <b>lib\\x1b.so isn't seen."))
         [place] = document["places"]
-        self.assertEqual([(access["location"], access["uses"], access["threads"]) for access in place["accesses"]],
-                         [("start.c:6", {"write": 1}, {"main": 1}), ("worker.c:3", {"write": 1}, {"worker": 1})])
-        self.assertEqual((place["places"], place["races"], place["variables"]), (1, 1, [{"name": "count", "races": 1}]))
+        self.assertEqual(
+            [(access["location"], access["uses"], access["threads"]) for access in place["accesses"]],
+                         [("start.c:6", {"write": 1}, {"main": 1}), (
+                             "worker.c:3", {"write": 1}, {"worker": 1})])
+        self.assertEqual((place["places"], place["races"],
+                          place["variables"]), (1, 1, [{"name": "count", "races": 1}]))
 
     def test_a_fault_of_the_view_itself(self):
         with mock.patch("shb_view.command.make_view", lambda *_: None):
@@ -134,17 +140,20 @@ exec REAL "$@"
 
     def test_a_name_like_an_option(self):
         trace = self.file(TRACE.read_bytes(), "-t.std")
-        answer = subprocess.run([sys.executable, "-B", PYTHON / "shb-view", "--", "-t.std"], cwd=self.folder, env=settings(),
+        answer = subprocess.run([sys.executable, "-B", PYTHON / "shb-view", "--", "-t.std"], cwd=self.folder,
+                                env=settings(),
                                 capture_output=True, timeout=program.SECONDS)
         self.assertEqual((answer.returncode, answer.stderr), (0, b""))
         self.assertTrue(answer.stdout.startswith(b"-t.std: 1 race "))
 
     def test_a_refused_trace(self):
-        """The line is shown, and what is likely to be wrong with it; python/tests/test_refused.py has all hints."""
+        """The line is shown, and what is likely to be wrong with it; python/tests/test_refused.py
+        has all hints."""
         for text, fault, line, hint in (
             (b"A|w(x)\nA\tw(x)\n", "line 2: the line has no operation field", "A\\x09w(x)",
              "a line is THREAD|OPERATION|LOCATION, with bars between, not tabs; there are no comments"),
-            (b"\n\nA|W(x)\n", "line 3: the operation is not known", "A|W(x)", "operations are written in small letters, as `w`"),
+            (b"\n\nA|W(x)\n", "line 3: the operation is not known", "A|W(x)", "operations are written in "
+             "small letters, as `w`"),
             (b"\xef\xbb\xbf# a comment\n", "line 1: the line has no operation field", "\\ufeff# a comment",
              "the file begins with a byte order mark: save it without one"),
             (b"A|rel(l)\n", "line 1: the lock is not held by this thread", "A|rel(l)",
@@ -154,35 +163,44 @@ exec REAL "$@"
         ):
             with self.subTest(text):
                 status, out, err = run_here([self.file(text)])
-                said = f"shb-view: `shb` refuses the trace: {fault}\n  {line}\n" + (f"  hint: {hint}\n" if hint else "")
+                said = (f"shb-view: `shb` refuses the trace: {fault}\n  {line}\n"
+                        + (f"  hint: {hint}\n" if hint else ""))
                 self.assertEqual((status, out, err), (2, "", said))
 
     def test_a_trace_that_begins_oddly(self):
         """It isn't refused; the names aren't what they look like."""
         out = run_here([self.file(b"\xef\xbb\xbfA|w(x)\nA|w(x)\n")])[1]
-        self.assertEqual(out.splitlines()[1], "The trace begins with a byte order mark, which is a part of the first thread's name.")
+        self.assertEqual(out.splitlines()[1], "The trace begins with a byte order mark, which is a part of "
+                                              "the first thread's name.")
         out = run_here([self.file(b"A|w(x)|a\rB|w(x)|b\r")])[1]
-        self.assertEqual(out.splitlines()[1], "In the trace a carriage return without a line feed: lines end with a line feed, or with both.")
+        self.assertEqual(out.splitlines()[1], "In the trace a carriage return without a line feed: lines end "
+                                              "with a line feed, or with both.")
 
     def test_a_killed_program(self):
-        self.assertEqual(self.said(["--shb", self.fake("kill -9 $$\n"), TRACE]), "`shb races --list` was ended by signal 9")
+        self.assertEqual(self.said(["--shb", self.fake("kill -9 $$\n"), TRACE]),
+                         "`shb races --list` was ended by signal 9")
         script = "[ $1 = places ] && kill -9 $$; exec REAL \"$@\"\n"
         self.assertEqual(self.said(["--shb", self.fake(script), TRACE]), "`shb places` was ended by signal 9")
 
     def test_a_program_that_fails(self):
         script = "[ $1 = places ] && { echo 'out of memory' >&2; exit 4; }; exec REAL \"$@\"\n"
-        self.assertEqual(self.said(["--shb", self.fake(script), TRACE]), "`shb places` ended with status 4: out of memory")
-        self.assertEqual(self.said(["--shb", self.fake("exit 4\n"), TRACE]), "`shb races --list` ended with status 4")
+        self.assertEqual(self.said(["--shb", self.fake(script), TRACE]),
+                         "`shb places` ended with status 4: out of memory")
+        self.assertEqual(self.said(["--shb", self.fake("exit 4\n"), TRACE]),
+                         "`shb races --list` ended with status 4")
         self.assertEqual(self.said(["--shb", self.fake("printf 'a\\033[31m\\nb' >&2; exit 4\n"), TRACE]),
                          "`shb races --list` ended with status 4: a\\x1b[31m\\x0ab")
-        self.assertEqual(self.said(["--shb", self.fake("head -c 5000 /dev/zero | tr '\\0' x >&2; exit 4\n"), TRACE]),
+        self.assertEqual(
+            self.said(["--shb", self.fake("head -c 5000 /dev/zero | tr '\\0' x >&2; exit 4\n"), TRACE]),
                          f"`shb races --list` ended with status 4: {'x' * 99}…{'x' * 100}")
         self.assertEqual(self.said(["--shb", self.fake("echo hello\n"), TRACE]),
-                         "`shb races --list` wrote no report: line 1 of the report is `hello`; it should be `shb-report 2`")
+                         "`shb races --list` wrote no report: line 1 of the report is `hello`; it should be "
+                         "`shb-report 2`")
 
     def test_no_such_program(self):
         none = self.folder / "no\nne"
-        said = f"`{self.folder}/no\\x0ane` can't be run (No such file or directory); SHB=PROGRAM names another `shb`"
+        said = (f"`{self.folder}/no\\x0ane` can't be run (No such file or directory); SHB=PROGRAM names "
+                "another `shb`")
         self.assertEqual(self.said(["--shb", none, TRACE]), said)
         answer = run([TRACE], env=program.with_settings(SHB=str(none)))
         self.assertEqual((answer.status, answer.err.decode()), (2, f"shb-view: {said}\n"))
@@ -193,7 +211,8 @@ exec REAL "$@"
             top = self.folder / name
             command = top / command
             for package in ("shb_view", "shb_common"):
-                shutil.copytree(PYTHON / package, command.parent / package, ignore=shutil.ignore_patterns("__pycache__"))
+                shutil.copytree(PYTHON / package, command.parent / package,
+                                ignore=shutil.ignore_patterns("__pycache__"))
             shutil.copy(PYTHON / "shb-view", command)
             (top / "bin").mkdir()
             (top / "bin/shb").symlink_to(program.PATH)
@@ -211,13 +230,18 @@ class Files(Fake):
         none = self.folder / "no\x1bne"
         shown = f"{self.folder}/no\\x1bne"
         self.assertEqual(self.said([none]), f"{shown}: No such file or directory")
-        self.assertEqual(self.said([self.folder]), f"{self.folder} isn't a regular file: the trace is read more than once, so save it to a file")
+        self.assertEqual(self.said([self.folder]),
+                         f"{self.folder} isn't a regular file: the trace is read more than once, so save it "
+                         "to a file")
         self.assertEqual(self.said(["--source", none, TRACE]), f"--source: {shown} isn't a folder")
 
     def test_a_pipe_is_no_trace(self):
         os.mkfifo(self.folder / "pipe")
-        self.assertEqual(self.said(["-"]), "- isn't a regular file: the trace is read more than once, so save it to a file")
-        self.assertEqual(self.said([self.folder / "pipe"]), f"{self.folder}/pipe isn't a regular file: the trace is read more than once, so save it to a file")
+        self.assertEqual(self.said(["-"]), "- isn't a regular file: the trace is read more than once, so "
+                                           "save it to a file")
+        self.assertEqual(self.said([self.folder / "pipe"]),
+                         f"{self.folder}/pipe isn't a regular file: the trace is read more than once, so "
+                         "save it to a file")
 
     def test_places_that_cannot_be_written(self):
         self.assertEqual(self.said(["--html", self.folder, TRACE]), f"{self.folder} isn't a regular file")
@@ -250,8 +274,10 @@ class Files(Fake):
         page = self.file(b"old", "page.html")
         words = [sys.executable, "-B", str(PYTHON / "shb-view"), "--html", str(page), str(TRACE)]
         script = 'ulimit -f 4; exec "$@"'  # blocks of 512 or 1,024 bytes: less than the style alone
-        answer = subprocess.run(["sh", "-c", script, "sh", *words], env=settings(), capture_output=True, timeout=program.SECONDS)
-        self.assertEqual((answer.returncode, answer.stderr.decode()), (2, f"shb-view: {page}: File too large\n"))
+        answer = subprocess.run(["sh", "-c", script, "sh", *words], env=settings(), capture_output=True,
+                                timeout=program.SECONDS)
+        self.assertEqual((answer.returncode, answer.stderr.decode()), (2, f"shb-view: {page}: File too "
+                                                                       "large\n"))
         self.assertEqual((page.read_bytes(), len(list(self.folder.iterdir()))), (b"old", 1))
 
     def test_a_fault_that_comes_again_when_the_file_is_closed_names_the_page(self):
@@ -272,7 +298,8 @@ class Files(Fake):
         mask = os.umask(0o027)
         self.addCleanup(os.umask, mask)
         self.assertEqual(run_here(["--html", page, TRACE])[0], 0)
-        self.assertEqual((page.is_symlink(), page.stat().st_mode & 0o777, other.read_bytes()), (False, 0o640, b"other"))
+        self.assertEqual((page.is_symlink(), page.stat().st_mode & 0o777,
+                          other.read_bytes()), (False, 0o640, b"other"))
 
     def test_an_encoding_that_lacks_a_character(self):
         trace = self.file("A|w(größe…)\nB|w(größe…)\n".encode())
@@ -298,7 +325,8 @@ class Statuses(Fake):
     def test_a_full_disk(self):
         with open("/dev/full", "wb") as full:
             answer = run([TRACE], stdout=full)
-        self.assertEqual((answer.status, answer.err), (2, b"shb-view: standard output: No space left on device\n"))
+        self.assertEqual((answer.status, answer.err), (2, b"shb-view: standard output: No space left on "
+                                                          b"device\n"))
 
     def test_a_reader_that_went_away(self):
         read_end, write_end = os.pipe()
@@ -310,7 +338,8 @@ class Statuses(Fake):
         words = [sys.executable, "-B", str(PYTHON / "shb-view")]
 
         def closed(script, *more):
-            return subprocess.run(["sh", "-c", script, "sh", *words, *map(str, more)], env=settings(), capture_output=True,
+            return subprocess.run(["sh", "-c", script, "sh", *words, *map(str, more)], env=settings(),
+                                  capture_output=True,
                                   timeout=program.SECONDS)
 
         answer = closed('"$@" >&-', TRACE)
@@ -326,11 +355,14 @@ class Statuses(Fake):
         self.assertTrue(page.read_bytes().endswith(b"</html>\n"))
 
     def test_stopped(self):
-        """By the signal of a terminal, while `shb` runs. A test that runs in the background may have been told to ignore it."""
+        """By the signal of a terminal, while `shb` runs. A test that runs in the background may have been
+        told to ignore it."""
         started = self.folder / "started"
         fake = self.fake(f"touch {started}; exec sleep 20\n")
-        ran = subprocess.Popen([sys.executable, "-B", PYTHON / "shb-view", "--shb", fake, TRACE], stdout=subprocess.PIPE,
-                               stderr=subprocess.PIPE, preexec_fn=lambda: signal.signal(signal.SIGINT, signal.SIG_DFL))
+        ran = subprocess.Popen([sys.executable, "-B", PYTHON / "shb-view", "--shb", fake, TRACE],
+                               stdout=subprocess.PIPE,
+                               stderr=subprocess.PIPE,
+                               preexec_fn=lambda: signal.signal(signal.SIGINT, signal.SIG_DFL))
         while not started.exists():
             self.assertIsNone(ran.poll())
         ran.send_signal(signal.SIGINT)
@@ -350,6 +382,7 @@ class Statuses(Fake):
     def test_a_trace_that_was_changed(self):
         """`shb` reads one trace, the view another."""
         trace = self.file(TRACE.read_bytes())
-        script = f"REAL \"$@\"; status=$?; [ $1 = places ] && printf 'A|w(count)|x\\n' >> {trace}; exit $status\n"
+        script = (f"REAL \"$@\"; status=$?; [ $1 = places ] && printf 'A|w(count)|x\\n' >> {trace}; exit "
+                  "$status\n")
         self.assertEqual(self.said(["--shb", self.fake(script), trace]),
                          "the trace isn't the one that `shb` read: it was changed in between")

@@ -1,4 +1,5 @@
-"""The page of python/shb-view, parsed: what it has, that names stay names, and that no line crosses a text."""
+"""The page of python/shb-view, parsed: what it has, that names stay names, and that no line
+crosses a text."""
 
 import base64
 import contextlib
@@ -15,13 +16,16 @@ from viewing import EXAMPLES, MADE, asked, made, recorded_run, run_here, windows
 from shb_view import command, names, picture
 
 VOID = {"br", "meta"}
-HOSTILE = [b"<script>alert(1)</script>", b'"><img src=x onerror=alert(1)>', b"' onload='alert(1)", b"&lt;b&gt;&amp;&#60;",
-           b"</title></style></svg></code>", b"<!-- ]]> <![CDATA[", b"\xff\xfe\x00<\x80", b"javascript:alert(1)",
+HOSTILE = [b"<script>alert(1)</script>", b'"><img src=x onerror=alert(1)>', b"' onload='alert(1)",
+           b"&lt;b&gt;&amp;&#60;",
+           b"</title></style></svg></code>", b"<!-- ]]> <![CDATA[", b"\xff\xfe\x00<\x80",
+           b"javascript:alert(1)",
            b"(" + b"<" * 3900 + b")"]
 
 
 class Page(html.parser.HTMLParser):
-    """The elements of a page, in order: (tag, attributes, text inside). A tag that isn't closed in turn fails."""
+    """The elements of a page, in order: (tag, attributes, text inside). A tag that isn't closed
+    in turn fails."""
 
     def __init__(self, text):
         super().__init__(convert_charrefs=True)
@@ -75,7 +79,8 @@ def said(parts):
 
 class Pages(program.Case):
     def page(self, trace, *words, **more):
-        """The page of a trace, parsed. Words after it are further arguments, `more` is as `run_here` has it."""
+        """The page of a trace, parsed. Words after it are further arguments, `more` is as
+        `run_here` has it."""
         path = self.folder / "page.html"
         status, out, err = run_here(["--html", path, self.file(trace), *words], **more)
         self.assertEqual((status, out, err), (0, "", ""))
@@ -86,36 +91,47 @@ class Pages(program.Case):
 
     def test_a_row_for_each_group(self):
         page = self.page(self.example("unlocked-read"))
-        self.assertEqual([text for _, text in page.all("summary")], ["1 items main.c:11 reads without lock main.c:11 1 race",
-                                                                     "2 closed main.c:12 writes, queue.c:29 reads without a lock main.c:12 2 races"])
+        self.assertEqual([text for _, text in page.all("summary")], ["1 items main.c:11 reads without lock "
+                                                                     "main.c:11 1 race",
+                                                                     "2 closed main.c:12 writes, queue.c:29 "
+                                                                     "reads without a lock main.c:12 2 races"])
         self.assertEqual([(attributes["id"], attributes["class"]) for attributes, _ in page.all("details")],
                          [("group-1", "group rank1"), ("group-2", "group rank3")])
 
     def test_every_line_by_hand(self):
         [group] = self.page(self.example("account")).data()["groups"]
         self.assertEqual(group["sites"], [
-            [[["account.c:10"]], "", "2 reads and 2 writes", [["T1.pay"], " and ", ["main"]], [["held", ["holds ", ["door"], ""]]],
+            [[["account.c:10"]], "",
+             "2 reads and 2 writes", [["T1.pay"], " and ", ["main"]], [["held", ["holds ", ["door"], ""]]],
              [["account.c:8"], " (1 race)"], True],
-            [[["account.c:8"]], "", "2 reads", [["T1.pay"], " and ", ["main"]], [["none", ["no lock held"]]], [["account.c:10"], " (1 race)"], True]])
+            [[["account.c:8"]], "",
+             "2 reads", [["T1.pay"], " and ", ["main"]], [["none", ["no lock held"]]], [
+                 ["account.c:10"], " (1 race)"], True]])
         self.assertIn(["Remedy: ", "hold ", ["door"], " at ", ["account.c:8"], "."], group["about"])
 
     def test_the_text_of_a_group(self):
         [(_, issue)] = self.page(self.example("fork-join")).all("pre")
-        self.assertEqual(issue.splitlines()[:3], ["data race on count: worker.c:3 and start.c:6", "(one race in a recorded run)",
+        self.assertEqual(issue.splitlines()[:3], ["data race on count: worker.c:3 and start.c:6",
+                                                  "(one race in a recorded run)",
                                                   "  write by worker at worker.c:3 (event 4)"])
 
     def test_events_by_hand(self):
-        """Each with its number, lane, words and place; and with its line and that line's number, for which empty lines count."""
+        """Each with its number, lane, words and place; and with its line and that line's number, for which
+        empty lines count."""
         [group] = self.page(self.example("fork-join")).data()["groups"]
         self.assertEqual([event[:2] + event[4:] for event in group["picture"]["events"]][1:3], [
             [2, 1, "starts worker", "start.c:5 · 2", "line 2: main|fork(worker)|start.c:5\nno lock held"],
             [3, 0, "reads config", "worker.c:2 · 3", "line 3: worker|r(config)|worker.c:2\nno lock held"]])
         [group] = self.page(b"\n\r\nA|w(x)\n\nB|w(x)\n").data()["groups"]
-        self.assertEqual([event[6].splitlines()[0] for event in group["picture"]["events"]], ["line 3: A|w(x)", "line 5: B|w(x)"])
+        self.assertEqual(
+            [event[6].splitlines()[0] for event in group["picture"]["events"]], [
+                "line 3: A|w(x)", "line 5: B|w(x)"])
 
     def test_known_groups_are_folded_behind_the_others(self):
         only = {(b"main.c:11", b"queue.c:22"): {b"items"}}
-        self.assertEqual([(attributes["class"], text) for attributes, text in self.page(self.example("unlocked-read"), new=only).all("span", "tag")],
+        self.assertEqual(
+            [(attributes["class"], text)
+             for attributes, text in self.page(self.example("unlocked-read"), new=only).all("span", "tag")],
                          [("tag new", "new"), ("tag known", "known")])
 
     def test_commands_that_run_it_again(self):
@@ -132,7 +148,8 @@ class Pages(program.Case):
         self.assertLessEqual({name for _, attributes, _ in page.elements for name in attributes},
                              {"class", "id", "lang", "charset", "name", "content", "http-equiv", "type"})
         for text in (page.all("style")[0][1], page.all("script")[1][1]):
-            self.assertNotRegex(text.replace("http://www.w3.org/2000/svg", ""), r"url\(|@import|https?:|fetch|XMLHttp|innerHTML")
+            self.assertNotRegex(text.replace("http://www.w3.org/2000/svg", ""),
+                                r"url\(|@import|https?:|fetch|XMLHttp|innerHTML")
 
     def test_the_browser_may_run_its_own_style_and_script_alone(self):
         page = self.page(self.example("places"))
@@ -147,7 +164,8 @@ class Pages(program.Case):
     def test_names_stay_names(self):
         """A page with other names has the same elements, and the names as its text and in its data."""
         def trace(thread, lock, variable, location):
-            lines = thread + b"|acq(" + lock + b")|", thread + b"|w(" + variable + b")|", b"B|w(" + variable + b")|"
+            lines = (thread + b"|acq(" + lock + b")|", thread + b"|w(" + variable + b")|",
+                     b"B|w(" + variable + b")|")
             return b"".join(line + location + b"\n" for line in lines)
 
         shape = self.page(trace(b"A", b"l", b"x", b"p")).shape()
@@ -162,22 +180,27 @@ class Pages(program.Case):
                     self.assertEqual(page.data()["groups"][0]["sides"][0]["at"], [[names.short(name, 80)]])
 
     def test_blanks_in_names_are_kept(self):
-        """In the text of the page, and by its style; in a browser, where there is one, test_view_browser looks at them."""
+        """In the text of the page, and by its style; in a browser, where there is one, test_view_browser
+        looks at them."""
         page = self.page(b"A|w(a  b )|p\nB|w(a  b )|p\n")
         self.assertIn("a  b ", [text for _, text in page.all("code")])
         self.assertRegex(page.all("style")[0][1], r"(?m)^code \{.* white-space: pre-wrap; \}$")
 
     def test_long_names_are_cut(self):
         name = b"v" * 1500
-        page = self.page(b"A|acq(" + name + b")|p\n" + b"".join(thread + b"|w(" + name + b")|" + name + b"\n" for thread in (b"A", b"B")))
-        whole = "".join(text for tag, _, texts in page.elements if tag in ("code", "text", "title", "pre") for text in texts)
+        page = self.page(b"A|acq(" + name + b")|p\n"
+                         + b"".join(thread + b"|w(" + name + b")|" + name + b"\n" for thread in (b"A", b"B")))
+        whole = "".join(text for tag, _, texts in page.elements if tag in ("code", "text", "title", "pre")
+                        for text in texts)
         self.assertNotIn("v" * 121, whole)
         self.assertIn("v" * 40, whole)
 
     def test_the_longest_page(self):
-        """250 groups of 30 lines with names that are long in HTML: the list is whole, and what is drawn ends after 2 MB."""
+        """250 groups of 30 lines with names that are long in HTML: the list is whole, and what is drawn ends
+        after 2 MB."""
         quotes = '"' * 80
-        events = [f"T{i}.{quotes}|{'w' if i % 10 == 0 else 'r'}({k}{quotes})|{k}.{i}{quotes}" for k in range(250) for i in range(30)]
+        events = [f"T{i}.{quotes}|{'w' if i % 10 == 0 else 'r'}({k}{quotes})|{k}.{i}{quotes}"
+                  for k in range(250) for i in range(30)]
         page = self.page("\n".join(events).encode())
         size = (self.folder / "page.html").stat().st_size
         self.assertTrue(2_000_000 < size < 4_500_000, size)
@@ -196,30 +219,43 @@ class Pages(program.Case):
     def test_what_is_said_of_schedules_and_verdicts(self):
         own = self.page(self.example("places"))
         self.assertEqual(own.all("p", "verdict"), [])
-        self.assertIn("`shb places` has a schedule of it, race 1: after its 0 events both accesses can execute next.",
+        self.assertIn("`shb places` has a schedule of it, race 1: after its 0 events both accesses can "
+                      "execute next.",
                       "".join(text for _, text in own.all("details")))
         good, said = self.of_run(program.PATH)
-        verdict = "Each race that the page shows has a schedule in the page's trace: shb places --variables page.std | shb check page.std finds them good."
-        self.assertEqual([(attributes["class"], re.sub(r"\S+/page.std", "page.std", text)) for attributes, text in good.all("p", "verdict")],
+        verdict = ("Each race that the page shows has a schedule in the page's trace: shb places --variables "
+                   "page.std | shb check page.std finds them good.")
+        self.assertEqual(
+            [(attributes["class"], re.sub(r"\S+/page.std", "page.std", text))
+             for attributes, text in good.all("p", "verdict")],
                          [("verdict good", verdict)])
-        self.assertIn("good: after its 0 events of the page's trace both accesses can execute next.", "".join(text for _, text in good.all("details")))
+        self.assertIn("good: after its 0 events of the page's trace both accesses can execute next.",
+                      "".join(text for _, text in good.all("details")))
         self.assertEqual(said, "")
 
     def of_run(self, shb):
-        """The page of a recorded run whose schedules this program makes and judges, and what else was said."""
-        trace, uses, stacks, path = (self.folder / name for name in ("page.std", "uses", "stacks", "page.html"))
+        """The page of a recorded run whose schedules this program makes and judges, and what
+        else was said."""
+        trace, uses, stacks, path = (self.folder / name
+                                     for name in ("page.std", "uses", "stacks", "page.html"))
         trace.write_bytes((EXAMPLES / "places.std").read_bytes())
         used = re.findall(rb"(.*)\|([rw])\((.*)\)\|(.*)\n", trace.read_bytes())
-        uses.write_bytes(b"shb-uses 2\n" + b"".join(b"use\t%b\t%b\t\t%b\tby\t1\t%b\tbare\t1\t0\nevent\t%d\t%d\n" % (word, name, at, thread, number, number)
-                                                    for number, (thread, word, name, at) in enumerate(used, 1)) + b"events\t4\n")
+        uses.write_bytes(
+            b"shb-uses 2\n"
+            + b"".join(b"use\t%b\t%b\t\t%b\tby\t1\t%b\tbare\t1\t0\nevent\t%d\t%d\n"
+                       % (word, name, at, thread, number, number)
+                                                    for number, (thread, word, name, at) in enumerate(
+                                                        used, 1)) + b"events\t4\n")
         stacks.write_bytes(b"shb-stacks 1 %020d\n" % 4 + bytes(16))
         with contextlib.redirect_stderr(io.StringIO()) as said:
-            command.explain(command.show_run, recorded_run(trace, uses, stacks), asked(shb), path, io.TextIOWrapper(io.BytesIO(), "utf-8"))
+            command.explain(command.show_run, recorded_run(trace, uses, stacks), asked(shb), path,
+                            io.TextIOWrapper(io.BytesIO(), "utf-8"))
         return Page(path.read_text(encoding="utf-8")), said.getvalue()
 
     def judged(self, script):
         """The same if `shb check` is this script."""
-        fake = self.file(b"#!/bin/sh\nif [ $1 = check ]; then %b; fi\nexec %b \"$@\"\n" % (script, bytes(program.PATH)), "shb")
+        fake = self.file(b"#!/bin/sh\nif [ $1 = check ]; then %b; fi\nexec %b \"$@\"\n"
+                         % (script, bytes(program.PATH)), "shb")
         fake.chmod(0o755)
         return self.of_run(fake)
 
@@ -239,13 +275,17 @@ class Pages(program.Case):
     def test_a_verdict_without_words_or_of_many(self):
         """Also if the program writes more than a pipe holds, to both."""
         said = self.judged(b"exit 5")[0].all("p")[0][1]
-        self.assertEqual(said, "shb check finds the schedules of this page bad: it ended with status 5 and no word. None is shown.")
-        said = self.judged(b"yes bad | head -c 300000; yes line | head -c 300000 >&2; exit 5")[0].all("p")[0][1]
+        self.assertEqual(said, "shb check finds the schedules of this page bad: it ended with status 5 and "
+                               "no word. None is shown.")
+        said = self.judged(b"yes bad | head -c 300000; yes line | head -c 300000 >&2; exit 5")[0].all("p")[0][
+            1]
         self.assertTrue(said.startswith("shb check finds the schedules of this page bad: bad\\x0abad"), said)
         self.assertLess(len(said), 400)
 
     def test_a_judge_that_fails(self):
-        for script, how in ((b"kill -9 $$", "was ended by signal 9"), (b"echo 'out of memory' >&2; exit 4", "ended with status 4: out of memory")):
+        for script, how in (
+                (b"kill -9 $$", "was ended by signal 9"), (b"echo 'out of memory' >&2; exit 4",
+                                                           "ended with status 4: out of memory")):
             page, _ = self.judged(script)
             self.assertIn(f"No schedules were made: shb check {how}", [text for _, text in page.all("p")])
 
@@ -268,7 +308,9 @@ class Pictures(program.Case):
         for window, found in self.pictures:
             self.assertEqual([event[0] for event in found["events"]], [*window.before, *window.accesses])
             threads = [window.events[event[0]].event.thread for event in found["events"]]
-            self.assertEqual([found["lanes"][event[1]] for event in found["events"]], [names.readable(thread) for thread in threads])
+            self.assertEqual(
+                [found["lanes"][event[1]] for event in found["events"]], [
+                    names.readable(thread) for thread in threads])
 
     def test_edges_that_are_left_out_follow_from_others(self):
         """By the order of each thread and the edges that are drawn, what all edges order is ordered."""
@@ -278,11 +320,13 @@ class Pictures(program.Case):
             drawn_edges = set(picture.needed(window, events))
             self.assertLessEqual(drawn_edges, set(window.edges))
             self.assertEqual(len(found["edges"]), len(drawn_edges))
-            thread, arrows = {event: window.events[event].event.thread for event in events}, arrows + len(drawn_edges)
+            thread, arrows = ({event: window.events[event].event.thread for event in events},
+                              arrows + len(drawn_edges))
             for source, event in set(window.edges) - drawn_edges:
                 dropped += 1
                 self.assertTrue(any(thread[one] == thread[source] and thread[other] == thread[event]
-                                    and events.index(source) <= events.index(one) and events.index(other) <= events.index(event)
+                                    and events.index(source) <= events.index(one)
+                                    and events.index(other) <= events.index(event)
                                     for one, other in drawn_edges))
         self.assertGreater(arrows, 30)
 
@@ -291,14 +335,16 @@ class Pictures(program.Case):
         for window, found in self.pictures:
             for event in found["events"]:
                 lane, y = event[1:3]
-                here = [lock for x, top, height, lock, _ in found["bars"] if lane_of(found, x) == lane and top <= y <= top + height]
+                here = [lock for x, top, height, lock, _ in found["bars"] if lane_of(found, x) == lane
+                        and top <= y <= top + height]
                 held = [names.readable(lock) for lock, _ in window.events[event[0]].locks]
                 self.assertLessEqual(set(held[-picture.MOST_BARS:]), set(here))
             bars += len(found["bars"])
         self.assertGreater(bars, 50)
 
     def test_no_line_crosses_a_text(self):
-        """All lines, bars and circles are left of the texts, but for what ends right before an event's own text; no two texts are in one line."""
+        """All lines, bars and circles are left of the texts, but for what ends right before an event's own
+        text; no two texts are in one line."""
         lines = 0
         for _, found in self.pictures:
             texts = found["texts"]
@@ -306,7 +352,8 @@ class Pictures(program.Case):
             for path, x, *_ in found["edges"]:
                 numbers = [float(number) for number in re.findall(r"[HMQ](-?[\d.]+)", path)]
                 self.assertTrue(all(0 < number < texts - 4 for number in (*numbers, x)), path)
-            heights = [event[3] + 14 * line for at, event in enumerate(found["events"]) for line in range(3 if at >= len(found["events"]) - 2 else 2)]
+            heights = [event[3] + 14 * line for at, event in enumerate(found["events"])
+                       for line in range(3 if at >= len(found["events"]) - 2 else 2)]
             self.assertTrue(all(lower - upper >= 14 for upper, lower in zip(heights, heights[1:])), heights)
             self.assertLess(heights[-1], found["height"])
             self.assertGreater(heights[0] - 12, 19 * len(found["lanes"]) - 6)
@@ -319,11 +366,13 @@ class Pictures(program.Case):
             boxes = [(x, top, x + 14, top + height) for x, top, height, _, _ in found["bars"]]
             boxes += [(x - 8, 0, x + 8, found["height"]) for x in found["x"]]
             downs = [re.search(r"Q([\d.]+) ([\d.]+) \S+ \S+V([\d.]+)", path) for path, *_ in found["edges"]]
-            boxes += [(x - 1, y, x + 1, max(y, end)) for x, y, end in (map(float, down.groups()) for down in downs)]
+            boxes += [(x - 1, y, x + 1, max(y, end))
+                      for x, y, end in (map(float, down.groups()) for down in downs)]
             for at, one in enumerate(boxes):
                 for other in boxes[:at]:
                     pairs += 1
-                    self.assertFalse(one[0] < other[2] and other[0] < one[2] and one[1] < other[3] and other[1] < one[3], (one, other))
+                    self.assertFalse(one[0] < other[2] and other[0] < one[2] and one[1] < other[3]
+                                     and other[1] < one[3], (one, other))
         self.assertGreater(pairs, 500)
 
     def test_a_name_of_a_bar_fits_along_it(self):

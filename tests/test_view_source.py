@@ -1,4 +1,5 @@
-"""The lines of code that python/shb-view shows: which file of which folder, and what is said where there is none."""
+"""The lines of code that python/shb-view shows: which file of which folder, and what is said where
+there is none."""
 
 import os
 
@@ -53,7 +54,8 @@ class Found(program.Case):
     def test_a_location_is_never_a_path(self):
         secret = self.put("secret.c")
         self.put("src/a.c")
-        for location in (b"../secret.c:1", bytes(secret) + b":1", b"./../secret.c:1", b"a.c/../../secret.c:1", b"..:1", b".:1"):
+        for location in (b"../secret.c:1", bytes(secret) + b":1", b"./../secret.c:1", b"a.c/../../secret.c:1",
+                         b"..:1", b".:1"):
             self.assertIsNone(self.place(location))
 
     def test_the_longest_common_end_decides(self):
@@ -63,7 +65,8 @@ class Found(program.Case):
         self.assertEqual(self.place(b"one/util.c:1").line(), b"1")
         for location in (b"util.c:1", b"three/util.c:1"):
             place = self.place(location)
-            self.assertEqual((place.line(), place.fault), (None, "2 files are named util.c; --source can name the folder of one of them"))
+            self.assertEqual((place.line(), place.fault), (None, "2 files are named util.c; --source can "
+                                                                 "name the folder of one of them"))
 
     def test_the_first_folder_counts(self):
         self.put("new/util.c", b"new\n")
@@ -96,14 +99,17 @@ class Found(program.Case):
 
     def test_lines_end_with_line_feeds_alone(self):
         self.put("src/a.c", b"one\r\ntwo\rstill two\r\nthree")
-        self.assertEqual([self.place(b"a.c:%d" % number).line() for number in (2, 3, 4)], [b"two\rstill two\r", b"three", None])
+        self.assertEqual(
+            [self.place(b"a.c:%d" % number).line()
+             for number in (2, 3, 4)], [b"two\rstill two\r", b"three", None])
         self.put("src/b.c", b"")
         self.assertEqual(self.place(b"b.c:1").fault, "the file has 0 lines")
 
     def test_a_newer_file(self):
         self.put("src/a.c", time=2001)
         place = self.place(b"a.c:1")
-        self.assertEqual((place.line(), place.fault), (b"one", "the file is newer than the trace; its lines may have moved"))
+        self.assertEqual((place.line(), place.fault), (b"one", "the file is newer than the trace; its lines "
+                                                               "may have moved"))
 
     def test_links_and_hidden_folders_are_passed_over(self):
         target = self.put("target.c")
@@ -125,7 +131,8 @@ class Found(program.Case):
         source = Source([self.folder / "src"], 2000, {})
         path.unlink()
         path.symlink_to("/etc/passwd")
-        self.assertEqual(source.place(b"a.c:1")[2:4], ([], "the file can't be read (Too many levels of symbolic links)"))
+        self.assertEqual(source.place(b"a.c:1")[2:4], ([], "the file can't be read (Too many levels of "
+                                                           "symbolic links)"))
 
     def test_what_is_found(self):
         self.put("src/a.c", time=2001)
@@ -134,7 +141,8 @@ class Found(program.Case):
         said = f"Source lines of {self.folder}/src: "
         self.assertEqual(list(source.missing([b"a.c:1", b"a.c:2", b"b.c:1", b"c.c:1", b"?"])),
                          [said + "2 of 3 files found, 1 newer than the trace."])
-        self.assertEqual(list(source.missing([b"b.c:1", b"c.c:1"])), [said + "1 of 2 files found, none newer than the trace."])
+        self.assertEqual(list(source.missing([b"b.c:1", b"c.c:1"])), [said + "1 of 2 files found, none newer "
+                                                                      "than the trace."])
         kept, sources.MOST_FILES = sources.MOST_FILES, 2
         self.addCleanup(setattr, sources, "MOST_FILES", kept)
         self.put("src/c.c")
@@ -189,22 +197,28 @@ class Shown(program.Case):
     def test_text_by_hand(self):
         self.assertEqual(self.shown().splitlines()[1:], [
             "", "1. total: a.c:3 reads without door (1 race, 1 place)",
-            "   In this trace every write holds door, and a.c:3 reads without it.", "   Remedy: hold door at a.c:3.",
+            "   In this trace every write holds door, and a.c:3 reads without it.", "   Remedy: hold door at "
+            "a.c:3.",
             "   a.c:3 read what a.c:8 wrote. This racy read may hide other races: fix it and run again.",
             "   a.c:8: 1 write by A", "     | total++;", "     holds door", "     races with a.c:3 (1 race)",
-            "   a.c:3: 1 read by B", "     | static int total;", "     no lock held", "     races with a.c:8 (1 race)"])
+            "   a.c:3: 1 read by B", "     | static int total;", "     no lock held", "     races with a.c:8 "
+            "(1 race)"])
 
     def test_page_by_hand(self):
         path = self.folder / "page.html"
         self.shown("--html", path)
         page = Page(path.read_text(encoding="utf-8"))
         one, other = page.group()["sides"]
-        self.assertEqual([(said(side["at"]), side["verb"], said(side["locks"]), side["head"]) for side in (one, other)],
-                         [("a.c:8", "writes", "holding door", "void *run(void *unused)"), ("a.c:3", "reads", "no lock held", "")])
+        self.assertEqual(
+            [(said(side["at"]), side["verb"], said(side["locks"]), side["head"]) for side in (one, other)],
+                         [("a.c:8", "writes", "holding door",
+                           "void *run(void *unused)"), ("a.c:3", "reads", "no lock held", "")])
         self.assertEqual((one["first"], one["hit"], one["held"]), (5, 8, [7, 8]))
-        self.assertEqual(one["lines"], ["void *run(void *unused) {", "    for (int k = 0; k < 3; k++) {", "        lock(&door);",
+        self.assertEqual(one["lines"], ["void *run(void *unused) {", "    for (int k = 0; k < 3; k++) {",
+                                        "        lock(&door);",
                                         "        total++;", "again:", "        unlock(&door);"])
-        self.assertEqual((other["hit"], other["lines"][3 - other["first"]], other["held"]), (3, "static int total;", []))
+        self.assertEqual((other["hit"], other["lines"][3 - other["first"]],
+                          other["held"]), (3, "static int total;", []))
         self.assertEqual([site[1] for site in page.group()["sites"]], ["total++;", "static int total;"])
 
     def test_names_and_code_stay_text(self):
@@ -216,12 +230,15 @@ class Shown(program.Case):
         page = Page(path.read_text(encoding="utf-8"))
         self.assertEqual(page.all("u"), [])
         one, other = page.group()["sides"]
-        self.assertEqual((said(one["at"]), said(one["locks"]), one["head"], one["lines"][2]), ("<u>&.c:3", "holding <u>", "void <u>f(void)", "  </td><u>x;"))
-        self.assertEqual((said(other["at"]), other["fault"], "lines" in other), ("<u>&.c:9", "the file has 4 lines", False))
+        self.assertEqual((said(one["at"]), said(one["locks"]), one["head"],
+                          one["lines"][2]), ("<u>&.c:3", "holding <u>", "void <u>f(void)", "  </td><u>x;"))
+        self.assertEqual((said(other["at"]), other["fault"], "lines" in other), ("<u>&.c:9", "the file has 4 "
+                                                                                 "lines", False))
 
     def test_a_fault_is_said_beside_the_code(self):
         self.shown()
         os.utime(self.folder / "a.c")
         os.utime(self.folder / "t.std", (1000, 1000))
         out = run_here(["--source", self.folder, self.folder / "t.std"])[1]
-        self.assertIn("     | total++;\n     | (the file is newer than the trace; its lines may have moved)\n", out)
+        self.assertIn(
+            "     | total++;\n     | (the file is newer than the trace; its lines may have moved)\n", out)

@@ -41,7 +41,8 @@ NODES = [1, 2, 5, 5, 7]
 
 
 def stacks(nodes=NODES, tables=TABLES, events=None):
-    return b"shb-stacks 1 %020d\n" % (len(nodes) if events is None else events) + struct.pack(f"<{len(nodes)}I", *nodes) + tables
+    return (b"shb-stacks 1 %020d\n" % (len(nodes) if events is None else events)
+            + struct.pack(f"<{len(nodes)}I", *nodes) + tables)
 
 
 class Stacks(program.Case):
@@ -54,35 +55,47 @@ class Stacks(program.Case):
         status, out, err = self.shown(stacks())
         self.assertEqual((status, err), (0, ""))
         self.assertIn("     in add<> (2 of 3 accesses)\n       from main a.c:31\n"
-                      "     in add<> (1 of 3 accesses)\n       from std::each each.h:8\n       from run a.c:20\n", out)
+                      "     in add<> (1 of 3 accesses)\n       from std::each each.h:8\n       from run "
+                      "a.c:20\n", out)
         self.assertIn("     in get\n       from libc.so.6+0x10\n"
-                      "       from sorter (no line is known: it called code without -fsanitize=thread)\n       from main a.c:31\n", out)
+                      "       from sorter (no line is known: it called code without -fsanitize=thread)\n     "
+                      "  from main a.c:31\n", out)
         self.assertIn("   thread T1 was created in main a.c:30\n", out)
-        self.assertIn("\nCounts are those of the trace. The recorder omits repeats: a loop may count as two accesses.\n", out)
+        self.assertIn("\nCounts are those of the trace. The recorder omits repeats: a loop may count as two "
+                      "accesses.\n", out)
         self.assertIn("   block a.c:9#2 was allocated in make a.c:9, from main a.c:31\n", out)
 
     def test_threads_that_were_created_by_the_same_calls(self):
-        trace = b"".join(b"main|fork(T%d)|a.c:30\n" % k for k in range(5)) + b"".join(b"T%d|w(x)|a.c:5\n" % k for k in range(5))
-        tables = TABLES.replace(b"thread T1\t1\n", b"".join(b"thread T%d\t%d\n" % (k, 6 if k == 4 else 1) for k in range(5)))
+        trace = (b"".join(b"main|fork(T%d)|a.c:30\n" % k for k in range(5))
+                 + b"".join(b"T%d|w(x)|a.c:5\n" % k for k in range(5)))
+        tables = TABLES.replace(b"thread T1\t1\n",
+                                b"".join(b"thread T%d\t%d\n" % (k, 6 if k == 4 else 1) for k in range(5)))
         out = self.shown(stacks([1] * 10, tables), trace=trace)[1]
-        self.assertIn("   threads T0, T1, T2 and 1 more were created in main a.c:30\n   thread T4 was created in main a.c:31\n", out)
+        self.assertIn("   threads T0, T1, T2 and 1 more were created in main a.c:30\n   thread T4 was "
+                      "created in main a.c:31\n", out)
 
     def test_functions_of_the_system(self):
-        """The innermost and the outermost are left out, several between others are one line, and the page has all."""
-        tables = TABLES.replace(b"stack 8 6 8 9", b"stack 8 6 8 3 9 3 8").replace(b"stack 6 0 5", b"stack 6 0 5 8 3").replace(
+        """The innermost and the outermost are left out, several between others are one line, and the
+        page has all."""
+        tables = TABLES.replace(b"stack 8 6 8 9", b"stack 8 6 8 3 9 3 8").replace(
+            b"stack 6 0 5", b"stack 6 0 5 8 3").replace(
             b"stack 7 8 6", b"stack 7 8 3 6")
         self.assertIn("     in get\n       from (2 functions of the system's headers or libraries)\n"
                       "       from sorter (no line is known: it called code without -fsanitize=thread)\n"
-                      "       from (2 functions of the system's headers or libraries)\n       from main a.c:31\n   thread",
+                      "       from (2 functions of the system's headers or libraries)\n       from main "
+                      "a.c:31\n   thread",
                       self.shown(stacks(tables=tables))[1])
         self.shown(stacks(tables=tables), "--html", self.folder / "page.html")
-        self.assertIn("std::each each.h:8get a.c:7libc.so.6+0x10std::each each.h:8sorter (no line is known: it called code without -fsanitize=thread)"
-                      "std::each each.h:8libc.so.6+0x10main a.c:31libc.so.6+0x10std::each each.h:8",
+        self.assertIn("std::each each.h:8get a.c:7libc.so.6+0x10std::each each.h:8sorter (no line is known: "
+                      "it called code without -fsanitize=thread)std::each each.h:8libc.so.6+0x10main "
+                      "a.c:31libc.so.6+0x10std::each each.h:8",
                       Page((self.folder / "page.html").read_text()).stacks())
 
     def test_a_stack_of_functions_of_the_system_alone(self):
-        """As of a thread that a header of the standard library starts: the innermost stands for them, so nothing is blank."""
-        for stack, said in ((b"stack 1 0 3 8 3", "in std::each each.h:8, from (2 more functions of the system's headers or libraries)\n"),
+        """As of a thread that a header of the standard library starts: the innermost stands for them, so
+        nothing is blank."""
+        for stack, said in ((b"stack 1 0 3 8 3", "in std::each each.h:8, from (2 more functions of the "
+                                                 "system's headers or libraries)\n"),
                             (b"stack 1 0 8", "in libc.so.6+0x10\n")):
             out = self.shown(stacks(tables=TABLES.replace(b"stack 1 0 1", stack)))[1]
             self.assertIn(f"   thread T1 was created {said}", out)
@@ -90,7 +103,9 @@ class Stacks(program.Case):
 
     def test_what_is_told_alike_is_told_once(self):
         """Threads, and blocks, whose stacks differ in what isn't shown."""
-        trace = b"main|fork(T1)|a.c:30\nmain|fork(T2)|a.c:30\n" + b"".join(b"%b|w(a.c:9#%d)|a.c:5\n" % (thread, block) for block in (2, 3) for thread in (b"T1", b"T2"))
+        trace = (b"main|fork(T1)|a.c:30\nmain|fork(T2)|a.c:30\n"
+                 + b"".join(b"%b|w(a.c:9#%d)|a.c:5\n" % (thread, block) for block in (2, 3)
+                            for thread in (b"T1", b"T2")))
         tables = TABLES + b"stack 10 0 1 8\nstack 11 6 8 7\nthread T2\t10\nblock 3 11\n"
         out = self.shown(stacks([1, 1, 2, 2, 2, 2], tables), trace=trace)[1]
         self.assertIn("   threads T1 and T2 were created in main a.c:30\n", out)
@@ -108,14 +123,17 @@ class Stacks(program.Case):
         self.assertEqual(err, "")
         self.assertIn("get a.c:7libc.so.6+0x10__tsan_create_fiber (which made the fiber)main a.c:31",
                       Page(path.read_text()).stacks())
-        self.assertIn("       from __tsan_create_fiber (which made the fiber)\n       from main a.c:31\n", self.shown(stacks(tables=tables))[1])
+        self.assertIn("       from __tsan_create_fiber (which made the fiber)\n       from main a.c:31\n",
+                      self.shown(stacks(tables=tables))[1])
 
     def test_stacks_that_differ_in_what_is_not_shown_are_one(self):
         """One of the two ways to a line goes through a system header, which the text leaves out."""
-        tables = TABLES + b"system-frame std::less(f)\tless.h:9\nstack 10 3 2 10\nstack 11 4 10 2\nstack 12 4 2\n"
+        tables = (TABLES + b"system-frame std::less(f)\tless.h:9\nstack 10 3 2 10\nstack 11 4 10 2\nstack 12 "
+                           b"4 2\n")
         _, out, err = self.shown(stacks([1, 12, 11, 11, 7], tables=tables))
         self.assertEqual(err, "")
-        self.assertIn("     races with a.c:5 (2 races) and a.c:7 (1 race)\n     in add<>\n       from run a.c:20\n   a.c:7: ", out)
+        self.assertIn("     races with a.c:5 (2 races) and a.c:7 (1 race)\n     in add<>\n       from run "
+                      "a.c:20\n   a.c:7: ", out)
 
     def test_the_page(self):
         path = self.folder / "page.html"
@@ -133,33 +151,44 @@ class Stacks(program.Case):
         _, out, err = self.shown(content, "--all", trace=trace)
         self.assertEqual(err, "")
         self.assertIn("   lock m, held at a.c:5, was taken in make a.c:9, from main a.c:31\n", out)
-        self.assertIn("       holds m, acquired at a.c:4 (event 2)\n         #0 make a.c:9\n         #1 main a.c:31\n", out)
+        self.assertIn("       holds m, acquired at a.c:4 (event 2)\n         #0 make a.c:9\n         #1 main "
+                      "a.c:31\n", out)
         self.shown(content, "--html", path, trace=trace)
         page = Page(path.read_text())
-        self.assertIn("lock m, held at a.c:5, was taken", [said(parts) for parts, _ in page.group()["origins"]])
+        self.assertIn(
+            "lock m, held at a.c:5, was taken", [said(parts) for parts, _ in page.group()["origins"]])
         self.assertIn("make a.c:9main a.c:31", page.stacks())
 
     def test_the_function_of_a_code_box(self):
-        """It is called by its first line; where that is another one's, as of a class, by its name in the stack."""
+        """It is called by its first line; where that is another one's, as of a class, by its name
+        in the stack."""
         page = self.folder / "page.html"
         for head, words in ((b"class Sum {", "add<>"), (b"int add(int n) {", "int add(int n)"), (b"", "")):
             code = self.file(head + b"\n" * 4 + b"  n++;\n" * 5, "code")
-            self.shown(stacks(tables=TABLES + b"source a.c\t%b\n" % bytes(code)), "--recorded-source", "--html", page)
+            self.shown(stacks(tables=TABLES + b"source a.c\t%b\n" % bytes(code)), "--recorded-source",
+                       "--html", page)
             self.assertEqual([side["head"] for side in Page(page.read_text()).group()["sides"]], [words] * 2)
 
     def test_a_lock_that_both_accesses_hold_for_reading_was_taken_once(self):
-        trace = b"main|fork(T1)|a.c:1\nT1|acq(m@reader.T1)|a.c:4\nT1|w(x)|a.c:5\nmain|acq(m@reader.main)|a.c:4\nmain|w(x)|a.c:5\n"
+        trace = (
+            b"main|fork(T1)|a.c:1\nT1|acq(m@reader.T1)|a.c:4\nT1|w(x)|a.c:5\nmain|acq(m@reader.main)|a.c:4\nmain|w(x)|a.c:5\n")
         out = self.shown(stacks([1, 9, 5, 9, 5]), "--all", trace=trace)[1]
-        self.assertEqual(out.count("   lock m for reading, held at a.c:5, was taken in make a.c:9, from main a.c:31\n"), 1)
+        self.assertEqual(out.count("   lock m for reading, held at a.c:5, was taken in make a.c:9, from main "
+                                   "a.c:31\n"), 1)
 
     def test_locals(self):
         """A variable on a stack has the name of a local that it is at all its racing accesses."""
-        trace = (b"main|fork(T1)|a.c:1\nT1|w(stack.main-0x40)|a.c:5\nmain|w(stack.main-0x40)|a.c:7\nT1|w(stack.main-0x38)|a.c:6\n"
+        trace = (
+            b"main|fork(T1)|a.c:1\nT1|w(stack.main-0x40)|a.c:5\nmain|w(stack.main-0x40)|a.c:7\nT1|w(stack.main-0x38)|a.c:6\n"
                  b"main|w(stack.main-0x38)|a.c:8\n")
-        tables = TABLES + b"local 2\tstack.main-0x40\tx.head of main\nlocal 4\tstack.main-0x38\tx.size of main\n"
+        tables = (TABLES + b"local 2\tstack.main-0x40\tx.head of main\nlocal 4\tstack.main-0x38\tx.size of "
+                           b"main\n")
         page = self.folder / "page.html"
-        for more, names in ((b"", ["1. x of main (2 variables): "]), (b"local 3\tstack.main-0x40\t\n", ["1. stack.main-0x40: ", "x.size of main: "]),
-                            (b"local 5\tstack.main-0x38\ty of f\n", ["x.head of main: ", "stack.main-0x38: "]),
+        for more, names in (
+                (b"", ["1. x of main (2 variables): "]), (
+                    b"local 3\tstack.main-0x40\t\n", ["1. stack.main-0x40: ", "x.size of main: "]),
+                            (b"local 5\tstack.main-0x38\ty of f\n", [
+                                "x.head of main: ", "stack.main-0x38: "]),
                             (b"local 9\tstack.main-0x38\ty of f\n", ["1. x of main (2 variables): "])):
             _, out, err = self.shown(stacks([1] * 5, tables + more), "--all", trace=trace)
             self.assertEqual(err, "")
@@ -168,7 +197,8 @@ class Stacks(program.Case):
         self.assertIn("Variables: x.head of main and x.size of main", out)
         self.assertIn("data race on x.head of main: a.c:5 and a.c:7\n", out)
         self.shown(stacks(tables=tables), "--html", page, trace=trace)
-        self.assertTrue(any("x of main (2 variables)" in text for _, text in Page(page.read_text()).all("summary")))
+        self.assertTrue(
+            any("x of main (2 variables)" in text for _, text in Page(page.read_text()).all("summary")))
         _, out, _ = self.shown(stacks(tables=tables.replace(b"x.head", b"<b>\x1b[31m")), trace=trace)
         self.assertIn(r"<b>\x1b[31m of main: ", out)
         status, _, err = self.shown(stacks(tables=TABLES + b"local 2\tx\n"), trace=trace)
@@ -176,19 +206,26 @@ class Stacks(program.Case):
         self.assertRegex(err, r"is damaged in line \d+: `local 2")
 
     def test_a_local_has_the_accesses_of_its_life(self):
-        """What other functions did at its address before and after isn't counted, not even by the lines that race."""
-        before, line, after = b"main|w(stack.main-0x40)|a.c:3\n", b"main|w(stack.main-0x40)|a.c:7\n", b"main|join(T1)|a.c:9\n"
-        trace = before + line + b"main|fork(T1)|a.c:1\nT1|w(stack.main-0x40)|a.c:5\n" + line + after + before + line
-        tables = b"local 1\tstack.main-0x40\ty of f\nlocal 4\tstack.main-0x40\tx of main\nlocal 7\tstack.main-0x40\t\n"
+        """What other functions did at its address before and after isn't counted, not even by the
+        lines that race."""
+        before, line, after = (b"main|w(stack.main-0x40)|a.c:3\n", b"main|w(stack.main-0x40)|a.c:7\n",
+                               b"main|join(T1)|a.c:9\n")
+        trace = (before + line + b"main|fork(T1)|a.c:1\nT1|w(stack.main-0x40)|a.c:5\n" + line + after + before
+                 + line)
+        tables = (b"local 1\tstack.main-0x40\ty of f\nlocal 4\tstack.main-0x40\tx of main\nlocal "
+                  b"7\tstack.main-0x40\t\n")
         for more, counts in ((tables, {"a.c:5": "1 write by T1", "a.c:7": "1 write by main"}),
-                             (b"", {"a.c:5": "1 write by T1", "a.c:7": "3 writes by main", "a.c:3": "2 writes by main"})):
+                             (b"", {"a.c:5": "1 write by T1", "a.c:7": "3 writes by main",
+                                    "a.c:3": "2 writes by main"})):
             _, out, err = self.shown(stacks([0] * 8, TABLES + more), trace=trace)
             self.assertEqual(err, "")
             self.assertEqual(dict(re.findall(r"(?m)^   (a\.c:\d): (.*)$", out)), counts)
 
     def test_members_of_blocks(self):
-        """A variable and a lock have one name in headline, facts, events and lines; a block is named where two have the type."""
-        trace = (b"main|fork(T1)|a.c:1\nT1|acq(a.c:9#2)|a.c:4\nT1|w(a.c:9#2+40)|a.c:5\nT1|rel(a.c:9#2)|a.c:6\nmain|w(a.c:9#2+40)|a.c:7\n")
+        """A variable and a lock have one name in headline, facts, events and lines; a block is named where
+        two have the type."""
+        trace = (
+            b"main|fork(T1)|a.c:1\nT1|acq(a.c:9#2)|a.c:4\nT1|w(a.c:9#2+40)|a.c:5\nT1|rel(a.c:9#2)|a.c:6\nmain|w(a.c:9#2+40)|a.c:7\n")
         page, json = self.folder / "page.html", self.folder / "places.json"
         for block in ("", " of a.c:9#2"):
             member, lock = f"Account.balance{block}", f"Account.lock{block}"
@@ -209,18 +246,25 @@ class Stacks(program.Case):
         """Two blocks of one line are counted; their locks are two."""
         trace = b"main|fork(T1)|a.c:1\n" + b"".join(
             b"T1|acq(a.c:9#%d)|a.c:4\nT1|w(a.c:9#%d+40)|a.c:5\nT1|rel(a.c:9#%d)|a.c:6\nmain|w(a.c:9#%d+40)|a.c:7\n" % ((k,) * 4) for k in (2, 3))
-        tables = TABLES + b"".join(b"local 0\ta.c:9#%d+40\tAccount.balance of a.c:9#%d\nlocal 0\ta.c:9#%d\tAccount.lock of a.c:9#%d\n"
-                                   % ((k,) * 4) for k in (2, 3))
+        tables = (TABLES + b"".join(b"local 0\ta.c:9#%d+40\tAccount.balance of a.c:9#%d\nlocal "
+                                    b"0\ta.c:9#%d\tAccount.lock of a.c:9#%d\n"
+                                   % ((k,) * 4) for k in (2, 3)))
         _, out, err = self.shown(stacks([0] * 9, tables), trace=trace)
         self.assertEqual(err, "")
         self.assertIn("1. Account.balance (2 blocks): ", out)
         self.assertIn("     holds its own lock Account.lock\n", out)
 
     def test_locks_and_atomics_on_stacks(self):
-        """They have the name of the local that they are, where that is the same one in the whole trace, also of a lock for reading."""
-        for lock, more, name in ((b"stack.main-0x40", b"", "q.m of main"), (b"stack.main-0x40@reader.T1", b"", "q.m of main for reading"),
-                                 (b"stack.main-0x40", b"local 5\tstack.main-0x40\ty of f\n", "stack.main-0x40")):
-            trace = b"main|fork(T1)|a.c:1\nT1|acq(%b)|a.c:4\nT1|w(x)|a.c:5\nT1|rel(%b)|a.c:6\nmain|w(x)|a.c:7\n" % (lock, lock)
+        """They have the name of the local that they are, where that is the same one in the whole trace, also
+        of a lock for reading."""
+        for lock, more, name in ((b"stack.main-0x40", b"",
+                                  "q.m of main"), (b"stack.main-0x40@reader.T1", b"", "q.m of main for "
+                                                   "reading"),
+                                 (b"stack.main-0x40", b"local 5\tstack.main-0x40\ty of f\n",
+                                  "stack.main-0x40")):
+            trace = (
+                b"main|fork(T1)|a.c:1\nT1|acq(%b)|a.c:4\nT1|w(x)|a.c:5\nT1|rel(%b)|a.c:6\nmain|w(x)|a.c:7\n"
+                % (lock, lock))
             tables = TABLES + b"local 4\tstack.main-0x40\tq.m of main\n" + more
             _, out, err = self.shown(stacks([1, 9, 5, 7, 5], tables), "--all", trace=trace)
             self.assertEqual(err, "")
@@ -228,21 +272,25 @@ class Stacks(program.Case):
             self.assertIn(f"   lock {name}, held at a.c:5, was taken in make a.c:9", out)
             self.shown(stacks([1, 9, 5, 7, 5], tables), "--html", self.folder / "page.html", trace=trace)
             self.assertIn(f"lock {name}, held at a.c:5, was taken",
-                          [said(parts) for parts, _ in Page((self.folder / "page.html").read_text()).group()["origins"]])
+                          [said(parts)
+                           for parts, _ in Page((self.folder / "page.html").read_text()).group()["origins"]])
         trace = b"main|fork(T1)|a.c:1\nmain|w(a.c:9#2)|a.c:5\nT1|r(a.c:9#2)|a.c:7\n"
-        tables = (b"use 3\tstack.main-0x20\tmain\ta.c:6\tstore relaxed\nuse 3\tstack.main-0x20\tT1\ta.c:4\tload acquire\n"
-                  b"local 3\tstack.main-0x20\tq.tail of main\n")
+        tables = (b"use 3\tstack.main-0x20\tmain\ta.c:6\tstore relaxed\nuse "
+                  b"3\tstack.main-0x20\tT1\ta.c:4\tload acquire\nlocal 3\tstack.main-0x20\tq.tail of main\n")
         _, out, _ = self.shown(stacks(tables=TABLES + tables), trace=trace)
         self.assertIn(": a.c:6 writes q.tail of main without release (", out)
-        self.assertIn("   main and T1 hand this on by the atomic q.tail of main: a.c:6 writes it relaxed after the first access, ", out)
+        self.assertIn("   main and T1 hand this on by the atomic q.tail of main: a.c:6 writes it relaxed "
+                      "after the first access, ", out)
 
     def test_a_free(self):
         """One call frees a block of two variables that another thread uses: it is one free, and no write."""
-        trace = (b"main|fork(T1)|a.c:1\nT1|r(a.c:9#2)|a.c:5\nT1|r(a.c:9#2+8)|a.c:6\nmain|w(a.c:9#2)|a.c:7\nmain|w(a.c:9#2+8)|a.c:7\n")
+        trace = (
+            b"main|fork(T1)|a.c:1\nT1|r(a.c:9#2)|a.c:5\nT1|r(a.c:9#2+8)|a.c:6\nmain|w(a.c:9#2)|a.c:7\nmain|w(a.c:9#2+8)|a.c:7\n")
         _, out, err = self.shown(stacks(tables=TABLES + b"free 4 5\n"), "--all", trace=trace)
         self.assertEqual(err, "")
-        self.assertIn("1. a.c:9#2 (2 variables): freed at a.c:7 while in use (2 races, 2 places)\n   In this trace main frees the block at "
-                      "a.c:7, and nothing orders the free and the use at a.c:5 and a.c:6.\n", out)
+        self.assertIn("1. a.c:9#2 (2 variables): freed at a.c:7 while in use (2 races, 2 places)\n   In this "
+                      "trace main frees the block at a.c:7, and nothing orders the free and the use at a.c:5 "
+                      "and a.c:6.\n", out)
         self.assertIn("   a.c:7: 1 free by main\n", out)
         self.assertIn("     free by main at a.c:7 (event 4)\n", out)
 
@@ -250,21 +298,25 @@ class Stacks(program.Case):
         """Two threads free one block at one line."""
         trace = b"main|fork(T1)|a.c:1\nT1|w(a.c:9#2)|a.c:7\nmain|w(a.c:9#2)|a.c:7\n"
         _, out, _ = self.shown(stacks(tables=TABLES + b"free 2 2\nfree 3 3\n"), trace=trace)
-        self.assertIn("1. a.c:9#2: freed twice at a.c:7 (1 race, 1 place)\n   In this trace T1 and main free the block at a.c:7, and nothing "
-                      "orders the free and another free of it.\n", out)
+        self.assertIn("1. a.c:9#2: freed twice at a.c:7 (1 race, 1 place)\n   In this trace T1 and main free "
+                      "the block at a.c:7, and nothing orders the free and another free of it.\n", out)
 
     def test_a_use_after_a_free(self):
         """In the order of the trace; it comes before all other groups."""
-        lines = b"main|fork(T1)|a.c:1", b"T1|w(a.c:9#2)|a.c:5", b"main|w(a.c:9#2)|a.c:7", b"T1|w(a.c:9#2)|a.c:6"
-        before = "In this trace main frees the block at a.c:7, and nothing orders the free and the use at a.c:5"
+        lines = (b"main|fork(T1)|a.c:1", b"T1|w(a.c:9#2)|a.c:5", b"main|w(a.c:9#2)|a.c:7",
+                 b"T1|w(a.c:9#2)|a.c:6")
+        before = ("In this trace main frees the block at a.c:7, and nothing orders the free and the use at "
+                  "a.c:5")
         for order, event, headline, fact in (
                 ((0, 1, 2), 3, "freed at a.c:7 while in use", f"{before}."),
-                ((0, 2, 1), 2, "used at a.c:5 after it was freed at a.c:7", f"{before}. The use at a.c:5 came after it here: a use after free."),
+                ((0, 2, 1), 2, "used at a.c:5 after it was freed at a.c:7", f"{before}. The use at a.c:5 "
+                 "came after it here: a use after free."),
                 ((0, 1, 2, 3), 3, "used at a.c:6 after it was freed at a.c:7",
                  f"{before} and a.c:6. The use at a.c:6 came after it here: a use after free.")):
             with self.subTest(order):
                 trace = b"".join(lines[k] + b"\n" for k in order) + b"T1|w(z)|b.c:1\nmain|w(z)|b.c:2\n" * 2
-                _, out, _ = self.shown(stacks([0] * 8, TABLES + b"free %d %d\n" % (event, event)), trace=trace)
+                _, out, _ = self.shown(stacks([0] * 8, TABLES + b"free %d %d\n" % (event, event)),
+                                       trace=trace)
                 self.assertIn(f"1. a.c:9#2: {headline} (", out)
                 self.assertIn(f"   {fact}\n", out)
 
@@ -272,35 +324,48 @@ class Stacks(program.Case):
         """In the trace a free is a write, and orders what follows such a read; but it wrote nothing."""
         trace = b"main|fork(T1)|a.c:1\nmain|w(a.c:9#2)|a.c:7\nT1|r(a.c:9#2)|a.c:5\n"
         _, out, _ = self.shown(stacks(tables=TABLES + b"free 2 2\n"), trace=trace)
-        self.assertIn("   a.c:5 read what a.c:7 freed. This racy read may hide other races: fix it and run again.\n", out)
+        self.assertIn("   a.c:5 read what a.c:7 freed. This racy read may hide other races: fix it and run "
+                      "again.\n", out)
 
     def test_an_atomic_that_hands_on_without_order(self):
-        """Between the two accesses one thread stores it and the other loads that store; the trace need not have it."""
-        says = ("   main and T1 hand this on by the atomic slot: a.c:6 writes it {} after the first access, and a.c:4 reads it {} before the "
-                "second. Without {} that orders nothing.\n")
+        """Between the two accesses one thread stores it and the other loads that store; the trace need
+        not have it."""
+        says = ("   main and T1 hand this on by the atomic slot: a.c:6 writes it {} after the first access, "
+                "and a.c:4 reads it {} before the second. Without {} that orders nothing.\n")
         both = "relaxed", "relaxed", "release and acquire"
         for uses, words, headline in (
-                (("main store relaxed", "T1 load acquire"), ("relaxed", "with acquire", "release"), "a.c:6 writes slot without release"),
-                (("main store release", "T1 load relaxed"), ("with release", "relaxed", "acquire"), "a.c:4 reads slot without acquire"),
-                (("main store relaxed", "T1 load relaxed"), both, "a.c:6 writes slot without release, and a.c:4 reads it without acquire"),
-                (("main store relaxed", "T1 load relaxed", "T1 fence acquire"), ("relaxed", "with acquire", "release"), "a.c:6 writes slot without release"),
-                (("main store relaxed", "T1 fence acquire", "T1 load relaxed"), both, "a.c:6 writes slot without release, and a.c:4 reads it without acquire"),
-                (("main store relaxed", "T2 update relaxed", "T1 load relaxed"), both, "a.c:6 writes slot without release, and a.c:4 reads it without acquire"),
-                (("main store release", "T1 load acquire"), None, None), (("T1 load relaxed", "main store relaxed"), None, None),
-                (("main store relaxed", "T2 store relaxed", "T1 load relaxed"), None, None), (("T1 store relaxed", "T1 load relaxed"), None, None),
+                (("main store relaxed", "T1 load acquire"), ("relaxed", "with acquire", "release"),
+                 "a.c:6 writes slot without release"),
+                (("main store release", "T1 load relaxed"), ("with release", "relaxed", "acquire"),
+                 "a.c:4 reads slot without acquire"),
+                (("main store relaxed", "T1 load relaxed"), both, "a.c:6 writes slot without release, and "
+                                                                  "a.c:4 reads it without acquire"),
+                (("main store relaxed", "T1 load relaxed",
+                  "T1 fence acquire"), ("relaxed", "with acquire", "release"), "a.c:6 writes slot without "
+                 "release"),
+                (("main store relaxed", "T1 fence acquire", "T1 load relaxed"), both, "a.c:6 writes slot "
+                 "without release, and a.c:4 reads it without acquire"),
+                (("main store relaxed", "T2 update relaxed", "T1 load relaxed"), both, "a.c:6 writes slot "
+                 "without release, and a.c:4 reads it without acquire"),
+                (("main store release", "T1 load acquire"), None,
+                 None), (("T1 load relaxed", "main store relaxed"), None, None),
+                (("main store relaxed", "T2 store relaxed", "T1 load relaxed"), None,
+                 None), (("T1 store relaxed", "T1 load relaxed"), None, None),
                 (("main update relaxed", "T1 update relaxed"), None, None)):
             with self.subTest(uses):
                 out = self.with_uses(3, uses)
                 self.assertEqual("hand this on" in out, words is not None)
                 self.assertIn(says.format(*words) if words else "   In this trace no lock is held", out)
-                self.assertIn(f"1. a.c:9#2: {headline or 'a.c:5 writes, a.c:7 reads without a lock'} (1 race, 1 place)\n", out)
+                self.assertIn(f"1. a.c:9#2: {headline or 'a.c:5 writes, a.c:7 reads without a lock'} (1 "
+                              "race, 1 place)\n", out)
         for event in (2, 4):   # before the first access, and after the second
             self.assertNotIn("hand this on", self.with_uses(event, ("main store relaxed", "T1 load relaxed")))
 
     def with_uses(self, event, uses):
         """What is said of a race of main's write with T1's read, where an atomic is used before an event."""
         lines = {"store": "a.c:6", "load": "a.c:4", "update": "a.c:8", "fence": "a.c:3"}
-        trace = b"main|fork(T1)|a.c:1\nmain|w(a.c:9#2)|a.c:5\nT1|r(a.c:9#2)|a.c:7\nmain|join(T1)|a.c:8\nmain|fork(T2)|a.c:9\n"
+        trace = (
+            b"main|fork(T1)|a.c:1\nmain|w(a.c:9#2)|a.c:5\nT1|r(a.c:9#2)|a.c:7\nmain|join(T1)|a.c:8\nmain|fork(T2)|a.c:9\n")
         tables = ""
         for thread, kind, order in map(str.split, uses):
             tables += f"use {event}\t{'slot' * (kind != 'fence')}\t{thread}\t{lines[kind]}\t{kind} {order}\n"
@@ -312,7 +377,8 @@ class Stacks(program.Case):
         """Those that the first sentence names, where they are near an access."""
         (self.folder / "a.c").write_text("".join(f"line {number}\n" for number in range(1, 20)))
         os.utime(self.folder / "a.c", (1000, 1000))
-        trace = b"main|fork(T1)|a.c:1\nmain|w(a.c:9#2)|a.c:5\nT1|r(a.c:9#2)|a.c:7\nmain|join(T1)|a.c:8\nmain|fork(T2)|a.c:9\n"
+        trace = (
+            b"main|fork(T1)|a.c:1\nmain|w(a.c:9#2)|a.c:5\nT1|r(a.c:9#2)|a.c:7\nmain|join(T1)|a.c:8\nmain|fork(T2)|a.c:9\n")
         tables = b"use 3\tslot\tmain\ta.c:6\tstore relaxed\nuse 3\tslot\tT1\ta.c:15\tload acquire\n"
         page = self.folder / "page.html"
         self.shown(stacks(tables=TABLES + tables), "--source", self.folder, "--html", page, trace=trace)
@@ -320,7 +386,8 @@ class Stacks(program.Case):
         self.assertIn('class="group rank0"', page.read_text())     # in the first colour
 
     def test_the_callers_that_hold_no_lock(self):
-        """Of a line that holds one at other accesses: add, as `main` calls it here. Where all accesses hold none, nothing more is said."""
+        """Of a line that holds one at other accesses: add, as `main` calls it here. Where all accesses hold
+        none, nothing more is said."""
         trace = (b"main|fork(T1)|a.c:30\nT1|acq(l)|a.c:20\nT1|w(a.c:9#2+8)|a.c:5\nT1|rel(l)|a.c:20\n"
                  b"main|w(a.c:9#2+8)|a.c:5\n")
         page = self.folder / "page.html"
@@ -328,7 +395,9 @@ class Stacks(program.Case):
         self.assertIn("In this trace l is held at 1 of 2 accesses at a.c:5.", out)
         self.assertIn("     in add<> (1 of 2 accesses)\n       from std::each each.h:8\n", out)
         self.assertIn("     in add<> (1 of 2 accesses, no lock held)\n       from main a.c:31\n", out)
-        self.assertEqual([said(side["locks"]) for side in Page(page.read_text()).group()["sides"]], ["holding l", "no lock held"])
+        self.assertEqual(
+            [said(side["locks"]) for side in Page(page.read_text()).group()["sides"]], [
+                "holding l", "no lock held"])
         self.assertNotIn("accesses, no lock held", self.shown(stacks())[1])
 
     def test_sources_that_were_recorded(self):
@@ -344,22 +413,27 @@ class Stacks(program.Case):
         self.assertNotRegex(out, "(?m)^     (in|from) ")
 
     def test_other_files_are_refused(self):
-        for content in (b"", b"shb-stacks 2 %020d\n" % 5, stacks()[:30], stacks()[:53], stacks(NODES[:4]), TRACE):
+        for content in (b"", b"shb-stacks 2 %020d\n" % 5, stacks()[:30], stacks()[:53], stacks(NODES[:4]),
+                        TRACE):
             with self.subTest(content=content[:60]):
                 status, out, err = self.shown(content)
                 self.assertEqual((status, out), (4, ""))
                 self.assertRegex(err, r"\Ashb-view: \S*app.stacks doesn't have the stacks of this trace\n\Z")
 
     def test_damaged_tables_are_refused_or_shown(self):
-        for line in (b"frame x", b"stack x", b"stack 1", b"stack 1 1 99", b"thread T1", b"block 1", b"block a b", b"free 1", b"free a b", b"source a", b"use 1\ta\tb\tc", b"use 1\ta\tb\tc\tload", b"use 1\ta\tb\tc\tload strong", b"use a\tb\tc\td\tload relaxed",
-                     b"stack 1 0 0", b"stack 1 0 -1", b"free 99999999999999999999999 1", b"local 1\tx", b"block 1 -1", b"thread a\tx"):
+        for line in (b"frame x", b"stack x", b"stack 1", b"stack 1 1 99", b"thread T1", b"block 1",
+                     b"block a b", b"free 1", b"free a b", b"source a", b"use 1\ta\tb\tc",
+                     b"use 1\ta\tb\tc\tload", b"use 1\ta\tb\tc\tload strong", b"use a\tb\tc\td\tload relaxed",
+                     b"stack 1 0 0", b"stack 1 0 -1", b"free 99999999999999999999999 1", b"local 1\tx",
+                     b"block 1 -1", b"thread a\tx"):
             with self.subTest(line=line):
                 status, _, err = self.shown(stacks(tables=TABLES + line + b"\n"))
                 self.assertEqual(status, 4)
                 self.assertRegex(err, rf"app.stacks is damaged in line {2 + TABLES.count(10)}: `")
         for content in (stacks(tables=TABLES + b"frame x\ty"), b"shb-stacks 1 " + b"9" * 20 + b"\n"):
             self.assertEqual(self.shown(content)[0], 4)
-        odd = ([9] * 5, b"stack 9 9\n"), ([7] * 5, b""), ([2**32 - 1] * 5, TABLES), (NODES, TABLES + b"new kind\n")
+        odd = (([9] * 5, b"stack 9 9\n"), ([7] * 5, b""), ([2**32 - 1] * 5,
+                                                           TABLES), (NODES, TABLES + b"new kind\n"))
         for nodes, tables in odd:
             with self.subTest(tables=tables):
                 self.assertEqual(self.shown(stacks(nodes, tables))[0], 0)

@@ -36,7 +36,8 @@ class Trials(program.Case):
         paths["stacks"].write_bytes(stacks)
         counts = collections.Counter(tuple(re.split(r"[|()]+", line)) for line in lines)
         locks = {at: f"held\t{{0}}\t0\tunder\t{{0}}\t{lock}" for at, lock in held}
-        kinds = [f"use\t{word}\t{name}\t\t{at}\tby\t{count}\t{thread}\t" + locks.get(at, "bare\t{0}\t0").format(count)
+        kinds = [f"use\t{word}\t{name}\t\t{at}\tby\t{count}\t{thread}\t"
+                 + locks.get(at, "bare\t{0}\t0").format(count)
                  for (thread, word, name, at), count in counts.items() if word in "rw"]
         events = [f"event\t{number}\t{number}" for number in range(1, len(lines) + 1)]
         whole = ["shb-uses 2", *kinds, *events, *more, f"events\t{len(lines)}"]
@@ -102,10 +103,12 @@ class Trials(program.Case):
 
     def test_a_lock_that_one_thread_alone_uses(self):
         lock = "stack.A-0x10"
-        lines = ["main|fork(A)|f.c:1", f"A|acq({lock})|f.c:2", "A|w(x)|f.c:3", f"A|rel({lock})|f.c:4", "main|r(x)|f.c:6"]
+        lines = ["main|fork(A)|f.c:1", f"A|acq({lock})|f.c:2", "A|w(x)|f.c:3", f"A|rel({lock})|f.c:4",
+                 "main|r(x)|f.c:6"]
         group, remedy = self.group(lines, held=[("f.c:3", lock)])
         self.assertEqual((group["form"], remedy), ("apart", ""))
-        said = {"form": "without", "lines": ["f.c:6"], "sometimes": [], "holding": ["f.c:3"], "scope": "writes"}
+        said = {"form": "without", "lines": ["f.c:6"], "sometimes": [], "holding": ["f.c:3"],
+                "scope": "writes"}
         self.assertEqual(self.faults(group, **said, locks={"x": lock}, name=lock, instead={}),
                          ["without of ['x']: one thread alone uses the lock"])
 
@@ -115,14 +118,17 @@ class Trials(program.Case):
                   "local 2\tstack.main-0x10\tts of sleep<b>"]
         group, remedy = self.group(lines, beside, stacks=[0, 1, 2])
         self.assertEqual((group["form"], group["gone"], remedy), ("no-lock", ["f.c:2"], ""))
-        self.assertEqual(self.faults(group, gone=[]), ["no-lock of ['stack.main-0x10']: other lines use what is gone"])
+        self.assertEqual(self.faults(group, gone=[]), ["no-lock of ['stack.main-0x10']: other lines use what "
+                                                       "is gone"])
         self.assertNotIn("gone", self.group(lines, beside, stacks=[0, 2, 2])[0])
         self.assertNotIn("gone", self.group(lines, beside, stacks=[0, 1, 1])[0])
         buffer = [*beside[:-1], "local 2\tstack.main-0x10\tbuffer of main"]  # which a system's function fills
         self.assertNotIn("gone", self.group(lines, buffer, stacks=[0, 1, 2])[0])
 
     def test_what_is_not_moved(self):
-        """A flag that is read again, or set again; a result that is waited for, or has no join; what may lie between two parts."""
+        """A flag that is read again, or set again; a result that is waited for, or has no join; what may lie
+        between two parts."""
         for lines, more in (([*LATE, LATE[2]], []), ([*LATE, LATE[1]], []), (LATE, ["repeated\t3"]),
-                            (LATE, ["repeated\t2"]), (EARLY, ["repeated\t4"]), (EARLY[:-1], []), (LATE, ["part\t3"]), (EARLY, ["part\t4"])):
+                            (LATE, ["repeated\t2"]), (EARLY, ["repeated\t4"]), (EARLY[:-1], []), (
+                                LATE, ["part\t3"]), (EARLY, ["part\t4"])):
             self.assertNotIn("moved", self.group(lines, (), more)[0])

@@ -19,7 +19,8 @@ def sleeps_of(process, thread="*"):
     counted = []
     for status in pathlib.Path(f"/proc/{process.pid}/task").glob(f"{thread}/status"):
         with contextlib.suppress(FileNotFoundError, ProcessLookupError):  # a thread that has ended meanwhile
-            counted.append(int(re.search(r"^voluntary_ctxt_switches:\s*(\d+)", status.read_text(), re.M).group(1)))
+            counted.append(
+                int(re.search(r"^voluntary_ctxt_switches:\s*(\d+)", status.read_text(), re.M).group(1)))
     return sorted(counted, reverse=True)
 
 
@@ -32,8 +33,8 @@ class Waits(test_refusals.Refusing):
             time.sleep(0.01)
 
     def test_workers_that_wait_sleep_and_look_again(self):
-        """Nobody reads the report, so workers find no free slot for their schedules: each sleeps again and again, and not for
-        ever longer. Then it is read, and is whole."""
+        """Nobody reads the report, so workers find no free slot for their schedules: each sleeps again and
+        again, and not for ever longer. Then it is read, and is whole."""
         trace, report, _ = test_large.many_races()
         with program.start(["races", "--workers", str(WORKERS), self.file(trace)]) as started:
             self.expect_sleeps(started, WORKERS)
@@ -42,8 +43,8 @@ class Waits(test_refusals.Refusing):
         self.assertTrue(written == report, "the reports differ")
 
     def test_that_the_caller_sleeps_while_it_waits(self):
-        """The worker is held where it asks for memory, so the first thread waits for a schedule. All that it writes is read
-        meanwhile. Then the worker goes on, and the report is whole."""
+        """The worker is held where it asks for memory, so the first thread waits for a schedule. All that it
+        writes is read meanwhile. Then the worker goes on, and the report is whole."""
         trace, report, _ = test_large.many_races()
         held, written = self.file(b"", "held"), []
         settings = program.with_settings(LD_PRELOAD=self.shim, REFUSED=self.note, HELD=held)

@@ -55,7 +55,8 @@ class Words(program.Case):
             lines = answer.out.decode().splitlines()
             self.assertLessEqual(len(lines), 24)
             self.assertLessEqual(max(map(len, lines)), 80)
-            for wanted in ("Usage: shb <COMMAND>", "  races  ", "  check  ", "shb places --list", "shb help check"):
+            for wanted in ("Usage: shb <COMMAND>", "  races  ", "  check  ", "shb places --list",
+                           "shb help check"):
                 self.assertIn(wanted, answer.out.decode())
 
     def test_help_of_races(self):
@@ -70,20 +71,24 @@ class Words(program.Case):
     def test_help_of_check(self):
         self.expect(program.run(["check", "--help"]), 0, program.run(["help", "check"]).out)
         text = program.run(["help", "check"]).out.decode()
-        for wanted in ("Usage: shb check <TRACE> < REPORT\n", "ok R", "bad line N", "bad counts", "bad race K", "bad places"):
+        for wanted in ("Usage: shb check <TRACE> < REPORT\n", "ok R", "bad line N", "bad counts",
+                       "bad race K", "bad places"):
             self.assertIn(wanted, text)
         self.assertIn("Not judged: whether races of the trace are left out", text)
         self.assertLessEqual(max(map(len, text.splitlines())), 80)
 
     def test_refused_words(self):
         for words, said in (
-            (["races", "--workers", "0"], b"error: invalid value '0' for '--workers <N>': 0 is not in 1..=64\n"),
-            (["races", "--workers", "65"], b"error: invalid value '65' for '--workers <N>': 65 is not in 1..=64\n"),
+            (["races", "--workers", "0"], b"error: invalid value '0' for '--workers <N>': 0 is not in "
+                                          b"1..=64\n"),
+            (["races", "--workers", "65"], b"error: invalid value '65' for '--workers <N>': 65 is not in "
+                                           b"1..=64\n"),
             (["races", "--workers", "x"], b"error: invalid value 'x' for '--workers <N>'"),
             (["check"], b"error: the following required arguments were not provided:\n  <TRACE>\n"),
             (["frobnicate"], b"error: unrecognized subcommand 'frobnicate'\n"),
             (["races", "a", "b"], b"error: unexpected argument 'b' found\n"),
-            (["places", "--workers", "65"], b"error: invalid value '65' for '--workers <N>': 65 is not in 1..=64\n"),
+            (["places", "--workers", "65"], b"error: invalid value '65' for '--workers <N>': 65 is not in "
+                                            b"1..=64\n"),
             (["races", "--variables"], b"error: unexpected argument '--variables' found\n"),
             (["places", "a", "b"], b"error: unexpected argument 'b' found\n"),
             (["check", "a", "b"], b"error: unexpected argument 'b' found\n"),
@@ -102,7 +107,8 @@ class Words(program.Case):
         for word in ("good.std", "lists", "place"):
             answer = program.run([word])
             self.assertTrue(answer.err.endswith(HINT + said), answer.err)
-            self.assertEqual(b"tip: some similar subcommands exist: 'races', 'places'\n" in answer.err, word == "place")
+            self.assertEqual(b"tip: some similar subcommands exist: 'races', 'places'\n" in answer.err,
+                             word == "place")
 
     def test_words_that_are_not_utf_8(self):
         for words in ([b"\xff"], ["races", b"\xff.std"], ["check", b"t\xc3"]):
@@ -114,5 +120,6 @@ class Words(program.Case):
     def test_options_stand_in_any_order(self):
         trace = self.file(b"T1|w(x)\nT2|w(x)\n")
         wanted = program.run(["races", "--list", trace])
-        for words in (["races", trace, "--list"], ["races", "--workers", "64", trace, "--list"], ["races", "--workers=1", "--list", trace]):
+        for words in (["races", trace, "--list"], ["races", "--workers", "64", trace,
+                                                   "--list"], ["races", "--workers=1", "--list", trace]):
             self.assertEqual(program.run(words), wanted)

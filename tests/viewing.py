@@ -50,10 +50,12 @@ def asked(shb=None):
 
 
 def recorded_run(trace, uses, stacks, **more):
-    """A run that was recorded: paths of its page's trace, which is the whole run, of its uses and of its stacks."""
+    """A run that was recorded: paths of its page's trace, which is the whole run, of its uses and
+    of its stacks."""
     listed = Report(io.BytesIO(program.run(["places", "--list", "--variables"], trace.read_bytes()).out))
     uses = Uses(uses)
-    return view.RecordedRun(trace, listed.counts, list(listed.races()), uses, view.Stacks(stacks, uses.count), **more)
+    return view.RecordedRun(trace, listed.counts, list(listed.races()), uses, view.Stacks(stacks, uses.count),
+                            **more)
 
 
 def windows(text, report, is_good=True):
@@ -62,8 +64,10 @@ def windows(text, report, is_good=True):
 
 
 def settings(**more):
-    """The environment in which the view finds the built program, and in which Python writes as it does for a user."""
-    return {name: value for name, value in program.with_settings(SHB=program.PATH, **more).items() if name != "PYTHONUNBUFFERED"}
+    """The environment in which the view finds the built program, and in which Python writes as it does
+    for a user."""
+    return {name: value for name, value in program.with_settings(SHB=program.PATH, **more).items()
+            if name != "PYTHONUNBUFFERED"}
 
 
 def run(words, command=PYTHON / "shb-view", **how):
@@ -78,7 +82,9 @@ def run_here(words, **more):
     words, shb = [str(word) for word in words], os.environ.get("SHB") or program.PATH
     with contextlib.redirect_stdout(out), contextlib.redirect_stderr(err):
         of_run = view.RecordedRun(*[None] * 5, **more)
-        with mock.patch("shb_view.command.make_view", lambda *words: view.with_run(view.make_view(*words), of_run)) if more else contextlib.nullcontext():
+        with mock.patch("shb_view.command.make_view", lambda
+                        *words: view.with_run(view.make_view(*words),
+                                              of_run)) if more else contextlib.nullcontext():
             status = command.main(words, shb)
     out.flush()
     return status, out.buffer.getvalue().decode(), err.getvalue()

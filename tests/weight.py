@@ -1,6 +1,6 @@
 #!/usr/bin/env python3
-"""Compares the lines of each crate and folder with weight.tsv. Each has exactly the lines that the table says, so that
-a change which adds lines changes the table too, and its commit says what a user gains by them.
+"""Compares the lines of each crate and folder with weight.tsv. Each has exactly the lines that the table
+says, so that a change which adds lines changes the table too, and its commit says what a user gains by them.
 
     weight.py [--lower]
 
@@ -11,8 +11,8 @@ A row is the name of a crate or folder, a kind of lines, and their number:
     proofs        lines of proofs/*.antt
     C, Python     lines of the sources in a folder and below, without its tests
 
---lower writes a lower number wherever there are fewer lines now. A higher one is written by hand. Ends with the line
-'N passed, N failed'.
+--lower writes a lower number wherever there are fewer lines now. A higher one is written by hand. Ends with
+the line 'N passed, N failed'.
 """
 
 import argparse
@@ -25,7 +25,8 @@ ROOT = pathlib.Path(__file__).resolve().parent.parent
 TABLE = ROOT / "tests" / "weight.tsv"
 CRATE = re.compile(r"crates/(\w+)/(src|specs|proofs)/.*\.(?:rt|antt)")
 KINDS = {"src": "code", "specs": "definitions", "proofs": "proofs"}
-FOLDERS = ("packaging", "python", "recorder/converter", "recorder/reader", "recorder/runtime", "recorder")  # the first one that a file is in
+# the first one that a file is in
+FOLDERS = ("packaging", "python", "recorder/converter", "recorder/reader", "recorder/runtime", "recorder")
 PYTHON = re.compile(r".*\.py|shb-\w+|install")  # commands have no ending
 C = re.compile(r".*\.[chS]")
 CLAUSE = re.compile(r"requires\b|ensures\b|ghost\b")
@@ -85,9 +86,10 @@ def complaint(row, found, bound):
     if found == bound:
         return None
     if found < bound:
-        return f"{name}: {found} lines of {kind}, and weight.tsv has {bound}: tests/weight.py --lower writes the number"
-    return (f"{name}: {found} lines of {kind}, and weight.tsv has {bound}: take {found - bound} away, or raise the number, "
-            "and say in the commit's body what a user gains by the lines")
+        return (f"{name}: {found} lines of {kind}, and weight.tsv has {bound}: tests/weight.py --lower "
+                "writes the number")
+    return (f"{name}: {found} lines of {kind}, and weight.tsv has {bound}: take {found - bound} away, or "
+            "raise the number, and say in the commit's body what a user gains by the lines")
 
 
 def lowered(found, bounds):
@@ -97,7 +99,8 @@ def lowered(found, bounds):
 
 def main():
     parser = argparse.ArgumentParser(description=__doc__.splitlines()[0])
-    parser.add_argument("--lower", action="store_true", help="write lower numbers where there are fewer lines")
+    parser.add_argument("--lower", action="store_true",
+                        help="write lower numbers where there are fewer lines")
     options = parser.parse_args()
     found, bounds = weights(ROOT), table()
     if options.lower:

@@ -19,10 +19,13 @@ installing again goes on and uninstalling leaves nothing."""
 
 def arguments(words):
     parser = argparse.ArgumentParser(prog="install", description=__doc__, epilog=EPILOG)
-    parser.add_argument("--shb", type=pathlib.Path, default=sources.TOP / "bin" / "shb", help="the built program (%(default)s)")
-    parser.add_argument("--prefix", default="/usr/local", help="where the commands will be used (%(default)s)")
+    parser.add_argument("--shb", type=pathlib.Path, default=sources.TOP / "bin" / "shb",
+                        help="the built program (%(default)s)")
+    parser.add_argument("--prefix", default="/usr/local",
+                        help="where the commands will be used (%(default)s)")
     parser.add_argument("--destdir", default="", help="a folder to install below, as packagers need it")
-    parser.add_argument("--out", type=pathlib.Path, default=sources.TOP, help="with dist and deb: the folder for the package (%(default)s)")
+    parser.add_argument("--out", type=pathlib.Path, default=sources.TOP,
+                        help="with dist and deb: the folder for the package (%(default)s)")
     parser.add_argument("what", choices=("install", "uninstall", "dist", "deb"))
     return parser.parse_args(words)
 
@@ -33,7 +36,8 @@ def prefix_of(options):
     if not prefix:
         raise Refused("the prefix is empty; PREFIX=/ installs in /bin, /lib and /share")
     if not os.path.isabs(prefix):
-        raise Refused(f"the prefix {prefix} is relative; PREFIX={os.path.abspath(prefix)} is the one in this folder")
+        raise Refused(f"the prefix {prefix} is relative; PREFIX={os.path.abspath(prefix)} is the one in this "
+                      "folder")
     return os.path.abspath(prefix)
 
 
@@ -48,7 +52,8 @@ def install(options):
     name, _, seconds = sources.version()
     with tempfile.TemporaryDirectory() as room:
         made = pathlib.Path(room)
-        tree.make(made, options.shb, prefix, f"{prefix}/lib/shb/libtsan.so", sources.listed(), name, sources.day(seconds))
+        tree.make(made, options.shb, prefix, f"{prefix}/lib/shb/libtsan.so", sources.listed(), name,
+                  sources.day(seconds))
         placing.install(made, place)
     if not options.destdir:     # else whoever makes a package of it does that
         placing.compile_modules(place)
@@ -58,19 +63,23 @@ def install(options):
 def uninstall(options):
     place = place_of(options)
     was_there = placing.uninstall(place)
-    print(f"uninstalled from {place}" if was_there else f"nothing is installed in {place}: there is no {place / placing.LISTED}")
+    print(f"uninstalled from {place}" if was_there else f"nothing is installed in {place}: there is no "
+                                                        f"{place / placing.LISTED}")
 
 
 def packaged(options, made, prefix, library, strip=lambda made: None):
-    """Makes the tree of a package in an empty folder, of the commit alone, stripped or not. Its version, and the commit's time."""
+    """Makes the tree of a package in an empty folder, of the commit alone, stripped or not. Its version, and
+    the commit's time."""
     files, changed = sources.listed(), sources.changed()
     if changed:
-        raise Refused(f"a package is made of a commit, and these files are changed since: {', '.join(changed)}")
+        raise Refused("a package is made of a commit, and these files are changed since: "
+                      f"{', '.join(changed)}")
     machine.check(options.shb)
     name, commit, seconds = sources.version()
     tree.make(made, options.shb, prefix, library, files, name, sources.day(seconds))
     strip(made)
-    (made / "share/doc/shb/PROVED.md").write_text(package.proved_text(made, options.shb, name, commit, seconds))
+    (made / "share/doc/shb/PROVED.md").write_text(
+        package.proved_text(made, options.shb, name, commit, seconds))
     return name, seconds
 
 
@@ -78,7 +87,8 @@ def dist(options):
     with tempfile.TemporaryDirectory() as room:
         made = pathlib.Path(room)
         name, seconds = packaged(options, made, "/path/to/shb", "libtsan.so.2")
-        for path in sorted((made / "share/doc/shb").iterdir()):     # the documents' links lead somewhere from the top too
+        # the documents' links lead somewhere from the top too
+        for path in sorted((made / "share/doc/shb").iterdir()):
             (made / path.name).symlink_to(f"share/doc/shb/{path.name}")
         top = f"shb-{name}-x86_64-linux"
         write_package(options.out / f"{top}.tar.xz", package.archive(made, top, seconds))
@@ -91,7 +101,8 @@ def deb(options):
         made.mkdir(parents=True)
         name, seconds = packaged(options, made, "/usr", "/usr/lib/shb/libtsan.so", package.strip)
         version = package.debian_version(name)
-        write_package(options.out / f"shb_{version}_amd64.deb", package.debian(made, version, sources.author(), seconds))
+        write_package(options.out / f"shb_{version}_amd64.deb",
+                      package.debian(made, version, sources.author(), seconds))
 
 
 def write_package(path, content):

@@ -16,7 +16,8 @@ def takes_file(option):
 
 
 def subcommands(help_, helps):
-    return {name: helps[f"{help_.command} {name}"] for name in help_.commands if f"{help_.command} {name}" in helps}
+    return {name: helps[f"{help_.command} {name}"]
+            for name in help_.commands if f"{help_.command} {name}" in helps}
 
 
 def quoted(text):
@@ -25,17 +26,21 @@ def quoted(text):
 
 # ---- bash ----
 def bash(help_, helps):
-    """Words that begin with a dash are options; for others, where nothing is said here, bash completes files."""
+    """Words that begin with a dash are options; for others, where nothing is said here, bash completes
+    files."""
     inner = subcommands(help_, helps)
     name = "_" + re.sub("[^a-z]", "_", help_.command)
     lines = [f"# Completes {help_.command} in bash; made from its help.", f"{name}() {{",
-             "    local word=${COMP_WORDS[COMP_CWORD]} previous=${COMP_WORDS[COMP_CWORD-1]} command=${COMP_WORDS[1]}",
+             "    local word=${COMP_WORDS[COMP_CWORD]} previous=${COMP_WORDS[COMP_CWORD-1]} "
+             "command=${COMP_WORDS[1]}",
              "    COMPREPLY=()"]
     if inner:
-        lines += ["    if [ \"$COMP_CWORD\" = 1 ]; then", "        " + offered([*inner, "help", *names(help_)]), "        return",
+        lines += ["    if [ \"$COMP_CWORD\" = 1 ]; then",
+                  "        " + offered([*inner, "help", *names(help_)]), "        return",
                   "    fi", "    case $command in"]
         for sub, sub_help in inner.items():
-            lines += [f"        {sub})", *("    " * 2 + line for line in bash_options(sub_help)), "            ;;"]
+            lines += [f"        {sub})", *("    " * 2 + line for line in bash_options(sub_help)),
+                      "            ;;"]
         lines += [f"        help) {offered(inner)} ;;", "    esac"]
     else:
         lines += bash_options(help_)
@@ -60,14 +65,17 @@ def bash_options(help_):
         elif option.value:
             lines.append(f"        {'|'.join(option.names)}) return ;;")
     lines = [*lines, "    esac"] if len(lines) > 1 else []
-    return lines + [f"    case $word in -*) {offered(names(help_))} ;; esac", *(bash_program(help_) if RUNS in help_.usage else ())]
+    return lines + [f"    case $word in -*) {offered(names(help_))} ;; esac",
+                    *(bash_program(help_) if RUNS in help_.usage else ())]
 
 
 def bash_program(help_):
-    """Where a command runs another one: the first word that is no option and no value of one is completed as a command."""
+    """Where a command runs another one: the first word that is no option and no value of one is completed
+    as a command."""
     valued = "|".join(name for option in help_.options if option.value for name in option.names)
     return ["    local at", "    for ((at = 1; at < COMP_CWORD; at++)); do",
-            f"        case ${{COMP_WORDS[at]}} in {valued}) ((at += 1)) ;; -*) ;; *) return ;; esac", "    done",
+            f"        case ${{COMP_WORDS[at]}} in {valued}) ((at += 1)) ;; -*) ;; *) return ;; esac",
+            "    done",
             "    [[ $word == -* ]] || COMPREPLY=($(compgen -c -- \"$word\"))"]
 
 
@@ -77,9 +85,12 @@ def zsh(help_, helps):
     lines = [f"#compdef {help_.command}", f"# Completes {help_.command} in zsh; made from its help."]
     if not inner:
         return "\n".join(lines + [zsh_arguments(help_)]) + "\n"
-    described = " ".join(quoted(f"{name}:{text}") for name, text in [*help_.commands.items(), ("help", "Prints help")])
-    lines += ["if (( CURRENT == 2 )); then", f"    local -a commands=({described})", "    _describe -t commands command commands",
-              "    " + zsh_arguments(help_, files=False), "    return", "fi", "shift words", "(( CURRENT-- ))", "case $words[1] in"]
+    described = " ".join(quoted(f"{name}:{text}")
+                         for name, text in [*help_.commands.items(), ("help", "Prints help")])
+    lines += ["if (( CURRENT == 2 )); then", f"    local -a commands=({described})",
+              "    _describe -t commands command commands",
+              "    " + zsh_arguments(help_, files=False), "    return", "fi", "shift words",
+              "(( CURRENT-- ))", "case $words[1] in"]
     for sub, sub_help in inner.items():
         lines += [f"    {sub}) {zsh_arguments(sub_help)} ;;"]
     lines += [f"    help) _values command {' '.join(inner)} ;;", "esac"]
@@ -107,10 +118,12 @@ def fish(help_, helps):
     inner = subcommands(help_, helps)
     lines = [f"# Completes {help_.command} in fish; made from its help."]
     for name, text in help_.commands.items():
-        lines.append(f"complete -c {help_.command} -n __fish_use_subcommand -f -a {name} -d {fish_quoted(text)}")
+        lines.append(f"complete -c {help_.command} -n __fish_use_subcommand -f -a {name} -d "
+                     f"{fish_quoted(text)}")
     if inner:
         lines.append(f"complete -c {help_.command} -n __fish_use_subcommand -f -a help -d 'Prints help'")
-        lines.append(f"complete -c {help_.command} -n '__fish_seen_subcommand_from help' -f -a {fish_quoted(' '.join(inner))}")
+        lines.append(f"complete -c {help_.command} -n '__fish_seen_subcommand_from help' -f -a "
+                     f"{fish_quoted(' '.join(inner))}")
     lines += fish_options(help_, help_.command, "-n __fish_use_subcommand " if inner else "")
     for name, sub_help in inner.items():
         lines += fish_options(sub_help, help_.command, f"-n '__fish_seen_subcommand_from {name}' ")

@@ -1,7 +1,7 @@
 """What the help of a command says, as parts: the source of its manual page and of its completions.
 
-The commands are written with clap, with argparse and in C; the texts of all three have this form: paragraphs, one of them
-`Usage: ..`, and parts with a heading that ends with a colon.
+The commands are written with clap, with argparse and in C; the texts of all three have this form: paragraphs,
+one of them `Usage: ..`, and parts with a heading that ends with a colon.
 """
 
 import collections
@@ -41,7 +41,8 @@ def parse(command, text):
             if is_text and parts[-1][0] and parts[-1][1] and not parts[-1][1][-1]:
                 parts.append(("", []))      # a paragraph without a heading ends the part before
             parts[-1][1].append(line)
-    parts = [(head, "\n".join(line.rstrip() for line in body).strip("\n").splitlines()) for head, body in parts]
+    parts = [(head, "\n".join(line.rstrip() for line in body).strip("\n").splitlines())
+             for head, body in parts]
     parts = [part for part in parts if part[0] or part[1]]
     return Help(command, sentence(parts), usage, parts, options_in(parts), commands_in(parts))
 
@@ -54,7 +55,8 @@ def sentence(parts):
 
 
 def options_in(parts):
-    """The options: lines that begin with blanks and a dash, each with the lines after it that stand further to the right."""
+    """The options: lines that begin with blanks and a dash, each with the lines after it that stand further
+    to the right."""
     found, is_option = [], False
     for line in (line for _, body in parts for line in body):
         option = OPTION.match(line)

@@ -1,4 +1,5 @@
-"""What processor and which C library programs need, as their files say, and whether this machine can run them."""
+"""What processor and which C library programs need, as their files say, and whether this machine
+can run them."""
 
 import re
 import shutil
@@ -6,7 +7,8 @@ import subprocess
 
 from shb_common.words import Refused
 
-LEVEL = re.compile(rb"x86-64-v([234])")     # in the words of a program of the kit for a processor that lacks something
+# in the words of a program of the kit for a processor that lacks something
+LEVEL = re.compile(rb"x86-64-v([234])")
 
 
 def is_program(path):
@@ -34,10 +36,13 @@ def glibc_of(paths):
 
 
 def check(shb):
-    """Refuses a program that isn't there, or that this machine can't run, with its own words: it names what a processor lacks."""
+    """Refuses a program that isn't there, or that this machine can't run, with its own words: it names what
+    a processor lacks."""
     if not shb.is_file():
         raise Refused(f"{shb}: no such program; `make build` builds bin/shb, SHB=PATH names another one")
-    ran = subprocess.run([shb.absolute(), "--help"], stdin=subprocess.DEVNULL, stdout=subprocess.PIPE, stderr=subprocess.PIPE)
+    ran = subprocess.run([shb.absolute(), "--help"], stdin=subprocess.DEVNULL, stdout=subprocess.PIPE,
+                         stderr=subprocess.PIPE)
     if ran.returncode:
         said = ran.stderr.decode(errors="replace").strip()
-        raise Refused(f"{shb} can't be run on this machine: it ended with status {ran.returncode} {said}".rstrip())
+        raise Refused(
+            f"{shb} can't be run on this machine: it ended with status {ran.returncode} {said}".rstrip())

@@ -1,4 +1,5 @@
-"""The packages for machines without the kit: an archive and a package of Debian, whose bytes follow from the commit."""
+"""The packages for machines without the kit: an archive and a package of Debian, whose bytes follow
+from the commit."""
 
 import email.utils
 import gzip
@@ -91,14 +92,17 @@ def is_built_here(shb):
 
 def proved_text(tree, shb, name, commit, seconds):
     """By which commit and kit the program was proved, as far as that is known, and what the commands need."""
-    origin = (BUILT if is_built_here(shb) else NAMED).format(logic=LOGIC.search((TOP / "build.sh").read_text())[1])
+    origin = (BUILT if is_built_here(shb) else NAMED).format(
+        logic=LOGIC.search((TOP / "build.sh").read_text())[1])
     paths = [tree / name for name in files_in(tree)]
-    return PROVED.format(version=name, commit=commit, date=day(seconds), checksum=checksum_of(tree / "bin/shb"), origin=origin,
+    return PROVED.format(version=name, commit=commit, date=day(seconds),
+                         checksum=checksum_of(tree / "bin/shb"), origin=origin,
                          level=machine.level_of(tree / "bin/shb"), glibc=machine.glibc_of(paths))
 
 
 def archive(tree, top, seconds):
-    """A tree as a tar.xz: sorted names below `top`, one time for all files, no owner and no mask of this machine."""
+    """A tree as a tar.xz: sorted names below `top`, one time for all files, no owner and no mask
+    of this machine."""
     def alike(entry):
         entry.mtime, entry.uid, entry.gid, entry.uname, entry.gname = seconds, 0, 0, "root", "root"
         entry.mode = 0o777 if entry.issym() else 0o755 if entry.mode & 0o100 else 0o644
@@ -140,7 +144,8 @@ def debian(made, version, author, seconds):
         os.utime(path, (seconds, seconds), follow_symlinks=False)
     package = top.with_suffix(".deb")
     environment = {**os.environ, "SOURCE_DATE_EPOCH": str(seconds)}
-    subprocess.run(["dpkg-deb", "--root-owner-group", "-Zxz", "--build", top, package], env=environment, stdout=subprocess.DEVNULL, check=True)
+    subprocess.run(["dpkg-deb", "--root-owner-group", "-Zxz", "--build", top, package], env=environment,
+                   stdout=subprocess.DEVNULL, check=True)
     return package.read_bytes()
 
 

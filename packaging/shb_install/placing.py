@@ -1,9 +1,10 @@
 """Puts a tree below a prefix, and takes it away again, without touching what others have there.
 
-`lib/shb/installed` lists the files that an installation has put there, one a line, and the folders that it made, with a slash
-at the end of the line. It comes before the files: while these are put in place, it names those of the version before and of
-the new one, and each new file stands as NAME.shb-new beside its place until all are there. So whatever stops an installation,
-the list names all that is ours: installing again goes on, and uninstalling leaves nothing.
+`lib/shb/installed` lists the files that an installation has put there, one a line, and the folders that it
+made, with a slash at the end of the line. It comes before the files: while these are put in place, it names
+those of the version before and of the new one, and each new file stands as NAME.shb-new beside its place
+until all are there. So whatever stops an installation, the list names all that is ours: installing again goes
+on, and uninstalling leaves nothing.
 """
 
 import collections
@@ -30,10 +31,11 @@ NOTHING = Listed(frozenset(), frozenset())
 
 
 def read_list(place):
-    """What is installed below a prefix; nothing if there is no list. Whoever can write the list says what is deleted, so it is
-    refused if it isn't a file of the caller's, or names what no installation has."""
+    """What is installed below a prefix; nothing if there is no list. Whoever can write the list says what is
+    deleted, so it is refused if it isn't a file of the caller's, or names what no installation has."""
     try:
-        with os.fdopen(os.open(place / LISTED, os.O_RDONLY | os.O_NONBLOCK)) as file:     # which waits for nobody at a pipe
+        # which waits for nobody at a pipe
+        with os.fdopen(os.open(place / LISTED, os.O_RDONLY | os.O_NONBLOCK)) as file:
             state = os.fstat(file.fileno())
             if not stat.S_ISREG(state.st_mode) or state.st_uid != os.geteuid():
                 raise Refused(f"{place / LISTED} isn't a file of yours: whoever installed can uninstall")
@@ -46,7 +48,8 @@ def read_list(place):
         parts = pathlib.PurePath(name).parts
         is_above = name in listed.folders and not set(parts) - {".."}
         if os.path.isabs(name) or (".." in parts and not is_above):
-            raise Refused(f"{place / LISTED} names {name!r}, outside of {place}; it isn't the list of an installation")
+            raise Refused(f"{place / LISTED} names {name!r}, outside of {place}; it isn't the list of an "
+                          "installation")
         refuse_elsewhere(place, name)
     return listed
 
@@ -56,12 +59,13 @@ def is_root():
 
 
 def refuse_elsewhere(place, name):
-    """For root a link may not lead out of the prefix: who made it could say what is replaced and deleted there. Others may have
-    folders elsewhere, and touch only what is theirs."""
+    """For root a link may not lead out of the prefix: who made it could say what is replaced and deleted
+    there. Others may have folders elsewhere, and touch only what is theirs."""
     inside, real = os.path.realpath(place), os.path.realpath((place / name).parent)
     is_above = not set(pathlib.PurePath(name).parts) - {".."}
     if is_root() and not is_above and os.path.commonpath([inside, real]) != inside:
-        raise Refused(f"{place / name} is in {real}, outside of {place}, by a link: as root nothing is installed or deleted there")
+        raise Refused(f"{place / name} is in {real}, outside of {place}, by a link: as root nothing is "
+                      "installed or deleted there")
 
 
 def write_list(place, listed):
@@ -74,8 +78,9 @@ def write_list(place, listed):
 
 
 def install(tree, place):
-    """Puts the files and links of a tree below `place`, and takes away what an older version had besides. A failure before all
-    new files are there undoes it; then only names change. It refuses where a file that isn't ours is in the way."""
+    """Puts the files and links of a tree below `place`, and takes away what an older version had besides. A
+    failure before all new files are there undoes it; then only names change. It refuses where a file that
+    isn't ours is in the way."""
     old, names = read_list(place), files_in(tree)
     for name in names:
         refuse_elsewhere(place, name)
@@ -104,8 +109,8 @@ def compile_modules(place):
 
 
 def uninstall(place):
-    """Deletes the files of an installation, what Python has compiled of them, and the folders that it made and that are empty
-    then. Says whether there was one."""
+    """Deletes the files of an installation, what Python has compiled of them, and the folders that it made
+    and that are empty then. Says whether there was one."""
     old = read_list(place)
     remove_files(place, old.files - {LISTED})
     remove_compiled(place, old.files)
@@ -115,7 +120,8 @@ def uninstall(place):
 
 
 def undo(place, names, old, folders):
-    """Takes away the new files that aren't in place yet; the list is the old one again. What can't be undone stays listed."""
+    """Takes away the new files that aren't in place yet; the list is the old one again. What can't be
+    undone stays listed."""
     with contextlib.suppress(OSError):
         remove_files(place, (name + NEW for name in [*names, LISTED]))
         if old == NOTHING:
@@ -131,18 +137,21 @@ def refuse_strangers(place, names, old):
     found = [name for name in wanted if os.path.lexists(place / name)]
     if found:
         more = f" and {len(found) - MOST_NAMES} more" if len(found) > MOST_NAMES else ""
-        raise Refused(f"nothing was changed, since {place} has files of the names of shb's that `make install` hasn't put there; "
-                      f"move them away first: {', '.join(found[:MOST_NAMES])}{more}")
+        raise Refused(f"nothing was changed, since {place} has files of the names of shb's that `make "
+                      "install` hasn't put there; move them away first: "
+                      f"{', '.join(found[:MOST_NAMES])}{more}")
 
 
 def missing_folders(place, names):
-    """The folders that these files need and that aren't there yet, the prefix and those above it among them."""
+    """The folders that these files need and that aren't there yet, the prefix and those above
+    it among them."""
     folders = {folder for name in names for folder in (place / name).parents}
     return {os.path.relpath(folder, place) for folder in folders if not folder.exists()}
 
 
 def put(tree, name, place):
-    """Puts a file of the tree beside its place, executable if it is so there; a link leads to the same file of the tree."""
+    """Puts a file of the tree beside its place, executable if it is so there; a link leads to the same file
+    of the tree."""
     new = place / (name + NEW)
     new.parent.mkdir(parents=True, exist_ok=True)
     remove(new)

@@ -10,22 +10,28 @@ from shb_common.words import Refused
 from shb_install import completions, helptext, manual
 from shb_install.sources import TOP
 
-FOLDERS = ("python", "recorder")            # where commands (shb-NAME) and packages (shb_NAME) are, and what the recorder is built of
-HOME = "lib/shb"                            # commands stand there beside their packages, as in the checkout; links lead to them
+# where commands (shb-NAME) and packages (shb_NAME) are, and what the recorder is built of
+FOLDERS = ("python", "recorder")
+# commands stand there beside their packages, as in the checkout; links lead to them
+HOME = "lib/shb"
 DOCUMENTS = ("README.md", "CHANGELOG.md", "SECURITY.md", "CITATION.cff", "recorder/README.md")
 DOCUMENT_FOLDERS = ("docs/", "examples/")
 OF_THE_CHECKOUT = ("docs/GATE.md", "docs/PROOF-NOTES.md")   # they are about files that aren't installed
-PLACES = ("bin", HOME, "share/doc/shb", "share/man/man1", "share/bash-completion/completions", "share/zsh/site-functions",
+PLACES = ("bin", HOME, "share/doc/shb", "share/man/man1", "share/bash-completion/completions",
+          "share/zsh/site-functions",
           "share/fish/vendor_completions.d")
-COMPLETIONS = ((completions.bash, "share/bash-completion/completions/{}"), (completions.zsh, "share/zsh/site-functions/_{}"),
+COMPLETIONS = (
+    (completions.bash, "share/bash-completion/completions/{}"), (
+        completions.zsh, "share/zsh/site-functions/_{}"),
                (completions.fish, "share/fish/vendor_completions.d/{}.fish"))
-RECORDER_FLAGS = "-O2 -Wall -Wextra -Wno-unused-parameter"  # as in its Makefile without -g, which names folders
+# as in its Makefile without -g, which names folders
+RECORDER_FLAGS = "-O2 -Wall -Wextra -Wno-unused-parameter"
 
 
 def make(tree, shb, prefix, library, files, version, date):
-    """Makes the whole tree in an empty folder. `shb` is the built program, `prefix` what texts call the folder, `library` the
-    path under which programs that were linked with the recorder's library look for it, `files` those of the checkout that may
-    go in."""
+    """Makes the whole tree in an empty folder. `shb` is the built program, `prefix` what texts call the
+    folder, `library` the path under which programs that were linked with the recorder's library look for it,
+    `files` those of the checkout that may go in."""
     for folder in PLACES:
         (tree / folder).mkdir(parents=True)
     copy(shb, tree / "bin" / "shb")
@@ -50,7 +56,8 @@ def build_recorder(folder, library, version):
     flags = f"{RECORDER_FLAGS} -DSHB_VERSION='\"{version}\"'"
     ran = subprocess.run(["make", "-s", "-C", folder, f"CFLAGS={flags}", f"SONAME={library}"])
     if ran.returncode:
-        raise Refused(f"the recorder can't be built: make ended with status {ran.returncode}; it needs gcc and libdw-dev (elfutils)")
+        raise Refused(f"the recorder can't be built: make ended with status {ran.returncode}; it needs gcc "
+                      "and libdw-dev (elfutils)")
 
 
 def copy(source, place):
@@ -60,7 +67,8 @@ def copy(source, place):
 
 
 def put_commands(folder, tree):
-    """Puts the commands of a folder, their packages and the recorder's library together, with links to the commands in bin."""
+    """Puts the commands of a folder, their packages and the recorder's library together, with links to the
+    commands in bin."""
     home = tree / HOME
     for source in sorted(folder.glob("shb-*")):
         copy(source, home / source.name)
@@ -82,12 +90,15 @@ def helps_of(tree, prefix):
 
 def read_help(tree, prefix, words):
     """The help of a command, by its words. It refuses where a command can't be run on this machine."""
-    environment = {"PATH": os.environ.get("PATH", os.defpath), "COLUMNS": "80", "LC_ALL": "C.UTF-8", "PYTHONDONTWRITEBYTECODE": "1"}
-    ran = subprocess.run([tree / "bin" / words[0], *words[1:], "--help"], env=environment, stdin=subprocess.DEVNULL,
+    environment = {"PATH": os.environ.get("PATH", os.defpath), "COLUMNS": "80", "LC_ALL": "C.UTF-8",
+                   "PYTHONDONTWRITEBYTECODE": "1"}
+    ran = subprocess.run([tree / "bin" / words[0], *words[1:], "--help"], env=environment,
+                         stdin=subprocess.DEVNULL,
                          stdout=subprocess.PIPE, stderr=subprocess.PIPE)
     if ran.returncode:
         said = ran.stderr.decode(errors="replace").strip()
-        raise Refused(f"`{' '.join(words)} --help` ended with status {ran.returncode} on this machine: {said}")
+        raise Refused(
+            f"`{' '.join(words)} --help` ended with status {ran.returncode} on this machine: {said}")
     text = ran.stdout.decode().replace(str(tree), prefix)
     return {" ".join(words): helptext.parse(" ".join(words), text)}
 

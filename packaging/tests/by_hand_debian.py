@@ -3,9 +3,9 @@
 
     by_hand_debian.py PACKAGE WORK
 
-It is run by hand, as root, with debootstrap and a network. WORK/bare is made where it isn't there. Commands run with
-nothing but a PATH in a copy of it, WORK/debian, with a /proc of its own: at first without Python, then with Python and xz, then with
-gcc and libdw too. The last line is 'N passed, N failed'.
+It is run by hand, as root, with debootstrap and a network. WORK/bare is made where it isn't there. Commands
+run with nothing but a PATH in a copy of it, WORK/debian, with a /proc of its own: at first without Python,
+then with Python and xz, then with gcc and libdw too. The last line is 'N passed, N failed'.
 """
 
 import pathlib
@@ -30,19 +30,23 @@ class Debian:
     def __init__(self, work):
         bare, self.root = work / "bare", work / "debian"
         if not bare.exists():
-            subprocess.run(["debootstrap", "--variant=minbase", "bookworm", bare, MIRROR], check=True, stdout=sys.stderr)
+            subprocess.run(["debootstrap", "--variant=minbase", "bookworm", bare, MIRROR], check=True,
+                           stdout=sys.stderr)
         shutil.rmtree(self.root, ignore_errors=True)
         subprocess.run(["cp", "-a", bare, self.root], check=True)
 
     def call(self, script):
         """What a script writes and says, with its status. It ends when its first process does."""
-        inside = f'mount -t proc proc "{self.root}/proc" && exec chroot "{self.root}" env -i PATH=/usr/bin:/bin /bin/sh -c "$1"'
+        inside = (f'mount -t proc proc "{self.root}/proc" && exec chroot "{self.root}" env -i '
+                  'PATH=/usr/bin:/bin /bin/sh -c "$1"')
         words = ["unshare", "--mount", "--pid", "--fork", "--kill-child", "sh", "-c", inside, "sh", script]
-        ran = subprocess.run(words, stdin=subprocess.DEVNULL, stdout=subprocess.PIPE, stderr=subprocess.PIPE, timeout=SECONDS)
+        ran = subprocess.run(words, stdin=subprocess.DEVNULL, stdout=subprocess.PIPE, stderr=subprocess.PIPE,
+                             timeout=SECONDS)
         return ran.stdout.decode(), ran.stderr.decode(), ran.returncode
 
     def add(self, *packages):
-        words = f"apt-get -qq update && DEBIAN_FRONTEND=noninteractive apt-get -qq install --no-install-recommends {' '.join(packages)}"
+        words = ("apt-get -qq update && DEBIAN_FRONTEND=noninteractive apt-get -qq install "
+                 f"--no-install-recommends {' '.join(packages)}")
         said = self.call(f"export PATH=/usr/sbin:/usr/bin:/sbin:/bin; {words}")
         if said[2]:
             raise SystemExit(said[1])

@@ -14,7 +14,8 @@ HERE = pathlib.Path(__file__).resolve().parent
 TOP = HERE.parents[1]
 SHB = TOP / "crates" / "shb" / "out" / "shb"
 SECONDS = 600  # after so long a command hangs, also where proofs run beside it
-PARTS = ("Makefile", "build.sh", "README.md", "CHANGELOG.md", "SECURITY.md", "CITATION.cff", "docs", "examples", "packaging", "python", "recorder")
+PARTS = ("Makefile", "build.sh", "README.md", "CHANGELOG.md", "SECURITY.md", "CITATION.cff", "docs",
+         "examples", "packaging", "python", "recorder")
 
 
 def call(*words, **how):
@@ -33,10 +34,13 @@ def copy_of_repository(folder):
     folder.mkdir(parents=True)
     for name in PARTS:
         source = TOP / name
-        shutil.copytree(source, folder / name, ignore=ignore) if source.is_dir() else shutil.copy(source, folder / name)
+        shutil.copytree(source, folder / name, ignore=ignore) if source.is_dir() else shutil.copy(
+            source, folder / name)
     time = "2026-01-02T03:04:05 +0100"
     environment = {**os.environ, "GIT_AUTHOR_DATE": time, "GIT_COMMITTER_DATE": time}
-    for words in (["init", "-q"], ["add", "."], ["-c", "user.name=maintainers", "-c", "user.email=maintainers@shb.example", "commit", "-q", "-m", "all"]):
+    for words in (["init", "-q"], ["add", "."], ["-c", "user.name=maintainers", "-c",
+                                                 "user.email=maintainers@shb.example", "commit", "-q", "-m",
+                                                 "all"]):
         call("git", "-C", folder, *words, env=environment)
     return folder
 

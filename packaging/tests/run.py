@@ -3,8 +3,9 @@
 
     run.py [SHB [TEST..]]
 
-SHB is the built program, ../../crates/shb/out/shb where it is left out. TESTs name single ones, as test_package or
-test_manual.Pages. What needs a shell or a reader of manual pages that isn't installed is skipped with a word.
+SHB is the built program, ../../crates/shb/out/shb where it is left out. TESTs name single ones, as
+test_package or test_manual.Pages. What needs a shell or a reader of manual pages that isn't installed is
+skipped with a word.
 """
 
 import pathlib

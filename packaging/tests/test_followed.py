@@ -1,8 +1,9 @@
-"""The commands of README, GUIDE, FORMATS and recorder/README as they are, run by another user with nothing but a PATH: in a checkout, in an unpacked
-package, and where the package of Debian is installed.
+"""The commands of README, GUIDE, FORMATS and recorder/README as they are, run by another user with nothing
+but a PATH: in a checkout, in an unpacked package, and where the package of Debian is installed.
 
-A block ```sh has commands, a line each; a document reads `<<'END'` to END. The status is 0, or N after `# status N`. README has a
-block for each of the three places, which begins as in BEGINNINGS; all other blocks are for all places.
+A block ```sh has commands, a line each; a document reads `<<'END'` to END. The status is 0, or N after `#
+status N`. README has a block for each of the three places, which begins as in BEGINNINGS; all other blocks
+are for all places.
 """
 
 import os
@@ -71,7 +72,8 @@ def script(place, text):
     """The commands that begin in a place, then those of a document."""
     first = [block for block in blocks(README) if block.startswith(BEGINNINGS[place])]
     rest = [block for block in blocks(text) if not block.startswith(tuple(BEGINNINGS.values()))]
-    found = [it for block in first + rest for it in commands(block)] + [(command, 0) for command in IN_TABLE.findall(text) if text is README]
+    found = ([it for block in first + rest for it in commands(block)]
+             + [(command, 0) for command in IN_TABLE.findall(text) if text is README])
     return "".join(step(*it) for it in found)
 
 
@@ -83,14 +85,16 @@ def shown(text, start):
 
 class Followed(installing.Case):
     def follow(self, place, *before):
-        """Runs the commands of the documents in a folder of another user; `before` are words that begin a command."""
+        """Runs the commands of the documents in a folder of another user; `before` are words that
+        begin a command."""
         user = [] if os.getuid() else ["setpriv", f"--reuid={NOBODY}", f"--regid={NOBODY}", "--clear-groups"]
         os.chmod(self.folder, 0o755)
         if user:
             call("chown", "-R", f"{NOBODY}:{NOBODY}", self.work)
         said = []
         for text in (README, GUIDE, FORMATS, RECORDER):
-            ran = subprocess.run([*before, *user, "env", "-i", "PATH=/usr/bin:/bin", "sh", "-c", script(place, text)], cwd=self.work, stdin=subprocess.DEVNULL,
+            ran = subprocess.run([*before, *user, "env", "-i", "PATH=/usr/bin:/bin", "sh", "-c",
+                                  script(place, text)], cwd=self.work, stdin=subprocess.DEVNULL,
                                  stdout=subprocess.PIPE, stderr=subprocess.STDOUT, timeout=SECONDS)
             self.assertEqual(ran.returncode, 0, ran.stdout.decode(errors="replace")[-4000:])
             said.append(ran.stdout.decode())
@@ -135,7 +139,8 @@ class Followed(installing.Case):
     def test_where_the_package_of_debian_is_installed(self):
         self.need("dpkg")
         self.need("unshare")
-        probe = subprocess.run(["unshare", "--mount", "mount", "-t", "tmpfs", "tmpfs", self.folder], stderr=subprocess.DEVNULL)
+        probe = subprocess.run(["unshare", "--mount", "mount", "-t", "tmpfs", "tmpfs", self.folder],
+                               stderr=subprocess.DEVNULL)
         if os.getuid() or probe.returncode:
             self.skipTest("only who may mount folders can install a package in a copy of the system")
         call("make", "-s", "-C", installing.packaged()[0], "deb", f"SHB={installing.SHB}")
@@ -147,10 +152,12 @@ class Followed(installing.Case):
 
 class Recipes(installing.Case):
     def test_the_recipes_for_ci(self):
-        """Of both services: what they run is the same, with an empty file of known places and a program with a race."""
+        """Of both services: what they run is the same, with an empty file of known places and a program
+        with a race."""
         found = re.findall(r"^ +- (?:run: )?(make CFLAGS.*|shb-record .*)$", GUIDE, re.M)
         self.assertEqual((len(found), found[:2]), (4, found[2:]))
-        (self.folder / "Makefile").write_text("app: account.c\n\tcc $(CFLAGS) -c account.c && cc $(LDFLAGS) account.o -o app\n")
+        (self.folder / "Makefile").write_text("app: account.c\n\tcc $(CFLAGS) -c account.c && cc $(LDFLAGS) "
+                                              "account.o -o app\n")
         shutil.copy(TOP / "examples/account.c", self.folder)
         (self.folder / "known.places").touch()
         how = {"cwd": self.folder, "env": {"PATH": f"{installing.installed()}/bin:{os.defpath}"}}
@@ -158,7 +165,8 @@ class Recipes(installing.Case):
         call("sh", "-c", found[1], status=66, **how)
         shutil.copy(self.folder / "races/unknown.places", self.folder / "known.places")
         call("sh", "-c", found[1], **how)
-        self.assertIn('"uri":"account.c"', (self.folder / "races/places.sarif").read_text().replace('": "', '":"'))
+        self.assertIn(
+            '"uri":"account.c"', (self.folder / "races/places.sarif").read_text().replace('": "', '":"'))
 
 
 class Extracted(installing.Case):
@@ -167,11 +175,14 @@ class Extracted(installing.Case):
         self.assertEqual(found, [("one  # status 66: a race", 66), ("cat <<'END'\na\nEND", 0), ("two", 0)])
 
     def test_a_command_that_fails_ends_the_script(self):
-        for command, wanted, status in (("false", 0, 99), ("true", 1, 99), ("false", 1, 0), ("cat <<'END'\nEND", 0, 0)):
-            self.assertEqual(subprocess.run(["sh", "-c", step(command, wanted)], stderr=subprocess.DEVNULL).returncode, status)
+        for command, wanted, status in (("false", 0, 99), ("true", 1,
+                                                           99), ("false", 1, 0), ("cat <<'END'\nEND", 0, 0)):
+            self.assertEqual(subprocess.run(["sh", "-c", step(command, wanted)],
+                                            stderr=subprocess.DEVNULL).returncode, status)
 
     def test_each_document_with_commands_is_followed(self):
-        found = {path.relative_to(TOP).as_posix() for pattern in ("*.md", "*/*.md") for path in TOP.glob(pattern) if blocks(path.read_text())}
+        found = {path.relative_to(TOP).as_posix() for pattern in ("*.md", "*/*.md")
+                 for path in TOP.glob(pattern) if blocks(path.read_text())}
         self.assertEqual(found, set(FOLLOWED))
 
     def test_each_place_has_its_block(self):

@@ -16,14 +16,19 @@ WANTED = ([f"bin/{name}" for name in COMMANDS]
           + [f"share/bash-completion/completions/{name}" for name in COMMANDS]
           + [f"share/zsh/site-functions/_{name}" for name in COMMANDS]
           + [f"share/fish/vendor_completions.d/{name}.fish" for name in COMMANDS]
-          + ["lib/shb/libtsan.so", "lib/shb/libtsan.so.0", "lib/shb/libtsan.so.2", "lib/shb/libtsan_preinit.o", "lib/shb/shb_farm/job.py",
-             "lib/shb/shb_view/page.css", "lib/shb/VERSION", "share/doc/shb/README.md", "share/doc/shb/docs/GUARANTEES.md",
+          + ["lib/shb/libtsan.so", "lib/shb/libtsan.so.0", "lib/shb/libtsan.so.2",
+             "lib/shb/libtsan_preinit.o", "lib/shb/shb_farm/job.py",
+             "lib/shb/shb_view/page.css", "lib/shb/VERSION", "share/doc/shb/README.md",
+             "share/doc/shb/docs/GUARANTEES.md",
              "share/doc/shb/examples/fork-join.std"])
-SHARED = ("bin/shb", "share/man/man1/shb", "share/bash-completion/completions/shb", "share/zsh/site-functions/_shb",
+SHARED = ("bin/shb", "share/man/man1/shb", "share/bash-completion/completions/shb",
+          "share/zsh/site-functions/_shb",
           "share/fish/vendor_completions.d/shb")
 OWN = ("lib/shb/", "share/doc/shb/")
-STATUSES = {"shb-farm": 4, "shb-fix": 4, "shb-record": 125, "shb-view": 2}     # where a command can do nothing
-LACKED = "array ctypes fcntl gzip html json lzma mmap resource shlex shutil unicodedata zlib".split()   # modules that python3-minimal lacks
+# where a command can do nothing
+STATUSES = {"shb-farm": 4, "shb-fix": 4, "shb-record": 125, "shb-view": 2}
+# modules that python3-minimal lacks
+LACKED = "array ctypes fcntl gzip html json lzma mmap resource shlex shutil unicodedata zlib".split()
 
 
 class Tree(installing.Case):
@@ -35,7 +40,8 @@ class Tree(installing.Case):
         files = contents(self.prefix)
         self.assertEqual([name for name in WANTED if name not in files], [])
         self.assertEqual([name for name in files if not name.startswith(SHARED + OWN)], [])
-        self.assertEqual([name for name in files if name.endswith(".inc")], [])     # made while the recorder is built
+        # made while the recorder is built
+        self.assertEqual([name for name in files if name.endswith(".inc")], [])
 
     def test_all_can_read_it(self):
         for path in [self.prefix, *self.prefix.rglob("*")]:
@@ -45,16 +51,20 @@ class Tree(installing.Case):
 
     def test_the_links_of_documents_hold(self):
         folder = self.prefix / "share/doc/shb"
-        links = [(path, name) for path in folder.rglob("*.md") for name in re.findall(r"\]\(([^)#:]+)[)#]", path.read_text())]
+        links = [(path, name) for path in folder.rglob("*.md")
+                 for name in re.findall(r"\]\(([^)#:]+)[)#]", path.read_text())]
         self.assertGreater(len(links), 10)
-        self.assertEqual([f"{path.relative_to(folder)}: {name}" for path, name in links if not (path.parent / name).exists()], [])
+        self.assertEqual(
+            [f"{path.relative_to(folder)}: {name}"
+             for path, name in links if not (path.parent / name).exists()], [])
 
     def test_the_last_line_of_a_help_is_the_version(self):
         version = (self.prefix / "lib/shb/VERSION").read_text()
         self.assertRegex(version, r"^[0-9]{4}\.[0-9]{2}\.[0-9]{2}-[0-9a-f]{12}(-changed)?\n$")
         for command in COMMANDS:
             if command != "shb":
-                self.assertTrue(call(self.prefix / "bin" / command, "--help").endswith(f"\n\nshb {version}"), command)
+                self.assertTrue(call(self.prefix / "bin" / command, "--help").endswith(f"\n\nshb {version}"),
+                                command)
                 self.assertEqual(call(self.prefix / "bin" / command, "--version"), f"{command} {version}")
 
     def test_modules_are_compiled(self):
@@ -65,8 +75,8 @@ class Tree(installing.Case):
 
     def not_as_root(self, *words):
         """Calls the command as if it weren't root's, who may not follow a link out of the prefix."""
-        code = ("import sys; sys.path[:0] = sys.argv[1:3]; from shb_install import command, placing; placing.is_root = lambda: False; "
-                "sys.exit(command.main(sys.argv[3:]))")
+        code = ("import sys; sys.path[:0] = sys.argv[1:3]; from shb_install import command, placing; "
+                "placing.is_root = lambda: False; sys.exit(command.main(sys.argv[3:]))")
         call(sys.executable, "-B", "-c", code, TOP / "packaging", TOP / "python", *words)
 
     def test_a_bin_that_is_a_link_to_a_folder_elsewhere(self):
@@ -88,7 +98,8 @@ class Tree(installing.Case):
         call("gcc", "-fsanitize=thread", "-g", TOP / "examples" / "account.c", "-o", program)
         call(self.folder / "bin/shb-record", "-o", self.folder / "results", program, status=66)
         self.not_as_root("--prefix", prefix, "uninstall")
-        self.assertEqual((list(prefix.iterdir()), list((self.folder / "bin").iterdir())), ([prefix / "bin"], []))
+        self.assertEqual(
+            (list(prefix.iterdir()), list((self.folder / "bin").iterdir())), ([prefix / "bin"], []))
 
     def links(self):
         """A folder with links to all commands, as a user may have it."""
@@ -108,7 +119,8 @@ class Tree(installing.Case):
             listed = call(folder / "shb", "races", "--list", trace, env={})
             self.assertIn("\nplace 1: 1\nat a.c:1\nand b.c:2\n", listed)
             said = call(folder / "shb-farm", trace.parent, self.folder / "out", env={}, status=1)
-            self.assertTrue(said.startswith("traces 1 reports 1 refused 0 missing 0\nplaces 1 unknown 1 known 0\n"), said)
+            self.assertTrue(said.startswith("traces 1 reports 1 refused 0 missing 0\nplaces 1 unknown 1 "
+                                            "known 0\n"), said)
             self.assertIn("b.c:2", call(folder / "shb-view", trace, env={}))
 
     def test_a_program_is_recorded(self):
@@ -117,34 +129,44 @@ class Tree(installing.Case):
         call("gcc", "-fsanitize=thread", "-g", TOP / "examples" / "account.c", "-o", program)
         results = self.folder / "results"
         call(self.links() / "shb-record", "-o", results, program, status=66, env={"PATH": os.environ["PATH"]})
-        self.assertEqual((results / "unknown.places").read_text(), "# account.c:10\taccount.c:8\naccount.c:pay()\taccount.c:pay()\tbalance\n")
+        self.assertEqual((results / "unknown.places").read_text(),
+                         "# account.c:10\taccount.c:8\naccount.c:pay()\taccount.c:pay()\tbalance\n")
 
     def test_an_older_python_is_said(self):
         """Whatever it doesn't know comes later in a command than the sentence, or in another file."""
         home = self.prefix / "lib/shb"
-        for path in (home / "shb_common/__init__.py", home / "shb_common/python.py", *map(home.joinpath, STATUSES)):
+        for path in (home / "shb_common/__init__.py", home / "shb_common/python.py",
+                     *map(home.joinpath, STATUSES)):
             ast.parse(path.read_text(), feature_version=(3, 7))
         for command, status in STATUSES.items():
-            script = f"import runpy, sys; sys.version_info = (3, 7, 0); runpy.run_path({str(home / command)!r}, run_name='__main__')"
-            ran = installing.subprocess.run([sys.executable, "-B", "-c", script], stdout=installing.subprocess.PIPE, stderr=installing.subprocess.PIPE)
+            script = ("import runpy, sys; sys.version_info = (3, 7, 0); "
+                      f"runpy.run_path({str(home / command)!r}, run_name='__main__')")
+            ran = installing.subprocess.run([sys.executable, "-B", "-c", script],
+                                            stdout=installing.subprocess.PIPE,
+                                            stderr=installing.subprocess.PIPE)
             said = f"{command}: Python 3.8 or later is needed, and this is 3.7\n"
             self.assertEqual((ran.returncode, ran.stdout, ran.stderr.decode()), (status, b"", said))
 
     def test_a_python_without_its_whole_library_is_said(self):
-        (self.folder / "sitecustomize.py").write_text(f"import sys\nsys.modules.update(dict.fromkeys({LACKED}))\n")
+        (self.folder / "sitecustomize.py").write_text(
+            f"import sys\nsys.modules.update(dict.fromkeys({LACKED}))\n")
         for command, status in STATUSES.items():
-            ran = installing.subprocess.run([sys.executable, "-B", self.prefix / "bin" / command, "--version"], capture_output=True,
+            ran = installing.subprocess.run([sys.executable, "-B", self.prefix / "bin" / command,
+                                             "--version"], capture_output=True,
                                             env={"PYTHONPATH": str(self.folder)})
             self.assertEqual((ran.returncode, ran.stdout), (status, b""), ran.stderr)
-            self.assertRegex(ran.stderr.decode(), rf"\A{command}: this Python lacks its module `\w+`: install all of Python \(.*\)\n\Z")
+            self.assertRegex(ran.stderr.decode(), rf"\A{command}: this Python lacks its module `\w+`: "
+                                                  r"install all of Python \(.*\)\n\Z")
 
     def test_standard_error_that_is_closed_or_full(self):
         """Each command's own status is left."""
-        for command, status in {"shb places": 4, "shb-fix": 4, "shb-view": 2, "shb-farm": 4, "shb-record": 127, "shb-std": 2}.items():
+        for command, status in {"shb places": 4, "shb-fix": 4, "shb-view": 2, "shb-farm": 4,
+                                "shb-record": 127, "shb-std": 2}.items():
             for error in ("2>&-", "2>/dev/full"):
                 with self.subTest(command, error=error):
                     more = self.folder / "out" if command == "shb-farm" else ""
-                    call("sh", "-c", f"'{self.prefix}'/bin/{command} ./none {more} {error}", cwd=self.folder, status=status)
+                    call("sh", "-c", f"'{self.prefix}'/bin/{command} ./none {more} {error}", cwd=self.folder,
+                         status=status)
 
     def test_a_farm_lists_a_long_trace(self):
         self.need("python3", os.defpath)
@@ -155,8 +177,11 @@ class Tree(installing.Case):
                 file.write(part)
         out = self.folder / "out"
         call(self.prefix / "bin" / "shb-farm", trace.parent, out, env={}, status=1)
-        self.assertEqual((out / "unknown.places").read_text(), "a.c:1\tb.c:2\tx\na.c:1\tfar.c:9\tx\nk.c:1\tk.c:2\ty\n")
-        self.assertIn("\nlong.std\treport\t3\tevents 4194310 threads 5 locks 0 variables 2; ", (out / "traces.tsv").read_text())
+        self.assertEqual((out / "unknown.places").read_text(),
+                         "a.c:1\tb.c:2\tx\na.c:1\tfar.c:9\tx\nk.c:1\tk.c:2\ty\n")
+        self.assertIn(
+            "\nlong.std\treport\t3\tevents 4194310 threads 5 locks 0 variables 2; ", (
+                out / "traces.tsv").read_text())
 
     def test_nothing_names_the_checkout_or_a_folder_that_is_gone(self):
         for name, content in contents(self.prefix).items():
@@ -220,7 +245,8 @@ class Uninstalled(installing.Case):
 
     def refused(self, *words):
         """What make says that can't do it, without a traceback."""
-        ran = installing.subprocess.run(["make", "-s", "-C", TOP, *words], stdout=installing.subprocess.PIPE, stderr=installing.subprocess.PIPE)
+        ran = installing.subprocess.run(["make", "-s", "-C", TOP, *words], stdout=installing.subprocess.PIPE,
+                                        stderr=installing.subprocess.PIPE)
         said = ran.stderr.decode()
         self.assertNotEqual(ran.returncode, 0, said)
         self.assertNotIn("Traceback", said)
@@ -229,19 +255,24 @@ class Uninstalled(installing.Case):
     def test_what_cannot_be_done_is_said(self):
         before = sorted(TOP.iterdir())
         shb = f"SHB={installing.SHB}"
-        self.assertEqual(self.refused("install", shb, "PREFIX="), "install: the prefix is empty; PREFIX=/ installs in /bin, /lib and /share")
+        self.assertEqual(self.refused("install", shb, "PREFIX="),
+                         "install: the prefix is empty; PREFIX=/ installs in /bin, /lib and /share")
         for what, relative in (("install", "none/of it"), ("uninstall", "none"), ("install", ".")):
-            self.assertIn(f"install: the prefix {relative} is relative; PREFIX={TOP}", self.refused(what, shb, f"PREFIX={relative}"))
+            self.assertIn(f"install: the prefix {relative} is relative; PREFIX={TOP}",
+                          self.refused(what, shb, f"PREFIX={relative}"))
         self.assertEqual(sorted(TOP.iterdir()), before)
         (self.folder / "file").touch()
         self.assertIn("Not a directory", self.refused("install", shb, f"PREFIX={self.folder}/file/prefix"))
         self.assertIn("Not a directory", self.refused("uninstall", f"PREFIX={self.folder}/file/prefix"))
         none = self.folder / "none"
-        self.assertIn(f"{none}: no such program;", self.refused("install", f"SHB={none}", f"PREFIX={self.folder}/prefix"))
-        self.assertIn("/bin/false can't be run on this machine: it ended with status 1", self.refused("install", "SHB=/bin/false", f"PREFIX={self.folder}/prefix"))
+        self.assertIn(f"{none}: no such program;",
+                      self.refused("install", f"SHB={none}", f"PREFIX={self.folder}/prefix"))
+        self.assertIn("/bin/false can't be run on this machine: it ended with status 1",
+                      self.refused("install", "SHB=/bin/false", f"PREFIX={self.folder}/prefix"))
         (self.folder / "prefix/bin").mkdir(parents=True)
         (self.folder / "prefix/bin/shb").write_text("theirs")
-        self.assertIn("move them away first: bin/shb", self.refused("install", shb, f"PREFIX={self.folder}/prefix"))
+        self.assertIn("move them away first: bin/shb",
+                      self.refused("install", shb, f"PREFIX={self.folder}/prefix"))
         self.assertEqual(contents(self.folder / "prefix"), {"bin/shb": b"theirs"})
 
     def test_a_program_with_blanks_in_its_path(self):
@@ -256,6 +287,7 @@ class Uninstalled(installing.Case):
         self.assertEqual([path.name for path in (self.folder / "image").iterdir()], ["usr"])
         self.assertTrue((self.folder / "image/usr/bin/shb-farm").exists())
         if shutil.which("readelf"):
-            self.assertIn("[/usr/lib/shb/libtsan.so]", call("readelf", "-d", self.folder / "image/usr/lib/shb/libtsan.so"))
+            self.assertIn("[/usr/lib/shb/libtsan.so]",
+                          call("readelf", "-d", self.folder / "image/usr/lib/shb/libtsan.so"))
         self.make("uninstall", "PREFIX=/usr", f"DESTDIR={self.folder}/image")
         self.assertEqual(list(self.folder.iterdir()), [])

@@ -18,9 +18,11 @@ class Machine(installing.Case):
         shb = self.script(f"echo '{WORDS}' >&2\nexit 127\n")
         with self.assertRaises(Refused) as refused:
             machine.check(shb)
-        self.assertEqual(str(refused.exception), f"{shb} can't be run on this machine: it ended with status 127 {WORDS}")
+        self.assertEqual(str(refused.exception), f"{shb} can't be run on this machine: it ended with status "
+                                                 f"127 {WORDS}")
         machine.check(self.script("exit 0\n"))
 
     def test_what_a_program_asks_for(self):
-        self.assertEqual((machine.level_of(self.script(f"# {WORDS}\n")), machine.level_of(self.script(""))), (2, 1))
+        self.assertEqual((machine.level_of(self.script(f"# {WORDS}\n")),
+                          machine.level_of(self.script(""))), (2, 1))
         self.assertEqual(machine.glibc_of([self.script("")]), "2.0")

@@ -60,7 +60,8 @@ Options:
   -a         write everything
   -n EVENTS  at most so many
 """
-COMMANDS = "Finds x\n\nUsage: shb <COMMAND>\n\nCommands:\n  races  Writes 'it': [all]\n  help   Print\n\nOptions:\n  -h, --help  Print help\n"
+COMMANDS = ("Finds x\n\nUsage: shb <COMMAND>\n\nCommands:\n  races  Writes 'it': [all]\n  help   "
+            "Print\n\nOptions:\n  -h, --help  Print help\n")
 
 
 WITHOUT_HEADINGS = """\
@@ -80,15 +81,20 @@ Exit status: 66 if there is a race;
 class Parts(installing.Case):
     def test_options_without_a_heading(self):
         found = helptext.parse("shb-r", WITHOUT_HEADINGS)
-        self.assertEqual((found.about, found.usage), ("runs a program", "shb-r [OPTION].. PROGRAM [ARGUMENT].."))
-        self.assertEqual(found.options, [Option(["-o"], "DIR", "the folder of results"), Option(["--keep"], "", "keep it")])
+        self.assertEqual((found.about, found.usage), ("runs a program", "shb-r [OPTION].. PROGRAM "
+                                                      "[ARGUMENT].."))
+        self.assertEqual(found.options, [Option(["-o"], "DIR", "the folder of results"),
+                                         Option(["--keep"], "", "keep it")])
 
     def test_clap(self):
         found = helptext.parse("shb races", CLAP)
         self.assertEqual((found.about, found.usage), ("finds x", "shb races [OPTIONS] [TRACE]"))
-        self.assertEqual(found.options, [Option(["--workers"], "N", "How many, 1 to 64"), Option(["--list"], "", "Leave them out: yes"),
+        self.assertEqual(found.options, [Option(["--workers"], "N", "How many, 1 to 64"),
+                                         Option(["--list"], "", "Leave them out: yes"),
                                          Option(["-h", "--help"], "", "Print help")])
-        self.assertEqual(found.parts[3:], [("The trace", ["  One event a line:", "    r(X)   reads"]), ("", ["Exit status: 0", "done"])])
+        self.assertEqual(
+            found.parts[3:], [
+                ("The trace", ["  One event a line:", "    r(X)   reads"]), ("", ["Exit status: 0", "done"])])
 
     def test_argparse(self):
         found = helptext.parse("shb-x", ARGPARSE)
@@ -96,8 +102,10 @@ class Parts(installing.Case):
         self.assertEqual(found.usage, "shb-x [-h] [--known FILE] [--engine {a,b}] [-o DIR] TRACES")
         self.assertEqual(found.options, [
             Option(["-h", "--help"], "", "show this help message and exit"),
-            Option(["--known"], "FILE", "places to pass over, in a file of two columns"), Option(["--engine"], "{a,b}", "which"),
-            Option(["--a-very-long-option-with-a-value"], "VALUE", "its text"), Option(["-o", "--out"], "DIR", "the folder")])
+            Option(["--known"], "FILE", "places to pass over, in a file of two columns"),
+            Option(["--engine"], "{a,b}", "which"),
+            Option(["--a-very-long-option-with-a-value"], "VALUE", "its text"),
+            Option(["-o", "--out"], "DIR", "the folder")])
         self.assertEqual(found.parts[-1], ("Files", ["  one.tsv  a table"]))
 
     def test_newer_argparse(self):
@@ -107,7 +115,8 @@ class Parts(installing.Case):
     def test_c(self):
         found = helptext.parse("shb-std", C_TEXT)
         self.assertEqual(found.about, "turns a record into a trace")
-        self.assertEqual(found.options, [Option(["-a"], "", "write everything"), Option(["-n"], "EVENTS", "at most so many")])
+        self.assertEqual(found.options, [Option(["-a"], "", "write everything"),
+                                         Option(["-n"], "EVENTS", "at most so many")])
 
     def test_the_exit_status_has_a_section(self):
         for text, lines in ((WITHOUT_HEADINGS, "66 if there is a race; 125 if not."), (CLAP, "0 done")):
@@ -116,8 +125,10 @@ class Parts(installing.Case):
             self.assertNotIn("Exit status:", page)
 
     def test_paragraphs_fill_the_page(self):
-        """But those with lines that stand further to the right, as examples do. Where the help ends a line makes no difference."""
-        page = manual.page(helptext.parse("x", "Does it.\n\nOne line\nand more.\n\nLike so\n  $ x\n\nUsage: x\n"), "1", "today", [])
+        """But those with lines that stand further to the right, as examples do. Where the help ends a line
+        makes no difference."""
+        page = manual.page(helptext.parse("x", "Does it.\n\nOne line\nand more.\n\nLike so\n  $ x\n\nUsage: "
+                                               "x\n"), "1", "today", [])
         self.assertIn("\n.PP\nOne line and more.\n.PP\n.nf\n.in 2n\nLike so\n  $ x\n.in\n.fi\n", page)
 
     def test_commands(self):
@@ -148,25 +159,33 @@ class Pages(installing.Case):
             environment = {**os.environ, "MANWIDTH": "200", "LC_ALL": "C.UTF-8", "MANROFFOPT": "-c"}
             shown = call("man", "--warnings=w", "-P", "cat", "-l", page, env=environment)
             shown = re.sub(".\b", "", shown)
-            missing = [word for word in text.split() if word.strip("<>").rstrip(":").lower() not in shown.lower()]
-            self.assertLessEqual(set(missing), {"Usage:", "usage:", "positional"}, words)       # their headings are others
+            missing = [word for word in text.split()
+                       if word.strip("<>").rstrip(":").lower() not in shown.lower()]
+            # their headings are others
+            self.assertLessEqual(set(missing), {"Usage:", "usage:", "positional"}, words)
 
     def test_a_help_is_80_columns_wide(self):
         """But the line of a path, which isn't cut."""
         for words, text in self.helps():
-            self.assertEqual([line for line in text.splitlines() if len(line) > 80 and str(self.prefix) not in line], [], words)
+            self.assertEqual(
+                [line for line in text.splitlines() if len(line) > 80 and str(self.prefix) not in line], [],
+                words)
 
     def test_a_page_is_80_columns_wide(self):
         self.need("man")
         for page in (self.prefix / "share/man/man1").iterdir():
-            shown = call("man", "-P", "cat", "-l", page, env={**os.environ, "MANWIDTH": "80", "LC_ALL": "C.UTF-8", "MANROFFOPT": "-c"})
-            self.assertEqual([line for line in re.sub(".\b", "", shown).splitlines() if len(line) > 80], [], page)
+            shown = call("man", "-P", "cat", "-l", page,
+                         env={**os.environ, "MANWIDTH": "80", "LC_ALL": "C.UTF-8", "MANROFFOPT": "-c"})
+            self.assertEqual([line for line in re.sub(".\b", "", shown).splitlines() if len(line) > 80], [],
+                             page)
 
     def test_a_page_has_no_warning(self):
         self.need("man")
         for page in (self.prefix / "share/man/man1").iterdir():
-            ran = installing.subprocess.run(["man", "--warnings=w", "-P", "cat", "-l", page], stdout=installing.subprocess.DEVNULL,
-                                            stderr=installing.subprocess.PIPE, env={**os.environ, "LC_ALL": "C.UTF-8"})
+            ran = installing.subprocess.run(["man", "--warnings=w", "-P", "cat", "-l", page],
+                                            stdout=installing.subprocess.DEVNULL,
+                                            stderr=installing.subprocess.PIPE,
+                                            env={**os.environ, "LC_ALL": "C.UTF-8"})
             self.assertEqual((ran.returncode, ran.stderr), (0, b""), page)
 
     def test_no_break_is_empty_and_a_name_is_short(self):
@@ -186,7 +205,8 @@ class Pages(installing.Case):
             names = {name for option in options for name in option.names}
             self.assertLess(max(len(option.gist) for option in options), 150)
             self.assertIn("--help", names)
-            for path, form in (("share/bash-completion/completions/{}", "{}"), ("share/zsh/site-functions/_{}", "{}["),
+            for path, form in (("share/bash-completion/completions/{}",
+                                "{}"), ("share/zsh/site-functions/_{}", "{}["),
                                ("share/fish/vendor_completions.d/{}.fish", None)):
                 content = (self.prefix / path.format(words[0])).read_text()
                 for name in names:
@@ -207,7 +227,8 @@ class Completions(installing.Case):
     def bash(self, *words):
         script = self.folder / "completion"
         script.write_text(completions.bash(self.helps[words[0]], self.helps))
-        lines = ["set -u", f". {script}", "COMP_WORDS=(" + " ".join(f"'{word}'" for word in words) + ")", f"COMP_CWORD={len(words) - 1}",
+        lines = ["set -u", f". {script}", "COMP_WORDS=(" + " ".join(f"'{word}'" for word in words) + ")",
+                 f"COMP_CWORD={len(words) - 1}",
                  f"_{re.sub('[^a-z]', '_', words[0])}", 'printf "%s\\n" ${COMPREPLY[@]+"${COMPREPLY[@]}"}']
         return set(call("bash", "-c", "\n".join(lines)).split())
 
@@ -215,17 +236,20 @@ class Completions(installing.Case):
         script = self.folder / "completion.fish"
         script.write_text(completions.fish(self.helps[words[0]], self.helps))
         line = " ".join(words)
-        said = call("fish", "--no-config", "-c", f"cd {self.folder}/in; source {script}; complete -C '{line}'")
+        said = call("fish", "--no-config", "-c",
+                    f"cd {self.folder}/in; source {script}; complete -C '{line}'")
         return {found.split("\t")[0] for found in said.splitlines()}
 
     def zsh(self, *words):
-        """Types the words and a tab into a zsh on a terminal of its own, which notes the matches in a file."""
+        """Types the words and a tab into a zsh on a terminal of its own, which notes the matches
+        in a file."""
         room = self.folder / "zsh"
         shutil.rmtree(room, ignore_errors=True)
         room.mkdir()
         (room / f"_{words[0]}").write_text(completions.zsh(self.helps[words[0]], self.helps))
         (room / "first").write_text(ZSH_INNER)
-        call("zsh", "-f", "-c", ZSH_OUTER, "zsh", " ".join(words), env={**os.environ, "ROOM": str(room), "IN": str(self.folder / "in")})
+        call("zsh", "-f", "-c", ZSH_OUTER, "zsh", " ".join(words),
+             env={**os.environ, "ROOM": str(room), "IN": str(self.folder / "in")})
         return set((room / "matches").read_text().split())
 
     def expect_all(self, ask):

@@ -24,7 +24,8 @@ class Package(installing.Case):
                 os.utime(path, (1, 1))
         old = os.umask(0o077)
         self.addCleanup(os.umask, old)
-        second = installing.dist(other, TZ="Asia/Tokyo", LC_ALL="C", COLUMNS="150", PYTHONHASHSEED="7", TMPDIR=str(self.folder))
+        second = installing.dist(other, TZ="Asia/Tokyo", LC_ALL="C", COLUMNS="150", PYTHONHASHSEED="7",
+                                 TMPDIR=str(self.folder))
         self.assertEqual(package.name, second.name)
         self.assertEqual(package.read_bytes(), second.read_bytes())
 
@@ -37,13 +38,17 @@ class Package(installing.Case):
             members = tar.getmembers()
         self.assertEqual([member.name for member in members], sorted(member.name for member in members))
         self.assertEqual({member.name.split("/")[0] for member in members}, {top})
-        self.assertEqual({(member.uid, member.gid, member.uname, member.mtime) for member in members}, {(0, 0, "root", COMMIT_TIME)})
+        self.assertEqual(
+            {(member.uid, member.gid, member.uname, member.mtime)
+             for member in members}, {(0, 0, "root", COMMIT_TIME)})
         self.assertEqual((unpacked / "lib/shb/VERSION").read_text(), f"{COMMIT_DAY}-{commit[:12]}\n")
         proved = (unpacked / "share/doc/shb/PROVED.md").read_text()
         checksum = call("sha256sum", installing.SHB).split()[0]
-        for wanted in (f"commit {commit} of 2026-01-02", checksum, f"(logic {LOGIC})", "(docs/GUARANTEES.md)"):
+        for wanted in (f"commit {commit} of 2026-01-02", checksum, f"(logic {LOGIC})",
+                       "(docs/GUARANTEES.md)"):
             self.assertIn(wanted, proved)
-        self.assertIn("was named by\nwho made this package (SHB=), and not compared with a build by the Rattle kit", proved)
+        self.assertIn("was named by\nwho made this package (SHB=), and not compared with a build by the "
+                      "Rattle kit", proved)
         self.assertNotIn("passed", proved)
         self.assertEqual((unpacked / "README.md").read_text(), README.read_text())
         links = re.findall(r"\]\(([^)#:]+)[)#]", README.read_text())
@@ -55,7 +60,8 @@ class Package(installing.Case):
         copy = self.clone()
         (copy / "bin").mkdir()
         checksum = call("sha256sum", installing.SHB).split()[0]
-        for left, wanted in ((checksum, "only after all its proofs passed"), ("0" * 64, "was named by\nwho made this package")):
+        for left, wanted in ((checksum, "only after all its proofs passed"), ("0" * 64, "was named by\nwho "
+                                                                              "made this package")):
             (copy / "bin/shb.sum").write_text(f"{left}  -\n")
             call("make", "-s", "-C", copy, "deb", f"SHB={installing.SHB}")
             [package] = copy.glob("*.deb")
@@ -81,10 +87,12 @@ class Package(installing.Case):
         version = f"{COMMIT_DAY}+{commit[:12]}"
         self.assertEqual(package.name, f"shb_{version}_amd64.deb")
         fields = call("dpkg-deb", "--field", package, "Package", "Version", "Architecture", "Maintainer")
-        self.assertEqual(fields, f"Package: shb\nVersion: {version}\nArchitecture: amd64\nMaintainer: maintainers <maintainers@shb.example>\n")
+        self.assertEqual(fields, f"Package: shb\nVersion: {version}\nArchitecture: amd64\nMaintainer: "
+                                 "maintainers <maintainers@shb.example>\n")
         call("dpkg-deb", "--extract", package, tree)
         self.assertEqual([path.name for path in tree.iterdir()], ["usr"])
-        said = call(tree / "usr/bin/shb", "races", "--list", tree / "usr/share/doc/shb/examples/fork-join.std")
+        said = call(tree / "usr/bin/shb", "races", "--list",
+                    tree / "usr/share/doc/shb/examples/fork-join.std")
         self.assertIn("race 1: 4 5\n", said)
         self.assertIn(f"{COMMIT_DAY}-{commit[:12]}", call(tree / "usr/bin/shb-view", "--version"))
 
@@ -92,23 +100,27 @@ class Package(installing.Case):
         """As lintian judges it, if it is installed."""
         self.need("dpkg-deb")
         self.need("lintian")
-        ran = installing.subprocess.run(["lintian", "--allow-root", self.debian("one")], stdout=installing.subprocess.PIPE, timeout=installing.SECONDS)
+        ran = installing.subprocess.run(["lintian", "--allow-root", self.debian("one")],
+                                        stdout=installing.subprocess.PIPE, timeout=installing.SECONDS)
         self.assertEqual([line for line in ran.stdout.decode().splitlines() if line.startswith("E:")], [])
 
     def test_dpkg_leaves_nothing(self):
-        """Installed by dpkg the commands run, with modules that are compiled once; removed, nothing is left."""
+        """Installed by dpkg the commands run, with modules that are compiled once; removed,
+        nothing is left."""
         self.need("dpkg")
         root = self.folder / "root"
         for folder in ("updates", "info"):
             (root / "var/lib/dpkg" / folder).mkdir(parents=True)
         (root / "var/lib/dpkg/status").touch()
-        dpkg = ["dpkg", f"--root={root}", f"--log={self.folder}/log", "--force-script-chrootless", "--force-depends", "--force-not-root", "--force-bad-path"]
+        dpkg = ["dpkg", f"--root={root}", f"--log={self.folder}/log", "--force-script-chrootless",
+                "--force-depends", "--force-not-root", "--force-bad-path"]
         call(*dpkg, "--install", self.debian("one"))
         compiled = {path: path.read_bytes() for path in (root / "usr/lib/shb").rglob("*.pyc")}
         self.assertEqual(len(compiled), len(list((root / "usr/lib/shb").rglob("*.py"))))
         self.assertIn("Usage: shb ", call(root / "usr/bin/shb", "--help"))
         self.assertRegex(call(root / "usr/bin/shb-view", "--version"), "^shb-view 2026.01.02-")
-        self.assertEqual({path: path.read_bytes() for path in (root / "usr/lib/shb").rglob("*.pyc")}, compiled)
+        self.assertEqual({path: path.read_bytes() for path in (root / "usr/lib/shb").rglob("*.pyc")},
+                         compiled)
         call(*dpkg, "--remove", "shb")
         self.assertFalse((root / "usr").exists())
 
@@ -123,17 +135,22 @@ class Package(installing.Case):
 
     def test_the_processor_is_what_the_program_asks_for(self):
         unpacked = installing.packaged()[2]
-        self.assertTrue(b"x86-64-v2" in (unpacked / "bin/shb").read_bytes(), "a program that was built without build.sh")
+        self.assertTrue(b"x86-64-v2" in (unpacked / "bin/shb").read_bytes(),
+                        "a program that was built without build.sh")
         self.assertIn("level x86-64-v2 or higher", (unpacked / "share/doc/shb/PROVED.md").read_text())
 
     def test_on_a_machine_without_python(self):
         """The programs run, and the other commands say what is missing."""
         unpacked, alone = installing.packaged()[2], {"PATH": "/nowhere"}
-        self.assertIn("race 1: 4 5\n", call(unpacked / "bin/shb", "races", unpacked / "examples/fork-join.std", env=alone))
+        self.assertIn("race 1: 4 5\n",
+                      call(unpacked / "bin/shb", "races", unpacked / "examples/fork-join.std", env=alone))
         self.assertIn("usage: shb-std ", call(unpacked / "bin/shb-std", "--help", env=alone))
         for command in ("shb-farm", "shb-fix", "shb-record", "shb-view"):
-            ran = installing.subprocess.run([unpacked / "bin" / command, "--help"], stdout=installing.subprocess.PIPE, stderr=installing.subprocess.PIPE, env=alone)
-            self.assertEqual((ran.returncode, ran.stdout, b"python3" in ran.stderr), (127, b"", True), command)
+            ran = installing.subprocess.run([unpacked / "bin" / command, "--help"],
+                                            stdout=installing.subprocess.PIPE,
+                                            stderr=installing.subprocess.PIPE, env=alone)
+            self.assertEqual((ran.returncode, ran.stdout, b"python3" in ran.stderr), (127, b"", True),
+                             command)
 
     def test_the_readme_says_what_is_needed(self):
         for wanted in (f"`logic {LOGIC}`", "(x86-64-v2)"):
@@ -147,13 +164,15 @@ class Package(installing.Case):
     def refused(self, copy, **settings):
         """What is said where no package is made."""
         words = [sys.executable, "-B", copy / "packaging/install", "--shb", installing.SHB, "dist"]
-        ran = installing.subprocess.run(words, stdout=installing.subprocess.PIPE, stderr=installing.subprocess.PIPE, env={**os.environ, **settings})
+        ran = installing.subprocess.run(words, stdout=installing.subprocess.PIPE,
+                                        stderr=installing.subprocess.PIPE, env={**os.environ, **settings})
         self.assertEqual((ran.returncode, ran.stdout, list(copy.glob("*.tar.xz"))), (1, b"", []))
         return ran.stderr.decode()
 
     def test_files_that_are_not_of_the_commit_are_left_out(self):
         copy = self.clone()
-        for name in ("docs/my-notes.txt", "examples/private.std", "python/shb_view/scratch.py", "recorder/runtime/mine.c", "python/shb-mine",
+        for name in ("docs/my-notes.txt", "examples/private.std", "python/shb_view/scratch.py",
+                     "recorder/runtime/mine.c", "python/shb-mine",
                      "python/shb_mine/part.py"):
             (copy / name).parent.mkdir(exist_ok=True)
             (copy / name).write_text("no C, no Python")
@@ -166,15 +185,20 @@ class Package(installing.Case):
         (copy / "examples/mine.std").touch()
         call("git", "-C", copy, "add", "examples/mine.std")
         (copy / "docs/DECISIONS.md").unlink()
-        self.assertEqual(self.refused(copy), "install: a package is made of a commit, and these files are changed since: README.md, "
-                                             "docs/DECISIONS.md, examples/mine.std\n")
+        self.assertEqual(self.refused(copy), "install: a package is made of a commit, and these files are "
+                                             "changed since: README.md, docs/DECISIONS.md, "
+                                             "examples/mine.std\n")
 
     def test_where_git_does_not_say_what_is_of_the_commit(self):
-        """A checkout of another owner, as git's own variable for tests has it; no git; a part of another checkout; no checkout."""
+        """A checkout of another owner, as git's own variable for tests has it; no git; a part of another
+        checkout; no checkout."""
         copy = self.clone()
-        settings = {"GIT_CONFIG_GLOBAL": "/dev/null", "GIT_CONFIG_NOSYSTEM": "1", "GIT_TEST_ASSUME_DIFFERENT_OWNER": "1"}
-        self.assertRegex(self.refused(copy, **settings), r"^install: git can't say which files .* dubious ownership .*safe\.directory")
-        self.assertEqual(self.refused(copy, PATH="/nowhere"), "install: git isn't installed; only git knows which files belong to the commit\n")
+        settings = {"GIT_CONFIG_GLOBAL": "/dev/null", "GIT_CONFIG_NOSYSTEM": "1",
+                    "GIT_TEST_ASSUME_DIFFERENT_OWNER": "1"}
+        self.assertRegex(self.refused(copy, **settings),
+                         r"^install: git can't say which files .* dubious ownership .*safe\.directory")
+        self.assertEqual(self.refused(copy, PATH="/nowhere"),
+                         "install: git isn't installed; only git knows which files belong to the commit\n")
         shutil.rmtree(copy / ".git")
         self.assertIn("not a git repository", self.refused(copy, GIT_CEILING_DIRECTORIES=str(self.folder)))
         call("git", "-C", self.folder, "init", "-q")

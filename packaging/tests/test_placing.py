@@ -1,4 +1,5 @@
-"""How a tree is put below a prefix: whatever stops it, what others have stays, and the list names all that is ours."""
+"""How a tree is put below a prefix: whatever stops it, what others have stays, and the list names all
+that is ours."""
 
 import contextlib
 import errno
@@ -12,7 +13,8 @@ from shb_install import placing
 
 FIRST = {"bin/shb": "first", "bin/old": "old", "lib/shb/pack/part.py": "part", "share/gone/page": "page"}
 SECOND = {"bin/shb": "second", "bin/new": "new", "lib/shb/pack/part.py": "part 2", "share/more/page": "page"}
-STEPS = ("replace", "unlink", "symlink", "mkdir", "rmdir")      # of `os`; beside these files are opened and written
+# of `os`; beside these files are opened and written
+STEPS = ("replace", "unlink", "symlink", "mkdir", "rmdir")
 
 
 class Stopped(BaseException):
@@ -39,7 +41,8 @@ class Base(installing.Case):
 
     def installed(self, files):
         """What a prefix has then, but for the list."""
-        return {**{name: text.encode() for name, text in files.items()}, "bin/link": "../lib/shb/pack/part.py"}
+        return {**{name: text.encode() for name, text in files.items()},
+                "bin/link": "../lib/shb/pack/part.py"}
 
     def expect(self, files):
         self.assertEqual(without_list(contents(self.place)), self.installed(files) if files else {})
@@ -58,7 +61,8 @@ class Placing(Base):
 
     def test_files_of_others_stay(self):
         placing.install(self.tree(FIRST), self.place)
-        others = {"lib/shb/mine.txt": b"mine", "lib/shb/pack/__pycache__/other.cpython-311.pyc": b"other", "bin/other": b"other"}
+        others = {"lib/shb/mine.txt": b"mine", "lib/shb/pack/__pycache__/other.cpython-311.pyc": b"other",
+                  "bin/other": b"other"}
         for name, text in others.items():
             (self.place / name).parent.mkdir(exist_ok=True)
             (self.place / name).write_bytes(text)
@@ -71,8 +75,11 @@ class Placing(Base):
         stranger = self.folder / "stranger"
         stranger.write_text("precious")
         tree = self.tree(SECOND)
-        for name, make in (("bin/shb", lambda path: path.symlink_to(stranger)), ("bin/new", lambda path: path.write_text("theirs")),
-                           ("bin/link", lambda path: path.mkdir()), ("bin/shb.shb-new", lambda path: path.symlink_to(stranger)),
+        for name, make in (
+                ("bin/shb", lambda path: path.symlink_to(stranger)), (
+                    "bin/new", lambda path: path.write_text("theirs")),
+                           ("bin/link", lambda path: path.mkdir()), (
+                               "bin/shb.shb-new", lambda path: path.symlink_to(stranger)),
                            (placing.LISTED, lambda path: path.write_text("")),
                            (placing.LISTED + placing.NEW, lambda path: path.write_text("theirs"))):
             (self.place / name).parent.mkdir(parents=True)
@@ -102,10 +109,13 @@ class Placing(Base):
         self.place.mkdir()
         (self.place / "bin").symlink_to(self.folder / "elsewhere/deep")
         placing.install(self.tree(FIRST), self.place)
-        self.assertEqual((self.folder / "elsewhere/deep/link").resolve(), (self.place / "lib/shb/pack/part.py").resolve())
+        self.assertEqual(
+            (self.folder / "elsewhere/deep/link").resolve(), (self.place / "lib/shb/pack/part.py").resolve())
         self.assertEqual((self.place / "bin/link").read_text(), "part")
         placing.uninstall(self.place)
-        self.assertEqual((list(self.place.iterdir()), contents(self.place)), ([self.place / "bin"], {"bin": str(self.folder / "elsewhere/deep")}))
+        self.assertEqual((list(self.place.iterdir()),
+                          contents(self.place)), (
+                              [self.place / "bin"], {"bin": str(self.folder / "elsewhere/deep")}))
 
     @mock.patch.object(placing, "is_root", lambda: True)
     def test_root_follows_no_link_out_of_the_prefix(self):
@@ -114,9 +124,11 @@ class Placing(Base):
         elsewhere.mkdir()
         self.place.mkdir()
         (self.place / "share").symlink_to(elsewhere)
-        with self.assertRaisesRegex(Refused, "share/gone/page is in .*elsewhere/gone, outside of .*prefix, by a link"):
+        with self.assertRaisesRegex(Refused, "share/gone/page is in .*elsewhere/gone, outside of .*prefix, "
+                                             "by a link"):
             placing.install(self.tree(FIRST), self.place)
-        self.assertEqual((list(self.place.iterdir()), list(elsewhere.iterdir())), ([self.place / "share"], []))
+        self.assertEqual((list(self.place.iterdir()),
+                          list(elsewhere.iterdir())), ([self.place / "share"], []))
         (self.place / "share").unlink()
         placing.install(self.tree(SECOND, "second"), self.place)
         (self.place / "share").rename(elsewhere / "share")
@@ -132,7 +144,8 @@ class Placing(Base):
             placing.uninstall(self.place)
         (self.place / placing.LISTED).unlink()
         (self.place / placing.LISTED).write_text(placing.LISTED + "\n")
-        with mock.patch.object(os, "geteuid", return_value=os.geteuid() + 1), self.assertRaisesRegex(Refused, "isn't a file of yours"):
+        with mock.patch.object(os, "geteuid", return_value=os.geteuid() + 1), self.assertRaisesRegex(
+                Refused, "isn't a file of yours"):
             placing.uninstall(self.place)
         self.assertTrue((self.place / placing.LISTED).exists())
 
@@ -140,7 +153,8 @@ class Placing(Base):
         (self.place / "lib/shb").mkdir(parents=True)
         (self.folder / "theirs").write_text("theirs")
         (self.folder / "empty").mkdir()
-        for name in ("../theirs", str(self.folder / "theirs"), "lib/../../theirs", "../empty/", f"{self.folder}/empty/", "lib/../../empty/"):
+        for name in ("../theirs", str(self.folder / "theirs"), "lib/../../theirs", "../empty/",
+                     f"{self.folder}/empty/", "lib/../../empty/"):
             (self.place / placing.LISTED).write_text(f"{placing.LISTED}\n{name}\n")
             with self.assertRaises(Refused):
                 placing.uninstall(self.place)
@@ -152,7 +166,8 @@ class Broken(Base):
 
     @contextlib.contextmanager
     def failing(self, number, fault):
-        """Step `number` raises the fault instead, and so do those after it if the process is stopped there."""
+        """Step `number` raises the fault instead, and so do those after it if the process is stopped
+        there."""
         count = 0
 
         def instead(real):
@@ -167,11 +182,13 @@ class Broken(Base):
             for name in STEPS:
                 stack.enter_context(mock.patch.object(os, name, instead(getattr(os, name))))
             stack.enter_context(mock.patch.object(placing, "open", instead(open), create=True))
-            stack.enter_context(mock.patch.object(placing.shutil, "copyfileobj", instead(placing.shutil.copyfileobj)))
+            stack.enter_context(mock.patch.object(placing.shutil, "copyfileobj",
+                                                  instead(placing.shutil.copyfileobj)))
             yield lambda: count
 
     def each_step(self, fault, before):
-        """Installs the second version over `before` with each step broken in turn; gives each time what happened."""
+        """Installs the second version over `before` with each step broken in turn; gives each
+        time what happened."""
         trees = {"first": self.tree(FIRST, "first"), "second": self.tree(SECOND, "second")}
         number = steps = 1
         while number <= steps:
@@ -197,7 +214,8 @@ class Broken(Base):
             found = without_list(contents(self.place))
             if is_broken and found == self.installed(FIRST):
                 undone += 1
-                self.assertEqual(placing.read_list(self.place).files, frozenset([*self.installed(FIRST), placing.LISTED]))
+                self.assertEqual(placing.read_list(self.place).files,
+                                 frozenset([*self.installed(FIRST), placing.LISTED]))
             placing.install(tree, self.place)
             self.expect(SECOND)
             placing.uninstall(self.place)
@@ -206,9 +224,11 @@ class Broken(Base):
 
     def test_a_full_disk_is_said_with_the_file_that_has_no_room(self):
         full = OSError(errno.ENOSPC, "No space left on device")
-        with mock.patch.object(placing.shutil, "copyfileobj", mock.Mock(side_effect=full)), self.assertRaises(OSError) as raised:
+        with mock.patch.object(placing.shutil, "copyfileobj",
+                               mock.Mock(side_effect=full)), self.assertRaises(OSError) as raised:
             placing.install(self.tree(FIRST), self.place)
-        self.assertEqual((raised.exception.errno, raised.exception.filename), (errno.ENOSPC, str(self.place / "bin/old")))
+        self.assertEqual(
+            (raised.exception.errno, raised.exception.filename), (errno.ENOSPC, str(self.place / "bin/old")))
         self.assertFalse(self.place.exists())
 
     def test_a_failure_of_a_first_installation_leaves_nothing(self):
@@ -232,11 +252,14 @@ class Broken(Base):
         """Empty folders, and the list without its name yet."""
         for number, _, _ in self.each_step(Stopped(), before=False):
             placing.uninstall(self.place)
-            self.assertLessEqual(set(contents(self.place)) if self.place.exists() else set(), {placing.LISTED + placing.NEW}, number)
+            self.assertLessEqual(set(contents(self.place)) if self.place.exists()
+                                 else set(), {placing.LISTED + placing.NEW}, number)
 
     def test_the_old_version_is_whole_until_all_of_the_new_one_is_there(self):
         """Killed at any step before the first new name: what the old version had is as it was."""
         for number, _, _ in self.each_step(Stopped(), before=True):
             found = contents(self.place)
-            if any(name.endswith(placing.NEW) and name != placing.LISTED + placing.NEW for name in found) and "bin/new" not in found:
-                self.assertEqual({name: found.get(name) for name in self.installed(FIRST)}, self.installed(FIRST), number)
+            if (any(name.endswith(placing.NEW) and name != placing.LISTED + placing.NEW for name in found)
+                and "bin/new" not in found):
+                self.assertEqual({name: found.get(name) for name in self.installed(FIRST)},
+                                 self.installed(FIRST), number)

@@ -21,7 +21,8 @@ Place = collections.namedtuple("Place", "first second variables has_more")
 
 
 class Answer(collections.namedtuple("Answer", "status said seconds kib", defaults=(0.0, 0))):
-    """How a run of the program ended: its status, what it said, the seconds of processor time and the KiB of memory that it took."""
+    """How a run of the program ended: its status, what it said, the seconds of processor time and the KiB of
+    memory that it took."""
 
     @property
     def words(self):
@@ -50,7 +51,8 @@ class Run:
         _, status, usage = os.wait4(self.process.pid, 0)
         self.process.returncode = -os.WTERMSIG(status) if os.WIFSIGNALED(status) else os.WEXITSTATUS(status)
         self.said.seek(0)
-        return Answer(self.process.returncode, self.said.read(MOST_SAID), usage.ru_utime + usage.ru_stime, usage.ru_maxrss)
+        return Answer(self.process.returncode, self.said.read(MOST_SAID), usage.ru_utime + usage.ru_stime,
+                      usage.ru_maxrss)
 
     def __exit__(self, *_):
         self.close()
@@ -65,7 +67,8 @@ class Run:
 
 
 def rewound(file):
-    """An open file at its beginning, also for a process that gets it: Python's own `seek` may move in its buffer alone."""
+    """An open file at its beginning, also for a process that gets it: Python's own `seek` may move in
+    its buffer alone."""
     os.lseek(file.fileno(), 0, os.SEEK_SET)
     return file
 
@@ -87,7 +90,8 @@ def places_in(races):
         place, name = tuple(access.location for access in accesses), accesses[0].name
         by_variable = found.setdefault(place, {})
         if name in by_variable:
-            raise BadReport(f"race {race.number} of the report: its variable has a race at this place already")
+            raise BadReport(
+                f"race {race.number} of the report: its variable has a race at this place already")
         if len(by_variable) == variables.MOST_VARIABLES:
             more.add(place)
         else:

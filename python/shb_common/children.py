@@ -9,17 +9,18 @@ LIBRARY = ctypes.CDLL(None)     # loaded before a fork, since after it that may 
 
 
 def end_with(parent):
-    """Has the system kill this process when its parent ends, in whatever way. `parent` is the number of the process that started
-    it, which may have ended already: then it ends here."""
+    """Has the system kill this process when its parent ends, in whatever way. `parent` is the number of the
+    process that started it, which may have ended already: then it ends here."""
     LIBRARY.prctl(SET_PARENT_DEATH_SIGNAL, signal.SIGKILL, 0, 0, 0)
     if os.getppid() != parent:
         os._exit(1)
 
 
 def apart():
-    """How a helper is started: it ends with this process, and what the terminal or `timeout` sends to a whole group is for this one to
-    take. With a function to call, a child begins as a copy of the command, so what comes before its session is new meets the command's
-    handlers. With `start_new_session` it would end the child."""
+    """How a helper is started: it ends with this process, and what the terminal or `timeout` sends to a whole
+    group is for this one to take. With a function to call, a child begins as a copy of the command, so what
+    comes before its session is new meets the command's handlers. With `start_new_session` it would end the
+    child."""
     parent = os.getpid()
 
     def begin():

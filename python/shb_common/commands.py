@@ -13,7 +13,8 @@ COLUMNS = 80
 def filled(text):
     """A text with its paragraphs filled to 80 columns, but those with a line that begins with a blank."""
     import textwrap  # takes its time, and is for help alone
-    return "\n\n".join(part if "\n " in f"\n{part}" else textwrap.fill(part, COLUMNS, break_long_words=False, break_on_hyphens=False)
+    return "\n\n".join(part if "\n " in f"\n{part}"
+                       else textwrap.fill(part, COLUMNS, break_long_words=False, break_on_hyphens=False)
                        for part in text.strip("\n").split("\n\n"))
 
 
@@ -28,7 +29,8 @@ class Parser(argparse.ArgumentParser):
 
     def __init__(self, command, about, notes, status=3, **more):
         super().__init__(prog=command, formatter_class=argparse.RawDescriptionHelpFormatter,
-                         allow_abbrev=False, **more)      # what is short for one option today may be for another tomorrow
+                         # what is short for one option today may be for another tomorrow
+                         allow_abbrev=False, **more)
         self.about, self.notes, self.status = about, notes, status
 
     def format_help(self):

@@ -31,7 +31,8 @@ def read_at_most(path, most):
 
 @contextlib.contextmanager
 def temporary_file(folder):
-    """A new open file and its path; it is deleted at the end if it is still there. What was written counts once it was flushed."""
+    """A new open file and its path; it is deleted at the end if it is still there. What was written counts
+    once it was flushed."""
     number, path = tempfile.mkstemp(dir=folder)
     file = open(number, "w+b")
     try:
@@ -44,7 +45,8 @@ def temporary_file(folder):
 
 
 def put(path, text, room=None):
-    """Puts a file in place whole; `room` is a folder of the same file system, that of the file where it is left out."""
+    """Puts a file in place whole; `room` is a folder of the same file system, that of the file where it
+    is left out."""
     path = pathlib.Path(path)
     with temporary_file(room or path.absolute().parent) as (file, new):
         file.write(text)

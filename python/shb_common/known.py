@@ -1,10 +1,11 @@
 """Places as they are written in tables, and the file of known places.
 
-A line of the file has three fields with a tab between them: two sides of a place, in either order, and the variable. A side is a
-location, or the function that it lies in, `FILE:FUNCTION()`, which an edit above doesn't change. `*` stands for any text, and `\\*`
-for the sign itself. Empty lines, and lines that begin with `#`, are skipped; `\\#` begins a field with that sign. A location that
-itself ends with `()` has a backslash before these, so it is never taken for a function. Lines end with LF or CR LF. A line with two
-fields, as earlier versions wrote it, is of every variable.
+A line of the file has three fields with a tab between them: two sides of a place, in either order, and the
+variable. A side is a location, or the function that it lies in, `FILE:FUNCTION()`, which an edit above
+doesn't change. `*` stands for any text, and `\\*` for the sign itself. Empty lines, and lines that begin with
+`#`, are skipped; `\\#` begins a field with that sign. A location that itself ends with `()` has a backslash
+before these, so it is never taken for a function. Lines end with LF or CR LF. A line with two fields, as
+earlier versions wrote it, is of every variable.
 """
 
 import collections
@@ -24,10 +25,12 @@ FORM = "a place is two locations or functions and a variable, with tabs between 
 # What other files have instead, and what helps.
 FOREIGN = {
     rb"(race|race_top|called_from_lib|thread|mutex|signal|deadlock):":
-        "ThreadSanitizer's `race:NAME` is written `*:NAME()`, `*`, `*` if NAME is a function, and `*NAME:*`, `*`, `*` if it is a file",
+        "ThreadSanitizer's `race:NAME` is written `*:NAME()`, `*`, `*` if NAME is a function, and `*NAME:*`, "
+        "`*`, `*` if it is a file",
     rb"[^\t]* [^\t]*": "it has blanks",
 }
-# What differs from run to run in the name of a variable: the line and the number of a block, a thread's stack, an index, an address.
+# What differs from run to run in the name of a variable: the line and the number of a block, a thread's
+# stack, an index, an address.
 BLOCK = re.compile(rb"(.+):[0-9]+#[0-9]+((?:\+[0-9]+)?)", re.S)
 STACK = re.compile(rb"stack\..+-0x[0-9a-f]+", re.S)
 INDEX = re.compile(rb"\[[0-9]+\]")
@@ -45,11 +48,12 @@ class BadLine(Refused):
 
 
 class Side(collections.namedtuple("Side", "names functions", defaults=((),))):
-    """What a location may be called in the file: its names, and those of each function that it lies in. The first of several names
-    is the one that is written."""
+    """What a location may be called in the file: its names, and those of each function that it lies in. The
+    first of several names is the one that is written."""
 
     def keys(self):
-        return [*((False, name) for name in self.names), *((True, name) for names in self.functions for name in names)]
+        return [*((False, name) for name in self.names),
+                *((True, name) for names in self.functions for name in names)]
 
     def field(self):
         return location_field(self.names[0])
@@ -79,7 +83,8 @@ def location_field(location):
 
 def function_field(function):
     """A function `FILE:FUNCTION()` as a field; None where it can't be written as one."""
-    return None if function[:-2].endswith(b"\\") or not function.endswith(CALL) else function.replace(b"*", b"\\*")
+    return (None if function[:-2].endswith(b"\\") or not function.endswith(CALL)
+            else function.replace(b"*", b"\\*"))
 
 
 def line_of_fields(first, second, variable):
@@ -118,14 +123,17 @@ def lasting_names(variables):
 
 
 def fields_of(sides):
-    """Two sides as fields of the file, sorted: as functions where each location lies in one; and as two locations."""
-    by_location, functions = tuple(sorted(side.field() for side in sides)), [side.function() for side in sides]
+    """Two sides as fields of the file, sorted: as functions where each location lies in one; and
+    as two locations."""
+    by_location, functions = (
+        tuple(sorted(side.field() for side in sides)), [side.function() for side in sides])
     return (tuple(sorted(functions)) if all(functions) else by_location), by_location
 
 
 def lines_of(places):
-    """The lines of a file of known places with these: each has its two sides, the names of its variables, and whether there are
-    more than these. By functions where these are known, with the locations in a comment above."""
+    """The lines of a file of known places with these: each has its two sides, the names of its variables, and
+    whether there are more than these. By functions where these are known, with the locations in a comment
+    above."""
     found, more = {}, set()
     for sides, variables, has_more in places:
         fields, by_location = fields_of(sides)
@@ -147,8 +155,8 @@ def pieces_of(text):
 
 
 def matches(pieces, text):
-    """Whether a text has these pieces, in this order and without overlap, from its beginning to its end. Of several occurrences of
-    a piece the first one will do, so no search is done twice."""
+    """Whether a text has these pieces, in this order and without overlap, from its beginning to its end. Of
+    several occurrences of a piece the first one will do, so no search is done twice."""
     first, *inner, last = pieces if len(pieces) > 1 else (pieces[0], b"")
     if len(pieces) == 1:
         return text == first
@@ -171,11 +179,15 @@ def side_in(field):
 
 
 def words_of_stale(lines, names):
-    """What is said of lines that matched nothing. `names` are those of the source files (`programs.Names`)."""
+    """What is said of lines that matched nothing. `names` are those of the source files
+    (`programs.Names`)."""
     for line in lines[:MOST_STALE]:
-        several = [files for _, pieces in line.sides for files in [names.several(pieces[0].rpartition(b":")[0])] if files]
-        why = f"; {printable(several[0][0])} is the end of {len(several[0][1])} source files' paths: " if several else ""
-        yield f"line {line.number}: no race matched `{printable(line.text)}`" + why + ", ".join(map(printable, several[0][1][:3] if several else ()))
+        several = [files for _, pieces in line.sides
+                   for files in [names.several(pieces[0].rpartition(b":")[0])] if files]
+        why = (f"; {printable(several[0][0])} is the end of {len(several[0][1])} source files' paths: "
+               if several else "")
+        yield (f"line {line.number}: no race matched `{printable(line.text)}`" + why
+               + ", ".join(map(printable, several[0][1][:3] if several else ())))
     if len(lines) > MOST_STALE:
         yield f"{len(lines) - MOST_STALE:,} more lines: no race matched"
 
@@ -189,12 +201,14 @@ def read(path):
 
 
 def given(path, say):
-    """The places of the file that a user named, if there is one; `say` is told where lines of it name no variable."""
+    """The places of the file that a user named, if there is one; `say` is told where lines of it
+    name no variable."""
     found = read(path) if path else Known()
     old = [line for line in found.lines if line.variable is None]
     if old:
         more = f" and {len(old) - 1:,} more" if len(old) > 1 else ""
-        say(f"{path}, line {old[0].number}{more}: no variable is named, so every variable there is known; a third field names one")
+        say(f"{path}, line {old[0].number}{more}: no variable is named, so every variable there is known; a "
+            "third field names one")
     return found
 
 
@@ -203,7 +217,8 @@ class Known:
 
     def __init__(self, text=b""):
         self.lines, self.exact, self.patterns, self.found, self.used = [], {}, [], {}, set()
-        other = next((hint for start, hint in BEGINNINGS.items() if start != MARK and text.startswith(start)), None)
+        other = next((hint for start, hint in BEGINNINGS.items() if start != MARK and text.startswith(start)),
+                     None)
         if other:
             raise BadLine(f"line 1: {other}")
         for number, line in enumerate(text[len(MARK) if text.startswith(MARK) else 0:].split(b"\n"), 1):
@@ -219,19 +234,22 @@ class Known:
         sides = tuple(map(side_in, fields[:2]))
         self.lines.append(Line(number, line, sides, pieces_of(fields[2]) if len(fields) == 3 else None))
         if all(len(pieces) == 1 for _, pieces in sides):
-            self.exact.setdefault(tuple(sorted((kind, pieces[0]) for kind, pieces in sides)), []).append(len(self.lines) - 1)
+            self.exact.setdefault(tuple(sorted((kind, pieces[0]) for kind, pieces in sides)), []).append(
+                len(self.lines) - 1)
         else:
             self.patterns.append(len(self.lines) - 1)
 
     def has(self, sides, variable):
-        """Whether this variable is known at a place with these two sides; None stands for variables that aren't named."""
+        """Whether this variable is known at a place with these two sides; None stands for variables
+        that aren't named."""
         found = [line for line in self.lines_at(sides) if self.is_of(self.lines[line], variable)]
         self.used.update(found)
         return bool(found)
 
     def has_all(self, sides, variables, has_more=False):
         """Whether all variables of a place are known. `has_more` says that it has more than these."""
-        return all([self.has(sides, variable) for variable in [*variables, *[None] * (has_more or not variables)]])
+        return all(
+            [self.has(sides, variable) for variable in [*variables, *[None] * (has_more or not variables)]])
 
     @staticmethod
     def is_of(line, variable):
@@ -242,7 +260,8 @@ class Known:
     def lines_at(self, sides):
         """The numbers of the lines whose first two fields name these sides."""
         one, other = (side.keys() for side in sides)
-        found = {line for both in itertools.product(one, other) for line in self.exact.get(tuple(sorted(both)), ())}
+        found = {line for both in itertools.product(one, other)
+                 for line in self.exact.get(tuple(sorted(both)), ())}
         if self.patterns:
             (first, second), (other_first, other_second) = map(self.patterns_of_any, (one, other))
             found |= first & other_second | second & other_first
@@ -256,7 +275,9 @@ class Known:
         """The lines with stars whose first field this one matches, and those whose second."""
         if key not in self.found:
             kind, name = key
-            self.found[key] = tuple({number for number in self.patterns for is_function, pieces in [self.lines[number].sides[side]]
+            self.found[key] = tuple(
+                {number for number in self.patterns
+                 for is_function, pieces in [self.lines[number].sides[side]]
                                      if is_function == kind and matches(pieces, name)} for side in (0, 1))
         return self.found[key]
 

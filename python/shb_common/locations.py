@@ -1,4 +1,5 @@
-"""Locations as compilers and the recorder write them: FILE:LINE, FILE:LINE:COLUMN or MODULE+OFFSET. Other texts are names."""
+"""Locations as compilers and the recorder write them: FILE:LINE, FILE:LINE:COLUMN or MODULE+OFFSET. Other
+texts are names."""
 
 import re
 

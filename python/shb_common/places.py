@@ -1,4 +1,5 @@
-"""The places of several traces and programs: two locations that race, whichever comes first, with what is known of them."""
+"""The places of several traces and programs: two locations that race, whichever comes first, with what is
+known of them."""
 
 import collections
 
@@ -6,14 +7,16 @@ from shb_common import known
 from shb_common.programs import Names, pair_of, sorting
 
 
-class Row(collections.namedtuple("Row", "key names texts sides places variables has_more is_known traces example race is_behind report",
+class Row(collections.namedtuple("Row", "key names texts sides places variables has_more is_known traces "
+                                        "example race is_behind report",
                                  defaults=(False, ""))):
-    """Two locations that race, of which all results are written. `key` has the two, each of its own program; `names` what they are called over
-    all programs, `texts` how the example has them, `sides` what they may be called in a file of known places. They race in so many orders
-    (`places`); `variables` are the names of those that race there, each with whether it is known, and `has_more` says whether there are more.
-    So many `traces` have it; `example` is the one that is named, and `race` what is known of the race that was seen first. `is_behind` says
-    that all unknown variables were found behind known races alone; `report` is the farm's: the example's report with schedules, below the
-    folder of the outcomes, or why there is none."""
+    """Two locations that race, of which all results are written. `key` has the two, each of its own program;
+    `names` what they are called over all programs, `texts` how the example has them, `sides` what they may be
+    called in a file of known places. They race in so many orders (`places`); `variables` are the names of
+    those that race there, each with whether it is known, and `has_more` says whether there are more. So many
+    `traces` have it; `example` is the one that is named, and `race` what is known of the race that was seen
+    first. `is_behind` says that all unknown variables were found behind known races alone; `report` is the
+    farm's: the example's report with schedules, below the folder of the outcomes, or why there is none."""
 
     def state(self):
         return "known" if self.is_known else "behind" if self.is_behind else "unknown"
@@ -23,8 +26,8 @@ class Row(collections.namedtuple("Row", "key names texts sides places variables 
 
 
 class Seen:
-    """What was seen of two locations: how each trace that has them writes them, a race of each variable, whether there are more
-    variables, and the orders in which they race."""
+    """What was seen of two locations: how each trace that has them writes them, a race of each variable,
+    whether there are more variables, and the orders in which they race."""
 
     def __init__(self):
         self.traces, self.variables, self.has_more, self.orders = {}, {}, False, set()
@@ -64,7 +67,8 @@ class Places:
         sides = tuple(map(self.names.side, both))
         variables = tuple((name, self.given.has(sides, name)) for name in sorted(seen.variables))
         return Row(both, tuple(known.written(self.names.name(location)) for location in both),
-                   tuple(seen.traces[example][location] for location in both), sides, len(seen.orders), variables, seen.has_more,
+                   tuple(seen.traces[example][location] for location in both), sides, len(seen.orders),
+                   variables, seen.has_more,
                    self.is_known(key), len(seen.traces), example, next(iter(seen.variables.values()), None),
                    bool(seen.behind) and all(is_known or name in seen.behind for name, is_known in variables))
 
@@ -75,4 +79,5 @@ def in_order(rows):
 
 def unknown_places(rows):
     """The unknown ones as a file of known places has them."""
-    return b"".join(known.lines_of((row.sides, row.unknown(), row.has_more) for row in rows if not row.is_known))
+    return b"".join(
+        known.lines_of((row.sides, row.unknown(), row.has_more) for row in rows if not row.is_known))

@@ -25,8 +25,8 @@ def pair_of(order):
 
 
 class Origin:
-    """Where a trace's locations come from. `tables` has the functions, source files and locals beside it; `program` is the path of
-    the program, if it is known."""
+    """Where a trace's locations come from. `tables` has the functions, source files and locals beside it;
+    `program` is the path of the program, if it is known."""
 
     def __init__(self, tables=None, program=b""):
         self.tables, self.program, self.modules = tables or Stacks(), program, {}
@@ -37,8 +37,10 @@ class Origin:
         self.modules.update((posixpath.basename(path), path) for path in paths)
 
     def files(self):
-        """The paths of all its source files and of those of the locations that were asked for, each with its name in the trace."""
-        return {**{normal(path): name for name, path in self.tables.sources.items() if is_end(name, path)}, **self.called}
+        """The paths of all its source files and of those of the locations that were asked for, each with its
+        name in the trace."""
+        return {**{normal(path): name for name, path in self.tables.sources.items() if is_end(name, path)},
+                **self.called}
 
     def location(self, text):
         """The location that a trace writes so. A file whose path isn't known belongs to the program."""
@@ -47,7 +49,8 @@ class Origin:
         if not is_end(name, path):
             path = self.program + b"/" + name if self.program else name
         self.called[normal(path)] = name
-        return Location(normal(path), rest, frozenset(self.tables.functions.get(text, ())), self.tables.sums.get(text, b""))
+        return Location(normal(path), rest, frozenset(self.tables.functions.get(text, ())),
+                        self.tables.sums.get(text, b""))
 
 
 def naming(tables, locations):
@@ -78,7 +81,8 @@ class Names:
     """The names of source files over several programs."""
 
     def __init__(self):
-        self.paths, self.called = {}, {}    # by an end: the paths that have it; by a path: the longest name that a trace has for it
+        # by an end: the paths that have it; by a path: the longest name that a trace has for it
+        self.paths, self.called = {}, {}
 
     def add(self, path, name=b""):
         if path not in self.called:
@@ -92,8 +96,8 @@ class Names:
             self.add(path, name)
 
     def names(self, path):
-        """What may stand for a file: the ends of its path that no other file has, and the whole path. The first is the one that is
-        written: the shortest, but not shorter than what its trace calls it."""
+        """What may stand for a file: the ends of its path that no other file has, and the whole path. The
+        first is the one that is written: the shortest, but not shorter than what its trace calls it."""
         ends = [end for end in ends_of(path) if end == path or self.paths.get(end, {path}) == {path}]
         first = next((end for end in ends if len(end) >= len(self.called.get(path, b""))), path)
         return [first, *(end for end in ends if end != first)]
@@ -111,4 +115,5 @@ class Names:
         """What a location may be called in a file of known places."""
         names = list(map(written, self.names(location.path)))
         return Side(tuple(name + written(location.rest) for name in names),
-                    tuple(tuple(b"%b:%b%b" % (name, written(function), CALL) for name in names) for function in sorted(location.functions)))
+                    tuple(tuple(b"%b:%b%b" % (name, written(function), CALL) for name in names)
+                          for function in sorted(location.functions)))

@@ -1,4 +1,5 @@
-"""Which Python the commands need. An older one, or one without its whole library, can read this file and the commands' own, and says so."""
+"""Which Python the commands need. An older one, or one without its whole library, can read this file and the
+commands' own, and says so."""
 
 import gc
 import importlib
@@ -9,7 +10,8 @@ COLLECT_EVERY = 100_000  # objects that are kept: Python's own 700 cost a short 
 
 
 def run(command, status):
-    """Runs a command. It ends with this status if this Python is too old for it, or lacks a module of Python's library."""
+    """Runs a command. It ends with this status if this Python is too old for it, or lacks a module
+    of Python's library."""
     def end(why):
         sys.stderr.write("%s: %s\n" % (command, why))
         sys.exit(status)
@@ -18,7 +20,8 @@ def run(command, status):
         missing = getattr(fault, "name", None)
         if not issubclass(kind, ImportError) or not missing or missing.startswith("shb_"):
             return sys.__excepthook__(kind, fault, trace)
-        end("this Python lacks its module `%s`: install all of Python (Debian's python3, not python3-minimal alone)" % missing)
+        end("this Python lacks its module `%s`: install all of Python (Debian's python3, not python3-minimal "
+            "alone)" % missing)
 
     if sys.version_info < NEEDED:
         end("Python %d.%d or later is needed, and this is %d.%d" % (NEEDED + sys.version_info[:2]))

@@ -8,10 +8,12 @@ from shb_common.words import printable
 NUMBER = r"(?:.*: )?line ([1-9][0-9]{0,18}): "
 LONGEST = 60        # columns of the line that are shown
 WORDS = {b"r", b"w", b"acq", b"rel", b"fork", b"join", b"begin", b"end"}
-KIN = {b"read": "r", b"write": "w", b"lock": "acq", b"acquire": "acq", b"unlock": "rel", b"release": "rel", b"start": "fork"}
+KIN = {b"read": "r", b"write": "w", b"lock": "acq", b"acquire": "acq", b"unlock": "rel", b"release": "rel",
+       b"start": "fork"}
 SEPARATORS = {b"\t": "tabs", b",": "commas", b";": "semicolons"}
 MARK = b"\xef\xbb\xbf"
-NOTE = b"the trace begins with a byte order mark, which is a part of the first thread's name\n"    # as `shb` says it of any trace
+# as `shb` says it of any trace
+NOTE = b"the trace begins with a byte order mark, which is a part of the first thread's name\n"
 BEGINNINGS = {      # of files that are something else
     b"\x1f\x8b": "the file is packed by gzip: unpack it first",
     b"\xfd7zXZ": "the file is packed by xz: unpack it first",
@@ -54,8 +56,8 @@ def explained(words, file):
 
 
 def line_and_hint(words, file):
-    """The line of an open file that the words of a refusal name, without its end, and what may be wrong with it, nothing where
-    there is no guess; None where they name no line. Of a long line the front."""
+    """The line of an open file that the words of a refusal name, without its end, and what may be wrong with
+    it, nothing where there is no guess; None where they name no line. Of a long line the front."""
     found = re.match(NUMBER, words)
     if not found:
         return None

@@ -1,6 +1,7 @@
 """A report of races, read line by line, with schedules or without. docs/FORMATS.md has the form.
 
-A report is accepted only whole: its numbers count up, its places are those of its races, and it ends with `end`.
+A report is accepted only whole: its numbers count up, its places are those of its races, and it
+ends with `end`.
 """
 
 import collections
@@ -17,7 +18,8 @@ PLACES = re.compile(rb"places %b\n" % NUMBER)
 PLACE = re.compile(rb"place %b: %b\n" % (NUMBER, NUMBER))
 AT, AND = (re.compile(rb"%b ([^\n]{0,%d})\n" % (word, MOST_LINE)) for word in (b"at", b"and"))
 RACE = re.compile(rb"race %b: %b %b\n" % (NUMBER, NUMBER, NUMBER))
-FIRST, SECOND = (re.compile(word + rb" (([^\n|]+)\|([rw])\(([^\n|]+)\)(?:\|([^\n]*))?)\n") for word in (rb"first", rb"second"))
+FIRST, SECOND = (re.compile(word + rb" (([^\n|]+)\|([rw])\(([^\n|]+)\)(?:\|([^\n]*))?)\n")
+                 for word in (rb"first", rb"second"))
 SCHEDULE = re.compile(rb"schedule %b:" % NUMBER)
 END = re.compile(rb"end\n")
 MOST_EVENTS = 1_000     # of a schedule that is given as a list
@@ -50,7 +52,8 @@ class Lines:
     def __init__(self, file):
         self.file = file
         self.number = 0             # of the lines taken
-        self.start = self.bytes = 0     # where the next line begins, and where it ends, counted from the report's first byte
+        # where the next line begins, and where it ends, counted from the report's first byte
+        self.start = self.bytes = 0
         self.line = b""
         self.known = {FIRST: {}, SECOND: {}}    # accesses by their lines, most of which come again
         self.advance()
@@ -76,14 +79,18 @@ class Lines:
         """The numbers of the next line but for its first, which is this one."""
         found = self.numbers(pattern, form)
         if found[0] != number:
-            raise BadReport(f"line {self.number} of the report has the number {found[0]}; it should be `{form}`")
+            raise BadReport(f"line {self.number} of the report has the number {found[0]}; it should be "
+                            f"`{form}`")
         return found[1:]
 
     def accesses(self, what, first, second, events):
-        """The lines of two accesses that conflict, each with its fields. They are of these events of so many; `what` has them."""
-        (first_line, one), (second_line, other) = self.access(FIRST, "first ACCESS"), self.access(SECOND, "second ACCESS")
+        """The lines of two accesses that conflict, each with its fields. They are of these events of so many;
+        `what` has them."""
+        (first_line, one), (second_line, other) = (self.access(FIRST, "first ACCESS"),
+                                                   self.access(SECOND, "second ACCESS"))
         if not 0 < first < second <= events:
-            raise BadReport(f"{what} of the report: {first} and {second} aren't two events of the trace, the earlier first")
+            raise BadReport(f"{what} of the report: {first} and {second} aren't two events of the trace, the "
+                            "earlier first")
         if one.name != other.name or one.thread == other.thread or b"w" not in (one.word, other.word):
             raise BadReport(f"{what} of the report: the events {first} and {second} don't conflict")
         return (first_line, one), (second_line, other)
@@ -107,11 +114,13 @@ class Lines:
             raise BadReport(f"line {self.number + 1} of the report comes after `end`")
 
     def pass_schedule(self):
-        """Where the schedule of the next line begins. The line may be long, and isn't kept; `shb check` judges it."""
+        """Where the schedule of the next line begins. The line may be long, and isn't kept; `shb
+        check` judges it."""
         start = self.start
         self.number += 1
         if SCHEDULE.match(self.line) is None:
-            raise BadReport(f"line {self.number} of the report is {said(self.line)}; it should be `schedule N: N EVENTS`")
+            raise BadReport(f"line {self.number} of the report is {said(self.line)}; it should be `schedule "
+                            "N: N EVENTS`")
         while not self.line.endswith(b"\n"):
             self.advance()
             if not self.line:
@@ -129,15 +138,16 @@ def said(line):
 
 
 class Report:
-    """A report in an open file. Its head is read at once: `counts` of the trace, the number of races, and `places`, how many
-    races each pair of locations has."""
+    """A report in an open file. Its head is read at once: `counts` of the trace, the number of races, and
+    `places`, how many races each pair of locations has."""
 
     def __init__(self, file):
         self.lines = Lines(file)
         self.lines.next(VERSION, "shb-report 2")
         self.counts = Counts(*self.lines.numbers(COUNTS, "events E threads T locks L variables V"))
         [self.count] = self.lines.numbers(RACES, "races R")
-        self.places, self.has_schedules = self.read_places(), False     # the latter is known when the first race is read
+        # the latter is known when the first race is read
+        self.places, self.has_schedules = self.read_places(), False
 
     def read_places(self):
         [count] = self.lines.numbers(PLACES, "places P")
@@ -150,7 +160,8 @@ class Report:
         return found
 
     def races(self):
-        """The races, one after the other, each with its two accesses; the rest of the report is read with the last."""
+        """The races, one after the other, each with its two accesses; the rest of the report is read
+        with the last."""
         places = {}
         for number in range(1, self.count + 1):
             race, accesses = self.read_race(number)
@@ -163,7 +174,8 @@ class Report:
 
     def read_race(self, number):
         first, second = self.lines.numbered(RACE, f"race {number}: I J", number)
-        (first_line, one), (second_line, other) = self.lines.accesses(f"race {number}", first, second, self.counts.events)
+        (first_line, one), (second_line, other) = self.lines.accesses(
+            f"race {number}", first, second, self.counts.events)
         if number == 1:
             self.has_schedules = self.lines.line.startswith(b"schedule ")
         schedule = self.lines.pass_schedule() if self.has_schedules else None

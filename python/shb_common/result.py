@@ -13,9 +13,10 @@ def text(name):
 
 
 def access(name, location, in_trace, event=None, read=None):
-    """An access of a place: `name` is what its location is called over all programs, `location` says whose it is, `in_trace` is
-    how the trace has it, and `read` its fields there."""
-    found = {"location": text(name), "in_trace": text(in_trace), "functions": sorted(map(text, location.functions))}
+    """An access of a place: `name` is what its location is called over all programs, `location` says whose it
+    is, `in_trace` is how the trace has it, and `read` its fields there."""
+    found = {"location": text(name), "in_trace": text(in_trace),
+             "functions": sorted(map(text, location.functions))}
     if location.path.startswith(b"/"):
         found["file"] = text(location.path)
     if event is not None:
@@ -31,9 +32,12 @@ def entry(row, found, reads=((), ()), **more):
     races = {one["name"]: {"races": one["races"]} for one in found.get("variables", ()) if "races" in one}
     accesses = [{**there.get(text(in_trace), {}), **access(name, location, in_trace, *read)}
                 for name, location, in_trace, read in zip(row.names, row.key, row.texts, reads)]
-    variables = [{"name": text(name), "state": "known" if is_known else "unknown", **races.get(text(name), {})} for name, is_known in row.variables]
-    return {"state": row.state(), "places": row.places, "accesses": accesses, "variables": variables, "has_more_variables": row.has_more,
-            **{name: found[name] for name in ("races", "blamed", "headline", "remedy", "facts") if name in found},
+    variables = [{"name": text(name), "state": "known" if is_known else "unknown",
+                  **races.get(text(name), {})} for name, is_known in row.variables]
+    return {"state": row.state(), "places": row.places, "accesses": accesses, "variables": variables,
+            "has_more_variables": row.has_more,
+            **{name: found[name] for name in ("races", "blamed", "headline", "remedy", "facts")
+               if name in found},
             **more}
 
 
@@ -53,7 +57,8 @@ def stale_of(lines):
 def document(command, summary, places, **more):
     """The whole. `summary` has numbers by their names."""
     installed = version.installed()
-    head = {"form": FORM, "version": VERSION, "command": command, **({"installed": installed} if installed else {})}
+    head = {"form": FORM, "version": VERSION, "command": command,
+            **({"installed": installed} if installed else {})}
     return {**head, "summary": summary, **more, "places": places}
 
 

@@ -1,4 +1,5 @@
-"""Places as a log in SARIF 2.1.0, the static analysis results interchange format of OASIS: one result a place."""
+"""Places as a log in SARIF 2.1.0, the static analysis results interchange format of OASIS: one
+result a place."""
 
 import collections
 import os
@@ -18,18 +19,22 @@ SCHEMA = "https://docs.oasis-open.org/sarif/sarif/v2.1.0/errata01/os/schemas/sar
 RULE = {
     "id": "data-race",
     "name": "DataRace",
-    "shortDescription": {"text": "Two threads access a variable, one of them writes it, and nothing orders the two accesses."},
-    "fullDescription": {"text": "In a recorded run two threads access the same variable, at least one access is a write, and "
-                                "schedulable happens-before doesn't order them: after a correct reordering of earlier events both can "
-                                "execute next."},
-    "help": {"text": "Make both accesses under one lock, or order them: by a join, by a release and an acquire, or by making the "
-                     "variable atomic. The page of the run explains the race; of a trace shb-view makes one."},
+    "shortDescription": {"text": "Two threads access a variable, one of them writes it, and nothing orders "
+                                 "the two accesses."},
+    "fullDescription": {"text": "In a recorded run two threads access the same variable, at least one access "
+                                "is a write, and schedulable happens-before doesn't order them: after a "
+                                "correct reordering of earlier events both can execute next."},
+    "help": {"text": "Make both accesses under one lock, or order them: by a join, by a release and an "
+                     "acquire, or by making the variable atomic. The page of the run explains the race; of a "
+                     "trace shb-view makes one."},
     "defaultConfiguration": {"level": "error"},
 }
 BASE = "SRCROOT"        # the folder that relative file names in the traces start from
 TRACES = "TRACES"       # the folder of the traces
-BASES = {BASE: "The folder that relative file names start from: the repository.", TRACES: "The folder of the traces."}
-FOUND, RELATIVE, ABSOLUTE, NAME = range(4)      # what is known of a location, from what a reader can open best
+BASES = {BASE: "The folder that relative file names start from: the repository.",
+         TRACES: "The folder of the traces."}
+# what is known of a location, from what a reader can open best
+FOUND, RELATIVE, ABSOLUTE, NAME = range(4)
 
 OTHERS = {1: "The other access.", 2: "An access."}   # what is related to a result
 MOST_NAMED = 3          # variables in a message
@@ -70,8 +75,8 @@ class Here:
 
 
 def place_of(name, sources, compiled=b""):
-    """What is known of a location: a file with a line where it has this form, the repository's file where that is found.
-    `compiled` is the path that the file had where its program was compiled."""
+    """What is known of a location: a file with a line where it has this form, the repository's file where
+    that is found. `compiled` is the path that the file had where its program was compiled."""
     found = line_of(name)
     if not found or not found[1]:    # lines count from 1
         return Place(name, NAME, b"", 0, None)
@@ -94,11 +99,14 @@ def location_of(place, **more):
     """A location object: with a file and a line, or with a name alone."""
     if place.kind == NAME:
         return {**more, "logicalLocations": [{"fullyQualifiedName": named(place)}]}
-    return {**more, "physicalLocation": {"artifactLocation": uri_of(place.path, BASE), "region": {"startLine": place.line}}}
+    return {**more,
+            "physicalLocation": {"artifactLocation": uri_of(place.path, BASE),
+                                 "region": {"startLine": place.line}}}
 
 
 def primary_of(place, example):
-    """The location of a result, which readers of such logs want in a file: without one it is the trace that has the place."""
+    """The location of a result, which readers of such logs want in a file: without one it is the trace that
+    has the place."""
     if place.kind != NAME:
         return location_of(place)
     trace = {"artifactLocation": uri_of(example, TRACES), "region": {"startLine": 1}}
@@ -122,25 +130,33 @@ def line_fingerprint(first, second, alert):
     """Names a place by the texts of its lines and its variables, so it stays when they move."""
     if first.code is None:
         return None
-    parts = [first.path, first.code, *((second.text,) if second.code is None else (second.path, second.code)), *variables_of(alert)]
+    parts = [first.path, first.code, *((second.text,) if second.code is None else (second.path, second.code)),
+             *variables_of(alert)]
     return fingerprint(parts, b"\n", 8)
 
 
 def code_flows(alert, sources):
-    """The property of a result with the ways to the two accesses of a race, a thread each; nothing where they aren't known."""
+    """The property of a result with the ways to the two accesses of a race, a thread each; nothing where
+    they aren't known."""
     flows = [thread_flow(access, sources) for access in alert.accesses]
-    return {"codeFlows": [{"threadFlows": flows}]} if flows and all(flow["locations"] for flow in flows) else {}
+    return ({"codeFlows": [{"threadFlows": flows}]} if flows
+            and all(flow["locations"] for flow in flows) else {})
 
 
 def thread_flow(access, sources):
-    """The calls of a thread that lead to its access, the outermost first. What is no line of the program's own isn't shown."""
+    """The calls of a thread that lead to its access, the outermost first. What is no line of the program's
+    own isn't shown."""
     name = printable(access.thread)
     steps = []
     for frame in reversed(access.frames):
         place = place_of(frame.location, sources, access.files.get(parts_of(frame.location)[0], b""))
         if place.kind != NAME and not frame.in_system:
-            steps.append({"location": location_of(place, message={"text": f"{name} in {plain(printable(bare(frame.function)) or 'a function')}"})})
-    return {"id": name, "message": {"text": plain(f"{name}: {printable(access.operation)}")}, "locations": steps}
+            steps.append(
+                {"location": location_of(place,
+                                         message={
+                                             "text": f"{name} in {plain(printable(bare(frame.function)) or 'a function')}"})})
+    return {"id": name, "message": {"text": plain(f"{name}: {printable(access.operation)}")},
+            "locations": steps}
 
 
 def message_of(alert, blamed, others):
@@ -158,7 +174,8 @@ def result_of(alert, sources, seen):
     """The result of one place. `seen` counts the fingerprints of lines before it."""
     both = [place_of(name, sources, location.path) for name, location in zip(alert.row.names, alert.row.key)]
     both.sort(key=lambda place: (place.kind, place.text))
-    prints = {"places/v2": fingerprint([*sorted(alert.row.names), *variables_of(alert)])}  # it changes only with these
+    # it changes only with these
+    prints = {"places/v2": fingerprint([*sorted(alert.row.names), *variables_of(alert)])}
     by_lines = line_fingerprint(*both, alert)
     if by_lines:
         seen[by_lines] += 1
@@ -174,7 +191,8 @@ def result_of(alert, sources, seen):
         "relatedLocations": [location_of(place, id=number, message={"text": OTHERS[len(others)]})
                              for number, place in enumerate(others, 1)],
         "partialFingerprints": prints,
-        "suppressions": [{"kind": "external", "justification": "It is in the file of known places."}] if alert.row.is_known else [],
+        "suppressions": [{"kind": "external", "justification": "It is in the file of known places."}]
+        if alert.row.is_known else [],
         "properties": {**alert.properties, "variables": [printable(name) for name in alert.variables()]},
         **code_flows(alert, sources),
     }
@@ -186,7 +204,8 @@ def plain(text):
 
 
 def log(alerts, sources, notifications, is_whole, status):
-    """A log as bytes. `notifications` are pairs of a level and a sentence; `is_whole` says that the command did all that it should."""
+    """A log as bytes. `notifications` are pairs of a level and a sentence; `is_whole` says that the command
+    did all that it should."""
     seen, installed = collections.Counter(), version.installed()
     run = {
         "tool": {"driver": {"name": "shb", "version": installed or "checkout", "rules": [RULE]}},

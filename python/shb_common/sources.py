@@ -1,4 +1,5 @@
-"""Source files below folders that the user named. A location is never opened as a path: it is looked up among these."""
+"""Source files below folders that the user named. A location is never opened as a path: it is looked
+up among these."""
 
 import contextlib
 import functools
@@ -11,8 +12,8 @@ MOST_BYTES = 4_000_000  # of a file
 
 
 class Index:
-    """The regular files below some folders, by their names. Links aren't followed, hidden folders aren't looked into. Of one path in
-    several folders the first counts."""
+    """The regular files below some folders, by their names. Links aren't followed, hidden folders aren't
+    looked into. Of one path in several folders the first counts."""
 
     def __init__(self, folders):
         self.paths, self.count = {}, 0
@@ -28,7 +29,8 @@ class Index:
                         pending.append(entry.path)
                     elif entry.is_file(follow_symlinks=False) and not self.is_full():
                         self.count += 1
-                        self.paths.setdefault(entry.name, {}).setdefault(os.path.relpath(entry.path, top), entry.path)
+                        self.paths.setdefault(entry.name, {}).setdefault(
+                            os.path.relpath(entry.path, top), entry.path)
 
     def is_full(self):
         """Whether there may be files that weren't looked at."""
@@ -60,7 +62,8 @@ def lines_of(text):
 
 
 class Sources:
-    """The files below a folder, or none where no folder is given. Paths are bytes, and count from the folder."""
+    """The files below a folder, or none where no folder is given. Paths are bytes, and count
+    from the folder."""
 
     def __init__(self, folder=None):
         self.folder = os.fsencode(os.path.realpath(folder)) if folder else None
@@ -80,13 +83,15 @@ class Sources:
         path = posixpath.normpath(path)
         if path.startswith(b"/"):
             path = os.path.relpath(os.path.realpath(path), self.folder)
-            return path if not path.startswith(b"../") and os.path.isfile(os.path.join(self.folder, path)) else None
+            return (path if not path.startswith(b"../")
+                    and os.path.isfile(os.path.join(self.folder, path)) else None)
         if os.path.isfile(os.path.join(self.folder, path)) and not path.startswith(b"../"):
             return path
         found = [name for name in self.index.named(posixpath.basename(path)) if name.endswith(b"/" + path)]
         return found[0] if len(found) == 1 else None
 
     def line(self, path, number):
-        """The text of a line of a file that was found, without blanks around it; None where there is no such line."""
+        """The text of a line of a file that was found, without blanks around it; None where there is
+        no such line."""
         lines, _, _ = self.read(os.path.join(self.folder, path))
         return b" ".join(lines[number - 1].split()) if number <= len(lines) else None

@@ -1,4 +1,5 @@
-"""Call stacks: the file that `shb-std --stacks` writes beside a trace. The head of recorder/converter/stacks.c has its form."""
+"""Call stacks: the file that `shb-std --stacks` writes beside a trace. The head of
+recorder/converter/stacks.c has its form."""
 
 import array
 import bisect
@@ -38,8 +39,8 @@ class BadStacks(Exception):
 
 
 class AtomicUse(collections.namedtuple("AtomicUse", "event name thread location kind order is_again")):
-    """A use of an atomic before an event: `kind` is load, store, update or, without a name, fence; `order` relaxed, acquire, release or
-    both; `is_again` says that it stands for omitted ones before it too."""
+    """A use of an atomic before an event: `kind` is load, store, update or, without a name, fence; `order`
+    relaxed, acquire, release or both; `is_again` says that it stands for omitted ones before it too."""
 
     def gives(self):
         """Whether what stands before it is ordered before what takes the value."""
@@ -51,11 +52,13 @@ class AtomicUse(collections.namedtuple("AtomicUse", "event name thread location 
     def words(self):
         """What it does, as parts."""
         does = {b"load": "reads it", b"store": "writes it", b"update": "updates it"}[self.kind]
-        return [does, {b"relaxed": " relaxed", b"acquire": " with acquire", b"release": " with release", b"both": " with acquire and release"}[self.order]]
+        return [does, {b"relaxed": " relaxed", b"acquire": " with acquire", b"release": " with release",
+                       b"both": " with acquire and release"}[self.order]]
 
     def said(self):
         """The same for programs."""
-        return {"event": self.event, "thread": printable(self.thread), "location": printable(self.location), "kind": self.kind.decode(),
+        return {"event": self.event, "thread": printable(self.thread), "location": printable(self.location),
+                "kind": self.kind.decode(),
                 "order": self.order.decode()}
 
 
@@ -63,10 +66,13 @@ class Stacks:
     """What a file of stacks has, with the stacks of so many events; nothing without a path."""
 
     def __init__(self, path=None, events=0):
-        self.functions = {}  # by location those that it lies in, without parameters and arguments of templates
+        # by location those that it lies in, without parameters and arguments of templates
+        self.functions = {}
         self.files = set()  # those of locations: files of source, and modules with code that has no lines
-        self.sources, self.sums = {}, {}  # by the name in a location: the file's path; by location: a sum of its line's text
-        self.locals = {}  # by variable on a stack: events, each with the name of the local that it is from there on
+        # by the name in a location: the file's path; by location: a sum of its line's text
+        self.sources, self.sums = {}, {}
+        # by variable on a stack: events, each with the name of the local that it is from there on
+        self.locals = {}
         self.numbers, self.frames, self.calls, self.threads, self.blocks = (), [None], {}, {}, {}
         self.uses = []  # of atomics, as they happened
         self.free_starts, self.free_ends = array.array("Q"), array.array("Q")
@@ -105,13 +111,15 @@ class Stacks:
         self.files.add(parts_of(location)[0])
 
     def local_of(self, variable, event):
-        """The local that a variable on a stack is at an event, or the member that one in a block is; or nothing."""
+        """The local that a variable on a stack is at an event, or the member that one in a block
+        is; or nothing."""
         names = self.locals.get(variable, ())
         number = bisect.bisect(names, (event + 1,))
         return names[number - 1][1] if number else b""
 
     def lasting(self, variable, event):
-        """What a variable is at all events, whatever trace of the run they are of: a member that one in a block is; or nothing."""
+        """What a variable is at all events, whatever trace of the run they are of: a member that one in a
+        block is; or nothing."""
         return self.local_of(variable, 0)
 
     def stack(self, number):
@@ -126,9 +134,11 @@ class Stacks:
 
     @functools.cached_property
     def lasting_locals(self):
-        """By variable, lock or atomic on a stack: the local that it is, where it is the same one all the time."""
+        """By variable, lock or atomic on a stack: the local that it is, where it is the same one
+        all the time."""
         names = {variable: {name for _, name in found} for variable, found in self.locals.items()}
-        return {variable: found.pop() for variable, found in names.items() if len(found) == 1 and b"" not in found}
+        return {variable: found.pop() for variable, found in names.items() if len(found) == 1
+                and b"" not in found}
 
     def of_event(self, event):
         return self.stack(self.numbers[event - 1]) if 0 < event <= len(self.numbers) else ()
@@ -157,7 +167,8 @@ def events_in(file):
 
 
 def entries_in(file, count):
-    """The lines of an open file of stacks of so many events, each as its kind and its fields. Lines of other kinds are skipped."""
+    """The lines of an open file of stacks of so many events, each as its kind and its fields. Lines of other
+    kinds are skipped."""
     file.seek(BEGIN_BYTES + NUMBER_BYTES * count)
     frames = 0
     for number, line in enumerate(iter(lambda: file.readline(MOST_LINE), b""), 2):
@@ -206,10 +217,14 @@ def use_of(text):
     return use, order, bool(again)
 
 
-# What is between the fields of each kind of line (None: blanks), and what reads each. A stack has further numbers, its frames.
-FORMS = {b"frame": (b"\t", bytes, bytes), b"system-frame": (b"\t", bytes, bytes), b"thread": (b"\t", bytes, whole),
-         b"stack": (None, whole, whole), b"block": (None, whole, whole), b"free": (None, whole, whole), b"use": (b"\t", whole, bytes, bytes, bytes, use_of),
-         b"source": (b"\t", bytes, bytes), b"line": (b"\t", bytes, sum_of), b"local": (b"\t", whole, bytes, bytes)}
+# What is between the fields of each kind of line (None: blanks), and what reads each. A stack has further
+# numbers, its frames.
+FORMS = {b"frame": (b"\t", bytes, bytes), b"system-frame": (b"\t", bytes, bytes),
+         b"thread": (b"\t", bytes, whole),
+         b"stack": (None, whole, whole), b"block": (None, whole, whole), b"free": (None, whole, whole),
+         b"use": (b"\t", whole, bytes, bytes, bytes, use_of),
+         b"source": (b"\t", bytes, bytes), b"line": (b"\t", bytes, sum_of),
+         b"local": (b"\t", whole, bytes, bytes)}
 
 
 def numbers_of(file, count):

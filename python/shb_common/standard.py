@@ -22,7 +22,8 @@ def open_standard_files():
 
 
 def tell(text):
-    """Prints a text on standard error. A fault of that is passed over, as `shb` does: the status still says what was found."""
+    """Prints a text on standard error. A fault of that is passed over, as `shb` does: the status still says
+    what was found."""
     try:
         print(text, file=sys.stderr, flush=True)
     except OSError:
@@ -35,7 +36,8 @@ def leave_standard_error():
 
 
 def leave_standard_output():
-    """After a fault of standard output: else Python tries again at its end, in words and with a status of its own."""
+    """After a fault of standard output: else Python tries again at its end, in words and with a status
+    of its own."""
     os.dup2(os.open(os.devnull, os.O_WRONLY), sys.stdout.fileno())
 
 
@@ -49,7 +51,8 @@ def faults_of(name):
 
 
 def write_texts(texts, out):
-    """Writes texts to standard output or error one after the other, whatever signs they have. A fault of standard error is passed over."""
+    """Writes texts to standard output or error one after the other, whatever signs they have. A fault of
+    standard error is passed over."""
     out.reconfigure(errors="backslashreplace")
     try:
         with faults_of("standard output"):
@@ -65,4 +68,5 @@ def write_texts(texts, out):
 def words_of(fault):
     """What a fault says; one of the system with the file that it names."""
     words, name = getattr(fault, "strerror", None) or str(fault), getattr(fault, "filename", None)
-    return f"{printable(os.fsencode(name))}: {words}" if isinstance(name, (str, bytes, os.PathLike)) else words
+    return (f"{printable(os.fsencode(name))}: {words}" if isinstance(name, (str, bytes, os.PathLike))
+            else words)

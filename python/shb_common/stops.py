@@ -6,13 +6,14 @@ import signal
 import time
 
 STOPS = {signal.SIGINT, signal.SIGTERM}
-SAME_SECONDS = 1  # `timeout` sends its signal to the command and to the whole group: so soon the same one again is that one
+# `timeout` sends its signal to the command and to the whole group: so soon the same one again is that one
+SAME_SECONDS = 1
 
 
 class Stops:
-    """The first of these signals lets what is there be shown, which `say` announces; the next one ends the command at once, by
-    KeyboardInterrupt, and further ones do nothing; so does the end of so many `seconds` after the first, if there are. `first` is the
-    number of the first, or None."""
+    """The first of these signals lets what is there be shown, which `say` announces; the next one ends the
+    command at once, by KeyboardInterrupt, and further ones do nothing; so does the end of so many `seconds`
+    after the first, if there are. `first` is the number of the first, or None."""
 
     def __init__(self, say, seconds=None):
         self.say, self.seconds, self.first, self.since, self.is_late = say, seconds, None, 0.0, False
@@ -35,7 +36,8 @@ class Stops:
         if self.first is None:
             self.note(number, time.monotonic())
             with contextlib.suppress(OSError):
-                os.write(2, self.say(signal.Signals(number).name).encode())  # print may be in the middle of another line
+                # print may be in the middle of another line
+                os.write(2, self.say(signal.Signals(number).name).encode())
             return
         if number == self.first == signal.SIGTERM and time.monotonic() < self.since + SAME_SECONDS:
             return

@@ -1,5 +1,6 @@
-"""What `shb-std --uses` writes beside the trace of a page: how often each variable in a race was used in the whole run, and which events of
-that trace those of the races are. The head of recorder/converter/page.c has its form."""
+"""What `shb-std --uses` writes beside the trace of a page: how often each variable in a race was used in the
+whole run, and which events of that trace those of the races are. The head of recorder/converter/page.c has
+its form."""
 
 import bisect
 import collections
@@ -10,11 +11,13 @@ from shb_common.words import printable
 BEGIN = b"shb-uses 2\n"
 OTHER = "is of another version of shb: its first line isn't `shb-uses 2`"
 WORDS = b"r", b"w", b"a", b"f"
-SUMS = {b"by": bytes, b"under": bytes, b"reading": bytes, b"bare": int, b"held": int, b"many": int}  # what each kind is of
+# what each kind is of
+SUMS = {b"by": bytes, b"under": bytes, b"reading": bytes, b"bare": int, b"held": int, b"many": int}
 MOST_DIGITS = 18
 
-# The accesses of a variable at a location in one way: `word` is r, w, a (written atomically) or f (freed); `local` the local that a
-# variable on a stack was then, or nothing. Each of `sums` is a kind, a count, and a stack's number, a thread or a lock.
+# The accesses of a variable at a location in one way: `word` is r, w, a (written atomically) or f (freed);
+# `local` the local that a variable on a stack was then, or nothing. Each of `sums` is a kind, a count, and a
+# stack's number, a thread or a lock.
 Use = collections.namedtuple("Use", "word variable local location sums")
 
 
@@ -23,10 +26,10 @@ class BadUses(Exception):
 
 
 class Uses:
-    """`events` has for an event of the run that of the page's trace, and `in_run` the other way; `count` is how many
-    that trace has. `parts` are those of its events before which some of the run may be missing; `repeated` are those
-    that stand for repeats before them; `sights` are a variable, and where it was written and then read by another
-    thread, in the run."""
+    """`events` has for an event of the run that of the page's trace, and `in_run` the other way; `count` is
+    how many that trace has. `parts` are those of its events before which some of the run may be missing;
+    `repeated` are those that stand for repeats before them; `sights` are a variable, and where it was written
+    and then read by another thread, in the run."""
 
     def __init__(self, path):
         self.uses, self.events, self.in_run, self.parts, self.count = [], {}, {}, [], None
@@ -49,7 +52,8 @@ class Uses:
             if word not in WORDS or len(sums) % 3:
                 raise ValueError
             its = zip(sums[::3], map(number_of, sums[1::3]), sums[2::3])
-            self.uses.append(Use(word, variable, local, location, [(kind, count, SUMS[kind](of)) for kind, count, of in its]))
+            self.uses.append(Use(word, variable, local,
+                                 location, [(kind, count, SUMS[kind](of)) for kind, count, of in its]))
         elif kind == b"event":
             in_page, in_run = map(number_of, fields[1:])
             self.events[in_run], self.in_run[in_page] = in_page, in_run

@@ -18,7 +18,8 @@ def without_end(line):
 
 
 def atomic_of(first, second):
-    """The atomic that two racing accesses are of, or None: what a thread T writes atomically to X the recorder names `X!T`."""
+    """The atomic that two racing accesses are of, or None: what a thread T writes atomically to X the
+    recorder names `X!T`."""
     write = first if first.word == b"w" else second
     base, _, thread = write.name.rpartition(b"!")
     return base if base and thread == write.thread else None
@@ -30,7 +31,8 @@ def variable_of(found):
 
 
 def without_block(name):
-    """The name of a member of a block's type without the block, which differs from run to run; any other name as it is."""
+    """The name of a member of a block's type without the block, which differs from run to run; any other name
+    as it is."""
     found = IN_BLOCK.fullmatch(name)
     return found[1] if found else name
 

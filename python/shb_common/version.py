@@ -6,7 +6,8 @@ import subprocess
 
 HERE = pathlib.Path(__file__).resolve()
 FILE = HERE.parents[1] / "VERSION"      # the installation puts it there
-DAY_AND_COMMIT = "--abbrev=12", "--date=format-local:%Y.%m.%d", "--format=%cd-%h"      # as the installation writes them
+# as the installation writes them
+DAY_AND_COMMIT = "--abbrev=12", "--date=format-local:%Y.%m.%d", "--format=%cd-%h"
 
 
 def installed():
@@ -18,7 +19,8 @@ def installed():
 
 
 def version():
-    """The day and the commit of what is installed, or of the checkout as far as git knows it, with a word if files were changed since."""
+    """The day and the commit of what is installed, or of the checkout as far as git knows it, with a word if
+    files were changed since."""
     if installed():
         return installed()
     last = of_git("log", "-1", *DAY_AND_COMMIT)
@@ -30,7 +32,8 @@ def version():
 def of_git(*words):
     """What git says of the checkout; nothing if it doesn't know it."""
     try:
-        ran = subprocess.run(["git", "--no-optional-locks", "-C", HERE.parents[2], *words], env={**os.environ, "TZ": "UTC"},
+        ran = subprocess.run(["git", "--no-optional-locks", "-C", HERE.parents[2], *words],
+                             env={**os.environ, "TZ": "UTC"},
                              stdin=subprocess.DEVNULL, stdout=subprocess.PIPE, stderr=subprocess.DEVNULL)
     except OSError:
         return ""

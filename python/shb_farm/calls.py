@@ -56,8 +56,8 @@ class Calls:
 
 
 def file_of(folder, name, links, pass_over=lambda path, why: None):
-    """The file of stacks of a trace; None where there is none. As with traces, what isn't in the folder is no part of it unless `links`
-    says so, and a device or a FIFO is none: `pass_over` is told."""
+    """The file of stacks of a trace; None where there is none. As with traces, what isn't in the folder is no
+    part of it unless `links` says so, and a device or a FIFO is none: `pass_over` is told."""
     stem = next((name[:-len(suffix)] for suffix in SUFFIXES if name.endswith(suffix)), name)
     path = os.path.join(folder, stem + ".stacks")
     if not os.path.lexists(path):
@@ -85,7 +85,8 @@ def accesses_in(report, pairs, path):
             place = known.pair_of(*(access.location for access in accesses))
             if place in pairs and place not in found:
                 found[place] = tuple(Access(*line.split(b"|")[:2], calls.of_event(number), calls.sources)
-                                     for number, line in ((race.first, race.first_line), (race.second, race.second_line)))
+                                     for number, line in (
+                                         (race.first, race.first_line), (race.second, race.second_line)))
     return found
 
 
@@ -96,7 +97,8 @@ def entries_of(rows, out):
         path = passes.found_path(out, example)
         try:
             if path.stat().st_size <= MOST_FOUND:
-                found.update(result.entries_of(example, json.loads(path.read_text(encoding="ascii"))["places"]))
+                found.update(result.entries_of(example,
+                                               json.loads(path.read_text(encoding="ascii"))["places"]))
         except (OSError, ValueError, KeyError, TypeError):
             continue    # the view didn't take it: then it is a place without facts
     return found

@@ -77,28 +77,35 @@ Environment:
 def arguments(words):
     parser = Parser("shb-farm", ABOUT, NOTES)
     parser.add_argument("--known", metavar="FILE", help="places to skip")
-    parser.add_argument("--fail-on-stale", action="store_true", help="end with status 1 if a line of --known matched nothing")
-    parser.add_argument("--since", metavar="OLD", help="report which places are new, gone and the same since an earlier result: the folder "
-                        "OUT of a farm, or a places.json")
+    parser.add_argument("--fail-on-stale", action="store_true",
+                        help="end with status 1 if a line of --known matched nothing")
+    parser.add_argument("--since", metavar="OLD", help="report which places are new, gone and the same since "
+                        "an earlier result: the folder OUT of a farm, or a places.json")
     parser.add_argument("--links", action="store_true", help="follow links that lead out of TRACES")
-    parser.add_argument("--source", metavar="DIR", help="the repository: places.sarif names its files if it finds them")
+    parser.add_argument("--source", metavar="DIR",
+                        help="the repository: places.sarif names its files if it finds them")
     parser.add_argument("--engine", choices=sorted(engines.ENGINES), default="xargs",
-                        help="xargs: this machine (the default); slurm: a job array on a cluster whose nodes see the same folders")
+                        help="xargs: this machine (the default); slurm: a job array on a cluster whose nodes "
+                             "see the same folders")
     parser.add_argument("--jobs", metavar="N", type=number(1), default=len(os.sched_getaffinity(0)),
                         help="with xargs: traces at once (as many as processors)")
-    parser.add_argument("--memory", metavar="MIB,..", type=numbers, help="memory of each pass; a trace that needs more goes on to "
+    parser.add_argument("--memory", metavar="MIB,..", type=numbers,
+                        help="memory of each pass; a trace that needs more goes on to "
                         "the next (256,1024,4096, then with xargs what the machine has, with slurm 16384)")
-    parser.add_argument("--seconds", metavar="N", type=number(1), default=3600, help="processor time of a trace (%(default)s)")
+    parser.add_argument("--seconds", metavar="N", type=number(1), default=3600,
+                        help="processor time of a trace (%(default)s)")
     parser.add_argument("--size", metavar="MIB", type=number(1), default=1024,
                         help="most of a report, and of the text of a packed trace (%(default)s)")
-    parser.add_argument("--sbatch", metavar="WORDS", type=shell_words, default=[], help="with slurm: further words for sbatch")
+    parser.add_argument("--sbatch", metavar="WORDS", type=shell_words, default=[],
+                        help="with slurm: further words for sbatch")
     parser.add_argument("traces", metavar="TRACES", help="the folder of the traces")
     parser.add_argument("out", metavar="OUT", help="the folder for outcomes and tables")
     return parser.parsed(joined(words))
 
 
 def joined(words):
-    """The words of the command line, `--sbatch` with its value as one, since this begins with a dash like an option."""
+    """The words of the command line, `--sbatch` with its value as one, since this begins with a dash
+    like an option."""
     at = words.index("--sbatch") if "--sbatch" in words[:-1] else len(words)
     return [*words[:at], *("=".join(words[at:at + 2]) for _ in words[at:at + 1]), *words[at + 2:]]
 
@@ -140,12 +147,14 @@ def pass_of(options, room):
         checksum = outcomes.checksum_of_file(program)
     traces, out = os.path.realpath(options.traces), os.path.realpath(options.out)
     view = command_of("SHB_VIEW", part("shb-view"))
-    return passes.Pass(shb, checksum, traces, out, str(room), view or "", options.links, seconds=options.seconds, size=options.size)
+    return passes.Pass(shb, checksum, traces, out, str(room), view or "", options.links,
+                       seconds=options.seconds, size=options.size)
 
 
 def run_passes(options, work, names, outside=()):
-    """Runs the traces of these names, and returns how each ended. A trace begins with the first pass that has room for its size,
-    and goes on to the next where it ran out of memory or got no outcome. `outside` are links that aren't followed."""
+    """Runs the traces of these names, and returns how each ended. A trace begins with the first pass that has
+    room for its size, and goes on to the next where it ran out of memory or got no outcome. `outside` are
+    links that aren't followed."""
     last = work._replace(memory=options.memory[-1])
     endings = {name: merging.ending_of(last, name, outside) for name in names}
     for memory in options.memory:
@@ -161,7 +170,8 @@ def waiting_for(work, endings, is_last):
     """The traces that this pass has to run, the longest first."""
     found = [name for name, ending in endings.items() if ending.kind == "missing" and ending.size is not None
              and (is_last or running.memory_for(ending.size) <= work.memory)]
-    found = [name for name in found if merging.ending_of(work, name).kind == "missing"]     # not those that it didn't suffice for
+    # not those that it didn't suffice for
+    found = [name for name in found if merging.ending_of(work, name).kind == "missing"]
     return sorted(found, key=lambda name: -endings[name].size)
 
 
@@ -170,7 +180,8 @@ def with_reports(options, work, rows):
     examples = sorted({row.example for row in rows if not row.is_known})
     full = work._replace(form=passes.FULL)
     endings = run_passes(options, full, examples)
-    return [row if row.is_known else row._replace(report=report_of(full, row.example, endings[row.example])) for row in rows]
+    return [row if row.is_known else row._replace(report=report_of(full, row.example, endings[row.example]))
+            for row in rows]
 
 
 def report_of(work, name, ending):
@@ -182,16 +193,19 @@ def report_of(work, name, ending):
 
 def run(options):
     if traces.is_below(os.path.realpath(options.traces), os.path.realpath(options.out)):
-        raise Refused(f"{options.out}: TRACES is this folder or below it; name another OUT, which may be below TRACES")
+        raise Refused(f"{options.out}: TRACES is this folder or below it; name another OUT, which may be "
+                      "below TRACES")
     if options.source and not os.path.isdir(options.source):
         raise Refused(f"{options.source}: no such folder of sources")
-    known_places, earlier = known.given(options.known, engines.say), since.read(options.since) if options.since else None
+    known_places, earlier = (known.given(options.known, engines.say),
+                             since.read(options.since) if options.since else None)
     options.memory = options.memory or memory_of(options.engine)
     with passes.room_in(os.path.realpath(options.out)) as room:
         work = pass_of(options, room)
         names, outside = traces.names_in(work.traces, work.out, work.links)
         if not names:
-            raise Refused(f"{options.traces}: there is no trace in this folder and below (NAME.std, NAME.std.gz or NAME.std.xz)")
+            raise Refused(f"{options.traces}: there is no trace in this folder and below (NAME.std, "
+                          "NAME.std.gz or NAME.std.xz)")
         endings, calls = run_passes(options, work, names, outside), Calls(work.traces, work.links)
         rows, files = merging.rows_of(endings, known_places, calls)
         rows = with_reports(options, work, rows)
@@ -200,17 +214,21 @@ def run(options):
             engines.say(f"{options.known}, {words}")
         unseen = merging.unseen(endings)
         if options.known and unseen:
-            engines.say(f"{options.known}: which lines are stale isn't known: {counted(unseen, 'trace')} without a list of places")
-        write_texts([tables.write(pathlib.Path(work.out), room, found, Sources(options.source), calls)], sys.stdout)
+            engines.say(f"{options.known}: which lines are stale isn't known: {counted(unseen, 'trace')} "
+                        "without a list of places")
+        write_texts([tables.write(pathlib.Path(work.out), room, found, Sources(options.source), calls)],
+                    sys.stdout)
         return found.status
 
 
 def found_of(options, rows, endings, known_places, damaged, earlier):
-    """All that was found. If the places of a trace aren't known, it isn't known either which lines of the known places are stale."""
+    """All that was found. If the places of a trace aren't known, it isn't known either which lines of the
+    known places are stale."""
     compared = None if earlier is None else since.compared(options.since, earlier, rows)
     stale = [] if merging.unseen(endings) else known_places.stale()
     facts = merging.facts_of(rows, endings, len(stale), damaged, compared)
-    return tables.Found(rows, endings, facts, stale, compared, merging.status_of(facts, options.fail_on_stale))
+    return tables.Found(rows, endings, facts, stale, compared,
+                        merging.status_of(facts, options.fail_on_stale))
 
 
 def main(words):
@@ -225,6 +243,7 @@ def main(words):
     except KeyboardInterrupt:
         return 130
     except Exception:
-        said = traceback.format_exc().rstrip()      # 1, with which Python would end, says that there is an unknown place
+        # 1, with which Python would end, says that there is an unknown place
+        said = traceback.format_exc().rstrip()
     tell(f"shb-farm: {said}")
     return 4

@@ -1,7 +1,8 @@
 """What runs the jobs of a pass: xargs on this machine, or Slurm on a cluster.
 
-An engine may lose a job, run it twice, or end early: what has no outcome is stated as missing, and the next pass or the
-next run of the farm takes it up. So nothing hangs on an engine's own status, but that it takes jobs at all.
+An engine may lose a job, run it twice, or end early: what has no outcome is stated as missing, and the next
+pass or the next run of the farm takes it up. So nothing hangs on an engine's own status, but that it takes
+jobs at all.
 """
 
 import os
@@ -19,7 +20,8 @@ from shb_common.standard import tell
 from shb_common.words import Refused, counted
 from shb_farm import passes, running
 
-# Without a PATH Python doesn't know its own name. A job needs nothing of this machine's packages, whose start costs time.
+# Without a PATH Python doesn't know its own name. A job needs nothing of this machine's packages, whose start
+# costs time.
 JOB = [sys.executable or "python3", "-I", "-S", str(pathlib.Path(__file__).resolve().with_name("job.py"))]
 TRACES_A_JOB = 50       # at most: so Python's start is a small part of a job
 MOST_TASKS = 1000       # of an array, below Slurm's own bound of 1,001
@@ -46,8 +48,10 @@ def run_slurm(work, path, options):
     log = pathlib.Path(work.out) / "log"
     log.mkdir(exist_ok=True)
     job = shlex.join([*JOB, path, str(tasks)])
-    words = ["sbatch", "--parsable", "--requeue", f"--job-name=shb-farm-{work.memory}", f"--array=0-{tasks - 1}", "--ntasks=1",
-             "--cpus-per-task=1", f"--mem={work.memory + BESIDE_MIB}", "--open-mode=append", f"--output={log}/%A_%a",
+    words = ["sbatch", "--parsable", "--requeue", f"--job-name=shb-farm-{work.memory}",
+             f"--array=0-{tasks - 1}", "--ntasks=1",
+             "--cpus-per-task=1", f"--mem={work.memory + BESIDE_MIB}", "--open-mode=append",
+             f"--output={log}/%A_%a",
              *options.sbatch, "--wrap", f"exec {job}"]
     status, said, why = call(words)
     if status:
@@ -62,9 +66,9 @@ def run_slurm(work, path, options):
 
 
 def wait_for(array, watch):
-    """Waits until a job array has no task that may still run. Says when the controller no longer replies, and when it does again.
-    Where a node or the controller failed, Slurm holds what it couldn't start again, until somebody comes: such tasks are given
-    up, and their traces are missing for now."""
+    """Waits until a job array has no task that may still run. Says when the controller no longer replies, and
+    when it does again. Where a node or the controller failed, Slurm holds what it couldn't start again, until
+    somebody comes: such tasks are given up, and their traces are missing for now."""
     silent = ""
     while True:
         status, said, why = call(["squeue", "--noheader", f"--jobs={array}", "--format=%T %r"])
@@ -72,7 +76,8 @@ def wait_for(array, watch):
             return      # it ended long ago
         why = " ".join(why.split()) or f"squeue ended with status {status}" if status else ""
         if bool(why) != bool(silent):
-            say(f"Slurm's controller doesn't answer; job {array} is waited for: {why}" if why else "Slurm's controller answers again")
+            say(f"Slurm's controller doesn't answer; job {array} is waited for: {why}" if why
+                else "Slurm's controller answers again")
         silent = why
         tasks = said.splitlines()
         if not status and not tasks:
@@ -93,7 +98,8 @@ def cancel(array):
 
 
 def call(words):
-    """Runs a command to its end; returns its status and what it said on standard output and standard error."""
+    """Runs a command to its end; returns its status and what it said on standard output and standard
+    error."""
     try:
         ran = subprocess.run(words, stdin=subprocess.DEVNULL, stdout=subprocess.PIPE, stderr=subprocess.PIPE)
     except FileNotFoundError:
@@ -128,13 +134,15 @@ class Watch:
 
 
 def run_group(words, given, watch):
-    """Runs a command with all that it starts in a process group of its own, which ends with this process, however that ends."""
+    """Runs a command with all that it starts in a process group of its own, which ends with this process,
+    however that ends."""
     parent = os.getpid()
     with tempfile.TemporaryFile("w+") as numbers:
         numbers.write(given)
         numbers.seek(0)
         try:
-            started = subprocess.Popen(words, stdin=numbers, stdout=sys.stderr, start_new_session=True, preexec_fn=lambda: end_with(parent))
+            started = subprocess.Popen(words, stdin=numbers, stdout=sys.stderr, start_new_session=True,
+                                       preexec_fn=lambda: end_with(parent))
         except FileNotFoundError:
             raise Refused(f"{words[0]} isn't installed")
     try:

@@ -3,9 +3,9 @@
 
     job.py PASS EVERY [FIRST]
 
-PASS is the file of the pass. Of its traces, each EVERY-th is run, from number FIRST on, or from SLURM_ARRAY_TASK_ID.
-Run twice, even at once, it does no harm: an outcome that stands isn't made again. The status is 0, or 1 if a trace
-got no outcome that stands.
+PASS is the file of the pass. Of its traces, each EVERY-th is run, from number FIRST on, or from
+SLURM_ARRAY_TASK_ID. Run twice, even at once, it does no harm: an outcome that stands isn't made again. The
+status is 0, or 1 if a trace got no outcome that stands.
 """
 
 import os
@@ -24,8 +24,8 @@ from shb_farm.running import METER
 
 
 def make_outcome(work, name):
-    """Makes the outcome of a trace, unless there is one that stands. Returns its kind. If the trace changes meanwhile, the outcome
-    has the stamp of before, and doesn't count."""
+    """Makes the outcome of a trace, unless there is one that stands. Returns its kind. If the trace changes
+    meanwhile, the outcome has the stamp of before, and doesn't count."""
     path, place = pathlib.Path(work.traces) / name, passes.outcome_path(work.out, work.form, name)
     old = outcomes.read(place, name)
     if passes.stands(old, work, name, outcomes.stamp_of(os.stat(path))):
@@ -40,7 +40,9 @@ def make_outcome(work, name):
             new = old._replace(stamp=stamp)
         else:
             end, places = reports.analysed(work, name, trace)
-            new = outcomes.Outcome(name, work.program, checksum, stamp, Cost(round(METER.seconds, 2), METER.kib, METER.text), end.kind, end.words, places)
+            new = outcomes.Outcome(name, work.program, checksum, stamp,
+                                   Cost(round(METER.seconds, 2), METER.kib, METER.text), end.kind, end.words,
+                                   places)
     put(place, outcomes.text_of(new), work.room)
     if new.kind == "failed":
         tell(f"shb-farm: {name}: {new.words}")
@@ -48,7 +50,8 @@ def make_outcome(work, name):
 
 
 def has_parent_in_session():
-    """Whether the parent is of the same session, as what started this process was. Who has lost its parent has another one."""
+    """Whether the parent is of the same session, as what started this process was. Who has lost its parent
+    has another one."""
     try:
         return os.getsid(os.getppid()) == os.getsid(0)
     except ProcessLookupError:
@@ -57,7 +60,8 @@ def has_parent_in_session():
 
 def main(words):
     end_with(os.getppid())
-    if len(words) > 2 and not has_parent_in_session():     # what started it is of its session, and has ended already
+    # what started it is of its session, and has ended already
+    if len(words) > 2 and not has_parent_in_session():
         return 1
     sys.stderr.reconfigure(errors="backslashreplace")
     work, every = passes.read(words[0]), int(words[1])

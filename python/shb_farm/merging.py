@@ -16,14 +16,16 @@ Ending = collections.namedtuple("Ending", "kind words places size cost", default
 
 
 def ending_of(work, name, outside=()):
-    """How a trace ended, as far as its outcome under the limits of this pass says. `outside` are links that aren't followed."""
+    """How a trace ended, as far as its outcome under the limits of this pass says. `outside` are links
+    that aren't followed."""
     if name in outside:
         return Ending("refused", traces.LEADS_OUT, [], None)
     path = pathlib.Path(work.traces) / name
     try:
         state = os.stat(path)
     except OSError as fault:
-        kind = "refused" if os.path.islink(path) else "missing"     # nobody will find what a link doesn't lead to
+        # nobody will find what a link doesn't lead to
+        kind = "refused" if os.path.islink(path) else "missing"
         return Ending(kind, fault.strerror, [], None)
     if not stat.S_ISREG(state.st_mode):
         return Ending("refused", "not a regular file", [], None)
@@ -47,21 +49,25 @@ def ending_of(work, name, outside=()):
 
 
 def rows_of(endings, known_places, calls):
-    """A row for each two locations that race (endings are by name), with the smallest trace that has them, since a schedule is nearly as
-    long as its trace: unknown ones first, and of these what most traces have. Functions and source files are those of a trace's own
-    call stacks, which `calls` has. Returns the names of source files too."""
+    """A row for each two locations that race (endings are by name), with the smallest trace that has them,
+    since a schedule is nearly as long as its trace: unknown ones first, and of these what most traces have.
+    Functions and source files are those of a trace's own call stacks, which `calls` has. Returns the names of
+    source files too."""
     found = Places(known_places)
     for name, ending in endings.items():
         if ending.places:
             origin = calls.origin_of(name)
             found.add(name, origin, [named(place, origin.tables.local_of) for place in ending.places])
-    rows = [found.row(key, min(seen.traces, key=lambda name: (endings[name].size, name))) for key, seen in found.seen.items()]
+    rows = [found.row(key, min(seen.traces, key=lambda name: (endings[name].size, name)))
+            for key, seen in found.seen.items()]
     return sorted(in_order(rows), key=lambda row: (row.is_known, -row.traces)), found.names
 
 
 def named(place, local_of):
     """A place of an outcome, with its variables as the program has them."""
-    return place._replace(variables={local_name(variable, events, local_of): events for variable, events in place.variables.items()})
+    return place._replace(
+        variables={local_name(variable, events, local_of): events
+                   for variable, events in place.variables.items()})
 
 
 def facts_of(rows, endings, stale, damaged, since):
@@ -69,14 +75,17 @@ def facts_of(rows, endings, stale, damaged, since):
     unknown = sum(row.places for row in rows if not row.is_known)
     places, reports = sum(row.places for row in rows), kinds.count("report")
     missing = kinds.count("missing")
-    facts = {"traces": len(kinds), "reports": reports, "refused": len(kinds) - reports - missing, "missing": missing, "damaged": damaged,
+    facts = {"traces": len(kinds), "reports": reports, "refused": len(kinds) - reports - missing,
+             "missing": missing, "damaged": damaged,
              "places": places, "unknown": unknown, "known": places - unknown, "stale": stale,
              "unreported": sum(row.report == "missing" for row in rows)}
-    return {**facts, **({} if since is None else {"new": since.new, "gone": len(since.gone), "same": since.same})}
+    return {**facts,
+            **({} if since is None else {"new": since.new, "gone": len(since.gone), "same": since.same})}
 
 
 def unseen(endings):
-    """How many traces have places that nobody has seen: those without an outcome, and those that their limits didn't suffice for."""
+    """How many traces have places that nobody has seen: those without an outcome, and those that their limits
+    didn't suffice for."""
     return sum(ending.kind in ("missing", "memory", "time", "size") for ending in endings.values())
 
 

@@ -13,10 +13,11 @@ FIRST = b"shb-farm 3\n"
 # What the runs took (seconds of processor time, the most memory), and how many bytes the trace's text has.
 Cost = collections.namedtuple("Cost", "seconds kib text")
 
-# The trace's name below the folder of the traces; the sums of the program that was run and of the trace that it
-# read; the trace's size and time of change (`stamp`). `kind` and `words` are `report` and what the trace has;
-# `refused` and the program's words; `memory`, `time` or `size` and the limit that didn't suffice (MiB, seconds of
-# processor time, MiB); or `failed` and why: then it is tried again. `places` have by variable a race's events.
+# The trace's name below the folder of the traces; the sums of the program that was run and of the trace that
+# it read; the trace's size and time of change (`stamp`). `kind` and `words` are `report` and what the trace
+# has; `refused` and the program's words; `memory`, `time` or `size` and the limit that didn't suffice (MiB,
+# seconds of processor time, MiB); or `failed` and why: then it is tried again. `places` have by variable a
+# race's events.
 Outcome = collections.namedtuple("Outcome", "name program trace stamp cost kind words places")
 
 

@@ -57,8 +57,8 @@ def room_in(out):
 
 
 def clean(tmp):
-    """Deletes what killed runs have left. Other farms may work in the same folder: what is locked stays, and what they delete
-    meanwhile is passed over."""
+    """Deletes what killed runs have left. Other farms may work in the same folder: what is locked stays, and
+    what they delete meanwhile is passed over."""
     for path in tmp.iterdir():
         with contextlib.suppress(OSError):
             if is_left(path):
@@ -78,7 +78,8 @@ def is_left(path):
 
 
 def key_of(name):
-    """What the files of a trace are named by: the end of its name as far as it is plain, and a sum of the whole."""
+    """What the files of a trace are named by: the end of its name as far as it is plain, and a sum
+    of the whole."""
     plain = OTHER.sub("_", name.rpartition("/")[2])[:MOST_OF_NAME]
     return f"{plain}-{blake2b(os.fsencode(name), digest_size=10).hexdigest()}"
 
@@ -93,7 +94,8 @@ def found_path(out, name):
 
 
 def kept_path(out, name):
-    """The report that was kept of a trace in a pass for full ones; of a trace that is too long for one it has no schedules."""
+    """The report that was kept of a trace in a pass for full ones; of a trace that is too long for one it
+    has no schedules."""
     return pathlib.Path(out) / FOLDER_OF[FULL] / f"{key_of(name)}.report"
 
 

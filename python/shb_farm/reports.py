@@ -22,7 +22,8 @@ def analysed(work, name, trace):
         with traces.unpacked(trace, name, work) as text:
             METER.text = os.fstat(text.fileno()).st_size
             if not work.last and memory_for(METER.text) > work.memory:
-                return End("memory", str(work.memory)), []      # the next pass that has room for it takes it up
+                # the next pass that has room for it takes it up
+                return End("memory", str(work.memory)), []
             return listed(work, text) if work.form == passes.LIST else (kept(work, name, text), [])
     except traces.BadPacking as fault:
         return fault.end, []
@@ -43,10 +44,11 @@ def listed(work, trace):
 
 
 def kept(work, name, trace):
-    """How the program ended on a trace in a pass for full reports. The report is put in place, with what the view says of the trace; of
-    a trace that is too long for one the list of its places."""
+    """How the program ended on a trace in a pass for full reports. The report is put in place, with what the
+    view says of the trace; of a trace that is too long for one the list of its places."""
     with temporary_file(work.room) as (out, new):
-        end = written(work, passes.FULL, trace, out) if os.fstat(trace.fileno()).st_size <= MOST_TEXT else None
+        end = (written(work, passes.FULL, trace, out) if os.fstat(trace.fileno()).st_size <= MOST_TEXT
+               else None)
         is_full = end is not None and not (end.kind == "refused" and end.words.endswith(refused.LIMITS))
         if not is_full:
             out.truncate(0)
@@ -61,7 +63,8 @@ def kept(work, name, trace):
 
 
 def written(work, form, trace, out):
-    """How the program ended on an open trace, writing this form to an open file from its beginning; it counts only whole."""
+    """How the program ended on an open trace, writing this form to an open file from its beginning; it
+    counts only whole."""
     os.lseek(out.fileno(), 0, os.SEEK_SET)
     end = running.analyse(work, form, trace, out)
     if end.kind == "report":
@@ -88,13 +91,15 @@ def told(end, trace):
 
 
 def words_of(counts):
-    return f"events {counts.events} threads {counts.threads} locks {counts.locks} variables {counts.variables}"
+    return (f"events {counts.events} threads {counts.threads} locks {counts.locks} variables "
+            f"{counts.variables}")
 
 
 def notes_of(trace, counts):
     if os.pread(trace.fileno(), len(refused.MARK), 0) == refused.MARK:
         yield MARKED
-    if counts.events > MOST_EVENTS or counts.threads > MOST_THREADS or os.fstat(trace.fileno()).st_size > MOST_TEXT:
+    if (counts.events > MOST_EVENTS or counts.threads > MOST_THREADS
+        or os.fstat(trace.fileno()).st_size > MOST_TEXT):
         yield TOO_LONG
 
 
@@ -112,13 +117,15 @@ def put_found(work, trace, name):
     path = passes.found_path(work.out, name)
     path.parent.mkdir(parents=True, exist_ok=True)
     beside = ["--stacks", stacks] if stacks else []
-    words = [*started_by(work.view), "--shb", work.shb, "--json", str(path), *beside, f"/dev/fd/{trace.fileno()}"]
+    words = [*started_by(work.view), "--shb", work.shb, "--json", str(path), *beside,
+             f"/dev/fd/{trace.fileno()}"]
     with open(os.devnull, "wb") as out:
         running.run(work, words, trace, out, pass_fds=[trace.fileno()])
 
 
 def started_by(command):
-    """The words that start a command: this Python for one that is written in it, since there may be no other one."""
+    """The words that start a command: this Python for one that is written in it, since there may be
+    no other one."""
     with open(command, "rb") as file:
         is_ours = b"python" in file.readline(64)
     return [sys.executable, command] if is_ours and sys.executable else [command]

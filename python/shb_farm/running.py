@@ -18,9 +18,10 @@ End = collections.namedtuple("End", "kind words")  # how a run ended: the kind a
 def memory_for(size):
     """The MiB of address space that a trace of so many bytes is first tried with.
 
-    The program keeps the text, at most 100 bytes an event, and rows of 4 bytes a thread. How many events and rows there are
-    isn't known before the trace is read: a line is taken to have 32 bytes, and the rows to fit into 64 MiB. A trace that
-    needs more is refused for its memory, and goes on to the next pass. Of a longer text than the program keeps names alone are kept.
+    The program keeps the text, at most 100 bytes an event, and rows of 4 bytes a thread. How many events and
+    rows there are isn't known before the trace is read: a line is taken to have 32 bytes, and the rows to fit
+    into 64 MiB. A trace that needs more is refused for its memory, and goes on to the next pass. Of a longer
+    text than the program keeps names alone are kept.
     """
     if size > MOST_TEXT:
         return LIST_MIB
@@ -63,7 +64,8 @@ METER = Meter()
 
 def limits_of(work):
     """Each limit of a pass: its name, its value, and what to call it."""
-    return ((resource.RLIMIT_AS, work.memory * MIB, "memory"), (resource.RLIMIT_FSIZE, work.size * MIB, "file sizes"),
+    return ((resource.RLIMIT_AS, work.memory * MIB,
+             "memory"), (resource.RLIMIT_FSIZE, work.size * MIB, "file sizes"),
             (resource.RLIMIT_CPU, work.seconds, "processor time"))
 
 
@@ -83,7 +85,8 @@ def set_limits(work, parent):
 
 
 def run(work, words, given, out, **how):
-    """Runs a command to its end, with open files as its input, from its beginning, and its output; returns its `Answer`."""
+    """Runs a command to its end, with open files as its input, from its beginning, and its output;
+    returns its `Answer`."""
     check_machine(work)
     parent = os.getpid()
     answer = analyser.call(words, given, out, preexec_fn=lambda: set_limits(work, parent), **how)
@@ -97,7 +100,8 @@ def end_of(work, status, said, written):
         return End("report", "")
     if status == analyser.REFUSED and said:
         return End("refused", said)
-    if status == analyser.REFUSED or (status == 4 and said == "out of memory"):    # refused without words: no memory was left for them
+    # refused without words: no memory was left for them
+    if status == analyser.REFUSED or (status == 4 and said == "out of memory"):
         return End("memory", str(work.memory))
     if status == -signal.SIGXCPU:
         return End("time", str(work.seconds))

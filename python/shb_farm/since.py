@@ -1,7 +1,7 @@
 """What is new since an earlier farm or recording, by its places.json.
 
-Places are compared as files of known places name them: by functions where these are known, in either order, and by variables whose
-names last from run to run. So a place whose lines moved is the same.
+Places are compared as files of known places name them: by functions where these are known, in either order,
+and by variables whose names last from run to run. So a place whose lines moved is the same.
 """
 
 import collections
@@ -18,8 +18,8 @@ NAME = "places.json"
 
 
 class Since(collections.namedtuple("Since", "name new same gone keys")):
-    """What is new since `name`: how many places are new and the same, those that are gone, as their two locations and variables, and
-    the keys of the earlier ones."""
+    """What is new since `name`: how many places are new and the same, those that are gone, as their two
+    locations and variables, and the keys of the earlier ones."""
 
     def state_of(self, row):
         return "same" if keys_of_row(row) <= self.keys else "new"
@@ -44,7 +44,9 @@ def read(path):
         found = parsed(text)
         if found["form"] != result.FORM or found["version"] != result.VERSION:
             raise ValueError(f"it isn't of form {result.FORM}, version {result.VERSION}")
-        return [(keys_of_entry(entry), [*(access["location"] for access in entry["accesses"]), ", ".join(one["name"] for one in entry["variables"])])
+        return [
+            (keys_of_entry(entry), [*(access["location"] for access in entry["accesses"]),
+                                    ", ".join(one["name"] for one in entry["variables"])])
                 for entry in found["places"]]
     except (ValueError, KeyError, TypeError, AttributeError, RecursionError) as fault:
         said = str(fault) if isinstance(fault, ValueError) else "a part of it is missing, or of another kind"

@@ -33,25 +33,31 @@ def places_table(found):
     """A line for each two locations; FARM.md has its fields."""
     lines = [b"traces\tstate\tfirst\tsecond\texample\treport\tplaces\tvariables\tsince\n"]
     for row in found.rows:
-        fields = [b"%d" % row.traces, field(row.state()), *row.names, field(row.example), field(row.report), b"%d" % row.places,
+        fields = [b"%d" % row.traces, field(row.state()), *row.names, field(row.example), field(row.report),
+                  b"%d" % row.places,
                   variables_of(row), field(found.since.state_of(row) if found.since else "")]
         lines.append(b"\t".join(fields) + b"\n")
     return b"".join(lines)
 
 
 def traces_table(endings):
-    """A line for each trace: how it ended, how many places it has, the words of its outcome, and what it cost."""
+    """A line for each trace: how it ended, how many places it has, the words of its outcome, and
+    what it cost."""
     lines = [b"trace\toutcome\tplaces\twords\tseconds\tMiB\n"]
     for name, ending in endings.items():
         places = b"%d" % len(ending.places) if ending.kind == "report" else b""
-        cost = [b"%.2f" % ending.cost.seconds, b"%d" % (ending.cost.kib // 1024)] if ending.cost else [b"", b""]
-        lines.append(b"\t".join([field(name), field(ending.kind), places, field(ending.words), *cost]) + b"\n")
+        cost = ([b"%.2f" % ending.cost.seconds, b"%d" % (ending.cost.kib // 1024)] if ending.cost
+                else [b"", b""])
+        lines.append(b"\t".join([field(name), field(ending.kind), places, field(ending.words), *cost])
+                     + b"\n")
     return b"".join(lines)
 
 
 def why(ending):
-    return {"memory": f"out of memory in {ending.words} MiB", "time": f"not done in {ending.words} s of processor time",
-            "size": f"its report, or the text of a packed trace, is longer than {ending.words} MiB"}.get(ending.kind, ending.words)
+    return {"memory": f"out of memory in {ending.words} MiB",
+            "time": f"not done in {ending.words} s of processor time",
+            "size": f"its report, or the text of a packed trace, is longer than {ending.words} MiB"}.get(
+                ending.kind, ending.words)
 
 
 def note_of(ending):
@@ -62,20 +68,25 @@ def note_of(ending):
 
 
 def aligned(lines):
-    """Lines of fields, each column as wide as its longest field up to WIDEST; the last one is left as it is."""
+    """Lines of fields, each column as wide as its longest field up to WIDEST; the last one is left
+    as it is."""
     lines = [[printable(part) for part in line] for line in lines]
     widths = [min(max(map(len, column)), WIDEST) for column in zip(*lines)]
     return ["  ".join(part.ljust(width) for part, width in zip(line, widths)).rstrip() for line in lines]
 
 
 def text(found):
-    """What the farm prints: how much there is, the places, the traces without a report, and those of which something is to know."""
+    """What the farm prints: how much there is, the places, the traces without a report, and those of which
+    something is to know."""
     rows, endings, facts = found.rows, found.endings, found.facts
-    lines = [f"traces {facts['traces']} reports {facts['reports']} refused {facts['refused']} missing {facts['missing']}",
+    lines = [f"traces {facts['traces']} reports {facts['reports']} refused {facts['refused']} missing "
+             f"{facts['missing']}",
              f"places {facts['places']} unknown {facts['unknown']} known {facts['known']}"]
-    lines += [f"since {found.since.name}: new {facts['new']} gone {facts['gone']} same {facts['same']}"] if found.since else []
+    lines += ([f"since {found.since.name}: new {facts['new']} gone {facts['gone']} same {facts['same']}"]
+              if found.since else [])
     if rows:
-        head = [b"traces", b"state", b"first", b"second", b"variables", b"example", *([b"since"] if found.since else [])]
+        head = [b"traces", b"state", b"first", b"second", b"variables", b"example",
+                *([b"since"] if found.since else [])]
         table = [[b"%d" % row.traces, field(row.state()), *row.names, variables_of(row), field(row.example),
                   *([field(found.since.state_of(row))] if found.since else [])] for row in rows]
         lines += ["", *aligned([head, *table])]
@@ -85,7 +96,8 @@ def text(found):
             for name, ending in endings.items() if ending.kind != "report"]
     if lost:
         lines += ["", *aligned(lost)]
-    noted = [[b"report", field(name), field(note_of(ending))] for name, ending in endings.items() if note_of(ending)]
+    noted = [[b"report", field(name), field(note_of(ending))]
+             for name, ending in endings.items() if note_of(ending)]
     if noted:
         lines += ["", *aligned(noted)]
     return "".join(line + "\n" for line in lines)
@@ -95,20 +107,28 @@ def document(found, entries):
     traces = [{"trace": result.text(os.fsencode(name)), "outcome": ending.kind, "words": ending.words,
                **({"seconds": ending.cost.seconds, "MiB": ending.cost.kib // 1024} if ending.cost else {})}
               for name, ending in found.endings.items()]
-    places = [result.entry(row, result.entry_of(entries, row), traces=row.traces, example=result.text(os.fsencode(row.example)),
-                           **({"since": found.since.state_of(row)} if found.since else {})) for row in found.rows]
-    return result.document("shb-farm", {**found.facts, "status": found.status}, places, stale=result.stale_of(found.stale), traces=traces)
+    places = [result.entry(row, result.entry_of(entries, row), traces=row.traces,
+                           example=result.text(os.fsencode(row.example)),
+                           **({"since": found.since.state_of(row)} if found.since else {}))
+              for row in found.rows]
+    return result.document("shb-farm", {**found.facts, "status": found.status}, places,
+                           stale=result.stale_of(found.stale), traces=traces)
 
 
 def log(found, sources, entries, accesses):
-    """The log for code review tools. `accesses` has those of a race at each place, where their stacks are known."""
+    """The log for code review tools. `accesses` has those of a race at each place, where their
+    stacks are known."""
     endings, alerts = found.endings, []
     for row in found.rows:
         facts = " ".join(result.entry_of(entries, row).get("facts", ()))
         have = "1 of {} traces has it" if row.traces == 1 else f"{row.traces} of {{}} traces have it"
         seen = f"{have.format(len(endings))}, for example {printable(field(row.example))}"
-        alerts.append(sarif.Alert(row, facts, seen, os.fsencode(row.example), accesses.get(row.key, ()), {"traces": row.traces}))
-    return sarif.log(alerts, sources, [notification_of(name, ending) for name, ending in endings.items() if ending.kind != "report" or note_of(ending)],
+        alerts.append(sarif.Alert(row, facts, seen, os.fsencode(row.example),
+                                  accesses.get(row.key, ()), {"traces": row.traces}))
+    return sarif.log(alerts,
+                     sources, [notification_of(name, ending)
+                               for name, ending in endings.items() if ending.kind != "report"
+                               or note_of(ending)],
                      found.status != 2, found.status)
 
 
@@ -117,16 +137,22 @@ LEVELS = {"missing": "error", "report": "note"}
 
 def notification_of(name, ending):
     """What is said of a trace that has no report, or of whose report something is to know."""
-    return LEVELS.get(ending.kind, "warning"), f"{printable(field(name))}: {printable(field(note_of(ending) or why(ending)))}"
+    return (LEVELS.get(ending.kind, "warning"), f"{printable(field(name))}: "
+                                                f"{printable(field(note_of(ending) or why(ending)))}")
 
 
 def write(out, room, found, sources, stacks):
-    """Writes all tables, each whole, and returns the text. `sources` has the files that locations name, `stacks` the call stacks."""
+    """Writes all tables, each whole, and returns the text. `sources` has the files that locations name,
+    `stacks` the call stacks."""
     said, entries = text(found), calls.entries_of(found.rows, out)
     facts = "".join(f"{name}\t{count}\n" for name, count in found.facts.items()).encode()
-    for name, content in (("places.tsv", places_table(found)), ("traces.tsv", traces_table(found.endings)), ("facts.tsv", facts),
-                          ("unknown.places", unknown_places(found.rows)), ("places.txt", said.encode("utf-8", "surrogateescape")),
+    for name, content in (
+            ("places.tsv", places_table(found)), ("traces.tsv",
+                                                  traces_table(found.endings)), ("facts.tsv", facts),
+                          ("unknown.places", unknown_places(found.rows)), (
+                              "places.txt", said.encode("utf-8", "surrogateescape")),
                           ("places.json", result.in_bytes(document(found, entries))),
-                          ("places.sarif", log(found, sources, entries, stacks.accesses_of(found.rows, out)))):
+                          ("places.sarif",
+                           log(found, sources, entries, stacks.accesses_of(found.rows, out)))):
         put(out / name, content, room)
     return said

@@ -27,9 +27,10 @@ class BadPacking(Exception):
 
 
 def names_in(folder, out, links):
-    """The names of all traces below a folder, sorted, with those of links that lead nowhere, which may be lost traces; and of these
-    names those of links that lead out of the folder, which aren't followed unless `links` says so. Each folder is entered once, by
-    a link only where no folder of this name is there; what is below `out` is the farm's own."""
+    """The names of all traces below a folder, sorted, with those of links that lead nowhere, which may be
+    lost traces; and of these names those of links that lead out of the folder, which aren't followed unless
+    `links` says so. Each folder is entered once, by a link only where no folder of this name is there; what
+    is below `out` is the farm's own."""
     names, outside, entered, starts, top = set(), set(), set(), [folder], os.path.realpath(folder)
     for start in starts:    # links to folders are added meanwhile
         for path, folders, others in os.walk(start, onerror=refuse):
@@ -41,9 +42,12 @@ def names_in(folder, out, links):
             paths = [os.path.join(path, name) for name in sorted(folders + others, key=os.fsencode)]
             far = [link for link in paths if os.path.islink(link) and os.path.exists(link) and not links
                    and not is_below(os.path.realpath(link), top)]
-            starts += [link for link in paths if os.path.islink(link) and os.path.isdir(link) and link not in far]
-            found = [name for name in paths if not os.path.isdir(name) and (name.endswith(SUFFIXES) or not os.path.exists(name))]
-            refused = [link for link in far if os.path.isdir(link) and not is_below(os.path.realpath(link), out) or link in found]
+            starts += [link for link in paths if os.path.islink(link) and os.path.isdir(link)
+                       and link not in far]
+            found = [name for name in paths if not os.path.isdir(name)
+                     and (name.endswith(SUFFIXES) or not os.path.exists(name))]
+            refused = [link for link in far if os.path.isdir(link)
+                       and not is_below(os.path.realpath(link), out) or link in found]
             names |= {os.path.relpath(name, folder) for name in [*found, *refused]}
             outside |= {os.path.relpath(name, folder) for name in refused}
     return sorted(names, key=os.fsencode), outside
@@ -60,7 +64,8 @@ def refuse(fault):
 
 @contextlib.contextmanager
 def unpacked(trace, name, work):
-    """The open text of a trace, which is an open file of this name: itself, or a new file where it is packed."""
+    """The open text of a trace, which is an open file of this name: itself, or a new file where
+    it is packed."""
     opener = OPENERS.get(os.path.splitext(name)[1])
     if not opener:
         trace.seek(0)

@@ -32,7 +32,8 @@ be read or written."""
 
 def arguments(words):
     parser = Parser("shb-fix", ABOUT, STATUS)
-    parser.add_argument("--quiet", action="store_true", help="don't list the repairs, only how many there are")
+    parser.add_argument("--quiet", action="store_true",
+                        help="don't list the repairs, only how many there are")
     parser.add_argument("trace", metavar="TRACE", nargs="?", help="a trace; standard input if none is named")
     return parser.parsed(words)
 
@@ -67,7 +68,8 @@ class Trace:
     def read(self, repairs):
         """The repaired events, and the state of the locks after them."""
         unnoted = Repairs()
-        read = itertools.takewhile(lambda event: event.line <= self.count, lines.events_of(self.from_start(), unnoted))
+        read = itertools.takewhile(lambda event: event.line <= self.count,
+                                   lines.events_of(self.from_start(), unnoted))
         events = self.plan.followed(threads.named_apart(read, unnoted))
         events = locks.with_reader_locks(locks.with_waits(events, repairs), self.uses, repairs)
         sections = locks.Sections(self.plan.forked, repairs)
@@ -75,7 +77,8 @@ class Trace:
 
 
 def repaired(trace, repairs):
-    """The events of a trace, repaired. They are made twice: what has to come before the first line shows at the end."""
+    """The events of a trace, repaired. They are made twice: what has to come before the first line shows
+    at the end."""
     events, sections = trace.read(Repairs())
     for _ in events:
         pass

@@ -21,14 +21,15 @@ class Event(collections.namedtuple("Event", "line thread word name location")):
 
 
 class Repairs:
-    """What was done. Guesses are noted by line: of those that are alike the first ones are kept, and all are counted. What is merely
-    written in another form is counted alone."""
+    """What was done. Guesses are noted by line: of those that are alike the first ones are kept, and all are
+    counted. What is merely written in another form is counted alone."""
 
     MOST = 20
     ADDS_ORDER = "; this adds order, which can hide a race"
 
     def __init__(self):
-        self.kept, self.counts, self.translated, self.ordering = [], collections.Counter(), collections.Counter(), 0
+        self.kept, self.counts, self.translated, self.ordering = (
+            [], collections.Counter(), collections.Counter(), 0)
 
     def note(self, line, kind, words, adds_order=False):
         """Notes a repair of a line. `kind` says which repairs are alike."""

@@ -7,17 +7,20 @@ from shb_fix.events import Event, OWN
 VOLATILE, READER = OWN.encode() + b"volatile.", OWN.encode() + b"reader."
 
 # Forms that are translated, of one event and of several.
-ACCESS, READ_LOCK, WRITE_LOCK, WAIT, NOTIFY = (("volatile access", "volatile accesses"), ("reader lock",), ("writer lock",), ("wait",), ("notification",))
+ACCESS, READ_LOCK, WRITE_LOCK, WAIT, NOTIFY = (("volatile access",
+                                                "volatile accesses"), ("reader lock",), ("writer lock",), (
+                                                    "wait",), ("notification",))
 
 
 class Uses:
-    """What has to be known of a whole trace: for each volatile write the threads that read the variable before its thread writes it again,
-    since what a thread wrote earlier comes with its newest write; and for each reader-writer lock its readers, in the order in which
-    they come."""
+    """What has to be known of a whole trace: for each volatile write the threads that read the variable
+    before its thread writes it again, since what a thread wrote earlier comes with its newest write; and for
+    each reader-writer lock its readers, in the order in which they come."""
 
     def __init__(self):
         self.takers, self.readers = collections.defaultdict(list), collections.defaultdict(dict)
-        self.newest, self.last_reads = collections.defaultdict(dict), {}    # by variable: the line of each thread's newest write, the oldest first
+        # by variable: the line of each thread's newest write, the oldest first
+        self.newest, self.last_reads = collections.defaultdict(dict), {}
 
     def note(self, event):
         if event.word == b"vw":
@@ -40,8 +43,9 @@ class Uses:
 
 
 def with_volatiles(events, uses, repairs):
-    """What a thread did before a volatile write comes before what another one does after a later read of the variable, and nothing
-    else is ordered: a write takes and releases a lock of its own for each thread that takes it, which does so at its next read."""
+    """What a thread did before a volatile write comes before what another one does after a later read of the
+    variable, and nothing else is ordered: a write takes and releases a lock of its own for each thread that
+    takes it, which does so at its next read."""
     given, writes = collections.defaultdict(list), 0
     for event in events:
         if event.word == b"vr":
@@ -78,7 +82,8 @@ def with_waits(events, repairs):
 
 
 def with_reader_locks(events, uses, repairs):
-    """Each reader of a reader-writer lock has a lock of its own, and a writer takes the locks of all readers too."""
+    """Each reader of a reader-writer lock has a lock of its own, and a writer takes the locks of
+    all readers too."""
     reading = collections.Counter()
     for event in events:
         held = (event.thread, event.name)
@@ -93,8 +98,10 @@ def with_reader_locks(events, uses, repairs):
             takes = event.word in (b"wrlock", b"acq")
             if event.word == b"wrlock":
                 repairs.translate(WRITE_LOCK)
-            each = [event.name] + [event.name + READER + reader for reader in uses.readers.get(event.name, ())]
-            yield from (event.like(b"acq" if takes else b"rel", name) for name in (each if takes else each[::-1]))
+            each = (
+                [event.name] + [event.name + READER + reader for reader in uses.readers.get(event.name, ())])
+            yield from (event.like(b"acq" if takes else b"rel", name)
+                        for name in (each if takes else each[::-1]))
         else:
             yield event
 
@@ -112,11 +119,15 @@ class Sections:
         return [Event(0, thread, b"rel", lock, location)] * count
 
     def allows_release(self, event):
-        """Whether a release by a thread that doesn't hold the lock stays: the log may have begun after its acquire."""
+        """Whether a release by a thread that doesn't hold the lock stays: the log may have begun
+        after its acquire."""
         if event.name in self.known or event.thread in self.forked:
-            self.repairs.note(event.line, "releases a lock that it doesn't hold", "the thread doesn't hold this lock: dropped")
+            self.repairs.note(event.line, "releases a lock that it doesn't hold",
+                              "the thread doesn't hold this lock: dropped")
             return False
-        self.repairs.note(event.line, "releases a lock that was held when the log began", "the lock was held when the log began: its holder takes it before the first line", True)
+        self.repairs.note(event.line, "releases a lock that was held when the log began",
+                          "the lock was held when the log began: its holder takes it before the first line",
+                          True)
         self.begun.append(Event(0, event.thread, b"acq", event.name, event.location))
         self.holder[event.name], self.depth[event.name] = event.thread, 1
         return True
@@ -126,10 +137,14 @@ class Sections:
         if event.word == b"join":
             held = [lock for lock, holder in self.holder.items() if holder == event.name]
             for _ in held:
-                self.repairs.note(event.line, "joins a thread that holds a lock", "the thread holds a lock, and its release wasn't logged: it is released right before", True)
+                self.repairs.note(event.line, "joins a thread that holds a lock",
+                                  "the thread holds a lock, and its release wasn't logged: it is released "
+                                  "right before", True)
             return [it for lock in held for it in self.released(lock, event.location)]
         if event.word == b"acq" and self.holder.get(event.name) not in (None, event.thread):
-            self.repairs.note(event.line, "acquires a lock that another thread holds", "another thread holds this lock, and its release wasn't logged: it is released right before", True)
+            self.repairs.note(event.line, "acquires a lock that another thread holds",
+                              "another thread holds this lock, and its release wasn't logged: it is released "
+                              "right before", True)
             return self.released(event.name, event.location)
         return []
 
@@ -142,11 +157,13 @@ class Sections:
             del self.holder[lock], self.depth[lock]
 
     def whole(self, events):
-        """A lock that is given up before anybody took it was held when the log began: its holder takes it first. One that is taken
-        while another thread has it, or whose holder is joined, was given up before; one that is given up by who hasn't it isn't."""
+        """A lock that is given up before anybody took it was held when the log began: its holder takes it
+        first. One that is taken while another thread has it, or whose holder is joined, was given up before;
+        one that is given up by who hasn't it isn't."""
         for event in events:
             yield from self.missing(event)
-            if event.word == b"rel" and self.holder.get(event.name) != event.thread and not self.allows_release(event):
+            if (event.word == b"rel" and self.holder.get(event.name) != event.thread
+                and not self.allows_release(event)):
                 continue
             if event.word in (b"acq", b"rel"):
                 self.note(event)

@@ -17,7 +17,8 @@ def named_apart(events, repairs):
         if event.word == b"fork" and event.name in joined:
             joined.discard(event.name)
             turn[event.name] += 1
-            repairs.note(event.line, "forks a thread whose name was used before", f"the name was used before: this thread is called {printable(own(event.name))}")
+            repairs.note(event.line, "forks a thread whose name was used before",
+                         f"the name was used before: this thread is called {printable(own(event.name))}")
         if event.word == b"join":
             joined.add(event.name)
         name = own(event.name) if event.word in (b"fork", b"join") else event.name
@@ -25,8 +26,9 @@ def named_apart(events, repairs):
 
 
 class Lives:
-    """What the repairs of threads have to know of a whole trace: the last line of each thread, all forks and joins, and of each
-    thread the first event that is neither. So `turns` has the first event of each thread, whichever forks and joins are dropped."""
+    """What the repairs of threads have to know of a whole trace: the last line of each thread, all forks and
+    joins, and of each thread the first event that is neither. So `turns` has the first event of each thread,
+    whichever forks and joins are dropped."""
 
     def __init__(self):
         self.last, self.turns, self.begun = {}, [], set()
@@ -41,16 +43,19 @@ class Lives:
 
 
 def without_timed_joins(lives, repairs):
-    """A join after which the thread goes on did not wait for its end, and orders nothing: it is dropped. So is what a thread
-    says of itself, and a second fork."""
+    """A join after which the thread goes on did not wait for its end, and orders nothing: it is dropped. So
+    is what a thread says of itself, and a second fork."""
     forked = set()
     for event in lives.turns:
         if event.word in (b"fork", b"join") and event.name == event.thread:
-            repairs.note(event.line, "names its own thread", f"a thread can't {event.word.decode()} itself: dropped")
+            repairs.note(event.line, "names its own thread",
+                         f"a thread can't {event.word.decode()} itself: dropped")
         elif event.word == b"join" and lives.last.get(event.name, 0) > event.line:
-            repairs.note(event.line, "joins a thread that goes on", "the thread goes on after this join, which may have timed out: dropped")
+            repairs.note(event.line, "joins a thread that goes on",
+                         "the thread goes on after this join, which may have timed out: dropped")
         elif event.word == b"fork" and event.name in forked:
-            repairs.note(event.line, "forks a thread again", "the thread was forked before, and not joined: dropped")
+            repairs.note(event.line, "forks a thread again",
+                         "the thread was forked before, and not joined: dropped")
         else:
             forked.update([event.name] if event.word == b"fork" else [])
             yield event
@@ -63,25 +68,29 @@ def late_forks(events):
         first.setdefault(event.thread, k)
         if event.word == b"join":
             first.setdefault(event.name, k)
-    return {event: first[event.name] for k, event in enumerate(events) if event.word == b"fork" and first.get(event.name, k) < k}
+    return {event: first[event.name] for k, event in enumerate(events) if event.word == b"fork"
+            and first.get(event.name, k) < k}
 
 
 def with_early_forks(events, repairs):
-    """A fork that comes after an event of its thread was logged late: it is moved before the first one. That may bring the
-    forking thread's own fork to be late. A fork that would be moved twice is dropped: two threads can't fork each other. The
-    second answer has the line before which each moved fork stands."""
+    """A fork that comes after an event of its thread was logged late: it is moved before the first one. That
+    may bring the forking thread's own fork to be late. A fork that would be moved twice is dropped: two
+    threads can't fork each other. The second answer has the line before which each moved fork stands."""
     events, moved = list(events), {}
     late = late_forks(events)
     while late:
         before, earlier = collections.defaultdict(list), dict(moved)
         for fork, place in late.items():
             if fork in earlier:
-                repairs.note(fork.line, "forks a thread that began before", "no place before the first event of its thread is right for this fork: dropped")
+                repairs.note(fork.line, "forks a thread that began before",
+                             "no place before the first event of its thread is right for this fork: dropped")
                 continue
             moved[fork] = earlier.get(events[place], events[place].line)
             before[place].append(fork)
-            repairs.note(fork.line, "was logged late", "the fork came after the first event of its thread, and was moved before it", True)
-        events = [it for k, event in enumerate(events) for it in [*before.get(k, ()), *([] if event in late else [event])]]
+            repairs.note(fork.line, "was logged late",
+                         "the fork came after the first event of its thread, and was moved before it", True)
+        events = [it for k, event in enumerate(events)
+                  for it in [*before.get(k, ()), *([] if event in late else [event])]]
         late = late_forks(events)
     return events, moved
 
@@ -95,7 +104,8 @@ class Plan:
         for event in events:
             if event in moved:
                 self.before[moved[event]].append(event)
-        self.gone = {event.line for event in lives.turns} - {event.line for event in events if event not in moved}
+        self.gone = {event.line for event in lives.turns} - {
+            event.line for event in events if event not in moved}
         self.forked = {event.name for event in events if event.word == b"fork"}
 
     def followed(self, events):

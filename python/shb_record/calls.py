@@ -1,5 +1,5 @@
-"""Which functions of the program call which functions of other modules: order that code without hooks makes isn't seen, so a race of
-functions that call such code may be none."""
+"""Which functions of the program call which functions of other modules: order that code without hooks makes
+isn't seen, so a race of functions that call such code may be none."""
 
 import bisect
 import collections
@@ -24,7 +24,8 @@ def part(content, section):
 
 def symbols_of(content, sections, table, texts):
     texts = part(content, sections.get(texts, (0, 0, 0)))
-    for name, info, _, place, value, size in struct.iter_unpack("<IBBHQQ", part(content, sections.get(table, (0, 0, 0)))):
+    for name, info, _, place, value, size in struct.iter_unpack(
+            "<IBBHQQ", part(content, sections.get(table, (0, 0, 0)))):
         yield Symbol(value, size, texts[name:texts.find(b"\0", name)], info & 15, place != 0)
 
 
@@ -34,7 +35,8 @@ def exports_of(content, sections):
 
 def files_of(content, sections):
     """The names of the source files that an ELF file was made of, where it isn't stripped."""
-    return {symbol.name for symbol in symbols_of(content, sections, b".symtab", b".strtab") if symbol.kind == FILE and symbol.name}
+    return {symbol.name for symbol in symbols_of(content, sections, b".symtab", b".strtab")
+            if symbol.kind == FILE and symbol.name}
 
 
 def calls_of(content, sections):
@@ -42,7 +44,8 @@ def calls_of(content, sections):
     slots, stubs, calls = slots_of(content, sections), {}, set()
     for address, target in targets(content, sections, TABLES, STUB, 6):
         stubs.update((address - before, slots[target]) for before in BEFORE_STUB if target in slots)
-    functions = sorted(symbol for symbol in symbols_of(content, sections, b".symtab", b".strtab") if symbol.kind == FUNCTION and symbol.is_here)
+    functions = sorted(symbol for symbol in symbols_of(content, sections, b".symtab", b".strtab")
+                       if symbol.kind == FUNCTION and symbol.is_here)
     for pattern, size, names in ((CALL, 5, stubs), (BY_SLOT, 6, slots)):
         for address, target in targets(content, sections, [b".text"], pattern, size):
             if target in names:
@@ -69,7 +72,8 @@ def targets(content, sections, names, pattern, size):
 
 
 def plain(symbol):
-    """A function's name as a stack has it without parameters; of C++ as far as the mangled one is names alone."""
+    """A function's name as a stack has it without parameters; of C++ as far as the mangled one
+    is names alone."""
     found = MANGLED.match(symbol)
     if not found:
         return symbol.partition(b".")[0]

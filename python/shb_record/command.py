@@ -67,34 +67,49 @@ def parser_of_words():
                         "are those of the whole run, however long it is (shb help places). A page has a "
                         "trace of its own, which is cut around its races")
     how_often = parser.add_mutually_exclusive_group()
-    how_often.add_argument("--runs", metavar="N", type=number(1), help="run it N times, each with another interleaving (1); each place is shown once")
+    how_often.add_argument("--runs", metavar="N", type=number(1),
+                           help="run it N times, each with another interleaving (1); each place is shown once")
     how_often.add_argument("--until-found", metavar="N", type=number(1),
-                           help="run it at most N times, and end after the first run with a race that isn't known")
-    parser.add_argument("--jobs", metavar="N", type=number(1), help="record N runs at once (as many as there are processors; 1 with --replay, and if "
-                        "standard input is a file or pipe that isn't at its end). What they write is in files first, and printed run by run")
-    how_often.add_argument("--live", action="store_true", help="for a program that runs on: each place is shown while it runs, once. "
-                           "The run is recorded in segments. If they come faster than they can be analysed, the oldest are dropped, so "
-                           "memory and disk are bounded. A race between two segments is missed (SHB_SEGMENT=N: N records in one)")
+                           help="run it at most N times, and end after the first run with a race that isn't "
+                                "known")
+    parser.add_argument("--jobs", metavar="N", type=number(1),
+                        help="record N runs at once (as many as there are processors; 1 with --replay, and "
+                        "if standard input is a file or pipe that isn't at its end). What they write is in "
+                        "files first, and printed run by run")
+    how_often.add_argument("--live", action="store_true",
+                           help="for a program that runs on: each place is shown while it runs, once. "
+                           "The run is recorded in segments. If they come faster than they can be analysed, "
+                           "the oldest are dropped, so memory and disk are bounded. A race between two "
+                           "segments is missed (SHB_SEGMENT=N: N records in one)")
     parser.add_argument("--replay", metavar="RUN.turns",
-                        help="run it with the order of turns of an earlier run, as long as that fits. A run with a place that isn't known leaves the "
-                        "list in the folder of its results. If the list is left, it prints after how many turns; from there on the run is like any other")
+                        help="run it with the order of turns of an earlier run, as long as that fits. A run "
+                        "with a place that isn't known leaves the list in the folder of its results. If the "
+                        "list is left, it prints after how many turns; from there on the run is like any "
+                        "other")
     parser.add_argument("--known", metavar="FILE", dest="known_path",
-                        help="places to skip, as unknown.places has them: on a line two locations, FILE:LINE, or functions, "
-                        "FILE:FUNCTION(), in either order, and the variable, with tabs between; * stands for any text; a line that begins with "
-                        "# is a comment. A line with two fields applies to every variable. Lines that match nothing are reported")
-    parser.add_argument("--fail-on-stale", action="store_true", help="if no race is unknown, such lines end with status 67. A race that is in few runs "
-                        "needs --runs")
+                        help="places to skip, as unknown.places has them: on a line two locations, "
+                        "FILE:LINE, or functions, FILE:FUNCTION(), in either order, and the variable, with "
+                        "tabs between; * stands for any text; a line that begins with # is a comment. A line "
+                        "with two fields applies to every variable. Lines that match nothing are reported")
+    parser.add_argument("--fail-on-stale", action="store_true",
+                        help="if no race is unknown, such lines end with status 67. A race that is in few "
+                        "runs needs --runs")
     parser.add_argument("--source", metavar="DIR", action="append", default=[],
-                        help="look for source files below this folder too; may be given again. Those of the debug information are found without it")
-    parser.add_argument("--strip", metavar="DIR", help="name files below this folder by their paths from it (shb-std --help)")
+                        help="look for source files below this folder too; may be given again. Those of the "
+                             "debug information are found without it")
+    parser.add_argument("--strip", metavar="DIR", help="name files below this folder by their paths from it "
+                                                       "(shb-std --help)")
     parser.add_argument("--window", metavar="N", type=number(1), default=MOST_EVENTS,
                         help="the most events of a page's trace (%(default)s)")
     parser.add_argument("--wait", metavar="N", type=number(0),
-                        help=f"wait up to N seconds for processes that outlive the program ({WAIT}), and for those that SIGINT or SIGTERM "
-                        "is passed on to, before they are killed. If it is given, what is shown after such a signal has N seconds too")
-    parser.add_argument("--log", metavar="FILE", help="write to this file what otherwise goes to standard error, which then is the program's alone")
+                        help=f"wait up to N seconds for processes that outlive the program ({WAIT}), and for "
+                        "those that SIGINT or SIGTERM is passed on to, before they are killed. If it is "
+                        "given, what is shown after such a signal has N seconds too")
+    parser.add_argument("--log", metavar="FILE", help="write to this file what otherwise goes to standard "
+                                                      "error, which then is the program's alone")
     parser.add_argument("--keep", action="store_true", help="keep the records (16 bytes per access)")
-    parser.add_argument("words", metavar="PROGRAM", nargs=argparse.REMAINDER, help="the program, and the words that it is given")
+    parser.add_argument("words", metavar="PROGRAM", nargs=argparse.REMAINDER,
+                        help="the program, and the words that it is given")
     return parser
 
 
@@ -142,7 +157,8 @@ def check_settings():
 
 def check_folders(options):
     """Refuses folders that aren't there, but the path of one on the machine that compiled the program."""
-    for name, folder in [("--source", folder) for folder in options.source] + [("--strip", options.strip or "/")]:
+    for name, folder in [("--source", folder) for folder in options.source] + [
+            ("--strip", options.strip or "/")]:
         if not os.path.isdir(folder) and not (name == "--strip" and os.path.isabs(folder)):
             raise Refused(f"{name}: {folder} isn't a folder")
 
@@ -163,10 +179,12 @@ def check_program(name):
 
 def record(options):
     """Runs the program, looks at its runs, and says what was found. Returns the status."""
-    results = Results(options.folder, shlex.join([options.program, *options.arguments]).replace("\n", "\\n"), options.replay)
+    results = Results(options.folder, shlex.join([options.program, *options.arguments]).replace("\n", "\\n"),
+                      options.replay)
     if options.replay:
         (results.work / REPLAYED).write_bytes(options.turns.content)
-    stops = Stops("shb-record: {}: what was recorded is still shown; another one ends at once, and keeps the record\n".format, options.show)
+    stops = Stops("shb-record: {}: what was recorded is still shown; another one ends at once, and keeps the "
+                  "record\n".format, options.show)
     adopt_orphans()
     look = Look(options, results, stops, source_of(options, results.work))
     try:
@@ -176,7 +194,9 @@ def record(options):
     except (Refused, OSError) as fault:
         look.fail(fault)
     except KeyboardInterrupt:
-        look.fail(Refused(f"stopped {counted(options.show, 'second')} after the signal (--wait)" if stops.is_late else "stopped at once"))
+        look.fail(
+            Refused(f"stopped {counted(options.show, 'second')} after the signal (--wait)" if stops.is_late
+                    else "stopped at once"))
         results.keep_records()
     finally:
         stops.close()
@@ -196,7 +216,8 @@ def record(options):
 
 def run_all(look):
     options = look.options
-    with contextlib.closing(outcomes(options, look.results.work, look.look_meanwhile if options.live else None)) as ended:
+    with contextlib.closing(outcomes(options, look.results.work,
+                                     look.look_meanwhile if options.live else None)) as ended:
         for number, run in enumerate(ended, 1):
             look.own = look.own or run.own
             look.stops.note(run.stop, run.stopped)
@@ -205,11 +226,13 @@ def run_all(look):
                 say(f"stopped by {signal.Signals(look.stops.first).name}")
                 break
             if options.until_found and look.places.unknown():
-                say(f"run {number:,} of at most {options.runs:,} is the first with {'an unknown place' if options.known_path else 'a place'} with races; "
-                    f"its seed is {options.seed + number - 1}")
+                say(f"run {number:,} of at most {options.runs:,} is the first with "
+                    f"{'an unknown place' if options.known_path else 'a place'} with races; its seed is "
+                    f"{options.seed + number - 1}")
                 break
     if options.replay and not look.has_replayed:
-        raise Refused(f"{options.replay} belongs to `{options.turns.command}`, and no recorded process was that: nothing was replayed")
+        raise Refused(f"{options.replay} belongs to `{options.turns.command}`, and no recorded process was "
+                      "that: nothing was replayed")
 
 
 def source_of(options, folder):
@@ -238,9 +261,11 @@ def conclude(look, rows, status):
     for words in known.words_of_stale(look.stale(), look.places.names):
         say(f"{look.options.known_path}, {words}")
     for first, second in itertools.islice(look.passed_over, MOST_PASSED):
-        say(f"{printable(second)} read what {printable(first)} wrote, in a known race: a second look skipped both")
+        say(f"{printable(second)} read what {printable(first)} wrote, in a known race: a second look skipped "
+            "both")
     shown = (counted(unknown, "unknown place" if look.options.known_path else "place") + " with races"
-             + (f" ({'' if behind == unknown else f'{behind:,} of them '}behind known races: real if these are harmless)" if behind else "")
+             + (f" ({'' if behind == unknown else f'{behind:,} of them '}behind known races: real if these "
+                "are harmless)" if behind else "")
              + (f", {counted(passed_over, 'known one')} skipped" if passed_over else ""))
     unshown = f"{counted(look.unshown, 'place')} with races that can't be shown"
     say("; ".join([shown] * bool(rows or not look.unshown) + [unshown] * bool(look.unshown))
@@ -258,15 +283,18 @@ def conclude(look, rows, status):
         more = f" and {len(look.pages) - 1:,} more" if len(look.pages) > 1 else ""
         say(f"{'pages' if more else 'page'}: {look.pages[0]}{more}")
     if status == STALE:
-        say(f"status {STALE}: {counted(len(look.stale()), 'line')} of {look.options.known_path} matched no race of "
-            f"{'this run' if len(look.runs) == 1 else 'these runs'}; --runs N with a greater N may find one")
+        say(f"status {STALE}: {counted(len(look.stale()), 'line')} of {look.options.known_path} matched no "
+            f"race of {'this run' if len(look.runs) == 1 else 'these runs'}; --runs N with a greater N may "
+            "find one")
 
 
 def logged(path):
     """What redirects what this command says to a file, if one is named."""
     found = contextlib.ExitStack()
     if path:
-        found.enter_context(contextlib.redirect_stderr(found.enter_context(open(path, "w", encoding="utf-8", errors="backslashreplace"))))
+        found.enter_context(
+            contextlib.redirect_stderr(
+                found.enter_context(open(path, "w", encoding="utf-8", errors="backslashreplace"))))
     return found
 
 

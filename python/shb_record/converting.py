@@ -26,10 +26,12 @@ MODULE = re.compile(rb"^[0-9a-f]+ [0-9a-f]+ [0-9a-f]+ (.+)$", re.M)
 LINE_BYTES = 64  # about those of an event in a trace
 
 
-class Process(collections.namedtuple("Process", "name base command record modules replay blocks", defaults=(None, None))):
-    """A recorded process of a run. `base` is what the names of its results begin with; `modules` are the paths of its code, that of
-    the program first; `replay` says how far it followed the list of turns that was to be replayed. Of a segment of a record `blocks` is the
-    file of the blocks that are there when it begins."""
+class Process(collections.namedtuple("Process", "name base command record modules replay blocks",
+                                     defaults=(None, None))):
+    """A recorded process of a run. `base` is what the names of its results begin with; `modules` are the
+    paths of its code, that of the program first; `replay` says how far it followed the list of turns that was
+    to be replayed. Of a segment of a record `blocks` is the file of the blocks that are there when it
+    begins."""
 
     @property
     def program(self):
@@ -45,7 +47,8 @@ class Records:
         self.folder = folder
 
     def left(self, number):
-        """What was recorded in this run, in the order of the processes' numbers; these are looked at together."""
+        """What was recorded in this run, in the order of the processes' numbers; these are
+        looked at together."""
         def numbers(path):
             return [int(text) for text in re.findall(r"\d+", path.name)]
 
@@ -76,38 +79,46 @@ def replay_in(header):
     if not there:
         return None
     if not done:
-        return f"a list of {int(there[1]):,} turns was followed, until the program was killed or became another one"
+        return (f"a list of {int(there[1]):,} turns was followed, until the program was killed or became "
+                "another one")
     if done[1] == there[1]:
         return f"all {int(there[1]):,} turns of the list were followed"
-    return f"the replay was left after {int(done[1]):,} of {int(there[1]):,} turns; from there on slices were drawn"
+    return (f"the replay was left after {int(done[1]):,} of {int(there[1]):,} turns; from there on slices "
+            "were drawn")
 
 
 def check_room(process, most_events):
-    """A page's trace has so many events at most. In measured programs at most a tenth of the record's entries have a line."""
-    needed, free = min(process.record.stat().st_size // 2, most_events * LINE_BYTES), shutil.disk_usage(process.record.parent).free
+    """A page's trace has so many events at most. In measured programs at most a tenth of the record's entries
+    have a line."""
+    needed, free = (min(process.record.stat().st_size // 2, most_events * LINE_BYTES),
+                    shutil.disk_usage(process.record.parent).free)
     if needed > free:
-        raise Refused(f"{process.name}: its page may take about {needed:,} bytes of the disk, and {free:,} are free; "
-                      "--window makes a smaller one")
+        raise Refused(f"{process.name}: its page may take about {needed:,} bytes of the disk, and {free:,} "
+                      "are free; --window makes a smaller one")
 
 
 class Conversion:
-    """Turns a record into the run's trace, for `shb places --list`, and if that finds races into the trace of their page.
-    `trace`, `uses` and `stacks` are the files of that trace, `place_list` is the list of places; `numbers` has for the events
-    of a race those of that trace, if it has both in one part."""
+    """Turns a record into the run's trace, for `shb places --list`, and if that finds races into the trace of
+    their page. `trace`, `uses` and `stacks` are the files of that trace, `place_list` is the list of places;
+    `numbers` has for the events of a race those of that trace, if it has both in one part."""
 
     def __init__(self, process, options):
         self.process = process
-        self.trace, self.place_list, self.uses, self.stacks = (process.record.with_suffix(suffix) for suffix in (".std", ".places", ".uses", ".stacks"))
+        self.trace, self.place_list, self.uses, self.stacks = (
+            process.record.with_suffix(suffix) for suffix in (".std", ".places", ".uses", ".stacks"))
         strip = ["--strip", options.strip] if options.strip else []
         self.left = process.record.with_suffix(".left")  # a segment's blocks at its end
         blocks = ["--blocks", process.blocks] if process.blocks else []
         self.window = options.window
         self.list_words = [CONVERTER, "--list", *strip, *blocks, process.record]
         self.page_words = [*strip, *blocks, "-n", str(options.window), process.record]
-        self.words = [CONVERTER, "--list", "--only", "/dev/stdin", "--page", self.trace, "--uses", self.uses, "--stacks", self.stacks,
+        self.words = [CONVERTER, "--list", "--only", "/dev/stdin", "--page", self.trace, "--uses", self.uses,
+                      "--stacks", self.stacks,
                       *(["--left", self.left] if options.live else []), *self.page_words]
-        self.size, self.notes, self.cuts = "", [], []  # known at the end: how much there is, what is said of it, what makes it a part
-        self.numbers, self.used, self.called = {}, None, None  # `used` and `called` have what the files of a page's trace have
+        # known at the end: how much there is, what is said of it, what makes it a part
+        self.size, self.notes, self.cuts = "", [], []
+        # `used` and `called` have what the files of a page's trace have
+        self.numbers, self.used, self.called = {}, None, None
         self.found, self.races, self.counts = [], [], None  # of the run, once they are listed
 
     def places(self, listed, choose):
@@ -148,9 +159,11 @@ class Conversion:
             raise Refused(f"{self.stacks} {fault}") from None
         races = [race for place in places for race in place.variables.values()]
         asked = {event for race in races for event in race.events}
-        has_all = uses.count < self.window and max(asked) - min(asked) <= self.window  # else some may have given way
+        # else some may have given way
+        has_all = uses.count < self.window and max(asked) - min(asked) <= self.window
         lost = len(asked - uses.events.keys()) if has_all else 0
-        wanted = {uses.events[event]: access for race in races for event, access in zip(race.events, race.accesses) if event in uses.events}
+        wanted = {uses.events[event]: access for race in races
+                  for event, access in zip(race.events, race.accesses) if event in uses.events}
         at, of_list = 0, "of `shb places --list`"
         with open(self.trace, "rb") as trace:
             for number in sorted(wanted):
@@ -168,8 +181,10 @@ class Conversion:
     def write_page(self, places):
         """Writes the trace of a page anew, around the races of these places."""
         with tempfile.TemporaryFile() as said, open(self.trace, "wb") as out:
-            words = [CONVERTER, "--only", "/dev/stdin", "--uses", self.uses, "--stacks", self.stacks, *self.page_words]
-            self.end(subprocess.run(words, input=b"".join(lines_of(places)), stdout=out, stderr=said, **apart()).returncode, said)
+            words = [CONVERTER, "--only", "/dev/stdin", "--uses", self.uses, "--stacks", self.stacks,
+                     *self.page_words]
+            self.end(subprocess.run(words, input=b"".join(lines_of(places)), stdout=out, stderr=said,
+                                    **apart()).returncode, said)
         self.note_page(places)
 
     def end(self, status, file):
@@ -179,7 +194,8 @@ class Conversion:
             how = f"status {status}" if status > 0 else f"signal {-status}"
             raise Refused(f"{self.process.name}: {'; '.join(said) or f'shb-std ended with {how}'}")
         is_size = re.compile(r"\d+ records, ").match
-        self.size = ", ".join(re.sub(r"\d+", lambda number: f"{int(number[0]):,}", line) for line in said if is_size(line))
+        self.size = ", ".join(re.sub(r"\d+", lambda number: f"{int(number[0]):,}", line)
+                              for line in said if is_size(line))
         self.notes = [line for line in said if not is_size(line)]
         self.cuts = [note for note in self.notes if note.startswith(CUTS)] if status == NOT_WHOLE else []
 
@@ -192,7 +208,8 @@ def lines_of(places):
 
 
 def order_of(record):
-    """A sum of the threads and operations of a record, in their order: of two runs that do the same in other orders they differ."""
+    """A sum of the threads and operations of a record, in their order: of two runs that do the same in other
+    orders they differ."""
     found = sha256()
     with open(record, "rb") as file:
         file.seek(HEADER_BYTES)

@@ -1,5 +1,5 @@
-"""The records of a program that runs on: each is one of segments, which is closed while the program runs. A segment is a record of its own, so
-what races over its bounds isn't seen."""
+"""The records of a program that runs on: each is one of segments, which is closed while the program runs. A
+segment is a record of its own, so what races over its bounds isn't seen."""
 
 import contextlib
 import os
@@ -48,12 +48,14 @@ class Segments:
             return None
         base, segment = self.counted(path)
         blocks = self.folder / f"{base}.blocks"
-        process = process_of(taken, f"run 1, process {base.split('.')[1]}, segment {segment}", f"{base}.{segment}")
+        process = process_of(taken, f"run 1, process {base.split('.')[1]}, segment {segment}",
+                             f"{base}.{segment}")
         return process._replace(blocks=blocks) if blocks.exists() else process
 
     def counted(self, path):
-        """What the names of a process's results begin with, and the number of this segment of its. The recorder drops what isn't taken
-        soon enough; a process that becomes another program may begin with 1 again."""
+        """What the names of a process's results begin with, and the number of this segment of its. The
+        recorder drops what isn't taken soon enough; a process that becomes another program may begin with 1
+        again."""
         base, segment = base_of(path), segment_of(path)
         file, count = self.last.get(base, (0, 0))
         missing = segment - 1 - (file if segment > file else 0)
@@ -65,7 +67,8 @@ class Segments:
         return base, count + missing + 1
 
     def release(self, process):
-        """Deletes what is left of a segment, but for the blocks at its end, which the next one begins with."""
+        """Deletes what is left of a segment, but for the blocks at its end, which the next
+        one begins with."""
         taken = process.record
         blocks = self.folder / f"{base_of(taken)}.blocks"
         blocks.unlink(missing_ok=True)
@@ -80,7 +83,8 @@ class Segments:
         if passed:
             yield f"{counted(passed, 'segment')} had places of earlier ones alone, and no page"
         if self.dropped:
-            yield f"{counted(self.dropped, 'segment')} dropped, since they came faster than they could be looked at: their races are missed"
+            yield (f"{counted(self.dropped, 'segment')} dropped, since they came faster than they could be "
+                   "looked at: their races are missed")
 
 
 def base_of(path):

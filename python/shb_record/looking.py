@@ -31,19 +31,25 @@ class Looked:
 
 
 class Look:
-    """Looks at the records of a source: those of runs that have ended (`Records`), or of one that goes on (`Segments`)."""
+    """Looks at the records of a source: those of runs that have ended (`Records`), or of one that
+    goes on (`Segments`)."""
 
     def __init__(self, options, results, stops, source):
-        self.options, self.results, self.stops, self.source, self.started = options, results, stops, source, now()[:-3]
+        self.options, self.results, self.stops, self.source, self.started = (
+            options, results, stops, source, now()[:-3])
         self.places, self.pages, self.found = Places(options.known, options.live), [], {}
-        self.events = self.passed = self.failed = 0  # events that were looked at; segments without a page; records that can't be looked at
+        # events that were looked at; segments without a page; records that can't be looked at
+        self.events = self.passed = self.failed = 0
         self.said = set()  # notes on segments, each of which is said once
         self.own = 0  # the program's own status, of the first run where it isn't 0
         self.unshown = 0  # places of processes that can't be shown
         self.runs = []  # of each run: the order of each process
-        self.has_replayed, self.again = False, None  # did a process follow the list? the list of the first with an unknown place
-        self.sources, self.notes = {}, {}  # by process and trace: the paths of source files; what is to know of pages
-        self.modules, self.passed_over = Modules(), {}  # known races whose second access reads what the first wrote
+        # did a process follow the list? the list of the first with an unknown place
+        self.has_replayed, self.again = False, None
+        # by process and trace: the paths of source files; what is to know of pages
+        self.sources, self.notes = {}, {}
+        # known races whose second access reads what the first wrote
+        self.modules, self.passed_over = Modules(), {}
         self.is_cut = self.is_killed = self.has_failed = self.is_contradicted = self.has_threads = False
 
     def look_meanwhile(self):
@@ -61,14 +67,17 @@ class Look:
         self.is_cut = self.is_cut or self.source.dropped > 0
         if not self.options.live and not any(one is None or one.events for one in looked):
             if self.is_cut:
-                words = shlex.join(["shb-record", "env", f"LD_PRELOAD={PRELOADED}", self.options.program, *self.options.arguments])
+                words = shlex.join(["shb-record", "env", f"LD_PRELOAD={PRELOADED}", self.options.program,
+                                    *self.options.arguments])
                 late = any(one and LATE in cut for one in looked for cut in one.conversion.cuts)
-                raise Refused("nothing of the run was recorded" + f"; for a module with hooks that the program loads later run `{words}`" * late)
-            say(f"run {number}: {counted(len(looked), 'recorded process', 'recorded processes')}, none with a second thread")
+                raise Refused("nothing of the run was recorded" + "; for a module with hooks that the "
+                                                                  f"program loads later run `{words}`" * late)
+            say(f"run {number}: {counted(len(looked), 'recorded process', 'recorded processes')}, none with "
+                "a second thread")
 
     def look_at(self, number, found):
-        """Analyses, then shows processes of a run, as names depend on all; one that can't be looked at doesn't keep others from being shown.
-        Returns what was found in each, or None."""
+        """Analyses, then shows processes of a run, as names depend on all; one that can't be looked at
+        doesn't keep others from being shown. Returns what was found in each, or None."""
         if len(self.runs) < number:
             self.runs.append([])
         looked = [self.tried(self.analyse, Looked(process, self.options)) for process in found]
@@ -121,7 +130,8 @@ class Look:
         """A line each on what a run says nothing about."""
         yield from self.modules.lines()
         if self.options.runs == 1 and (self.has_threads or self.places.seen):
-            yield "One interleaving of many was seen; --runs N tries others, --until-found N stops at the first with a race."
+            yield ("One interleaving of many was seen; --runs N tries others, --until-found N stops at the "
+                   "first with a race.")
         yield from self.source.meaning
 
     def counts(self):
@@ -144,7 +154,8 @@ class Look:
         self.keep_files(looked)
 
     def add_new(self, looked, places, is_behind=False):
-        """Takes some of the places of a process, as `Places.add_new` does. Without a page they are those of earlier segments."""
+        """Takes some of the places of a process, as `Places.add_new` does. Without a page they are those
+        of earlier segments."""
         process = looked.process
         if places and not looked.conversion.used:
             return [], self.places.met_in(process, places)
@@ -153,7 +164,8 @@ class Look:
             self.modules.callers |= looked.conversion.called.files
             origin = Origin(looked.conversion.called, process.program)
             origin.add_modules(process.modules)
-        return self.places.add_new(process, self.results.folder / f"{process.base}.std", origin, places, looked.conversion.numbers, is_behind)
+        return self.places.add_new(process, self.results.folder / f"{process.base}.std", origin, places,
+                                   looked.conversion.numbers, is_behind)
 
     def keep_files(self, looked):
         """Moves the files of a page out of the folder of work; of a segment where something in it is new."""
@@ -161,11 +173,12 @@ class Look:
             return
         looked.has_files, conversion = True, looked.conversion
         conversion.trace, conversion.place_list, conversion.uses, conversion.stacks = (
-            self.results.keep(path, f"{looked.process.base}{path.suffix}") for path in (conversion.trace, conversion.place_list, conversion.uses, conversion.stacks))
+            self.results.keep(path, f"{looked.process.base}{path.suffix}")
+            for path in (conversion.trace, conversion.place_list, conversion.uses, conversion.stacks))
 
     def choose(self, process, places):
-        """The places that are to be on a page: none of a segment with those of earlier ones alone. Those of a whole record are said where
-        the command was told to end: what comes then takes its time."""
+        """The places that are to be on a page: none of a segment with those of earlier ones alone. Those of a
+        whole record are said where the command was told to end: what comes then takes its time."""
         if self.options.live:
             has_met = self.places.has_met(process, places)
             self.passed += has_met and bool(places)
@@ -187,7 +200,8 @@ class Look:
         if looked.behind:
             looked.places = [*looked.places, *looked.behind]
             looked.conversion.write_page(looked.places)
-            looked.conversion.races += [(race_of(*race), race.accesses) for place in looked.behind for race in place.variables.values()]
+            looked.conversion.races += [(race_of(*race), race.accesses) for place in looked.behind
+                                        for race in place.variables.values()]
             new, _ = self.add_new(looked, looked.behind, True)
             looked.new = [*looked.new, *new]
             self.keep_files(looked)
@@ -202,23 +216,28 @@ class Look:
         if looked.events and self.options.runs > 1:
             self.runs[-1].append(order_of(process.record))
         if unknown if self.options.live else looked.events:
-            places = counted(len(unknown), "new place") if self.options.live else counted(len(looked.places), "place")
+            places = (counted(len(unknown), "new place") if self.options.live
+                      else counted(len(looked.places), "place"))
             say(f"{process.name} ({process.command}): {conversion.size}; {places} with races")
         for note in conversion.notes:
             if (looked.events or note != KILLED) and note not in self.said:
                 self.said.update([note] if self.options.live else [])
-                more = "; SHB_RECORDS=NUMBER allows more records, of 16 bytes each" * ("SHB_RECORDS is reached" in note)
+                more = "; SHB_RECORDS=NUMBER allows more records, of 16 bytes each" * ("SHB_RECORDS is "
+                                                                                       "reached" in note)
                 say(f"{process.name} ({process.command}): {note}{more}")
 
     def note_cuts(self, looked):
-        """Takes what makes a record a part of its run. A thread too many doesn't, nor that a program of one thread was killed."""
-        cuts = [cut for cut in looked.conversion.cuts if "a thread too many" not in cut and (looked.events or cut != KILLED)]
+        """Takes what makes a record a part of its run. A thread too many doesn't, nor that a program of one
+        thread was killed."""
+        cuts = [cut for cut in looked.conversion.cuts if "a thread too many" not in cut
+                and (looked.events or cut != KILLED)]
         self.is_cut = self.is_cut or bool(cuts) and cuts != [KILLED]
         self.is_killed = self.is_killed or cuts == [KILLED]
         self.has_threads = self.has_threads or bool(looked.events)
 
     def keep_turns(self, process, has_unknown):
-        """Keeps the list of turns of a process with something to run again, and says how far it followed one."""
+        """Keeps the list of turns of a process with something to run again, and says how far
+        it followed one."""
         turns = process.record.with_suffix(".turns")
         if turns.exists() and (has_unknown or self.options.keep):
             kept = self.results.keep(turns, f"{process.base}.turns")
@@ -229,23 +248,30 @@ class Look:
             say(f"{process.name} ({process.command}): {process.replay}")
 
     def show_places(self, looked, unknown):
-        """The view's page and text of new places that aren't known, and what it found; where it fails, the new places alone."""
+        """The view's page and text of new places that aren't known, and what it found; where it fails, the
+        new places alone."""
         process, conversion, numbers = looked.process, looked.conversion, looked.conversion.numbers
-        is_on_page = [any(one.place.variables[name].events in numbers for name in one.variables & one.place.variables.keys()) for one in unknown]
+        is_on_page = [
+            any(one.place.variables[name].events in numbers
+                for name in one.variables & one.place.variables.keys()) for one in unknown]
         show_apart([one for one, is_there in zip(unknown, is_on_page) if not is_there])
         if not any(is_on_page):
             return
         first = [note for note in conversion.notes if note.startswith(CRASHED)] + conversion.cuts
-        notes = [f"{note[0].upper()}{note[1:]}." for note in [*first, *[process.replay] * bool(process.replay)]]
-        turns = self.results.folder / f"{process.base}.turns" if process.record.with_suffix(".turns").exists() else ""
+        notes = [f"{note[0].upper()}{note[1:]}."
+                 for note in [*first, *[process.replay] * bool(process.replay)]]
+        turns = (self.results.folder / f"{process.base}.turns"
+                 if process.record.with_suffix(".turns").exists() else "")
         page = self.results.path(f"{process.base}.html")
-        from shb_view.command import explain, show_run  # takes its time, and a run without a place does without
+        # takes its time, and a run without a place does without
+        from shb_view.command import explain, show_run
         from shb_view.result import document
         from shb_view.view import Asked, RecordedRun
         from shb_view.words import bad_words
         run = RecordedRun(
             conversion.trace, conversion.counts, conversion.races, conversion.used, conversion.called,
-            new=variables_at(unknown), behind=variables_at(one for one in unknown if one.place in looked.behind),
+            new=variables_at(unknown),
+            behind=variables_at(one for one in unknown if one.place in looked.behind),
             about=list(self.meaning()), unseen=self.modules.calls(process.modules), turns=turns,
             command=shlex.join([self.options.program, *self.options.arguments]))
         title = f"{process.command} ({process.name}, {self.started})"
@@ -272,7 +298,8 @@ def say_places(found):
     """Says of places and some of their variables a race each."""
     for place, names in found:
         for name in sorted(place.variables.keys() & names):
-            first, second = (f"{printable(access.location)} {KINDS[access.word]} by {printable(access.thread)}" for access in place.variables[name].accesses)
+            first, second = (f"{printable(access.location)} {KINDS[access.word]} by "
+                             f"{printable(access.thread)}" for access in place.variables[name].accesses)
             say(f"  {printable(name)}: {first}, and {second}")
 
 

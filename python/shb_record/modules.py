@@ -12,11 +12,13 @@ from shb_common.files import open_regular
 from shb_common.words import printable
 from shb_record.parts import LIBRARY
 
-# The C library's own, whose functions the recorder stands for, the loader, the C++ library, whose templates have the hooks, and what
-# compilers add, which orders nothing but by the C library.
-OF_THE_SYSTEM = {b"lib" + name for name in b"c m dl rt pthread resolv util gcc_s tsan stdc++ c++ c++abi gfortran quadmath ubsan asan".split()}
+# The C library's own, whose functions the recorder stands for, the loader, the C++ library, whose templates
+# have the hooks, and what compilers add, which orders nothing but by the C library.
+OF_THE_SYSTEM = {b"lib" + name for name in b"c m dl rt pthread resolv util gcc_s tsan stdc++ c++ c++abi "
+                                           b"gfortran quadmath ubsan asan".split()}
 LOADERS = b"linux-vdso", b"linux-gate", b"ld-linux", b"ld-musl"
-STOOD_FOR = (b"libgomp.so",)  # what of it isn't recorded is known by the calls, so it may stand in call stacks
+# what of it isn't recorded is known by the calls, so it may stand in call stacks
+STOOD_FOR = (b"libgomp.so",)
 ORDERS_NOTHING = b"omp_get_"
 MOST_NAMED = 6
 NEEDED, MOST_NAME = 1, 256  # of a section .dynamic; bytes
@@ -32,48 +34,58 @@ class Modules:
 
     def __init__(self):
         self.kinds = {}     # by path: whether it has hooks, and whether debug information
-        self.callers = set()  # names of modules and files that stand in call stacks: what has them calls the program, or starts its threads
+        # names of modules and files that stand in call stacks: what has them calls the program, or starts
+        # its threads
+        self.callers = set()
 
     def add(self, paths):
         for path in paths:
-            if b"/" in path and not is_of_the_system(os.path.basename(path)) and not path.startswith(bytes(LIBRARY)):
+            if (b"/" in path and not is_of_the_system(os.path.basename(path))
+                and not path.startswith(bytes(LIBRARY))):
                 self.kinds.setdefault(path, None)
         self.kinds.update((path, read_in(path, kind_of)) for path, kind in self.kinds.items() if kind is None)
 
     def lines(self):
-        """A line on each kind of code of which less is seen. Modules that recorded code calls, or that call it, come first."""
+        """A line on each kind of code of which less is seen. Modules that recorded code calls, or that call
+        it, come first."""
         bare = [path for path, kind in self.kinds.items() if kind and not kind.has_hooks]
-        nameless = [path for path, kind in self.kinds.items() if kind and kind.has_hooks and not kind.has_names]
+        nameless = [path for path, kind in self.kinds.items() if kind and kind.has_hooks
+                    and not kind.has_names]
         called = set().union(*(kind.needs for kind in self.kinds.values() if kind and kind.has_hooks))
         called |= {name for file, name in self.stand_for(self.kinds) if file in self.callers}
         if bare:
-            yield (f"Code without -fsanitize=thread isn't seen: {named(bare, called)}. Nor are its locks and queues: races of what these order "
-                   "are false. Build it with the flag.")
+            yield (f"Code without -fsanitize=thread isn't seen: {named(bare, called)}. Nor are its locks and "
+                   "queues: races of what these order are false. Build it with the flag.")
         rust = [path for path, kind in self.kinds.items() if kind and kind.has_hooks and kind.has_bare_rust]
         if rust:
-            yield (f"Rust's own library in {named(rust, called)} has no hooks: what its locks, channels and scopes order isn't seen, and "
-                   "races of that are false. Build it with the program (-Zbuild-std).")
+            yield (f"Rust's own library in {named(rust, called)} has no hooks: what its locks, channels and "
+                   "scopes order isn't seen, and races of that are false. Build it with the program "
+                   "(-Zbuild-std).")
         if nameless:
             yield f"Without debug information (-g) locations are addresses: {named(nameless, called)}."
 
     def calls(self, paths):
-        """By the name of a function of these modules the modules without hooks that it calls, but for calls that are recorded; and by what
-        stands in call stacks for a module without hooks, that."""
+        """By the name of a function of these modules the modules without hooks that it calls, but for calls
+        that are recorded; and by what stands in call stacks for a module without hooks, that."""
         kinds = {path: self.kinds.get(path) for path in dict.fromkeys(paths)}
         hooked = [path for path, kind in kinds.items() if kind and kind.has_hooks]
         needed = set().union(*(kinds[path].needs for path in hooked))
-        bare = [path for path, kind in kinds.items() if kind and not kind.has_hooks and os.path.basename(path) in needed]
+        bare = [path for path, kind in kinds.items() if kind and not kind.has_hooks
+                and os.path.basename(path) in needed]
         found = {}
         for name, module in self.stand_for(kinds):
             if not module.startswith(STOOD_FOR):
                 found.setdefault(name, set()).add(module)
         if not bare:
             return found
-        from shb_record.calls import calls_of, exports_of  # takes its time, and most programs' modules all have hooks
+        # takes its time, and most programs' modules all have hooks
+        from shb_record.calls import calls_of, exports_of
         recorded, of_module = read_in(bytes(LIBRARY / "libtsan.so"), exports_of) or set(), {}
         for path in bare:
-            of_module.update(dict.fromkeys((read_in(path, exports_of) or set()) - recorded, os.path.basename(path)))
-        for function, called in set().union(*(read_in(path, calls_of) or () for path in hooked)) if of_module else ():
+            of_module.update(dict.fromkeys((read_in(path, exports_of) or set()) - recorded,
+                                           os.path.basename(path)))
+        for function, called in set().union(
+                *(read_in(path, calls_of) or () for path in hooked)) if of_module else ():
             if called in of_module and not called.startswith(ORDERS_NOTHING):
                 found.setdefault(function, set()).add(of_module[called])
         return found
@@ -82,8 +94,10 @@ class Modules:
         """What stands in locations for modules without hooks: these, and source files of theirs alone."""
         known = [path for path in paths if self.kinds.get(path)]
         files = {path: files_in(path) for path in known if not self.kinds[path].has_hooks}
-        others = set().union(*(files_in(path) for path in known if path not in files)) if any(files.values()) else set()
-        return {(file, name) for path in files for name in [os.path.basename(path)] for file in {name, *files[path] - others}}
+        others = (set().union(*(files_in(path) for path in known if path not in files)) if any(files.values())
+                  else set())
+        return {(file, name) for path in files for name in [os.path.basename(path)]
+                for file in {name, *files[path] - others}}
 
 
 def is_of_the_system(name):
@@ -110,7 +124,8 @@ def read_in(path, read):
 def kind_of(content, sections):
     has_names = bool(sections.keys() & {b".debug_info", b".zdebug_info", b".gnu_debuglink"})
     has_hooks = content.find(b"__tsan_init") >= 0
-    has_bare_rust = has_hooks and content.find(b"/rustc/") >= 0  # the folder that its sources are said to be in
+    # the folder that its sources are said to be in
+    has_bare_rust = has_hooks and content.find(b"/rustc/") >= 0
     return Kind(has_hooks, has_names, frozenset(needs_of(content, sections)), has_bare_rust)
 
 
@@ -122,13 +137,15 @@ def files_in(path):
 
 
 def is_behind(program, variables):
-    """Whether the loader, which has this environment, would put the recorder's library behind the C library: then no thread would be
-    seen. So it is where a library of a program without hooks has them."""
-    needs = read_in(program, lambda content, sections: list(needs_of(content, sections)) if b".interp" in sections else None)
+    """Whether the loader, which has this environment, would put the recorder's library behind the C library:
+    then no thread would be seen. So it is where a library of a program without hooks has them."""
+    needs = read_in(program, lambda content, sections: list(needs_of(content, sections))
+                    if b".interp" in sections else None)
     if needs is None or is_first(needs):
         return False
     try:
-        listed = subprocess.run([LOADER, "--list", program], env=variables, stdout=subprocess.PIPE, stderr=subprocess.DEVNULL).stdout
+        listed = subprocess.run([LOADER, "--list", program], env=variables, stdout=subprocess.PIPE,
+                                stderr=subprocess.DEVNULL).stdout
     except OSError:
         return False
     names = [os.path.basename(line.split()[0]) for line in listed.splitlines() if line.strip()]
@@ -145,7 +162,8 @@ def is_library(name):
 
 
 def sections_of(content):
-    """By the names of the sections of an ELF file of 64 bits: their address, where they are in the file, and how long they are."""
+    """By the names of the sections of an ELF file of 64 bits: their address, where they are in the file, and
+    how long they are."""
     if content[:5] != b"\x7fELF\x02":
         raise ValueError
     start, = struct.unpack_from("<Q", content, 0x28)
@@ -156,7 +174,8 @@ def sections_of(content):
 
 
 def needs_of(content, sections):
-    (_, start, size), (_, texts, _) = sections.get(b".dynamic", (0, 0, 0)), sections.get(b".dynstr", (0, 0, 0))
+    (_, start, size), (_, texts, _) = (sections.get(b".dynamic", (0, 0, 0)),
+                                       sections.get(b".dynstr", (0, 0, 0)))
     for tag, value in struct.iter_unpack("<QQ", content[start:start + size // 16 * 16]):
         if tag == NEEDED:
             yield os.path.basename(content[texts + value:texts + value + MOST_NAME].split(b"\0", 1)[0])

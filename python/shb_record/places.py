@@ -15,13 +15,16 @@ New = collections.namedtuple("New", "key place variables")
 
 
 class Places(places.Places):
-    """The places of all runs. Of each variable a race is kept, with its events in the whole run; a trace is the name of its process
-    and the path of its page's. Of a run that goes on (`is_endless`) only what is new at a place is kept, so that they stay few."""
+    """The places of all runs. Of each variable a race is kept, with its events in the whole run; a trace is
+    the name of its process and the path of its page's. Of a run that goes on (`is_endless`) only what is new
+    at a place is kept, so that they stay few."""
 
     def __init__(self, given, is_endless=False):
         super().__init__(given)
         self.known_before, self.is_endless = set(), is_endless
-        self.met = {}  # of such a run: by a program's variable at a place the key of that, and the variable's name on the page
+        # of such a run: by a program's variable at a place the key of that, and the variable's name on
+        # the page
+        self.met = {}
 
     def add_place(self, trace, order, first, second, variables, has_more):
         key = pair_of(order)
@@ -33,30 +36,39 @@ class Places(places.Places):
         return super().add_place(trace, order, first, second, variables, has_more)
 
     def add_new(self, process, trace, origin, found, numbers, is_behind=False):
-        """Takes the places of a process, and returns those that are new, or have a new variable; and all, each with its key and the names
-        of its variables in the trace and on the page. `numbers` has the races that the page's trace has, whose locals are known;
-        `is_behind` says that they were found behind known races."""
+        """Takes the places of a process, and returns those that are new, or have a new variable; and all,
+        each with its key and the names of its variables in the trace and on the page. `numbers` has the races
+        that the page's trace has, whose locals are known; `is_behind` says that they were found behind known
+        races."""
         in_run = [named(place, origin.tables, numbers) for place in found]
         before = {key: set(seen.variables) - seen.behind for key, seen in self.seen.items()}
         keys = self.add((process.name, trace), origin, [place for place, _ in in_run])
         for key, (place, _) in zip(keys, in_run):
             behind = self.seen[key].behind
-            behind.update(place.variables.keys() - before.get(key, set())) if is_behind else behind.difference_update(place.variables)
-        new = [New(key, place, self.new_variables(key, names)) for key, place, (_, names) in zip(keys, found, in_run)]
+            behind.update(
+                place.variables.keys() - before.get(key, set())) if is_behind else behind.difference_update(
+                    place.variables)
+        new = [New(key, place, self.new_variables(key, names))
+               for key, place, (_, names) in zip(keys, found, in_run)]
         its = [(key, place, names) for key, place, (_, names) in zip(keys, found, in_run)]
         if self.is_endless and not is_behind:
-            self.met.update((way_to(process, place, raw), (key, name)) for key, place, names in its for raw, name in names.items())
+            self.met.update((way_to(process, place, raw), (key, name)) for key, place, names in its
+                            for raw, name in names.items())
         return [one for one in new if one.variables], its
 
     def has_met(self, process, found):
-        """Whether earlier segments had all these places of one. What is on a stack may be another local in each segment."""
-        return not any(place.has_more or raw.startswith(b"stack.") or way_to(process, place, raw) not in self.met
+        """Whether earlier segments had all these places of one. What is on a stack may be another local
+        in each segment."""
+        return not any(place.has_more or raw.startswith(b"stack.")
+                       or way_to(process, place, raw) not in self.met
                        for place in found for raw in place.variables)
 
     def met_in(self, process, found):
         """The same places as `add_new` returned them."""
-        met = [(place, {raw: self.met[way_to(process, place, raw)] for raw in place.variables}) for place in found]
-        return [(next(key for key, _ in its.values()), place, {raw: name for raw, (_, name) in its.items()}) for place, its in met]
+        met = [(place, {raw: self.met[way_to(process, place, raw)] for raw in place.variables})
+               for place in found]
+        return [(next(key for key, _ in its.values()), place, {raw: name for raw, (_, name) in its.items()})
+                for place, its in met]
 
     def known_in(self, named):
         """The accesses at known places, each a location and a variable of the trace; and the known races."""
@@ -78,9 +90,11 @@ class Places(places.Places):
         return new
 
     def is_new(self, key, name):
-        """In a segment a block that was allocated before one that was dropped has no name but its address: that isn't new where blocks race."""
+        """In a segment a block that was allocated before one that was dropped has no name but its address:
+        that isn't new where blocks race."""
         lasting = known.lasting(name)
-        is_lost = self.is_endless and lasting == NAMELESS and any(map(known.is_of_block, self.seen[key].variables))
+        is_lost = (self.is_endless and lasting == NAMELESS
+                   and any(map(known.is_of_block, self.seen[key].variables)))
         return not is_lost and (key, lasting) not in self.known_before
 
     def unknown_of(self, new):

@@ -15,19 +15,21 @@ from shb_record.parts import now, say
 LIST = "made-by-shb-record.txt"
 LIST_BEGIN = "# What shb-record made in this folder"
 TABLES = "unknown.places", "places.tsv", "places.json", "places.sarif", "index.html"
-OURS = r"run\d+\.\d[\d-]*(\.\d+)?\.(rec|turns|std|places|uses|stacks|html)|work-\w+|places\.(tsv|json|sarif)|unknown\.places|index\.html"
+OURS = (
+    r"run\d+\.\d[\d-]*(\.\d+)?\.(rec|turns|std|places|uses|stacks|html)|work-\w+|places\.(tsv|json|sarif)|unknown\.places|index\.html")
 
 
 class Results:
-    """The folder of the results. What is made there is named in a list first, which is locked as long as the call lasts: so no call
-    takes another's files, and none deletes what it didn't make."""
+    """The folder of the results. What is made there is named in a list first, which is locked as long as the
+    call lasts: so no call takes another's files, and none deletes what it didn't make."""
 
     def __init__(self, folder, command, spared=None):
         try:
             self.folder, self.list = unused_folder(folder)
         except OSError as fault:
             why = "it is a file" if folder.is_file() else fault.strerror
-            raise Refused(f"the results can't be put into {folder}: {why}; name another folder with -o") from None
+            raise Refused(
+                f"the results can't be put into {folder}: {why}; name another folder with -o") from None
         self.names = []     # of what is made
         spared = self.remove_earlier(spared)
         self.list.truncate(0)
@@ -35,19 +37,23 @@ class Results:
         for name in spared:
             self.path(name, is_there=True)
         self.tables = {name: self.path(name) for name in TABLES}
-        self.work = pathlib.Path(tempfile.mkdtemp(prefix="work-", dir=self.folder))  # records before they are looked at
+        # records before they are looked at
+        self.work = pathlib.Path(tempfile.mkdtemp(prefix="work-", dir=self.folder))
         self.path(self.work.name, is_there=True)
         (self.work / LIST).touch()      # shows a later call that it is one of ours
         self.first = [] if spared else list(self.names)     # which say nothing if they are all
 
     def remove_earlier(self, spared):
-        """Deletes what the list of an earlier call names but a file that is still needed, and says so. Returns the name of that."""
+        """Deletes what the list of an earlier call names but a file that is still needed, and says so.
+        Returns the name of that."""
         self.list.seek(0)
         first, *names = self.list.read().splitlines() or [LIST_BEGIN]
         if not first.startswith(LIST_BEGIN):
             raise Refused(f"{self.folder / LIST} is there, and shb-record didn't make it")
-        kept = [name for name in names if spared and re.fullmatch(OURS, name) and is_same(self.folder / name, spared)]
-        removed = [name for name in reversed(names) if re.fullmatch(OURS, name) and name not in kept and remove(self.folder / name)]
+        kept = [name for name in names if spared and re.fullmatch(OURS, name)
+                and is_same(self.folder / name, spared)]
+        removed = [name for name in reversed(names) if re.fullmatch(OURS, name) and name not in kept
+                   and remove(self.folder / name)]
         if removed:
             say(f"replacing the results in {self.folder}, made{first[len(LIST_BEGIN):]}")
         return kept
@@ -77,7 +83,8 @@ class Results:
         return self.names != self.first
 
     def close(self, is_recorded):
-        """Deletes the folder of work, and all of the results if nothing was recorded, and lets other calls use the folder."""
+        """Deletes the folder of work, and all of the results if nothing was recorded, and lets other calls
+        use the folder."""
         shutil.rmtree(self.work, ignore_errors=True)
         if not is_recorded:
             (self.folder / LIST).unlink()
@@ -113,7 +120,8 @@ def look_at_owner(folder):
     if {folder.lstat().st_uid, folder.stat().st_uid} == {os.geteuid()}:
         return
     if os.geteuid() == 0:
-        raise Refused(f"{folder} belongs to another user, who can change what is in it: -o names another folder")
+        raise Refused(f"{folder} belongs to another user, who can change what is in it: -o names another "
+                      "folder")
     say(f"{folder} belongs to another user, who can change the results")
 
 

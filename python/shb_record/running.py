@@ -26,12 +26,14 @@ REPLAYED = "replayed.turns"  # in the folder of work: the list that is followed
 
 
 def environment(options, number, folder):
-    """Our library stands before gcc's own, under its name: so what was built for ThreadSanitizer is recorded as it is. Where it would
-    come too late the program, and none that this one starts, has it loaded first; SHB_PRELOAD is what these have."""
+    """Our library stands before gcc's own, under its name: so what was built for ThreadSanitizer is recorded
+    as it is. Where it would come too late the program, and none that this one starts, has it loaded first;
+    SHB_PRELOAD is what these have."""
     paths = [str(LIBRARY)] + [path for path in [os.environ.get("LD_LIBRARY_PATH")] if path]
     replay = {"SHB_REPLAY": str(folder / REPLAYED)} if options.replay else {}
     segments = {"SHB_SEGMENT": os.environ.get("SHB_SEGMENT") or str(SEGMENT)} if options.live else {}
-    variables = dict(os.environ, SHB_RECORD=str(folder / f"run{number}.%p{'.%s' * options.live}.rec"), SHB_SEED=str(options.seed + number - 1),
+    variables = dict(os.environ, SHB_RECORD=str(folder / f"run{number}.%p{'.%s' * options.live}.rec"),
+                     SHB_SEED=str(options.seed + number - 1),
                      LD_LIBRARY_PATH=":".join(paths), **replay, **segments)
     if is_behind(shutil.which(options.program), variables):
         before = os.environ.get("LD_PRELOAD", "")
@@ -46,7 +48,8 @@ class CannotRun(Refused):
 def started(words, variables, blocked):
     """The program as it begins, with its environment and the signals that are blocked in it."""
     try:
-        return subprocess.Popen(words, env=variables, preexec_fn=lambda: signal.pthread_sigmask(signal.SIG_SETMASK, blocked))
+        return subprocess.Popen(words, env=variables,
+                                preexec_fn=lambda: signal.pthread_sigmask(signal.SIG_SETMASK, blocked))
     except OSError as fault:
         raise CannotRun(f"{words[0]}: can't be run: {fault.strerror}") from None
 
@@ -56,23 +59,29 @@ def adopt_orphans():
     ctypes.CDLL(None).prctl(BECOME_PARENT_OF_ORPHANS, 1, 0, 0, 0)
 
 
-# What became of a run: the program's own status, as a shell has it, the last signal that was to end it, and when the first one came.
+# What became of a run: the program's own status, as a shell has it, the last signal that was to end it, and
+# when the first one came.
 Outcome = collections.namedtuple("Outcome", "own stop stopped")
 
 
 class Run:
-    """A run of the program, in which these signals are blocked. A signal that would end this command is passed on to the program and to
-    what it leaves behind; what they did is shown all the same. While it runs `look` looks at what there is of it, and says whether it did."""
+    """A run of the program, in which these signals are blocked. A signal that would end this command is
+    passed on to the program and to what it leaves behind; what they did is shown all the same. While it runs
+    `look` looks at what there is of it, and says whether it did."""
 
     def __init__(self, options, number, folder, look=None, blocked=None):
-        self.wait, self.stop, self.stopped, self.end = options.wait, None, None, None  # `end` is when it is killed
+        # `end` is when it is killed
+        self.wait, self.stop, self.stopped, self.end = options.wait, None, None, None
         before = signal.pthread_sigmask(signal.SIG_BLOCK, WATCHED)
         try:
             words = [options.program] + options.arguments
-            self.program = started(words, environment(options, number, folder), before if blocked is None else blocked)
+            self.program = started(words, environment(options, number, folder),
+                                   before if blocked is None else blocked)
             while self.program.poll() is None:
                 pause = [0 if look() else POLL] if look else []
-                self.take_signal(WATCHED, min([*pause, *[end - time.monotonic() for end in [self.end] if end]], default=None))
+                self.take_signal(WATCHED,
+                                 min([*pause, *[end - time.monotonic() for end in [self.end] if end]],
+                                     default=None))
             self.wait_for_orphans()
         finally:
             signal.pthread_sigmask(signal.SIG_SETMASK, before)
@@ -82,8 +91,10 @@ class Run:
         return Outcome(128 - status if status < 0 else status, self.stop, self.stopped)
 
     def take_signal(self, watched, seconds):
-        """Waits for a signal, passes it on, and kills what was told to end and is still there. The terminal has told all by itself."""
-        took = signal.sigwaitinfo(watched) if seconds is None else signal.sigtimedwait(watched, max(seconds, 0))
+        """Waits for a signal, passes it on, and kills what was told to end and is still there. The terminal
+        has told all by itself."""
+        took = (signal.sigwaitinfo(watched) if seconds is None
+                else signal.sigtimedwait(watched, max(seconds, 0)))
         if took and took.si_signo in STOPS:
             self.stop, self.stopped = took.si_signo, self.stopped or time.monotonic()
             if took.si_code <= 0:  # from a process, not from the terminal
@@ -99,7 +110,8 @@ class Run:
                 os.kill(child, number)
 
     def wait_for_orphans(self):
-        """Processes whose parent is gone are ours: their records end when they do. They are told to end where the program was."""
+        """Processes whose parent is gone are ours: their records end when they do. They are told to end where
+        the program was."""
         if self.end:
             self.tell(self.stop)
         end = time.monotonic() + self.wait
@@ -116,13 +128,15 @@ class Run:
         if self.end:
             self.tell(signal.SIGKILL)
         else:
-            say(f"processes that the program started still run after {counted(self.wait, 'second')}; they are shown up to here")
+            say(f"processes that the program started still run after {counted(self.wait, 'second')}; they "
+                "are shown up to here")
 
 
 def children():
     """The processes that are ours now."""
     try:
-        return [int(number) for number in pathlib.Path(f"/proc/self/task/{os.getpid()}/children").read_text().split()]
+        return [int(number)
+                for number in pathlib.Path(f"/proc/self/task/{os.getpid()}/children").read_text().split()]
     except OSError:
         return []
 
@@ -143,11 +157,12 @@ def cause(program):
         return (f"Was it compiled and linked with -fsanitize=thread? If only a plug-in was, run `{words}`. "
                 "If it starts such a program, it must pass on SHB_RECORD and LD_LIBRARY_PATH.")
     if not has_library and languages:
-        return f"It has code in {languages[0]}, whose compiler links ThreadSanitizer's own library. C and C++ programs are recorded."
+        return (f"It has code in {languages[0]}, whose compiler links ThreadSanitizer's own library. C and "
+                "C++ programs are recorded.")
     if not has_library:
-        return ("ThreadSanitizer's own library is linked into it (by clang, or by gcc with -static-libtsan). With clang "
-                f"link with -fno-sanitize-link-runtime -L{LIBRARY} -ltsan.")
+        return ("ThreadSanitizer's own library is linked into it (by clang, or by gcc with -static-libtsan). "
+                f"With clang link with -fno-sanitize-link-runtime -L{LIBRARY} -ltsan.")
     if not os.path.isdir("/proc/self"):
         return "There is no /proc here: mount it."
-    return ("The recorder's library couldn't write (then it said so above), or it wasn't loaded: the program has rights of another "
-            "user, or a search path of its own.")
+    return ("The recorder's library couldn't write (then it said so above), or it wasn't loaded: the program "
+            "has rights of another user, or a search path of its own.")

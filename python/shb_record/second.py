@@ -14,14 +14,17 @@ from shb_record.listing import listing
 
 
 class Second:
-    """`accesses` are those at known places: pairs of a location and a variable, as the trace has them; `races` the known ones, each with its
-    two events and their accesses. `seen` gets those of these whose second access reads what the first wrote."""
+    """`accesses` are those at known places: pairs of a location and a variable, as the trace has them;
+    `races` the known ones, each with its two events and their accesses. `seen` gets those of these whose
+    second access reads what the first wrote."""
 
     def __init__(self, accesses, races):
         self.accesses, self.seen = accesses, []
-        self.kept_before = array.array("Q")     # of each access that is left out: how many events before it aren't
+        # of each access that is left out: how many events before it aren't
+        self.kept_before = array.array("Q")
         self.watched = {word + name + b")": name for _, name in accesses for word in (b"r(", b"w(")}
-        self.reads = {second: (first, accesses) for (first, second), accesses in races if accesses[1].word == b"r"}
+        self.reads = {second: (first, accesses) for (first, second), accesses in races
+                      if accesses[1].word == b"r"}
         self.writes = {}    # by variable: its last one
 
     def places(self, conversion, room):
@@ -67,11 +70,13 @@ class Second:
 
 
 def besides(first, second):
-    """What a second look found that the first hadn't: places with the variables that have no race there in either order."""
+    """What a second look found that the first hadn't: places with the variables that have no race there
+    in either order."""
     known = {(frozenset((place.first, place.second)), name) for place in first for name in place.variables}
     found = []
     for place in second:
-        its = {name: race for name, race in place.variables.items() if (frozenset((place.first, place.second)), name) not in known}
+        its = {name: race for name, race in place.variables.items()
+               if (frozenset((place.first, place.second)), name) not in known}
         if its:
             found.append(Place(place.first, place.second, its, place.has_more))
     return found

@@ -1,4 +1,5 @@
-"""The tables of the results: places as tab-separated values, for programs, for code review, and as a file of known places."""
+"""The tables of the results: places as tab-separated values, for programs, for code review, and as a file
+of known places."""
 
 import os
 import pathlib
@@ -23,17 +24,20 @@ def tables_of(look, rows, status):
         entries.update(result.entries_of((process, trace), places))
         groups += [{**group, "process": process, "trace": trace.name} for group in found["groups"]]
     return {"unknown.places": unknown_places(rows), "places.tsv": b"".join(table(rows)),
-            "places.json": result.in_bytes(document(look, rows, entries, groups, status)), "places.sarif": log(look, rows, entries, status),
+            "places.json": result.in_bytes(document(look, rows, entries, groups, status)),
+            "places.sarif": log(look, rows, entries, status),
             "index.html": index(look, rows)}
 
 
 def document(look, rows, entries, groups, status):
     """All places with what is known of them, as `result.document` has them."""
     stale, unknown = look.stale(), count(row for row in rows if not row.is_known)
-    summary = {"places": count(rows), "unknown": unknown, "behind": count(row for row in rows if row.state() == "behind"),
+    summary = {"places": count(rows), "unknown": unknown,
+               "behind": count(row for row in rows if row.state() == "behind"),
                "known": count(rows) - unknown, "stale": len(stale),
                "status": status, "runs": len(look.runs)}
-    return result.document("shb-record", summary, [entry(look, row, entries) for row in rows], stale=result.stale_of(stale),
+    return result.document("shb-record", summary, [entry(look, row, entries) for row in rows],
+                           stale=result.stale_of(stale),
                            notes=[*look.meaning(), *look.counts()], groups=groups)
 
 
@@ -44,7 +48,8 @@ def entry(look, row, entries):
     if row.race.accesses[0].location != row.texts[0]:
         reads.reverse()
     found = result.entry_of(entries, row)
-    return result.entry(row, found, reads, process=process, trace=trace.name, **({"group": found["group"]} if found else {}),
+    return result.entry(row, found, reads, process=process, trace=trace.name,
+                        **({"group": found["group"]} if found else {}),
                         processes=[name for name, _ in look.places.seen[pair_of(row.key)].traces])
 
 
@@ -59,20 +64,28 @@ def log(look, rows, entries, status):
         with_stacks = [one for one in sides if found and one.get("stacks")]
         accesses = tuple(access_of(one, look.sources[row.example]) for one in with_stacks)
         if blamed:
-            blamed = names.get(blamed["in_trace"], blamed["in_trace"].encode()), blamed.get("file", "").encode()
+            blamed = (names.get(blamed["in_trace"], blamed["in_trace"].encode()),
+                      blamed.get("file", "").encode())
         example, more = os.fsencode(trace.relative_to(look.results.folder)), {"process": process}
         alerts.append(sarif.Alert(row, without_numbers(found), "", example, accesses, more, blamed))
     notes = [("note", line) for line in look.meaning()]
-    return sarif.log(alerts, sarif.Here(pathlib.Path.cwd()), notes, not look.has_failed and not look.is_cut, status)
+    return sarif.log(alerts, sarif.Here(pathlib.Path.cwd()), notes, not look.has_failed and not look.is_cut,
+                     status)
 
 
 def without_numbers(found):
-    """What is said of a place in each run alike: its headline and its remedy, without the numbers of blocks."""
-    return re.sub(r"#\d+", "", ". ".join(part for part in (found.get("headline", ""), f"Remedy: {found['remedy']}" if found.get("remedy") else "") if part))
+    """What is said of a place in each run alike: its headline and its remedy, without the
+    numbers of blocks."""
+    return re.sub(r"#\d+", "",
+                  ". ".join(part
+                            for part in (found.get("headline", ""),
+                                         f"Remedy: {found['remedy']}" if found.get("remedy") else "")
+                            if part))
 
 
 def access_of(one, sources):
-    frames = [Frame(*(frame[name].encode() for name in ("function", "location")), frame.get("in_system", False)) for frame in one["stacks"][0]["frames"]]
+    frames = [Frame(*(frame[name].encode() for name in ("function", "location")),
+                    frame.get("in_system", False)) for frame in one["stacks"][0]["frames"]]
     return sarif.Access(one["thread"].encode(), one["operation"].encode(), frames, sources)
 
 
@@ -85,7 +98,9 @@ def index(look, rows):
             f"<h1>{in_html(shlex.join([look.options.program, *look.options.arguments]))}</h1>",
             f"<p>{counted(count(row for row in rows if not row.is_known), 'unknown place')} with races</p>"]
     for (process, trace), found in look.found.items():
-        text.append(f'<h2><a href="{urllib.parse.quote(trace.with_suffix(".html").name)}">{in_html(process)}</a></h2><ul>')
-        heads = dict.fromkeys(f"{place['variables'][0]['name']}: {place['headline']}" for place in found["places"] if place["variables"])
+        text.append(
+            f'<h2><a href="{urllib.parse.quote(trace.with_suffix(".html").name)}">{in_html(process)}</a></h2><ul>')
+        heads = dict.fromkeys(f"{place['variables'][0]['name']}: {place['headline']}"
+                              for place in found["places"] if place["variables"])
         text += [f"<li>{in_html(head)}</li>" for head in heads] + ["</ul>"]
     return "\n".join([*text, "</html>", ""]).encode(errors="backslashreplace")

@@ -1,4 +1,5 @@
-"""The list of a run's turns, as the recorder leaves it beside the record (runtime/replay.c says what it has)."""
+"""The list of a run's turns, as the recorder leaves it beside the record (runtime/replay.c says
+what it has)."""
 
 import array
 import collections
@@ -9,7 +10,8 @@ import stat
 from shb_common.words import Refused
 
 HEADER_BYTES, ENTRY_BYTES, MOST_BYTES = 4096, 8, 128 << 20
-HEADER = re.compile(rb"shb-turns 3\ncommand (?P<command>[^\n]*)\n(?:whole (?P<count>[0-9a-f]+) (?P<sum>[0-9a-f]+)\n)?\0*")
+HEADER = re.compile(rb"shb-turns 3\ncommand (?P<command>[^\n]*)\n(?:whole (?P<count>[0-9a-f]+) "
+                    rb"(?P<sum>[0-9a-f]+)\n)?\0*")
 List = collections.namedtuple("List", "content command")
 
 
@@ -26,7 +28,8 @@ def read(path):
     if not header or not HEADER_BYTES <= len(content) <= MOST_BYTES or len(entries) % ENTRY_BYTES:
         raise Refused(f"{path} is no list of turns (RUN.turns in the folder of results)")
     count = int(header["count"], 16) if header["count"] else len(entries) // ENTRY_BYTES
-    if header["count"] and not (count * ENTRY_BYTES <= len(entries) and sum_of(entries, count) == int(header["sum"], 16)):
+    if (header["count"]
+        and not (count * ENTRY_BYTES <= len(entries) and sum_of(entries, count) == int(header["sum"], 16))):
         raise Refused(f"{path} was cut or changed since the recorder wrote it")
     return List(content, header["command"].decode(errors="backslashreplace").strip())
 

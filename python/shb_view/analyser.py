@@ -31,7 +31,8 @@ class Analyser:
             return Run([self.program, *words], rewound(given), out, **how)
         except OSError as fault:
             name = short(os.fsencode(self.program), MOST_SAID)
-            raise Refused(f"`{name}` can't be run ({fault.strerror}); SHB=PROGRAM names another `shb`") from None
+            raise Refused(
+                f"`{name}` can't be run ({fault.strerror}); SHB=PROGRAM names another `shb`") from None
 
     def ended(self, words, run, good=(0,)):
         """Waits for the end of a run, and returns its status. Refused if that isn't one of the good ones."""
@@ -41,11 +42,13 @@ class Analyser:
         said = short(without_note(answer.said).rstrip(b"\n"), MOST_SAID)
         if answer.status == REFUSED and said:
             raise Refused(f"`shb` refuses the trace: {said}{self.refused_line(said)}")
-        how = f"was ended by signal {-answer.status}" if answer.status < 0 else f"ended with status {answer.status}"
+        how = (f"was ended by signal {-answer.status}" if answer.status < 0 else "ended with status "
+               f"{answer.status}")
         raise Refused(f"`shb {' '.join(words)}` {how}{': ' if said else ''}{said}")
 
     def refused_line(self, said):
-        """The line that the program's words name, below them, with a hint where one is known; nothing where they name none."""
+        """The line that the program's words name, below them, with a hint where one is known; nothing where
+        they name none."""
         found = line_and_hint(said, self.trace)
         if not found:
             return ""

@@ -30,7 +30,8 @@ A place is a pair of locations that race, that of the first access and that of t
 
 def arguments(words, program):
     parser = Parser("shb-view", ABOUT, STATUS)
-    parser.add_argument("--html", metavar="PAGE", help="write a page to this file, not text to standard output")
+    parser.add_argument("--html", metavar="PAGE", help="write a page to this file, not text to standard "
+                                                       "output")
     parser.add_argument("--text", action="store_true", help="beside the page, write the text too")
     parser.add_argument("--title", metavar="TEXT", help="the title, if it isn't to be the trace's name")
     parser.add_argument("--source", metavar="DIR", action="append", default=[],
@@ -43,13 +44,15 @@ def arguments(words, program):
                         help="show call stacks and names of locals, as `shb-std --stacks` wrote them")
     parser.add_argument("--recorded-source", action="store_true",
                         help="show lines of the source files that the file of --stacks names")
-    parser.add_argument("--shb", metavar="PROGRAM", default=os.environ.get("SHB") or program, help="the `shb` to run")
+    parser.add_argument("--shb", metavar="PROGRAM", default=os.environ.get("SHB") or program,
+                        help="the `shb` to run")
     parser.add_argument("trace", metavar="TRACE", help="a trace, as `shb` reads it")
     return parser.parsed(words)
 
 
 def show(options, out, progress):
-    """Makes the view of a trace and writes what was asked for, the text to `out` if there is one. Returns the view."""
+    """Makes the view of a trace and writes what was asked for, the text to `out` if there is one.
+    Returns the view."""
     wants_text = options.text or not (options.html or options.json)
     if wants_text and not out:
         raise Refused("standard output is closed")
@@ -57,7 +60,8 @@ def show(options, out, progress):
     files = [path for path in makers if path]
     for path in files:
         try_target(path, options.trace)
-    asked = Asked(options.shb, bool(options.html or options.all), options.source, options.recorded_source, options.title)
+    asked = Asked(options.shb, bool(options.html or options.all), options.source, options.recorded_source,
+                  options.title)
     view = make_view(options.trace, options.stacks, asked, progress)
     for path in files:
         with faults_of(path):

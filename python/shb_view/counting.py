@@ -1,5 +1,5 @@
-"""The first pass over a trace: how often each line accesses the racing variables, in which threads and under which locks; and for
-the accesses that may be shown, the events right before them."""
+"""The first pass over a trace: how often each line accesses the racing variables, in which threads and under
+which locks; and for the accesses that may be shown, the events right before them."""
 
 import collections
 
@@ -32,7 +32,8 @@ class Kinds:
     """What an access is, where the trace has it as reads and writes."""
 
     def __init__(self, gathered, stacks):
-        """`gathered` has the atomic of a variable that stands for what a thread wrote to it; the stacks name locals."""
+        """`gathered` has the atomic of a variable that stands for what a thread wrote to it; the
+        stacks name locals."""
         gathered.name_locals(stacks)
         self.gathered, self.stacks, self.locks = gathered, stacks, stacks.lasting_locals
         self.atomics, self.locals = gathered.atomics, gathered.locals
@@ -49,8 +50,8 @@ class Kinds:
         return self.atomics.get(variable, variable)
 
     def is_in_life(self, number, variable):
-        """Whether an event is an access of what the variable is named by: where a local lies other functions may have theirs, before and
-        after its own lives."""
+        """Whether an event is an access of what the variable is named by: where a local lies other functions
+        may have theirs, before and after its own lives."""
         variable = self.in_trace(variable)
         return variable not in self.locals or self.stacks.local_of(variable, number) == self.locals[variable]
 
@@ -60,42 +61,49 @@ class Kinds:
         return self.locals.get(variable, variable)
 
     def named(self, number, event):
-        """An event with its variable or its lock as the program has it: a variable that races has one name at all events."""
+        """An event with its variable or its lock as the program has it: a variable that races has one name
+        at all events."""
         if event.word in (b"acq", b"rel"):
             return event._replace(name=called(event.name, self.locks))
         if event.word not in (b"r", b"w"):
             return event
         variable, sign, thread = event.name.partition(b"!")
-        name = self.locals.get(variable) if variable in self.racing else self.stacks.local_of(variable, number)
+        name = (self.locals.get(variable) if variable in self.racing
+                else self.stacks.local_of(variable, number))
         return event._replace(name=(name or variable) + sign + thread)
 
 
 class Counting:
     def __init__(self, groups, wanted, kinds, uses=None):
-        """`groups` has a number for each racing variable; `wanted` are the accesses to be noted, `kinds` says what an
-        access is; `uses` are those of the whole run if the trace is a part of it."""
+        """`groups` has a number for each racing variable; `wanted` are the accesses to be noted, `kinds` says
+        what an access is; `uses` are those of the whole run if the trace is a part of it."""
         self.uses, self.are_apart = uses and uses.uses, uses.are_apart if uses else lambda first, second: False
         self.groups, self.wanted, self.access_kinds = groups, wanted, kinds
         self.lines = kinds.gathered.lines
         self.reads, self.racing_reads = racing_reads(kinds.gathered.races)
         self.racing = kinds.gathered.events_of(groups)
-        # By group, how many accesses there are of each kind: its location (None where lines aren't told apart any more),
-        # thread, word of `words.KINDS`, the names of the locks held (None where they aren't counted), and the variable (not of a free).
+        # By group, how many accesses there are of each kind: its location (None where lines aren't told apart
+        # any more), thread, word of `words.KINDS`, the names of the locks held (None where they aren't
+        # counted), and the variable (not of a free).
         self.counts = collections.defaultdict(dict)
         self.used = collections.defaultdict(Sites)  # the same by group, of the uses of a run
         self.kinds = self.found = 0
         self.noted = {}  # by event
         self.held, self.operations = collections.defaultdict(Held), Operations(kinds.locks)  # by thread
-        self.recent = collections.defaultdict(lambda: collections.deque(maxlen=BEFORE))  # by thread: its last events
+        # by thread: its last events
+        self.recent = collections.defaultdict(lambda: collections.deque(maxlen=BEFORE))
         self.before = {}  # by group and thread: its last access
         self.writes = {}  # by variable: its last write, and the location of that
-        # By variable and location: the stacks of the racing accesses, or of a run of all accesses, each with whether no lock is held.
+        # By variable and location: the stacks of the racing accesses, or of a run of all accesses, each with
+        # whether no lock is held.
         self.callers = collections.defaultdict(collections.Counter)
-        self.seen = {sight[1:] for sight in self.racing_reads.intersection(uses.sights if uses else ())}  # where races write and read
+        # where races write and read
+        self.seen = {sight[1:] for sight in self.racing_reads.intersection(uses.sights if uses else ())}
         self.joined = {}  # by a join its thread's last event
         self.lockers = collections.defaultdict(set)  # by lock: the threads that use it
         self.begins, self.ends = {}, {}  # by thread: where it is created and joined, as `Step`
-        self.repeated, self.alike = uses.repeated if uses else (), {}  # `alike`: by kind of access its last event
+        # `alike`: by kind of access its last event
+        self.repeated, self.alike = uses.repeated if uses else (), {}
         self.again = collections.defaultdict(list)  # by variable: its events that stand for repeats
 
     def read(self, trace, events):
@@ -155,19 +163,23 @@ class Counting:
             word, of = self.access_kinds.of(number, word, variable), self.access_kinds.in_trace(variable)
             if number in self.racing and stacks.numbers:
                 self.callers[of, location][stacks.numbers[number - 1], not held.locks] += 1
-            self.count(group, Access(number, variable, (location, thread, word, held.names(), b"" if word == b"f" else of),
+            self.count(group,
+                       Access(number,
+                              variable, (location, thread, word, held.names(), b"" if word == b"f" else of),
                                      stacks.free_of(number) if word == b"f" else None))
 
     def count(self, group, access):
-        """Counts an access, but for what is of the same one as the event before it: a free writes each variable of the block, and a plain
-        read of an atomic reads what each thread wrote. An atomic write reads what plain accesses write."""
+        """Counts an access, but for what is of the same one as the event before it: a free writes each
+        variable of the block, and a plain read of an atomic reads what each thread wrote. An atomic write
+        reads what plain accesses write."""
         counts, kind = self.counts[group], access.kind
         _, thread, word, *_ = kind
         last, self.before[group, thread] = self.before.get((group, thread)), access
         is_next = last is not None and self.recent[thread][-1] == last.number
         if word == b"f" and last and access.free == last.free:
             return
-        if is_next and word == b"r" and kind == last.kind and access.variable in self.access_kinds.atomics and access.variable != last.variable:
+        if (is_next and word == b"r" and kind == last.kind and access.variable in self.access_kinds.atomics
+            and access.variable != last.variable):
             return
         if is_next and word == b"a" and last.kind == (*kind[:2], b"r", *kind[3:]):
             counts[last.kind] -= 1
@@ -183,7 +195,8 @@ class Counting:
             self.seen.add((written, location))
 
     def take_uses(self):
-        """Takes the uses of the whole run. A free is one of all variables of its block: those of one of them count."""
+        """Takes the uses of the whole run. A free is one of all variables of its block: those of one
+        of them count."""
         kinds, freed = self.access_kinds, {}
         groups = {kinds.in_trace(variable): group for variable, group in self.groups.items()}
         for word, variable, local, location, sums in self.uses:
@@ -209,6 +222,8 @@ class Counting:
 
 def racing_reads(races):
     """Pairs of events whose second one reads; and by variable the locations of writes and reads, as pairs."""
-    found = [(variable, place, race) for variable, its in races.items() for place, races in its.items() for race in races]
+    found = [(variable, place, race) for variable, its in races.items() for place, races in its.items()
+             for race in races]
     return ({race[:2] for _, _, race in found if race.words[1] == b"r"},
-            {(variable, *(place if race.words[0] == b"w" else place[::-1])) for variable, place, race in found if b"r" in race.words})
+            {(variable, *(place if race.words[0] == b"w" else place[::-1]))
+             for variable, place, race in found if b"r" in race.words})

@@ -1,5 +1,6 @@
-"""What a trace says of a group. A fact is one of the forms below, whose definitions docs/FORMATS.md has; it holds for the trace and for
-each variable of the listed races, and names no fault. The first that holds is the group's."""
+"""What a trace says of a group. A fact is one of the forms below, whose definitions docs/FORMATS.md has; it
+holds for the trace and for each variable of the listed races, and names no fault. The first that holds is the
+group's."""
 
 import collections
 import functools
@@ -24,8 +25,10 @@ def alike(lock):
     return NUMBERS.sub(b"*", lock)
 
 
-# The forms, in the order in which they are tried, each with a number: the least is shown first and in the first colour.
-RANKS = {"published": 0, "freed": 0, "plain": 1, "uncounted": 3, "read-lock": 1, "without": 1, "sometimes": 2, "apart": 2, "no-lock": 3, "mixed": 3, "ordered": 5}
+# The forms, in the order in which they are tried, each with a number: the least is shown first and in the
+# first colour.
+RANKS = {"published": 0, "freed": 0, "plain": 1, "uncounted": 3, "read-lock": 1, "without": 1, "sometimes": 2,
+         "apart": 2, "no-lock": 3, "mixed": 3, "ordered": 5}
 
 
 class Counts(dict):
@@ -107,9 +110,10 @@ class Site:
 
 class Fact(collections.namedtuple("Fact", "form said tag sentences remedy lock handed",
                                   defaults=([], None, ()))):
-    """`form` is one of the definitions, and `said` has what it is said of, by names that programs read. `tag` is a short form of the
-    sentences, and `remedy` what would order the accesses, or nothing. `lock` is the one that it is about, or
-    None. `handed` has variables, by their names in the trace, each with its pairs of a store and a load."""
+    """`form` is one of the definitions, and `said` has what it is said of, by names that programs read. `tag`
+    is a short form of the sentences, and `remedy` what would order the accesses, or nothing. `lock` is the
+    one that it is about, or None. `handed` has variables, by their names in the trace, each with its pairs of
+    a store and a load."""
 
     def pairs(self):
         return [pair for _, pairs in self.handed for pair in pairs]
@@ -118,7 +122,8 @@ class Fact(collections.namedtuple("Fact", "form said tag sentences remedy lock h
         """The fact of lines that use a stack where its thread has a local of a system's function by then."""
         lines = sorted(lines, key=by_numbers)
         verb = " uses" if len(lines) == 1 else " use"
-        tag = [*listed([[place(line)] for line in lines], MOST_NAMED), verb, " a local of ", Code(owner), " that is gone"]
+        tag = [*listed([[place(line)] for line in lines], MOST_NAMED), verb, " a local of ", Code(owner),
+               " that is gone"]
         said = ["In a race ", Code(owner), " is in a function of the system, whose local lies there."]
         return self._replace(said={**self.said, "gone": list(map(text, lines))}, tag=tag, remedy=[],
                              sentences=[*self.sentences, said])
@@ -132,7 +137,8 @@ class Fact(collections.namedtuple("Fact", "form said tag sentences remedy lock h
 
 
 def blamed_of(fact, locations):
-    """The line that the headline names first, of racing ones and those of atomics; else one that it is about."""
+    """The line that the headline names first, of racing ones and those of atomics; else one that
+    it is about."""
     known = {*locations, *(use.location for pair in fact.pairs() for use in (pair.store, pair.load))}
     about = {line for name in ("lines", "plain", "frees") for line in fact.said.get(name, ())}
     more = [it for it in (*locations, *fact.tag) if isinstance(it, bytes) and text(it) in about]
@@ -140,7 +146,8 @@ def blamed_of(fact, locations):
 
 
 class Sites:
-    """How a group's variables are used: by location the sites of each, and those of frees, which are of all."""
+    """How a group's variables are used: by location the sites of each, and those of frees, which
+    are of all."""
 
     def __init__(self, variables=(), frees=()):
         self.variables, self.frees = dict(variables), dict(frees)
@@ -190,8 +197,9 @@ def joined(uses):
 
 
 class Locks:
-    """The locks of a group's variables. Of those that differ by numbers of blocks and elements alone, as `a[3].door`, a variable's own
-    one is that which most of its accesses hold; it has one name for all variables."""
+    """The locks of a group's variables. Of those that differ by numbers of blocks and elements alone, as
+    `a[3].door`, a variable's own one is that which most of its accesses hold; it has one name for all
+    variables."""
 
     def __init__(self, uses, private):
         """`private` are locks on stacks that one thread alone uses: none of these is told."""
@@ -219,7 +227,8 @@ class Locks:
 
 
 def sites_of(group, uses, private):
-    """The lines that use a group's variables: racing ones first, then those that write, then by how often; and their locks."""
+    """The lines that use a group's variables: racing ones first, then those that write, then by how often;
+    and their locks."""
     sites, racing, locks = {}, group.locations(), Locks(uses, private)
     for variable, its in (*uses.variables.items(), (b"", uses.frees)):
         name = functools.partial(locks.name, variable)
@@ -237,14 +246,17 @@ def sites_of(group, uses, private):
             if first in sites:
                 sites[first].later.add(second)
     order = sorted(sites.values(), key=lambda site: (site.location is None, by_numbers(site.location or b"")))
-    return sorted(order, key=lambda site: (site.location not in racing, not site.writes(), -site.total())), locks
+    return (sorted(order, key=lambda site: (site.location not in racing, not site.writes(), -site.total())),
+            locks)
 
 
 def fact_of(sites, locks, whole, published=()):
     """The first fact that holds. `whole` is a trace or a run, `published` as `handed.published` has it."""
     racing = [site for site in sites if site.partners]
-    used = [site for site in sites if site.accesses[b"f"] < site.total()]  # a line that frees alone says nothing of locks
-    of_locks = uncounted(used, whole) if any(site.unknown for site in used) else lock_fact(used, racing, locks, whole)
+    # a line that frees alone says nothing of locks
+    used = [site for site in sites if site.accesses[b"f"] < site.total()]
+    of_locks = (uncounted(used, whole) if any(site.unknown for site in used)
+                else lock_fact(used, racing, locks, whole))
     if of_locks and of_locks.form == "without" and any(pair.store.kind == b"update" for pair, _ in published):
         published = ()  # beside a lock what is updated is a counter
     found = (publication(published) or freed_under_lock(sites, racing, locks, whole) or freed(racing, whole)
@@ -252,18 +264,23 @@ def fact_of(sites, locks, whole, published=()):
     if found.form != "published" or not of_locks or of_locks.form != "without":
         return found
     also = {"form": of_locks.form, **of_locks.said}  # either of the two would fix it
-    return found._replace(said={**found.said, "also": also}, sentences=[*found.sentences, *of_locks.sentences])
+    return found._replace(said={**found.said, "also": also},
+                          sentences=[*found.sentences, *of_locks.sentences])
 
 
 def publication(published):
-    """Between the two accesses of each race an atomic was stored by the first's thread and loaded by the second's."""
+    """Between the two accesses of each race an atomic was stored by the first's thread and loaded
+    by the second's."""
     if not published:
         return None
     store, load, *_ = published[0][0]
     wrong, order = (load, "acquire") if store.gives() else (store, "release")
-    both = "" if store.gives() or load.takes() else [", and ", place(load.location), " reads it without acquire"]
-    tag = [place(wrong.location), " reads " if wrong is load else " writes ", Code(published[0][0].name), f" without {order}", *both]
-    said = [{"atomic": text(pair.store.name), "store": pair.store.said(), "load": pair.load.said(), "missing": pair.lacking(), "races": races}
+    both = ("" if store.gives() or load.takes() else [", and ", place(load.location), " reads it without "
+                                                      "acquire"])
+    tag = [place(wrong.location), " reads " if wrong is load else " writes ", Code(published[0][0].name),
+           f" without {order}", *both]
+    said = [{"atomic": text(pair.store.name), "store": pair.store.said(), "load": pair.load.said(),
+             "missing": pair.lacking(), "races": races}
             for pair, races in published]
     fixes = list(dict.fromkeys(fix for pair, _ in published for fix in fixes_of(pair)))
     return Fact("published", {"by": said}, tag, [handed_words(pair) for pair, _ in published],
@@ -281,7 +298,8 @@ def fixes_of(pair):
 def handed_words(pair):
     """What is said of an atomic that was handed on, as parts."""
     store, load = pair.store, pair.load
-    return [Code(store.thread), " and ", Code(load.thread), " hand this on by the atomic ", Code(pair.name), ": ", place(store.location), " ",
+    return [Code(store.thread), " and ", Code(load.thread), " hand this on by the atomic ", Code(pair.name),
+            ": ", place(store.location), " ",
             *store.words(), " after the first access, and ", place(load.location), " ", *load.words(),
             f" before the second. Without {' and '.join(pair.lacking())} that orders nothing."]
 
@@ -308,10 +326,14 @@ def freed(racing, whole):
     frees = [site for site in racing if site.accesses[b"f"]]
     if not frees:
         return None
-    used = dict.fromkeys(partner for site in frees for partner in sorted(site.partners) if partner != site.location)
-    threads = listed([[Code(thread)] for thread in sorted(set().union(*(site.writers for site in frees)))], MOST_NAMED)
-    uses = ["the use at ", *listed([[place(location)] for location in used], MOST_NAMED)] if used else ["another free of it"]
-    sentence = [f"In this {whole} ", *threads, " frees the block at " if len(threads) == 1 else " free the block at ", *lines_of(frees),
+    used = dict.fromkeys(partner for site in frees
+                         for partner in sorted(site.partners) if partner != site.location)
+    threads = listed([[Code(thread)] for thread in sorted(set().union(*(site.writers for site in frees)))],
+                     MOST_NAMED)
+    uses = (["the use at ", *listed([[place(location)] for location in used], MOST_NAMED)] if used
+            else ["another free of it"])
+    sentence = [f"In this {whole} ", *threads, " frees the block at " if len(threads) == 1
+                else " free the block at ", *lines_of(frees),
                 ", and nothing orders the free and ", *uses, "."]
     found = set().union(*(site.later for site in frees if site.accesses[b"f"] == site.total()))
     after = [site for site in racing if site.location in found and not site.accesses[b"f"]]
@@ -321,25 +343,34 @@ def freed(racing, whole):
             ", or free it after that use."]
     remedy = late if used else ["free it once."]
     if not after:
-        return Fact("freed", said, ["freed at " if used else "freed twice at ", *lines_of(frees), " while in use" if used else ""], [sentence], remedy)
+        return Fact("freed",
+                    said, ["freed at " if used else "freed twice at ", *lines_of(frees),
+                           " while in use" if used else ""], [sentence], remedy)
     sentence += [" The use at ", *lines_of(after), " came after it here: a use after free."]
-    return Fact("freed", said, ["used at ", *lines_of(after), " after it was freed at ", *lines_of(frees)], [sentence], remedy)
+    return Fact("freed",
+                said, ["used at ", *lines_of(after), " after it was freed at ", *lines_of(frees)], [sentence],
+                remedy)
 
 
 def not_atomic(racing, whole):
     """Racing lines that aren't atomic, where others are."""
-    atomic, plain = [site for site in racing if site.accesses[b"a"]], [site for site in racing if not site.accesses[b"a"]]
+    atomic, plain = (
+        [site for site in racing if site.accesses[b"a"]], [site
+                                                           for site in racing if not site.accesses[b"a"]])
     if not atomic or not plain:
         return None
     verb, write = "is" if len(plain) == 1 else "are", "writes" if len(atomic) == 1 else "write"
-    sentence = [f"In this {whole} ", *lines_of(atomic), f" {write} atomically, and ", *lines_of(plain), f" {verb} not atomic."]
-    return Fact("plain", {"atomic": names_of(atomic), "plain": names_of(plain)}, [*lines_of(plain), f" {verb} not atomic"], [sentence],
+    sentence = [f"In this {whole} ", *lines_of(atomic), f" {write} atomically, and ", *lines_of(plain),
+                f" {verb} not atomic."]
+    return Fact("plain", {"atomic": names_of(atomic),
+                          "plain": names_of(plain)}, [*lines_of(plain), f" {verb} not atomic"], [sentence],
                 ["make the accesses at ", *lines_of(plain), " atomic too."])
 
 
 def uncounted(sites, whole):
     count = counted(sum(site.unknown for site in sites), "access", "accesses")
-    return Fact("uncounted", {}, ["locks not counted"], [[f"In this {whole} the locks held at {count} aren't counted."]])
+    return Fact("uncounted", {}, ["locks not counted"], [[f"In this {whole} the locks held at {count} aren't "
+                                                          "counted."]])
 
 
 def by_weight(sites, locks):
@@ -376,16 +407,18 @@ def under_read_lock(sites, racing, lock, locks, whole):
     if not wrong:
         return None
     verb, name = "writes" if len(wrong) == 1 else "write", lock_name(lock)
-    sentence = [f"In this {whole} ", *lines_of(wrong), f" {verb} while holding ", *name, " for reading, as other threads can at the same time."]
+    sentence = [f"In this {whole} ", *lines_of(wrong), f" {verb} while holding ", *name,
+                " for reading, as other threads can at the same time."]
     said = {"lines": names_of(wrong), "name": text(lock), "locks": by_variable(locks, lock)}
     return Fact("read-lock", said, [*lines_of(wrong), f" {verb} under the read lock of ", *name], [sentence],
                 ["hold ", *name, " for writing at ", *lines_of(wrong), "."], lock)
 
 
 def without(sites, racing, lock, locks, whole):
-    """Racing lines that don't hold a lock which all others, or all others that race, hold at each access. Where they hold other locks,
-    that more lines have this one says that it is theirs too."""
-    lacking, holding = [site for site in racing if site.lacks(lock)], [site for site in sites if not site.lacks(lock)]
+    """Racing lines that don't hold a lock which all others, or all others that race, hold at each access.
+    Where they hold other locks, that more lines have this one says that it is theirs too."""
+    lacking, holding = (
+        [site for site in racing if site.lacks(lock)], [site for site in sites if not site.lacks(lock)])
     variables = set().union(*(site.variables for site in racing)) - {b""}
     if not is_rule(lacking, holding, variables, lock, is_beside(locks.of(lock), variables)):
         return None
@@ -394,14 +427,19 @@ def without(sites, racing, lock, locks, whole):
            "lines": ["every access at ", *lines_of(holding)]}[scope]
     some, name, lines = [site for site in lacking if site.guarded(lock)], lock_name(lock), lines_of(lacking)
     verb = verb_of(lacking)
-    at = f" at {sum(site.total() - site.guarded(lock) for site in lacking):,} of {sum(site.total() for site in lacking):,} accesses" if some else ""
+    at = (f" at {sum(site.total() - site.guarded(lock) for site in lacking):,} of "
+          f"{sum(site.total() for site in lacking):,} accesses" if some else "")
     sentence = [f"In this {whole} ", *who, " holds ", *name, ", and ", *lines, f" {verb} without it{at}."]
-    instead = [[place(site.location), " holds ", *listed([lock_name(other) for other in site.held()], MOST_NAMED)] for site in lacking if site.held()]
+    instead = [
+        [place(site.location), " holds ", *listed([lock_name(other) for other in site.held()], MOST_NAMED)]
+        for site in lacking if site.held()]
     if instead:
         sentence += [" ", *listed(instead, MOST_NAMED), "."]
-    said = {"lines": names_of(lacking), "sometimes": names_of(some), "scope": scope, "holding": names_of(holding), "name": text(lock),
+    said = {"lines": names_of(lacking), "sometimes": names_of(some), "scope": scope,
+            "holding": names_of(holding), "name": text(lock),
             "locks": by_variable(locks, lock), "instead": held_of(lacking, locks)}
-    tag = [*lines, f" {verb} without ", *name] if not some else [*lines, " doesn't always hold " if len(lacking) == 1 else " don't always hold ", *name]
+    tag = ([*lines, f" {verb} without ", *name] if not some
+           else [*lines, " doesn't always hold " if len(lacking) == 1 else " don't always hold ", *name])
     return Fact("without", said, tag, [sentence], ["hold ", *name, " at ", *lines, "."], lock)
 
 
@@ -440,7 +478,8 @@ def scope_of(others, lacking, holding):
 
 
 def verb_of(sites):
-    does = "read" if not any(site.writes() for site in sites) else "write" if not any(site.reads() for site in sites) else "use"
+    does = ("read" if not any(site.writes() for site in sites)
+            else "write" if not any(site.reads() for site in sites) else "use")
     return does + "s" * (len(sites) == 1) + " it" * (does == "use")
 
 
@@ -450,11 +489,16 @@ def sometimes(sites, racing, lock, locks, whole):
             and not holds_another(site, lock)]
     if not some:
         return None
-    counts = [[f"{site.guarded(lock):,} of {counted(site.total(), 'access', 'accesses')} at ", place(site.location)] for site in some]
-    said = {"lines": {text(site.location or b""): [site.guarded(lock), site.total()] for site in some}, "name": text(lock),
+    counts = [[f"{site.guarded(lock):,} of {counted(site.total(), 'access', 'accesses')} at ",
+               place(site.location)] for site in some]
+    said = {"lines": {text(site.location or b""): [site.guarded(lock), site.total()] for site in some},
+            "name": text(lock),
             "locks": by_variable(locks, lock)}
-    tag = [*lines_of(some), " doesn't always hold " if len(some) == 1 else " don't always hold ", *lock_name(lock)]
-    return Fact("sometimes", said, tag, [[f"In this {whole} ", *lock_name(lock), " is held at ", *listed(counts, MOST_NAMED), "."]],
+    tag = [*lines_of(some), " doesn't always hold " if len(some) == 1 else " don't always hold ",
+           *lock_name(lock)]
+    return Fact("sometimes", said,
+                tag, [[f"In this {whole} ", *lock_name(lock), " is held at ", *listed(counts, MOST_NAMED),
+                       "."]],
                 ["hold ", *lock_name(lock), " at each access."], lock)
 
 
@@ -477,7 +521,9 @@ def apart(racing, locks, whole):
     common = set.intersection(*(set(site.held()) for site in racing))
     if common:
         name = lock_name(min(common))
-        return Fact("ordered", {}, ["every access holds ", *name], [[f"In this {whole} every access holds ", *name, ": these are no races."]])
+        return Fact("ordered", {}, ["every access holds ",
+                                    *name], [[f"In this {whole} every access holds ", *name, ": these are no "
+                                              "races."]])
     held = [listed(map(lock_name, site.held()), MOST_NAMED) or [unlike_words(site)] for site in racing]
     holds = [[place(site.location), " holds ", *its] for site, its in zip(racing, held)]
     all_hold = all(site.held() for site in racing)
@@ -488,23 +534,28 @@ def apart(racing, locks, whole):
     private = sorted(locks.private & {lock for site in racing for lock in (*site.locks, *site.reading)})
     sentence = [f"In this {whole} ", *listed(holds, MOST_NAMED), ", and no lock is common to them."]
     only = [["One thread alone uses ", Code(lock), "."] for lock in private[:MOST_NAMED]]
-    return Fact("apart", {"lines": names_of(racing), "all_hold": all_hold, "held": held_of(racing, locks)}, tag,
+    return Fact("apart", {"lines": names_of(racing), "all_hold": all_hold, "held": held_of(racing, locks)},
+                tag,
                 [sentence, *only],
                 [] if private else ["hold one lock at ", *lines_of(racing), "."])
 
 
 def no_lock(sites, racing, whole):
     """No lock is held at any access."""
-    writing, writers = [site for site in racing if site.writes()], set().union(*(site.writers for site in racing))
-    verb, count = "writes" if len(writing) == 1 else "write", f"{len(writers):,} threads" if len(writers) > 1 else "one thread"
+    writing, writers = ([site for site in racing if site.writes()],
+                        set().union(*(site.writers for site in racing)))
+    verb, count = ("writes" if len(writing) == 1 else "write",
+                   f"{len(writers):,} threads" if len(writers) > 1 else "one thread")
     readers = [site for site in racing if not site.writes()]
     also = [", ", *lines_of(readers), " reads" if len(readers) == 1 else " read"] if readers else []
-    sentence = [f"In this {whole} no lock is held at any access; {count} ", "writes, at " if len(writers) == 1 else "write, at ", *lines_of(writing), "."]
+    sentence = [f"In this {whole} no lock is held at any access; {count} ",
+                "writes, at " if len(writers) == 1 else "write, at ", *lines_of(writing), "."]
     said = {"writes": names_of(writing), "writers": sorted(map(text, writers))}
     is_one = len(set().union(*(site.variables for site in racing))) == 1
     remedy = [FLAG * is_one + "hold one lock at ", *lines_of(racing), "."]
     if is_one and any(site.accesses[b"a"] for site in sites):
-        remedy = ["make each access at ", *lines_of(racing), " atomic; initialize it before creating threads."]
+        remedy = ["make each access at ", *lines_of(racing),
+                  " atomic; initialize it before creating threads."]
     tag = [*lines_of(writing), f" {verb}", *also, " without a lock"]
     return Fact("no-lock", said, tag, [sentence], remedy)
 
@@ -515,7 +566,8 @@ def by_variable(locks, lock):
 
 def held_of(sites, locks):
     """By line: each lock that is held there at each access, by variable."""
-    return {text(site.location or b""): [by_variable(locks, lock) for lock in site.held()] for site in sites if site.held()}
+    return {text(site.location or b""): [by_variable(locks, lock) for lock in site.held()]
+            for site in sites if site.held()}
 
 
 def names_of(sites):

@@ -44,7 +44,8 @@ class Facts:
         sites, locks = sites_of(group, uses, self.private)
         races = self.kinds.gathered.races_of(group.names) if self.pairs else {}
         may_hand = self.pairs and not self.has_far(group)
-        by = published(races, self.pairs, lambda event: self.kinds.stacks.free_of(event) is not None) if may_hand else ()
+        by = (published(races, self.pairs, lambda event: self.kinds.stacks.free_of(event) is not None)
+              if may_hand else ())
         fact, pairs = fact_of(sites, locks, self.whole, by), [pair for pair, _ in by]
         if fact.form == "published":
             fact = fact._replace(handed=((group.names, pairs),))
@@ -53,8 +54,10 @@ class Facts:
         return Section(group, uses, sites, self.with_gone(group, fact))
 
     def has_far(self, group):
-        """Whether the page's trace lacks something between the accesses of a race: then it says nothing of that."""
-        return any(self.are_apart(*race[:2]) for its in self.kinds.gathered.races_of(group.names).values() for race in its)
+        """Whether the page's trace lacks something between the accesses of a race: then it says
+        nothing of that."""
+        return any(self.are_apart(*race[:2]) for its in self.kinds.gathered.races_of(group.names).values()
+                   for race in its)
 
     def with_gone(self, group, fact):
         """A fact, with the lines that use a local of another thread when that has the system's ones there."""
@@ -72,7 +75,8 @@ class Facts:
 
     def system_at(self, event):
         """The system's function that an event is in, in a list, or none."""
-        return [last_name(frame.function) for frame in self.kinds.stacks.of_event(event)[:1] if frame.in_system]
+        return [last_name(frame.function) for frame in self.kinds.stacks.of_event(event)[:1]
+                if frame.in_system]
 
     def refute(self, names):
         """Takes variables of which a trial says that they race whatever hands them on."""
@@ -80,7 +84,8 @@ class Facts:
         self.known.clear()
 
     def come_again(self, names, races, pairs):
-        """Whether an access of a race is repeated after a store that the other thread may have read by then."""
+        """Whether an access of a race is repeated after a store that the other thread may have
+        read by then."""
         does = {(race.giver, race.words[0]) for its in races.values() for race in its}
         again = [one for name in names for one in self.again.get(name, ()) if (one.thread, one.word) in does]
         stores = [store for pair in pairs for store in self.stores.get(pair.key()[:2], ())]
@@ -88,7 +93,8 @@ class Facts:
                    for one in again for thread, after, until in stores)
 
     def parts(self, found):
-        """The variables of a group, those of which the same is said together; none where all have the group's form."""
+        """The variables of a group, those of which the same is said together; none where all have
+        the group's form."""
         names, alike = {}, {}
         for name in found.group.names:
             names.setdefault(self.kinds.in_trace(name), []).append(name)
@@ -114,12 +120,17 @@ class Facts:
     def mixed(self, parts):
         """What is said of a group whose variables differ: of each part its fact."""
         names = [listed([[Code(name)] for name in one.group.variables], MOST_NAMED) for one in parts]
-        said = [{"form": one.fact.form, "group": list(map(text, one.group.names)), **one.fact.said, "all_races": races_looked_at(one.group, self.kinds),
+        said = [{"form": one.fact.form, "group": list(map(text, one.group.names)), **one.fact.said,
+                 "all_races": races_looked_at(one.group, self.kinds),
                  "pairs": [list(map(text, pair)) for pair in sorted(one.group.places())]} for one in parts]
-        sentences = [[*its, ": ", *sentence] for its, one in zip(names, parts) for sentence in one.fact.sentences]
-        remedy = [part for its, one in zip(names, parts) if one.fact.remedy for part in ("Of ", *its, ": ", *one.fact.remedy, " ")][:-1]
+        sentences = [[*its, ": ", *sentence] for its, one in zip(names, parts)
+                     for sentence in one.fact.sentences]
+        remedy = [part for its, one in zip(names, parts) if one.fact.remedy
+                  for part in ("Of ", *its, ": ", *one.fact.remedy, " ")][:-1]
         first = parts[0].fact
-        return first._replace(form="mixed", said={"parts": said}, tag=[*first.tag, " (", *names[0], "; others differ)"], sentences=sentences, remedy=remedy,
+        return first._replace(form="mixed", said={"parts": said},
+                              tag=[*first.tag, " (", *names[0], "; others differ)"], sentences=sentences,
+                              remedy=remedy,
                               handed=sum((one.fact.handed for one in parts), ()))
 
 
@@ -130,14 +141,17 @@ def last_name(function):
 
 def races_looked_at(group, kinds):
     """The races that a fact is of, as pairs of events."""
-    return sorted(race[:2] for its in kinds.gathered.races_of(group.names).values() for race in its[:MOST_RACES])
+    return sorted(race[:2] for its in kinds.gathered.races_of(group.names).values()
+                  for race in its[:MOST_RACES])
 
 
 def part_of(group, names, kinds):
     """A group's races of some of its variables, by their names in the trace."""
     pairs, gathered = [], kinds.gathered
     for pair in group.pairs:
-        races = {place: [gathered.variables[place][name] for name in names if name in gathered.variables.get(place, ())] for place in pair.orders}
+        races = {
+            place: [gathered.variables[place][name]
+                    for name in names if name in gathered.variables.get(place, ())] for place in pair.orders}
         orders = {place: sum(its) for place, its in races.items() if its}
         if orders:
             pairs.append(Pair(pair.locations, pair.closest, orders))
@@ -149,9 +163,11 @@ def merged_groups(groups, uses_of, facts):
     found = {}
     for number, group in enumerate(groups):
         one, thing = facts.of(group, uses_of(number)), object_of(group)
-        racing = frozenset((thread, thread in site.writers) for site in one.sites if site.partners for thread in site.threads)
+        racing = frozenset((thread, thread in site.writers) for site in one.sites if site.partners
+                           for thread in site.threads)
         uses = tuple(pair.key()[:3] for pair in one.fact.pairs())
-        key = (thing, one.fact.form, one.fact.lock, uses, racing) if thing and one.fact.form != "mixed" else number
+        key = ((thing, one.fact.form, one.fact.lock, uses, racing) if thing
+               and one.fact.form != "mixed" else number)
         found.setdefault(key, []).append(one)
     return [parts[0] if len(parts) == 1 else facts.of(*as_one(parts)) for parts in found.values()]
 

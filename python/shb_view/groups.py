@@ -1,4 +1,5 @@
-"""Groups of places: pairs of lines that share a racing variable, directly or by other pairs, are one group."""
+"""Groups of places: pairs of lines that share a racing variable, directly or by other pairs,
+are one group."""
 
 import collections
 import re
@@ -6,11 +7,12 @@ import re
 from shb_common.variables import atomic_of
 from shb_view.words import Code
 
-# Names as the recorder writes them: of a variable on a stack; of a member of a block's type, with the block; of any other one, which
-# may be a local `of` a function.
+# Names as the recorder writes them: of a variable on a stack; of a member of a block's type, with the block;
+# of any other one, which may be a local `of` a function.
 ON_STACK = re.compile(rb"(?P<base>stack\..*)(?P<block>)(?P<inside>-0x[0-9a-f]+)(?P<of>)", re.S)
 INSIDE = rb"(?P<inside>(?:\.[A-Za-z_]\w*|\[[0-9]+\])*(?:\+[0-9]+)?)"
-IN_BLOCK = re.compile(rb"(?P<base>.+?)" + INSIDE + rb"(?P<of> of .+(?::[0-9]+|\+0x[0-9a-f]+))(?P<block>#[0-9]+)", re.S)
+IN_BLOCK = re.compile(rb"(?P<base>.+?)" + INSIDE + rb"(?P<of> of "
+                                                   rb".+(?::[0-9]+|\+0x[0-9a-f]+))(?P<block>#[0-9]+)", re.S)
 NAME = re.compile(rb"(?P<base>.*?)(?P<block>#[0-9]+)?" + INSIDE + rb"(?P<of>(?: of .+)?)", re.S)
 
 # A race that was read: its events, the threads of the first and the second, its variable, and whether each
@@ -19,8 +21,8 @@ Between = collections.namedtuple("Between", "first second giver taker variable w
 
 
 class Pair:
-    """Two lines that race, whichever comes first. `orders` has how many races each of its places has, and `closest` is the listed one
-    whose events are closest in the trace."""
+    """Two lines that race, whichever comes first. `orders` has how many races each of its places has, and
+    `closest` is the listed one whose events are closest in the trace."""
 
     __slots__ = "locations", "closest", "orders"  # a trace may have very many
 
@@ -33,9 +35,9 @@ class Pair:
 
 
 class Group(collections.namedtuple("Group", "pairs variables names")):
-    """`pairs` and `variables` are in the order in which the report names them, the variables those of the races that were read. An
-    atomic is one variable, and a local has its own name; `names` are those in the trace, which has one for each thread that writes an
-    atomic."""
+    """`pairs` and `variables` are in the order in which the report names them, the variables those of the
+    races that were read. An atomic is one variable, and a local has its own name; `names` are those in the
+    trace, which has one for each thread that writes an atomic."""
 
     def races(self):
         return sum(pair.races for pair in self.pairs)
@@ -74,7 +76,8 @@ class Gathered:
         self.variables = {}  # by place: how many races each variable has, by its name in the trace
 
     def share(self, race, first, second, races=1):
-        """Takes the variable of two racing accesses that aren't shown themselves. They count as so many races."""
+        """Takes the variable of two racing accesses that aren't shown themselves. They count as
+        so many races."""
         place = first.location, second.location
         by_variable = self.variables.setdefault(place, {})
         by_variable[first.name] = by_variable.get(first.name, 0) + races
@@ -82,11 +85,13 @@ class Gathered:
         if atomic:
             self.atomics[first.name] = atomic
         self.above[self.top(atomic or first.name)] = self.top(tuple(sorted(place)))
-        its = Between(race.first, race.second, first.thread, second.thread, self.atomics.get(first.name, first.name), (first.word, second.word))
+        its = Between(race.first, race.second, first.thread, second.thread,
+                      self.atomics.get(first.name, first.name), (first.word, second.word))
         self.races.setdefault(first.name, {}).setdefault(place, {})[its] = None
 
     def add(self, race, first, second, places):
-        """Takes a race and its accesses; `places` has how many races each place has, if that is known; it is empty where they aren't counted."""
+        """Takes a race and its accesses; `places` has how many races each place has, if that is known; it is
+        empty where they aren't counted."""
         place = first.location, second.location
         locations = tuple(sorted(place))
         pair = self.pairs.setdefault(locations, Pair(locations, race))
@@ -120,8 +125,10 @@ class Gathered:
         for name in self.races:
             variable = self.atomics.get(name, name)
             if variable in stacks.locals:
-                found.setdefault(variable, set()).update(stacks.local_of(variable, event) for event in self.events_of([name]))
-        self.locals = {variable: names.pop() for variable, names in found.items() if len(names) == 1 and b"" not in names}
+                found.setdefault(variable, set()).update(stacks.local_of(variable, event)
+                                                         for event in self.events_of([name]))
+        self.locals = {variable: names.pop() for variable, names in found.items() if len(names) == 1
+                       and b"" not in names}
 
     def groups(self):
         """The groups, in the order in which the report names them."""
@@ -133,7 +140,8 @@ class Gathered:
                 found[self.top(name)][1].append(self.locals.get(name, name))
         for name in self.races:
             found[self.top(self.atomics.get(name, name))][2].append(name)
-        return [Group(tuple(pairs), tuple(dict.fromkeys(variables)), tuple(names)) for pairs, variables, names in found.values()]
+        return [Group(tuple(pairs), tuple(dict.fromkeys(variables)), tuple(names))
+                for pairs, variables, names in found.values()]
 
 
 def name_parts(variable):
@@ -149,7 +157,8 @@ def object_of(group):
 
 
 def common_name(variables):
-    """What stands for some variables, as parts: a name, or the part that they share, and words on how many there are."""
+    """What stands for some variables, as parts: a name, or the part that they share, and words on how
+    many there are."""
     if len(variables) == 1:
         return [Code(variables[0])]
     parts = [name_parts(variable) for variable in variables]

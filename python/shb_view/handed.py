@@ -8,18 +8,20 @@ NEVER = float("inf")
 
 
 class Handed(collections.namedtuple("Handed", "store load fence name")):
-    """A store, a load that read it or what updates made of it, the event before which the load's thread makes the next fence with
-    acquire, and the atomic as the program has it."""
+    """A store, a load that read it or what updates made of it, the event before which the load's thread makes
+    the next fence with acquire, and the atomic as the program has it."""
 
     def seen_from(self, event):
-        """The same at an event of the load's thread: a load before a fence with acquire is one with acquire."""
+        """The same at an event of the load's thread: a load before a fence with acquire is
+        one with acquire."""
         if self.fence > event or self.load.takes():
             return self
         return self._replace(load=self.load._replace(order=b"both" if self.load.gives() else b"acquire"))
 
     def lacking(self):
         """What is missing for an order."""
-        return [order for order, has in (("release", self.store.gives()), ("acquire", self.load.takes())) if not has]
+        return [order for order, has in (("release", self.store.gives()), ("acquire", self.load.takes()))
+                if not has]
 
     def key(self):
         store, load = self.store, self.load
@@ -27,15 +29,19 @@ class Handed(collections.namedtuple("Handed", "store load fence name")):
 
 
 def handed(uses, has_frees, locals):
-    """By the threads of a store and of a load: what was handed on, in the order of the loads. Of a thread's stores at one line the last
-    counts. Without frees updates hand nothing on to each other. `locals` has the names of atomics on stacks."""
+    """By the threads of a store and of a load: what was handed on, in the order of the loads. Of a thread's
+    stores at one line the last counts. Without frees updates hand nothing on to each other. `locals` has the
+    names of atomics on stacks."""
     found, chains = collections.defaultdict(list), {}
     for use, fence in zip(uses, next_fences(uses)):
-        chain, way = chains.get(use.name, {}), (use.thread, *use[3:6])  # what the atomic has now: the last store of each way
+        # what the atomic has now: the last store of each way
+        chain, way = chains.get(use.name, {}), (use.thread, *use[3:6])
         if use.kind in (b"load", b"update"):
             for store in chain.values():
-                if store.thread != use.thread and not (store.gives() and use.takes()) and (has_frees or store.kind != use.kind):
-                    found[store.thread, use.thread].append(Handed(store, use, fence, locals.get(use.name, use.name)))
+                if (store.thread != use.thread and not (store.gives() and use.takes())
+                    and (has_frees or store.kind != use.kind)):
+                    found[store.thread, use.thread].append(
+                        Handed(store, use, fence, locals.get(use.name, use.name)))
         if use.kind == b"store":
             chains[use.name] = {way: use}
         elif use.kind == b"update":
@@ -65,12 +71,14 @@ def next_fences(uses):
 
 
 def between(pairs, race, is_free):
-    """What was handed on without an order between two accesses of a race: the store is after the first, the load before the second.
-    What is updated on both sides, as a counter is, hands nothing on but what is freed."""
+    """What was handed on without an order between two accesses of a race: the store is after the first, the
+    load before the second. What is updated on both sides, as a counter is, hands nothing on but what is
+    freed."""
     found = {}
     for pair in pairs:
         store, load = pair.store, pair.load
-        if store.event > race.first and load.event <= race.second and (is_free or store.kind != load.kind) and store.name != race.variable:
+        if (store.event > race.first and load.event <= race.second and (is_free or store.kind != load.kind)
+            and store.name != race.variable):
             pair = pair.seen_from(race.second)
             if pair.lacking():
                 found.setdefault(pair.key(), pair)
@@ -78,8 +86,9 @@ def between(pairs, race, is_free):
 
 
 def published(races, pairs, frees):
-    """Where between the two accesses of each race one and the same atomic was handed on, for each place: what the first such race has, and
-    the events of those races. `races` are a group's by place, `frees` says whether an event is a free."""
+    """Where between the two accesses of each race one and the same atomic was handed on, for each place: what
+    the first such race has, and the events of those races. `races` are a group's by place, `frees` says
+    whether an event is a free."""
     found = {}
     for its in races.values():
         common = None
@@ -91,5 +100,6 @@ def published(races, pairs, frees):
             if not common:
                 return []
         pair = min(common.values(), key=lambda it: (it.store.event, it.load.event))
-        found.setdefault(pair.key()[:3], (pair, []))[1].extend([race.first, race.second] for race in its[:MOST_RACES])
+        found.setdefault(pair.key()[:3], (pair, []))[1].extend(
+            [race.first, race.second] for race in its[:MOST_RACES])
     return list(found.values())[:MOST_NAMED]

@@ -7,7 +7,8 @@ import re
 MOST_COUNTED = 64  # locks held at an access, if their names are to be counted
 MOST_SHOWN = 8  # locks held at an event that are shown
 READ_LOCK = re.compile(rb"(.+)@reader\..+", re.S)  # as the recorder names what a reader holds of a lock
-STAND_IN = re.compile(rb".+@[0-9]+(?:[<>].+)?", re.S)  # as it names a lock that tells the order of an atomic: none of the program's
+# as it names a lock that tells the order of an atomic: none of the program's
+STAND_IN = re.compile(rb".+@[0-9]+(?:[<>].+)?", re.S)
 
 
 @functools.lru_cache(maxsize=65_536)

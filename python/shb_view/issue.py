@@ -21,8 +21,10 @@ def issue_lines(view, section):
     one, other = (window.events[access].event for access in window.accesses)
     locations = tuple(sorted((one.location, other.location)))
     races = next(pair.races for pair in section.group.pairs if pair.locations == locations)
-    yield f"data race on {short(view.kinds.name(one.name), NAME)}: {flat([place(one.location), ' and ', place(other.location)])}"
-    yield f"(one of {counted(races, 'race')} of these two lines in a recorded run)" if races > 1 else "(one race in a recorded run)"
+    yield (f"data race on {short(view.kinds.name(one.name), NAME)}: "
+           f"{flat([place(one.location), ' and ', place(other.location)])}")
+    yield (f"(one of {counted(races, 'race')} of these two lines in a recorded run)" if races > 1
+           else "(one race in a recorded run)")
     for access in window.accesses:
         yield from access_lines(view, window, access)
     allocated = stack_lines(view.stacks.of_variable(view.kinds.in_trace(one.name)))
@@ -37,7 +39,8 @@ def access_lines(view, window, access):
     """An access, its line of code, the locks that its thread holds, and how the thread was started."""
     shown, fork = window.events[access], window.forks[access]
     event = shown.event
-    yield f"  {KINDS[view.kinds.of(access, event.word, event.name)]} by {flat([Code(event.thread), ' at ', place(event.location)])} (event {access})"
+    yield (f"  {KINDS[view.kinds.of(access, event.word, event.name)]} by "
+           f"{flat([Code(event.thread), ' at ', place(event.location)])} (event {access})")
     code = view.source.code(event.location)
     if code is not None:
         yield f"      {code_line(code, NAME)}"
@@ -52,12 +55,14 @@ def access_lines(view, window, access):
         yield f"    {NO_LOCK}"
     if fork:
         start = window.events[fork].event
-        yield f"    thread started by {flat([Code(start.thread), ' at ', place(start.location)])} (event {fork})"
+        yield (f"    thread started by {flat([Code(start.thread), ' at ', place(start.location)])} (event "
+               f"{fork})")
     yield from stack_lines(view.stacks.of_thread(event.thread))
 
 
 def stack_lines(frames):
-    return [f"      #{number} {flat(parts)}" for number, parts in enumerate(caller_lines(frames, MOST_FRAMES))]
+    return [f"      #{number} {flat(parts)}"
+            for number, parts in enumerate(caller_lines(frames, MOST_FRAMES))]
 
 
 def order_text(view, window):

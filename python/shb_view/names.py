@@ -1,5 +1,6 @@
-"""Names as they are shown. A name is any bytes. What is shown of it is safe in a terminal, and two names look the same only where
-they are the same: what doesn't print, what can't be seen and what isn't UTF-8 is written as an escape, and so is a backslash."""
+"""Names as they are shown. A name is any bytes. What is shown of it is safe in a terminal, and two names look
+the same only where they are the same: what doesn't print, what can't be seen and what isn't UTF-8 is written
+as an escape, and so is a backslash."""
 
 import functools
 import re
@@ -7,8 +8,11 @@ import unicodedata
 
 MOST_MARKS = 3  # combining marks that stay with one character
 MOST_BYTES = 4 * (MOST_MARKS + 1)  # of what takes a column
-# Letters and marks that print as nothing: Unicode's Default_Ignorable_Code_Point, and the empty Braille pattern.
-UNSEEN = frozenset(map(chr, (0x34f, 0x115f, 0x1160, 0x17b4, 0x17b5, *range(0x180b, 0x1810), 0x2800, 0x3164, *range(0xfe00, 0xfe10), 0xffa0,
+# Letters and marks that print as nothing: Unicode's Default_Ignorable_Code_Point, and the empty
+# Braille pattern.
+UNSEEN = frozenset(
+    map(chr, (0x34f, 0x115f, 0x1160, 0x17b4, 0x17b5, *range(0x180b, 0x1810), 0x2800, 0x3164,
+              *range(0xfe00, 0xfe10), 0xffa0,
                              *range(0xe0100, 0xe01f0))))
 ISOLATE, END = "\u2068", "\u2069"  # around a name with letters that are read from right to left
 
@@ -67,8 +71,9 @@ def padded(text, width):
 
 
 def characters(name):
-    """The characters that a reader sees, each as a text that isn't cut. Combining marks go with the character before them,
-    but where another character looks like both together: so only one of the two ways to write it is shown without escapes."""
+    """The characters that a reader sees, each as a text that isn't cut. Combining marks go with the character
+    before them, but where another character looks like both together: so only one of the two ways to write it
+    is shown without escapes."""
     text, found = name.decode("utf-8", "surrogateescape"), []
     if text.isascii() and text.isprintable() and "\\" not in text:
         return list(text)
@@ -78,7 +83,8 @@ def characters(name):
             found.append(escape(character))
         elif not is_mark:
             found.append(character)
-        elif found and len(found[-1]) <= MOST_MARKS and unicodedata.is_normalized("NFC", found[-1] + character):
+        elif (found and len(found[-1]) <= MOST_MARKS
+              and unicodedata.is_normalized("NFC", found[-1] + character)):
             found[-1] += character
         else:
             found.append(escape(character))
@@ -94,7 +100,8 @@ def is_seen(character):
 
 
 def escape(character):
-    """A byte that isn't UTF-8 and an ASCII character as `\\xff`, other characters as `\\u200b` or `\\U000e0001`."""
+    """A byte that isn't UTF-8 and an ASCII character as `\\xff`, other characters as
+    `\\u200b` or `\\U000e0001`."""
     if character == "\\":
         return "\\\\"
     code = ord(character)

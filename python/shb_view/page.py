@@ -1,5 +1,6 @@
-"""The page: one file that asks for nothing else. It has a row for each group, which opens, and in it the group's text for an issue. What
-page.js draws a group from stands in one element, as JSON: names in there never become markup."""
+"""The page: one file that asks for nothing else. It has a row for each group, which opens, and in it the
+group's text for an issue. What page.js draws a group from stands in one element, as JSON: names in there
+never become markup."""
 
 import base64
 import json
@@ -23,7 +24,8 @@ from shb_view.words import (VERBS, MOST_SITES, NO_LOCK, Code, about, accesses_te
 
 HERE = pathlib.Path(__file__).resolve().parent
 NAME, LINE = 80, 240  # columns
-MOST_STACKS, MOST_FRAMES, MOST_ORIGINS = 8, 40, 8  # of a racing line; of each; threads, blocks and locks of a group
+# of a racing line; of each; threads, blocks and locks of a group
+MOST_STACKS, MOST_FRAMES, MOST_ORIGINS = 8, 40, 8
 MOST_BYTES = 2_000_000  # of what groups are drawn from; the last of them may go beyond
 KNOWN = "known, or on an earlier page"
 VOID = {"br", "meta"}  # elements without an end
@@ -42,15 +44,18 @@ def joined(parts, between=""):
 
 
 def element(tag, /, *parts, **attributes):
-    """An element. An attribute's name may end with `_`, and `_` inside stands for `-`; one that is None is left out."""
-    given = "".join(f' {word.rstrip("_").replace("_", "-")}="{escaped(value)}"' for word, value in attributes.items()
+    """An element. An attribute's name may end with `_`, and `_` inside stands for `-`; one that is None
+    is left out."""
+    given = "".join(f' {word.rstrip("_").replace("_", "-")}="{escaped(value)}"'
+                    for word, value in attributes.items()
                     if value is not None)
     return Markup(f"<{tag}{given}>") if tag in VOID else Markup(f"<{tag}{given}>{joined(parts)}</{tag}>")
 
 
 def with_commands(text):
     """Words of our own, with what stands between backticks as code."""
-    return joined(element("code", part) if number % 2 else part for number, part in enumerate(text.split("`")))
+    return joined(element("code", part) if number % 2 else part
+                  for number, part in enumerate(text.split("`")))
 
 
 def marked(parts, most):
@@ -71,7 +76,8 @@ def page_parts(view):
         rows[section.is_asked_for].append(group_row(view, number, section, tags.get(section.is_asked_for)))
     yield joined(rows[True], "\n")
     if rows[False]:
-        yield element("details", element("summary", counted(len(rows[False]), "group"), f" {KNOWN}"), *rows[False], id="known")
+        yield element("details", element("summary", counted(len(rows[False]), "group"), f" {KNOWN}"),
+                      *rows[False], id="known")
     yield "\n</main>\n"
     if view.groups > len(view.sections):
         yield element("p", f"and {counted(view.groups - len(view.sections), 'more group')}")
@@ -81,7 +87,8 @@ def page_parts(view):
 def policy(style, script):
     """What the browser may run and load: this style and this script, whatever a name says."""
     style, script = (base64.b64encode(sha256(text.encode()).digest()).decode() for text in (style, script))
-    allowed = f"default-src 'none'; base-uri 'none'; form-action 'none'; style-src 'sha256-{style}'; script-src 'sha256-{script}'"
+    allowed = (f"default-src 'none'; base-uri 'none'; form-action 'none'; style-src 'sha256-{style}'; "
+               f"script-src 'sha256-{script}'")
     return element("meta", http_equiv="Content-Security-Policy", content=allowed)
 
 
@@ -95,20 +102,28 @@ def header(view):
     bad = [bad_words(view)] * (view.verdict.is_good is False)
     verdict = [element("p", with_commands(words), class_="verdict bad") for words in bad]
     races, size = summary(view)
-    notes = [element("p", with_commands(note), class_="verdict good" if view.verdict.is_good and not number else "faint")
+    notes = [
+        element("p", with_commands(note), class_="verdict good" if view.verdict.is_good
+                and not number else "faint")
              for number, note in enumerate(notes_of(view))]
-    return element("header", *verdict, element("h1", view.title), *(element("p", note, class_="verdict bad") for note in view.notes),
+    return element("header", *verdict, element("h1", view.title),
+                   *(element("p", note, class_="verdict bad") for note in view.notes),
                    element("p", races, class_="sum"), element("p", size, class_="faint size"), *notes,
                    *(element("p", line, class_="faint") for line in view.about))
 
 
 def group_row(view, number, section, tag):
     """A group's row, and its text."""
-    tags = [element("span", word, class_=f"tag {word.split()[0]}") for word in [*[tag] * bool(tag), *["perhaps ordered"] * bool(section.unseen)]]
-    cells = {"no": number, "var": marked(common_name(section.group.variables), NAME), "fact": joined([marked(section.fact.tag, NAME), *tags]),
-             "at": marked([place(blamed(section))], NAME), "races": counted(section.group.races() or section.group.count(), "race" if section.group.races() else "place")}
+    tags = [element("span", word, class_=f"tag {word.split()[0]}")
+            for word in [*[tag] * bool(tag), *["perhaps ordered"] * bool(section.unseen)]]
+    cells = {"no": number, "var": marked(common_name(section.group.variables), NAME),
+             "fact": joined([marked(section.fact.tag, NAME), *tags]),
+             "at": marked([place(blamed(section))], NAME),
+             "races": counted(section.group.races() or section.group.count(),
+                              "race" if section.group.races() else "place")}
     cells = [element("span", cell, class_=name) for name, cell in cells.items()]
-    return element("details", element("summary", joined(cells, " ")), element("pre", "\n".join(issue_lines(view, section))),
+    return element("details", element("summary", joined(cells, " ")),
+                   element("pre", "\n".join(issue_lines(view, section))),
                    class_=f"group rank{RANKS[section.fact.form]}", id=f"group-{number}")
 
 
@@ -148,14 +163,17 @@ def group_data(view, section, tables):
     sites = [[told([place(site.location)] if site.location is not None else ["further lines"]),
               code_line(view.source.code(site.location) or b"", LINE), accesses_text(site, not view.of_run),
               told(thread_parts(site) if site.location is not None else []),
-              [[kind, told(parts)] for kind, parts in lock_words(site)], told(partner_parts(site)), bool(site.partners)]
+              [[kind, told(parts)] for kind, parts in lock_words(site)], told(partner_parts(site)),
+              bool(site.partners)]
              for site in section.sites[:MOST_SITES]]
     sides = [side_data(view, section, access, tables) for access in section.window.accesses]
-    return {"about": list(map(told, about(section))), "sides": sides, "note": order_text(view, section.window),
+    return {"about": list(map(told, about(section))), "sides": sides,
+            "note": order_text(view, section.window),
             "picture": picture(section.window, view.kinds), "again": again(view, section), "sites": sites,
             "more": max(0, len(section.sites) - MOST_SITES),
             "stacks": other_stacks(section, {side["stack"] for side in sides}, tables),
-            "origins": [[told(parts), tables.add(frames)] for parts, frames in origins(view, section)[:MOST_ORIGINS]]}
+            "origins": [[told(parts), tables.add(frames)]
+                        for parts, frames in origins(view, section)[:MOST_ORIGINS]]}
 
 
 def side_data(view, section, access, tables):
@@ -163,22 +181,28 @@ def side_data(view, section, access, tables):
     window, row = section.window, section.window.events[access]
     found, frames = view.source.place(row.event.location), view.stacks.of_event(access)
     locks = listed([lock_parts(lock) for lock, _ in row.locks], len(row.locks))
-    side = {"at": told([place(row.event.location)]), "verb": VERBS[view.kinds.of(access, row.event.word, row.event.name)],
-            "thread": short(row.event.thread, NAME), "locks": told(["holding ", *locks] if locks else [NO_LOCK]), "bare": not locks,
+    side = {"at": told([place(row.event.location)]),
+            "verb": VERBS[view.kinds.of(access, row.event.word, row.event.name)],
+            "thread": short(row.event.thread, NAME),
+            "locks": told(["holding ", *locks] if locks else [NO_LOCK]), "bare": not locks,
             "stack": tables.add(frames), "fault": found.fault if found else ""}
     if found and found.line() is not None:
         acquire = view.source.place(window.events[row.locks[-1][1]].event.location) if row.locks else None
         lines = excerpt(found, acquire)
-        uses = [view.source.place(use.location) for pair in section.fact.pairs() for use in (pair.store, pair.load)]
+        uses = [view.source.place(use.location) for pair in section.fact.pairs()
+                for use in (pair.store, pair.load)]
         atomics = {use.number for use in uses if use and use.path == found.path}
-        side.update(first=lines.numbers[0], lines=[code_line(found.lines[number - 1].rstrip(), LINE) for number in lines.numbers],
+        side.update(first=lines.numbers[0],
+                    lines=[code_line(found.lines[number - 1].rstrip(), LINE) for number in lines.numbers],
                     hit=found.number, held=list(lines.held), atomics=sorted(atomics & set(lines.numbers)),
-                    head=code_line(function_words(lines.head, frames, row.event.location), LINE) if lines.head else "")
+                    head=code_line(function_words(lines.head, frames, row.event.location), LINE) if lines.head
+                    else "")
     return side
 
 
 def function_words(head, frames, location):
-    """The function of a location: the line that it begins with, where this has its name, as not in a class; else its name in the stack."""
+    """The function of a location: the line that it begins with, where this has its name, as not in a class;
+    else its name in the stack."""
     function = next((bare(frame.function) for frame in frames if frame.location == location), b"")
     name = function.split(b"::")[-1].split(b"<")[0]
     return head.rstrip(b" {") if name in head else function
@@ -204,7 +228,8 @@ def other_stacks(section, shown, tables):
     for site in section.sites[:MOST_SITES]:
         callers = section.callers.get(site.location, [])
         total = sum(count for _, count in callers)
-        rows = [[share(count, total, is_bare), tables.add(frames)] for (frames, is_bare), count in callers[:MOST_STACKS]]
+        rows = [[share(count, total, is_bare), tables.add(frames)]
+                for (frames, is_bare), count in callers[:MOST_STACKS]]
         if {stack for _, stack in rows} - shown - {-1}:
             found.append([told([place(site.location)]), rows, max(0, len(callers) - MOST_STACKS)])
     return found

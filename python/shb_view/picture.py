@@ -1,6 +1,6 @@
-"""What page.js draws a picture of a race from: a lane for each thread, a row for each event, and both accesses last. Where lines and texts
-stand is decided here; the script writes them, and cuts texts in a narrow window. All lines are left of the column of texts, so none crosses
-a text."""
+"""What page.js draws a picture of a race from: a lane for each thread, a row for each event, and both
+accesses last. Where lines and texts stand is decided here; the script writes them, and cuts texts in a narrow
+window. All lines are left of the column of texts, so none crosses a text."""
 
 import collections
 
@@ -10,9 +10,10 @@ from shb_view.words import NO_LOCK, VERBS, flat_in, lock_parts
 TEXT, TIP = 36, 240  # columns
 MOST_BARS = 4
 STUB = 0.4  # rows that a bar goes on where its lock's acquire or release isn't shown
-WORDS = {**VERBS, b"acq": "acquires", b"rel": "releases", b"fork": "starts", b"join": "joins", b"begin": "begins", b"end": "ends"}
-# Pixels: of a row; of a thread's name; between a lane and what is right of it; between neighbours; of a bar and of a letter along it; the
-# bends of arrows; the circle of an access.
+WORDS = {**VERBS, b"acq": "acquires", b"rel": "releases", b"fork": "starts", b"join": "joins",
+         b"begin": "begins", b"end": "ends"}
+# Pixels: of a row; of a thread's name; between a lane and what is right of it; between neighbours; of a bar
+# and of a letter along it; the bends of arrows; the circle of an access.
 ROW, HEAD, GAP, STEP, BAR, LETTER, ROUND, ACCESS = 38, 19, 16, 7, 16, 6.7, 5, 8
 BAND, LINE = 22 + ROW, 14  # from the band's top to the accesses; between lines of text
 
@@ -25,27 +26,35 @@ Bar = collections.namedtuple("Bar", "lane name top bottom")
 
 
 def picture(window, kinds):
-    """`x` has the place of each lane and `texts` that of all texts, `band` is the top of the band with both accesses."""
+    """`x` has the place of each lane and `texts` that of all texts, `band` is the top of the band
+    with both accesses."""
     events = [*window.before, *window.accesses]
     names = dict.fromkeys(window.events[event].event.thread for event in [*window.accesses, *window.before])
     lanes = {thread: lane for lane, thread in enumerate(names)}
-    edges = [Edge(events.index(source), events.index(event), is_seen(window, source, event)) for source, event in needed(window, events)]
-    drawn = Layout(len(lanes), [lanes[window.events[event].event.thread] for event in events], edges, bars_of(window, events, lanes))
-    return {"lanes": [short(thread, TEXT) for thread in lanes], "x": drawn.x, "texts": drawn.texts, "band": drawn.band, "height": drawn.band + 26 + 3 * ROW,
+    edges = [Edge(events.index(source), events.index(event), is_seen(window, source, event))
+             for source, event in needed(window, events)]
+    drawn = Layout(len(lanes), [lanes[window.events[event].event.thread] for event in events], edges,
+                   bars_of(window, events, lanes))
+    return {"lanes": [short(thread, TEXT) for thread in lanes], "x": drawn.x, "texts": drawn.texts,
+            "band": drawn.band, "height": drawn.band + 26 + 3 * ROW,
             "events": [event_data(window, kinds, event, drawn, at) for at, event in enumerate(events)],
-            "gaps": gaps(window, events), "edges": [[drawn.path(it), *drawn.head(it), int(edge.is_seen)] for it, edge in enumerate(edges)],
+            "gaps": gaps(window, events),
+            "edges": [[drawn.path(it), *drawn.head(it), int(edge.is_seen)] for it, edge in enumerate(edges)],
             "bars": [[*drawn.rectangle(it), bar.name, drawn.name(it)] for it, bar in enumerate(drawn.bars)]}
 
 
 class Layout:
-    """Where all stands. `events` are their lanes, in the order of their rows; the last two stand in one row."""
+    """Where all stands. `events` are their lanes, in the order of their rows; the last two stand
+    in one row."""
 
     def __init__(self, lanes, events, edges, bars):
         self.events, self.edges, self.bars, self.last = events, edges, bars, len(events) - 2
         self.top = HEAD * lanes + 4
         self.band = self.top + ROW * self.last + 6
         self.y = [self.height(min(at, self.last)) for at in range(len(events))]
-        self.spans = [(bar.lane, self.height(bar.top), self.height(bar.bottom) if bar.bottom <= self.last else self.band + BAND + GAP) for bar in bars]
+        self.spans = [(bar.lane, self.height(bar.top),
+                       self.height(bar.bottom) if bar.bottom <= self.last else self.band + BAND + GAP)
+                      for bar in bars]
         self.bar_slots = slots(self.spans)
         self.edge_slots = slots([(self.gap(edge), self.y[edge.first], self.y[edge.second]) for edge in edges])
         self.x, right = [], 6
@@ -58,7 +67,8 @@ class Layout:
         return self.band + BAND if row == self.last else self.top + ROW * row + ROW // 2
 
     def gap(self, edge):
-        """The lane right of which an arrow goes down: left of the lane where it ends, or right of it if it comes from there."""
+        """The lane right of which an arrow goes down: left of the lane where it ends, or right of it if it
+        comes from there."""
         first, second = self.events[edge.first], self.events[edge.second]
         return second - 1 if first < second else second
 
@@ -79,9 +89,11 @@ class Layout:
         return name if len(name) <= most else f"{name[:most - 1]}…" if most > 7 else ""
 
     def unnamed(self, at):
-        """The locks that begin to be held at an event, or are held there first, whose bars have no room for their names."""
+        """The locks that begin to be held at an event, or are held there first, whose bars have no room
+        for their names."""
         return [bar.name for it, bar in enumerate(self.bars) if self.name(it) != bar.name and at == next(
-            event for event, lane in enumerate(self.events) if lane == bar.lane and min(event, self.last) >= bar.top)]
+            event for event, lane in enumerate(self.events) if lane == bar.lane
+            and min(event, self.last) >= bar.top)]
 
     def down(self, it):
         """Where an arrow goes down."""
@@ -108,7 +120,8 @@ class Layout:
 
 
 def slots(spans):
-    """For each span, a group with a top and a bottom, the first place in its group where it overlaps no other."""
+    """For each span, a group with a top and a bottom, the first place in its group where it
+    overlaps no other."""
     taken, found = {}, []
     for group, top, bottom in spans:
         slot = 0
@@ -152,14 +165,16 @@ def bars_of(window, events, lanes):
         shown = window.events[event]
         for lock, acquire in shown.locks[-MOST_BARS:]:
             top = bars[acquire].top if acquire in bars else rows.get(acquire, rows[event] - STUB)
-            bars[acquire] = Bar(lanes[shown.event.thread], short(lock, TEXT), top, rows[event] + (0 if shown.freed == lock else STUB))
+            bars[acquire] = Bar(lanes[shown.event.thread], short(lock, TEXT), top,
+                                rows[event] + (0 if shown.freed == lock else STUB))
     return list(bars.values())
 
 
 def needed(window, events):
     """The edges but for those that an earlier one from the same thread to the same thread makes needless."""
     latest, found = {}, []
-    for source, event in sorted(window.edges, key=lambda edge: (events.index(edge[1]), -events.index(edge[0]))):
+    for source, event in sorted(window.edges,
+                                key=lambda edge: (events.index(edge[1]), -events.index(edge[0]))):
         threads = window.events[source].event.thread, window.events[event].event.thread
         if events.index(source) > latest.get(threads, -1):
             latest[threads] = events.index(source)
@@ -177,4 +192,5 @@ def tip(shown):
     """The line of an event and its number in the file, and the locks that its thread holds."""
     names = [flat_in(TEXT)(lock_parts(lock)) for lock, _ in shown.locks]
     more = [f"{shown.held - len(names):,} more"] if shown.held > len(names) else []
-    return f"line {shown.row}: {short(shown.line, TIP)}\n" + (f"holds {', '.join(names + more)}" if names or more else NO_LOCK)
+    return (f"line {shown.row}: {short(shown.line, TIP)}\n"
+            + (f"holds {', '.join(names + more)}" if names or more else NO_LOCK))

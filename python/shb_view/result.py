@@ -12,13 +12,16 @@ MOST_STACKS, MOST_FRAMES = 8, 40    # of an access
 
 def document(view):
     """The places of the groups that are shown, as `result.document` has them."""
-    pairs = [(number, section, pair) for number, section in enumerate(view.sections, 1) for pair in section.group.pairs]
+    pairs = [(number, section, pair) for number, section in enumerate(view.sections, 1)
+             for pair in section.group.pairs]
     origin, names = naming(view.stacks, {location for _, _, pair in pairs for location in pair.locations})
-    places = [{**entry(view, section, pair, origin, names), "group": number} for number, section, pair in pairs]
+    places = [{**entry(view, section, pair, origin, names), "group": number}
+              for number, section, pair in pairs]
     races = {} if view.of_run else {"races": view.made.races}
     summary = {**races, "places": view.pairs, "groups": view.groups, **view.made.counts._asdict()}
     notes = [*view.notes, *notes_of(view), *view.about]
-    return result.document("shb-view", summary, places, title=view.title, notes=notes, groups=[group_entry(view, section) for section in view.sections])
+    return result.document("shb-view", summary, places, title=view.title, notes=notes,
+                           groups=[group_entry(view, section) for section in view.sections])
 
 
 def entry(view, section, pair, origin, names):
@@ -32,7 +35,9 @@ def entry(view, section, pair, origin, names):
             found["code"] = result.text(code)
         if location in sites:
             found.update(site_entry(sites[location]))
-        found["stacks"] = [stack_entry(frames, count) for (frames, _), count in section.callers.get(location, ())[:MOST_STACKS] if frames]
+        found["stacks"] = [stack_entry(frames, count)
+                           for (frames, _), count in section.callers.get(location, ())[:MOST_STACKS]
+                           if frames]
         accesses.append(found)
     return {"places": len(pair.orders), "accesses": accesses, "variables": view.variables(pair),
             **({} if view.of_run else {"races": pair.races}),
@@ -48,10 +53,12 @@ def named(location, origin, names):
 
 
 def group_entry(view, section):
-    """The fact of a group, with its pairs of lines, the variables and the races that were looked at; of variables on stacks the locals that they are."""
+    """The fact of a group, with its pairs of lines, the variables and the races that were looked at; of
+    variables on stacks the locals that they are."""
     names, locals = section.group.names, view.kinds.locals
     unseen = {"perhaps_ordered_by": list(map(result.text, section.unseen))} if section.unseen else {}
-    return {"form": section.fact.form, "group": [result.text(name) for name in names], **section.fact.said, **unseen,
+    return {"form": section.fact.form, "group": [result.text(name) for name in names], **section.fact.said,
+            **unseen,
             **schedule_entry(view, section.window), "all_races": races_looked_at(section.group, view.kinds),
             "locals": {result.text(name): result.text(locals[name]) for name in names if name in locals},
             "pairs": [list(map(result.text, pair)) for pair in sorted(section.group.places())]}
@@ -66,7 +73,8 @@ def schedule_entry(view, window):
 
 def site_entry(site):
     """How often a location is accessed, by whom, and how many of these accesses hold each lock."""
-    locks = [{"lock": result.text(name), "for": use, "held": count} for use, held in (("writing", site.locks), ("reading", site.reading))
+    locks = [{"lock": result.text(name), "for": use, "held": count}
+             for use, held in (("writing", site.locks), ("reading", site.reading))
              for name, count in sorted(held.items()) if count]
     return {"uses": {KINDS[word]: count for word, count in sorted(site.accesses.items()) if count},
             "threads": {result.text(thread): count for thread, count in sorted(site.threads.items())},
@@ -74,6 +82,7 @@ def site_entry(site):
 
 
 def stack_entry(frames, count):
-    return {"accesses": count, "frames": [{"function": result.text(frame.function), "location": result.text(frame.location),
+    return {"accesses": count,
+            "frames": [{"function": result.text(frame.function), "location": result.text(frame.location),
                                             **({"in_system": True} if frame.in_system else {})}
                                           for frame in frames[:MOST_FRAMES]]}

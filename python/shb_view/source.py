@@ -1,5 +1,6 @@
-"""Lines of the program's source, found by the locations of a trace. A location is never opened as a path: it is looked up in an
-index of the folders that were named, and where it was asked for in what the recorder wrote of the program's sources."""
+"""Lines of the program's source, found by the locations of a trace. A location is never opened as a path: it
+is looked up in an index of the folders that were named, and where it was asked for in what the recorder wrote
+of the program's sources."""
 
 import collections
 import functools
@@ -21,8 +22,8 @@ Excerpt = collections.namedtuple("Excerpt", "place head numbers held")
 
 
 class Place(collections.namedtuple("Place", "path number lines fault is_newer")):
-    """What is known of a location's source: the path in its folder, the number of its line and the file's lines. `fault` says why
-    the line isn't there, or why it may be another one."""
+    """What is known of a location's source: the path in its folder, the number of its line and the file's
+    lines. `fault` says why the line isn't there, or why it may be another one."""
 
     def line(self):
         """The line, or None where it isn't there."""
@@ -54,7 +55,8 @@ class Source:
             return None
         if len(candidates) > 1:
             base = readable(path.split(b"/")[-1])
-            return Place(path, number, [], f"{len(candidates)} files are named {base}; --source can name the folder of one of them", False)
+            return Place(path, number, [], f"{len(candidates)} files are named {base}; --source can name the "
+                                           "folder of one of them", False)
         [(name, file)] = candidates
         lines, modified, fault = self.read(file)
         is_newer = modified > self.written
@@ -73,10 +75,13 @@ class Source:
         """How many files of these locations are found, and newer than the trace, unless all is well."""
         if not self.folders and not self.recorded:
             return
-        places = {found[0]: self.place(location) for location in locations for found in [line_of(location)] if found}
+        places = {found[0]: self.place(location) for location in locations
+                  for found in [line_of(location)] if found}
         found = [place for place in places.values() if place and place.lines]
         newer = sum(place.is_newer for place in found)
-        folders = ", ".join([*(readable(os.fsencode(folder)) for folder in self.folders), *["the recorded program"] * bool(self.recorded)])
+        folders = ", ".join([*(readable(os.fsencode(folder)) for folder in self.folders), *["the recorded "
+                                                                                            "program"] * bool(
+                                                                                                self.recorded)])
         some = f" Only {sources.MOST_FILES:,} files were looked at." if self.index.is_full() else ""
         if newer or some or len(found) < len(places):
             yield (f"Source lines of {folders}: {len(found)} of {counted(len(places), 'file')} found, "
@@ -101,10 +106,12 @@ def function_head(place):
 
 
 def excerpt(place, acquire):
-    """The lines around a place, from the acquire of a lock on if that is near. `acquire` is its place, or None."""
+    """The lines around a place, from the acquire of a lock on if that is near. `acquire` is its
+    place, or None."""
     top, head = place.number - BEFORE, function_head(place)
     held = range(0)
-    is_here = acquire and acquire.path == place.path and acquire.lines and head <= acquire.number <= place.number
+    is_here = (acquire and acquire.path == place.path and acquire.lines
+               and head <= acquire.number <= place.number)
     if is_here and head:
         held = range(acquire.number, place.number + 1)
         if acquire.number >= place.number - REACH:

@@ -23,24 +23,30 @@ def perhaps_ordered(sites, callers, stacks, calls):
     for site in [site for site in sites if site.partners]:
         frames = {frame for (its, _), _ in callers.get(site.location, ()) for frame in its}
         started = {frame for thread in site.threads for frame in stacks.of_thread(thread)[:1]}
-        names = {bare(frame.function) for frame in frames} | {parts_of(frame.location)[0] for frame in frames | started}
+        names = {bare(frame.function) for frame in frames} | {
+            parts_of(frame.location)[0] for frame in frames | started}
         found.append(set().union(*(calls.get(name, ()) for name in names)))
     return sorted(set.intersection(*found)) if found else []
 
 
 def origins(view, section):
-    """Where the threads of a group's racing lines were created, where the blocks of its variables were allocated, and where the locks
-    that are held at its shown race were taken: what it is, as parts, with a stack. Threads, and blocks, whose stacks are told alike are
-    told together, and neighbours in one block once."""
+    """Where the threads of a group's racing lines were created, where the blocks of its variables were
+    allocated, and where the locks that are held at its shown race were taken: what it is, as parts, with a
+    stack. Threads, and blocks, whose stacks are told alike are told together, and neighbours in one block
+    once."""
     threads = sorted({thread for site in section.sites if site.partners for thread in site.threads})
-    found = told_together("thread", "created", [(thread, view.stacks.of_thread(thread)) for thread in threads])
-    blocks = {OFFSET.sub(b"", name): view.stacks.of_variable(name) for name in map(view.kinds.in_trace, section.group.names)}
+    found = told_together("thread",
+                          "created", [(thread, view.stacks.of_thread(thread)) for thread in threads])
+    blocks = {OFFSET.sub(b"", name): view.stacks.of_variable(name)
+              for name in map(view.kinds.in_trace, section.group.names)}
     found += told_together("block", "allocated", blocks.items())
     window = section.window
     for shown in [window.events[access] for access in window.accesses] if window else []:
-        found += [(["lock ", *lock_parts(lock), ", held at ", place(shown.event.location), ", was taken"], view.stacks.of_event(acquire))
+        found += [(["lock ", *lock_parts(lock), ", held at ", place(shown.event.location), ", was taken"],
+                   view.stacks.of_event(acquire))
                   for lock, acquire in shown.locks]
-    return [(list(parts), frames) for parts, frames in dict.fromkeys((tuple(parts), frames) for parts, frames in found if frames)]
+    return [(list(parts), frames)
+            for parts, frames in dict.fromkeys((tuple(parts), frames) for parts, frames in found if frames)]
 
 
 def told_together(kind, verb, its):
@@ -49,28 +55,34 @@ def told_together(kind, verb, its):
     for name, frames in its:
         key = tuple(map(tuple, caller_lines(frames, len(frames))))
         found.setdefault(key, ([], frames))[0].append([Code(name)])
-    return [([f"{kind}{'s' * (len(names) > 1)} ", *listed(names, MOST_NAMED), f" {'was' if len(names) == 1 else 'were'} {verb}"], frames)
+    return [
+        ([f"{kind}{'s' * (len(names) > 1)} ", *listed(names, MOST_NAMED),
+          f" {'was' if len(names) == 1 else 'were'} {verb}"], frames)
             for names, frames in found.values()]
 
 
 def caller_lines(frames, most):
-    """What is said of a stack, the innermost frame first, each line as parts. Of frames in the system's headers and libraries the
-    innermost are left out, since the access is named by the line that called them, and the outermost, which started the thread;
-    several others are one line. Where all are of the system the innermost stands for them."""
+    """What is said of a stack, the innermost frame first, each line as parts. Of frames in the system's
+    headers and libraries the innermost are left out, since the access is named by the line that called them,
+    and the outermost, which started the thread; several others are one line. Where all are of the system the
+    innermost stands for them."""
     own = [number for number, frame in enumerate(frames) if not frame.in_system]
     if not own:
-        more = [[f"({counted(len(frames) - 1, 'more function')} of the system's headers or libraries)"]] * (len(frames) > 1)
+        more = [[f"({counted(len(frames) - 1, 'more function')} of the system's headers or libraries)"]] * (
+            len(frames) > 1)
         return [*map(frame_parts, frames[:1]), *more]
     found = []
     for in_system, its in itertools.groupby(frames[own[0]:own[-1] + 1], lambda frame: frame.in_system):
         lines = list(map(frame_parts, its))
-        found += [[f"({counted(len(lines), 'function')} of the system's headers or libraries)"]] if in_system and len(lines) > 1 else lines
+        found += ([[f"({counted(len(lines), 'function')} of the system's headers or libraries)"]] if in_system
+                  and len(lines) > 1 else lines)
     if len(found) > most:
         found = [*found[:most - 1], [f"({len(found) - most + 1:,} more)"]]
     return found
 
 
 def frame_parts(frame):
-    unknown = WITHOUT_LINE.get(frame.function, " (no line is known: it called code without -fsanitize=thread)")
+    unknown = WITHOUT_LINE.get(frame.function,
+                               " (no line is known: it called code without -fsanitize=thread)")
     where = [" ", Code(frame.location)] if frame.location else [unknown]
     return [Code(bare(frame.function)), *where] if frame.function else where[-1:]

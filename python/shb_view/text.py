@@ -18,7 +18,8 @@ MOST_ORIGINS = 4  # threads and blocks of a group
 
 class Colours:
     def __init__(self, is_coloured):
-        self.bold, self.red = (f"\x1b[{code}m{{}}\x1b[0m".format if is_coloured else str for code in ("1", "31"))
+        self.bold, self.red = (f"\x1b[{code}m{{}}\x1b[0m".format if is_coloured else str
+                               for code in ("1", "31"))
 
 
 flat = flat_in(NAME)
@@ -33,7 +34,8 @@ def text_lines(view, colours, is_whole, has_notes=True):
     yield from map(colours.red, view.notes)
     chosen = [(number, section) for number, section in enumerate(view.sections, 1) if section.is_asked_for]
     if len(chosen) < len(view.sections):
-        yield f"Of {counted(len(view.sections), 'group')} {len(chosen):,} are shown, those with a place that is asked for."
+        yield (f"Of {counted(len(view.sections), 'group')} {len(chosen):,} are shown, those with a place "
+               "that is asked for.")
     for number, section in chosen:
         if number > MOST_DETAILED:
             yield headline(number, section, colours)
@@ -72,7 +74,8 @@ def site_lines(view, section, site, colours):
     by = flat([" by ", *thread_parts(site)]) if site.location is not None else ""
     location = colours.red(location) if site.partners else location
     yield f"   {location}: {accesses_text(site, not view.of_run)}{by}"
-    code, source = view.source.code(site.location), view.source.place(site.location) if site.location else None
+    code, source = (view.source.code(site.location),
+                    view.source.place(site.location) if site.location else None)
     if code is not None:
         yield f"     | {code_line(code, LINE)}"
     if source and source.fault:
@@ -95,15 +98,18 @@ def stack_lines(callers):
         yield from (f"       from {parts}" for parts in others)
     if len(shown) > MOST_STACKS:
         rest = sum(count for _, count in shown.most_common()[MOST_STACKS:])
-        yield f"     and {counted(len(shown) - MOST_STACKS, 'more stack')} ({counted(rest, 'access', 'accesses')})"
+        yield (f"     and {counted(len(shown) - MOST_STACKS, 'more stack')} "
+               f"({counted(rest, 'access', 'accesses')})")
 
 
 def window_lines(window):
     """The events before the accesses of the race that is shown of a group."""
     yield f"   Before the accesses: {'nothing' if not window.before else ''}".rstrip()
     rows = [window.events[event] for event in window.before]
-    texts = [(str(row.number), short(row.event.thread, NAME), short(b"%b(%b)" % row.named[1:3] if row.named.name else row.named.word, NAME)) for row in rows]
+    texts = [(str(row.number), short(row.event.thread, NAME),
+              short(b"%b(%b)" % row.named[1:3] if row.named.name else row.named.word, NAME)) for row in rows]
     widths = [max(map(columns, column)) for column in zip(*texts)]
     for row, (number, thread, operation) in zip(rows, texts):
         location = flat([place(row.event.location)])
-        yield f"     {number:>{widths[0]}}  {padded(thread, widths[1])}  {padded(operation, widths[2])}  {location}"
+        yield (f"     {number:>{widths[0]}}  {padded(thread, widths[1])}  {padded(operation, widths[2])}  "
+               f"{location}")

@@ -39,7 +39,8 @@ def event_of(line):
 
 def line_of(event):
     """The line of an event with an operand."""
-    return event.thread + b"|" + event.word + b"(" + event.name + b")" + (b"|" + event.location if event.location else b"")
+    return (event.thread + b"|" + event.word + b"(" + event.name + b")"
+            + (b"|" + event.location if event.location else b""))
 
 
 def warnings(path):
@@ -53,7 +54,8 @@ def warnings(path):
 
 
 class Trace:
-    """A trace's file, read from its beginning as often as is asked for. Before the events of `parts` some may be missing."""
+    """A trace's file, read from its beginning as often as is asked for. Before the events of `parts` some
+    may be missing."""
 
     def __init__(self, file, progress, parts=()):
         self.file, self.progress, self.parts = file, progress, frozenset(parts)

@@ -38,8 +38,8 @@ def trials_of(found, facts, counting):
 
 
 def move_of(found, counting):
-    """The move of a thread's only accesses that would order the races of a group, or None: an access that comes after its
-    thread creates the others that race with it, or before it joins them."""
+    """The move of a thread's only accesses that would order the races of a group, or None: an access that
+    comes after its thread creates the others that race with it, or before it joins them."""
     gathered = counting.access_kinds.gathered
     races = {race for its in gathered.races_of(found.group.names).values() for race in its}
     family = family_of(races, counting.begins)

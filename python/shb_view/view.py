@@ -45,28 +45,30 @@ class Given(collections.namedtuple("Given", "words file verdict places")):
 NO_REPORT = Given((), None, OWN, None)
 
 
-# The races of a trace with so many events, and how many these are. Of a sample (`is_sample`) one race of each variable
-# at each place is known; of a recorded run too, which has `uses`, and whose `counts` are the run's.
+# The races of a trace with so many events, and how many these are. Of a sample (`is_sample`) one race of each
+# variable at each place is known; of a recorded run too, which has `uses`, and whose `counts` are the run's.
 Subject = collections.namedtuple("Subject", "given counts races is_sample events uses", defaults=(None,))
 
-# What is to be made of a trace: the `shb` to run, whether what comes before the races is to be shown, folders of
-# sources, whether those that the stacks name are to be shown, the title, and notes on the trace.
+# What is to be made of a trace: the `shb` to run, whether what comes before the races is to be shown, folders
+# of sources, whether those that the stacks name are to be shown, the title, and notes on the trace.
 Asked = collections.namedtuple("Asked", "shb has_windows sources has_recorded title notes", defaults=((),))
 
-# A recorded run: the path of its page's trace, with the run's counts and its races as `Report.races` has them, and the
-# `Uses` and `Stacks` of that trace. `new` has by two locations the names of the variables that are new there, None if all
-# are; `behind` those that were found behind known races. `about` is what the recorder has to say, and `unseen` has by
-# the name of a function, a file or a module which modules without hooks it calls or is. `turns` is the list of turns
-# that runs the interleaving again, and `command` the program's words.
-RecordedRun = collections.namedtuple("RecordedRun", "trace counts races uses stacks new behind about unseen turns command",
+# A recorded run: the path of its page's trace, with the run's counts and its races as `Report.races` has
+# them, and the `Uses` and `Stacks` of that trace. `new` has by two locations the names of the variables that
+# are new there, None if all are; `behind` those that were found behind known races. `about` is what the
+# recorder has to say, and `unseen` has by the name of a function, a file or a module which modules without
+# hooks it calls or is. `turns` is the list of turns that runs the interleaving again, and `command` the
+# program's words.
+RecordedRun = collections.namedtuple("RecordedRun",
+                                     "trace counts races uses stacks new behind about unseen turns command",
                                      defaults=(None, {}, (), {}, "", ""))
 
 
 class View(collections.namedtuple("View", "title made pairs groups sections source notes stacks kinds "
                                           "about turns command judge", defaults=((), "", "", ""))):
-    """All that is shown. `pairs` and `groups` are how many there are, `sections` those that are shown. `notes` are what
-    the caller said of the trace, `about` what it said of the recorder. `judge` is the command that makes the schedules
-    of a recorded run's page again and judges them, or nothing."""
+    """All that is shown. `pairs` and `groups` are how many there are, `sections` those that are shown.
+    `notes` are what the caller said of the trace, `about` what it said of the recorder. `judge` is the
+    command that makes the schedules of a recorded run's page again and judges them, or nothing."""
 
     @property
     def of_run(self):
@@ -118,16 +120,20 @@ def view_of(file, made, kinds, asked, progress, unseen={}):
     trace = Trace(file, progress, made.uses.parts if made.uses else ())
     count, sections = make_sections(asked, kinds, made, trace, groups, unseen)
     title = readable(os.fsencode(asked.title or os.path.basename(file.name)))
-    source = Source(asked.sources, os.fstat(file.fileno()).st_mtime, kinds.stacks.sources if asked.has_recorded else {})
+    source = Source(asked.sources, os.fstat(file.fileno()).st_mtime,
+                    kinds.stacks.sources if asked.has_recorded else {})
     notes = [*(readable(os.fsencode(line)) for line in asked.notes), *warnings(file.name)]
-    return View(title, made, sum(group.count() for group in groups), count, sections, source, notes, kinds.stacks, kinds)
+    return View(title, made, sum(group.count() for group in groups), count, sections, source, notes,
+                kinds.stacks, kinds)
 
 
 def with_run(view, run):
     """A view with what the recorder hands over."""
-    sections = [section._replace(is_asked_for=run.new is None or are_at(run.new, section), is_behind=are_at(run.behind, section))
+    sections = [section._replace(is_asked_for=run.new is None or are_at(run.new, section),
+                                 is_behind=are_at(run.behind, section))
                 for section in view.sections]
-    about, turns, command = ([readable(os.fsencode(line)) for line in its] for its in (run.about, [run.turns], [run.command]))
+    about, turns, command = ([readable(os.fsencode(line)) for line in its]
+                             for its in (run.about, [run.turns], [run.command]))
     return view._replace(sections=sections, about=about, turns=turns[0], command=command[0])
 
 
@@ -159,7 +165,8 @@ def analysed(shb, file, gathered, progress, room):
 
 
 def of_run(run, asked, file, gathered, room):
-    """The races of a run with both accesses in its trace, with schedules if there are any: of those in one part."""
+    """The races of a run with both accesses in its trace, with schedules if there are any: of those
+    in one part."""
     races = [(race._replace(first=pair[0], second=pair[1]), accesses) for race, accesses in run.races
              for pair in [run.uses.pair(race.first, race.second)] if pair]
     near = [(race, accesses) for race, accesses in races if not run.uses.are_apart(race.first, race.second)]
@@ -210,7 +217,8 @@ def damage_of(path):
 def open_regular(path):
     """A file that can be read as often as is needed, which - as a name of standard input isn't."""
     if path == "-" or not stat.S_ISREG(os.stat(path).st_mode):
-        raise Refused(f"{readable(os.fsencode(path))} isn't a regular file: the trace is read more than once, so save it to a file")
+        raise Refused(f"{readable(os.fsencode(path))} isn't a regular file: the trace is read more than "
+                      "once, so save it to a file")
     return open(path, "rb")
 
 
@@ -227,7 +235,8 @@ def make_sections(asked, kinds, made, trace, groups, unseen={}):
     first, or uses of a run; the first MOST_DETAILED with their windows if these are asked for."""
     if not groups:
         return 0, []
-    wanted = {access for race in (group.closest() for group in groups) for access in (race.first, race.second)}
+    wanted = {access for race in (group.closest() for group in groups)
+              for access in (race.first, race.second)}
     variables = {variable: number for number, group in enumerate(groups) for variable in group.names}
     counting = Counting(variables, wanted, kinds, made.uses)
     try:
@@ -253,9 +262,11 @@ def make_sections(asked, kinds, made, trace, groups, unseen={}):
 def make_section(found, counting, calls):
     """A group as it is shown, but for its window."""
     places, kinds = found.group.places(), counting.access_kinds
-    seen = sorted((pair for pair in counting.seen if tuple(sorted(pair)) in places), key=lambda pair: list(map(by_numbers, pair)))
+    seen = sorted((pair for pair in counting.seen if tuple(sorted(pair)) in places),
+                  key=lambda pair: list(map(by_numbers, pair)))
     callers = callers_of(found.group, counting)
-    return found._replace(callers=callers, seen=seen, unseen=perhaps_ordered(found.sites, callers, kinds.stacks, calls) if calls else [])
+    return found._replace(callers=callers, seen=seen,
+                          unseen=perhaps_ordered(found.sites, callers, kinds.stacks, calls) if calls else [])
 
 
 def callers_of(group, counting):
@@ -267,5 +278,6 @@ def callers_of(group, counting):
             for (stack, is_bare), count in counting.callers[variable, location].items():
                 stacks[kinds.stacks.stack(stack), is_bare] += count
         is_told = len({is_bare for _, is_bare in stacks}) > 1
-        found[location] = [((frames, is_bare and is_told), count) for (frames, is_bare), count in stacks.most_common()]
+        found[location] = [((frames, is_bare and is_told), count)
+                           for (frames, is_bare), count in stacks.most_common()]
     return found

@@ -75,12 +75,14 @@ def make_windows(trace, races, counting, order):
     events = {number: event_of(found.line) for number, found in trace.find(before).items()}
     joined = {number: counting.joined[number] for number in events if number in counting.joined}
     wanted = {*accesses, *before, *filter(None, forks.values()), *acquires, *joined.values()}
-    sources = {number: b"%b(%b)" % (SOURCES[event.word], event.name) for number, event in events.items() if event.word in SOURCES}
+    sources = {number: b"%b(%b)" % (SOURCES[event.word], event.name)
+               for number, event in events.items() if event.word in SOURCES}
     moments = Moments(wanted, sources, counting.access_kinds.locks)
     moments.read(trace)
     moments.found.update(joined)
     found = trace.find(moments.moments)
-    shown = {number: shown_event(number, found[number], counting.access_kinds, moment, moments.found.get(number, 0))
+    shown = {number: shown_event(number, found[number], counting.access_kinds, moment,
+                                 moments.found.get(number, 0))
              for number, moment in moments.moments.items()}
     return [window(race, counting, forks, shown, order) for race in races]
 
@@ -105,11 +107,13 @@ def window(race, counting, forks, shown, order):
         before.update(starts.values(), filter(None, (shown[event].source for event in noted.before)))
     before = {event for event in before if stands_before(shown, event, accesses)}
     ordered, schedule = order(race, sorted(before))
-    sources = {event: (starts.get(event, 0), 0 if event in accesses else shown[event].source) for event in (*ordered, *accesses)}
+    sources = {event: (starts.get(event, 0), 0 if event in accesses else shown[event].source)
+               for event in (*ordered, *accesses)}
     edges = [(source, event) for event, found in sources.items() for source in found if source in before]
     return Window(race, accesses, ordered, edges, forks, shown, schedule)
 
 
 def stands_before(shown, event, accesses):
     """Whether neither access, nor an event after one in its thread, is this event."""
-    return all(event < access or shown[event].event.thread != shown[access].event.thread for access in accesses)
+    return all(event < access or shown[event].event.thread != shown[access].event.thread
+               for access in accesses)

@@ -1,5 +1,6 @@
-"""Words that the text and the page share. What is said is a list of parts: plain text, and names as `Code`. A place is a pair of lines
-that race, that of the first access and that of the second; a group is the places that share a variable."""
+"""Words that the text and the page share. What is said is a list of parts: plain text, and names as `Code`. A
+place is a pair of lines that race, that of the first access and that of the second; a group is the places
+that share a variable."""
 
 import re
 
@@ -11,7 +12,8 @@ KINDS = {b"r": "read", b"w": "write", b"a": "atomic write", b"f": "free"}
 VERBS = {b"r": "reads", b"w": "writes", b"a": "writes atomically", b"f": "frees"}
 MOST_DETAILED = 200  # groups that are shown whole; of further ones the headline, the facts and the places are
 MOST_SITES = 20  # lines that are shown of a group
-MOST_LOCKS, MOST_SOME, MOST_PARTNERS, MOST_THREADS = 8, 3, 8, 3  # that are named at a line; MOST_SOME are held at some accesses
+# that are named at a line; MOST_SOME are held at some accesses
+MOST_LOCKS, MOST_SOME, MOST_PARTNERS, MOST_THREADS = 8, 3, 8, 3
 MOST_VARIABLES = 8  # that are named of a group
 NO_LOCK = "no lock held"
 
@@ -44,7 +46,8 @@ def lock_parts(name):
 
 
 def listed(items, most):
-    """Items, each a list of parts, with commas and an `and` between them; after so many it is said how many more there are."""
+    """Items, each a list of parts, with commas and an `and` between them; after so many it is said how many
+    more there are."""
     items = list(items)
     if len(items) > most:
         items = [*items[:most], [f"{len(items) - most:,} more"]]
@@ -63,7 +66,10 @@ def flat_in(most):
 
 def thread_parts(site):
     """The threads that use a line, those with most accesses first."""
-    return listed([[Code(thread)] for thread in sorted(site.threads, key=lambda thread: (-site.threads[thread], thread))], MOST_THREADS)
+    return listed(
+        [[Code(thread)]
+         for thread in sorted(site.threads, key=lambda thread: (-site.threads[thread], thread))],
+        MOST_THREADS)
 
 
 def lock_words(site):
@@ -74,12 +80,15 @@ def lock_words(site):
     names = sorted(holds, key=lambda hold: (-holds[hold], hold))
     always = [hold for hold in names if holds[hold] == total][:MOST_LOCKS]
     some = [hold for hold in names if holds[hold] < total][:MOST_SOME]
-    found = [("some" if how and site.wrong[name] else "held", ["holds ", *lock_name(name), how]) for name, how in always]
-    found += [("some", ["holds ", *lock_name(name), f"{how} at {holds[name, how]:,} of {total:,}"]) for name, how in some]
+    found = [("some" if how and site.wrong[name] else "held", ["holds ", *lock_name(name), how])
+             for name, how in always]
+    found += [("some", ["holds ", *lock_name(name), f"{how} at {holds[name, how]:,} of {total:,}"])
+              for name, how in some]
     if len(names) > len(always) + len(some):
         found.append(("some", [f"and {len(names) - len(always) - len(some):,} more"]))
     if site.bare:
-        found.append(("none", [NO_LOCK]) if site.bare == total else ("some", [NO_LOCK, f" at {site.bare:,} of {total:,}"]))
+        found.append(("none", [NO_LOCK]) if site.bare == total else ("some", [NO_LOCK, f" at {site.bare:,} "
+                                                                              f"of {total:,}"]))
     if site.unknown:
         found.append(("some", [f"locks not counted at {site.unknown:,} of {total:,}"]))
     return found
@@ -100,7 +109,9 @@ def share(count, total, is_bare):
 def partner_parts(site):
     """The lines that a line races with, most races first."""
     partners = sorted(site.partners.items(), key=lambda item: (-item[1], by_numbers(item[0])))
-    return listed([[place(location), f" ({counted(races, 'race')})" if races else ""] for location, races in partners], MOST_PARTNERS)
+    return listed(
+        [[place(location), f" ({counted(races, 'race')})" if races else ""] for location, races in partners],
+        MOST_PARTNERS)
 
 
 def summary(view):
@@ -129,41 +140,50 @@ def notes_of(view):
     if not view.made.counts.events:
         yield "The trace has no events."
     elif not view.made.races:
-        yield "Any two conflicting accesses are ordered in this trace. A run with another interleaving may have races."
+        yield ("Any two conflicting accesses are ordered in this trace. A run with another interleaving may "
+               "have races.")
     if view.sections and view.stacks.numbers:
         yield ("Numbers as 6 of 7 are of the accesses recorded in the whole run: repeats are omitted."
                if view.of_run else
                "Counts are those of the trace. The recorder omits repeats: a loop may count as two accesses.")
     if view.made.is_sample:
-        yield "The trace has too many races to look at each. Call stacks are those of one race of each variable at each place."
+        yield ("The trace has too many races to look at each. Call stacks are those of one race of each "
+               "variable at each place.")
     if view.sections:
-        shown = [site.location for section in view.sections for site in section.sites[:MOST_SITES] if site.location]
+        shown = [site.location for section in view.sections
+                 for site in section.sites[:MOST_SITES] if site.location]
         yield from view.source.missing(shown)
 
 
 def seen_parts(section):
-    """What is said where the second access of a race reads what the first wrote, as parts for each such line and what it did."""
+    """What is said where the second access of a race reads what the first wrote, as parts for each such line
+    and what it did."""
     frees = {site.location for site in section.sites if site.accesses[b"f"]}
     readers = {}
     for writer, reader in section.seen:
         readers.setdefault((reader, "freed" if writer in frees else "wrote"), []).append([place(writer)])
     for (reader, verb), writers in [*readers.items()][:MOST_SOME]:
-        yield [place(reader), " read what ", *listed(writers, MOST_SOME), f" {verb}. This racy read may hide other races: fix it and run again."]
+        yield [place(reader), " read what ", *listed(writers, MOST_SOME),
+               f" {verb}. This racy read may hide other races: fix it and run again."]
 
 
 def about(section):
     """All that is said of a group before its lines, each as parts."""
     names = section.group.variables
-    variables = [["Variables: ", *listed([[Code(name)] for name in names], MOST_VARIABLES)]] * (len(names) > 1)
+    variables = [["Variables: ", *listed([[Code(name)] for name in names], MOST_VARIABLES)]] * (
+        len(names) > 1)
     return [*told_of(section), *seen_parts(section), *variables]
 
 
 def told_of(section):
     """What is said of a group's fact, each as parts: its sentences, and what would order the accesses."""
-    behind = [["Found behind known races, which were skipped: real if these are harmless."]] * section.is_behind
-    unseen = [["Perhaps ordered: code of both sides calls, or is called by, ", *listed([[Code(module)] for module in section.unseen], MOST_SOME),
+    behind = [
+        ["Found behind known races, which were skipped: real if these are harmless."]] * section.is_behind
+    unseen = [["Perhaps ordered: code of both sides calls, or is called by, ",
+               *listed([[Code(module)] for module in section.unseen], MOST_SOME),
                ", whose locks and queues aren't seen."]] * bool(section.unseen)
-    return [*behind, *unseen, *section.fact.sentences, *[["Remedy: ", *section.fact.remedy]] * bool(section.fact.remedy)]
+    return [*behind, *unseen, *section.fact.sentences,
+            *[["Remedy: ", *section.fact.remedy]] * bool(section.fact.remedy)]
 
 
 def races_text(group):

@@ -1,11 +1,13 @@
 #!/usr/bin/env python3
-"""Runs the farm on a real Slurm with two nodes on the loopback network, harms it, and compares its tables with those of xargs.
+"""Runs the farm on a real Slurm with two nodes on the loopback network, harms it, and compares its tables
+with those of xargs.
 
     by_hand_slurm.py SHB WORK [NAME..]
 
-WORK is a new folder for all that is made. NAMEs choose among: plain, node, controller, twice, memory, disk, many. It is run by
-hand, as root, and installs nothing: Debian's packages are slurm-wlm and munge. Every daemon that it starts it ends by its own
-process number; a node runs in a namespace of its own, so that killing it kills all that it runs, as a power failure does.
+WORK is a new folder for all that is made. NAMEs choose among: plain, node, controller, twice, memory, disk,
+many. It is run by hand, as root, and installs nothing: Debian's packages are slurm-wlm and munge. Every
+daemon that it starts it ends by its own process number; a node runs in a namespace of its own, so that
+killing it kills all that it runs, as a power failure does.
 """
 
 import contextlib
@@ -23,7 +25,8 @@ HERE = pathlib.Path(__file__).resolve().parent
 TOP = HERE.parents[1]
 COMMAND = HERE.parent / "shb-farm"
 NEEDED = ("munged", "slurmctld", "slurmd", "sbatch", "scontrol", "unshare", "xargs", "mount")
-TABLES = ("places.tsv", "facts.tsv", "places.txt", "places.sarif", "unknown.places")     # traces.tsv has times
+# traces.tsv has times
+TABLES = ("places.tsv", "facts.tsv", "places.txt", "places.sarif", "unknown.places")
 MEMORY = "256,2304"
 SECONDS = 1800
 CONFIGURATION = """\
@@ -63,16 +66,21 @@ class Cluster:
         (run / "munge.key").write_bytes(os.urandom(128))
         (run / "munge.key").chmod(0o600)
         run.chmod(0o755)
-        (run / "slurm.conf").write_text(CONFIGURATION.format(host=socket.gethostname().split(".")[0], run=run))
+        (run / "slurm.conf").write_text(
+            CONFIGURATION.format(host=socket.gethostname().split(".")[0], run=run))
         os.environ["SLURM_CONF"] = str(run / "slurm.conf")
 
     def start(self, name):
         """Starts a daemon if it doesn't run."""
         if name in self.started and self.started[name].poll() is None:
             return
-        words = {"munged": ["munged", "--foreground", "--force", f"--socket={self.run}/munge.socket", f"--key-file={self.run}/munge.key",
-                            f"--pid-file={self.run}/munged.pid", f"--log-file={self.run}/munged.log", f"--seed-file={self.run}/munge.seed"],
-                 "slurmctld": ["slurmctld", "-D"]}.get(name, ["unshare", "--pid", "--fork", "--kill-child", "--mount-proc", "slurmd", "-D", "-N", name])
+        words = {"munged": ["munged", "--foreground", "--force", f"--socket={self.run}/munge.socket",
+                            f"--key-file={self.run}/munge.key",
+                            f"--pid-file={self.run}/munged.pid", f"--log-file={self.run}/munged.log",
+                            f"--seed-file={self.run}/munge.seed"],
+                 "slurmctld": ["slurmctld", "-D"]}.get(
+                     name, ["unshare", "--pid", "--fork", "--kill-child", "--mount-proc", "slurmd", "-D",
+                            "-N", name])
         with open(self.run / f"{name}.said", "ab") as said:
             self.started[name] = subprocess.Popen(words, stdin=subprocess.DEVNULL, stdout=said, stderr=said)
         time.sleep(1)
@@ -82,8 +90,10 @@ class Cluster:
         for _ in range(120):
             for name in ("munged", "slurmctld", "n1", "n2"):
                 self.start(name)
-            subprocess.run(["scontrol", "update", "nodename=n1,n2", "state=resume"], stderr=subprocess.DEVNULL)
-            shown = subprocess.run(["scontrol", "-o", "show", "nodes"], stdout=subprocess.PIPE, stderr=subprocess.DEVNULL).stdout.decode()
+            subprocess.run(["scontrol", "update", "nodename=n1,n2", "state=resume"],
+                           stderr=subprocess.DEVNULL)
+            shown = subprocess.run(["scontrol", "-o", "show", "nodes"], stdout=subprocess.PIPE,
+                                   stderr=subprocess.DEVNULL).stdout.decode()
             if len(re.findall(r"State=(?:IDLE|MIXED|ALLOCATED)(?![*+])", shown)) == 2:
                 return
             time.sleep(1)
@@ -115,7 +125,8 @@ class Farm:
     def start(self, *words, out):
         words = [sys.executable, COMMAND, "--memory", MEMORY, *words, self.traces, out]
         log = open(self.work / f"{out.name}.said", "ab")
-        self.started.append(subprocess.Popen(words, env={**os.environ, "SHB": str(self.shb)}, stdout=log, stderr=log))
+        self.started.append(subprocess.Popen(words, env={**os.environ, "SHB": str(self.shb)}, stdout=log,
+                                             stderr=log))
         return time.monotonic(), self.started[-1]
 
     def end(self):
@@ -143,36 +154,46 @@ class Farm:
         print(f"  {self.made(out)} of {self.count} outcomes", flush=True)
 
     def compare(self, name, out):
-        different = [table for table in TABLES if (out / table).read_bytes() != (self.plain / table).read_bytes()]
-        print(f"{name}: " + (f"{', '.join(different)} differ" if different else "the same tables as xargs'"), flush=True)
+        different = [table for table in TABLES if (out / table).read_bytes()
+                     != (self.plain / table).read_bytes()]
+        print(f"{name}: " + (f"{', '.join(different)} differ" if different else "the same tables as xargs'"),
+              flush=True)
         return not different
 
     def finish(self, name, out, status):
         """Runs the farm again until it says what xargs' said (at most three times), and compares."""
         wanted = 2 if (self.plain / "traces.tsv").read_text().count("\tmissing\t") else 1
-        lost = (out / "traces.tsv").read_text().count("\tmissing\t") - (self.plain / "traces.tsv").read_text().count("\tmissing\t")
+        lost = (out / "traces.tsv").read_text().count("\tmissing\t") - (
+            self.plain / "traces.tsv").read_text().count("\tmissing\t")
         print(f"  {lost} traces were lost and stated as missing", flush=True)
         for _ in range(3 if lost or status != wanted else 0):
             self.took("run again", self.slurm(out))
-            lost = (out / "traces.tsv").read_text().count("\tmissing\t") - (self.plain / "traces.tsv").read_text().count("\tmissing\t")
+            lost = (out / "traces.tsv").read_text().count("\tmissing\t") - (
+                self.plain / "traces.tsv").read_text().count("\tmissing\t")
             if not lost:
                 break
         return self.compare(name, out)
 
 
 def make_traces(folder, events=100_000):
-    """Traces as a farm meets them: ordinary ones, malformed ones, one that runs out of memory, one that isn't there."""
+    """Traces as a farm meets them: ordinary ones, malformed ones, one that runs out of memory, one
+    that isn't there."""
     folder.mkdir()
     for number in range(12):
         with open(folder / f"made-{number:02}.std", "wb") as made:
-            subprocess.run([sys.executable, TOP / "bench" / "generate.py", "--events", str(events), "--threads", "8",
-                            "--races", str(200 * (number % 4)), "--seed", str(number)], stdout=made, check=True)
+            subprocess.run([sys.executable, TOP / "bench" / "generate.py", "--events", str(events),
+                            "--threads", "8",
+                            "--races", str(200 * (number % 4)), "--seed", str(number)], stdout=made,
+                           check=True)
     for example in (TOP / "examples").glob("*.std"):
         shutil.copy(example, folder)
     (folder / "a folder").mkdir()
-    for name, text in (("empty.std", b""), ("bad-release.std", b"T1|w(x)|a:1\nT1|rel(l)|a:2\n"), ("bytes.std", bytes(range(256)) * 40),
+    for name, text in (("empty.std", b""), ("bad-release.std",
+                                            b"T1|w(x)|a:1\nT1|rel(l)|a:2\n"), (
+                                                "bytes.std", bytes(range(256)) * 40),
                        ("a folder/a name with 'quotes' and $HOME.std", b"T1|w(x)|a b:1\nT2|w(x)|a b:2\n"),
-                       ("wide.std", b"".join(b"T%d|w(x%d)|%s\n" % (k % 8, k, b"p" * 300) for k in range(800_000)))):
+                       ("wide.std",
+                        b"".join(b"T%d|w(x%d)|%s\n" % (k % 8, k, b"p" * 300) for k in range(800_000)))):
         (folder / name).write_bytes(text)
     (folder / "gone.std").symlink_to("nowhere")
     return folder
@@ -181,7 +202,8 @@ def make_traces(folder, events=100_000):
 def make_many(folder, count=10_000):
     folder.mkdir()
     for number in range(count):
-        (folder / f"{number:05}.std").write_bytes(b"T1|w(x)|a.c:%d\nT2|w(x)|b.c:%d\n" % (number % 7, number % 11))
+        (folder / f"{number:05}.std").write_bytes(b"T1|w(x)|a.c:%d\nT2|w(x)|b.c:%d\n"
+                                                  % (number % 7, number % 11))
     return folder
 
 
@@ -231,7 +253,8 @@ def memory(cluster, farm, out):
         restart_in(cluster, group)
         status = farm.took("slurm with 60 MiB for both nodes", farm.slurm(out))
         kills = re.search(r"oom_kill (\d+)", (group / "memory.oom_control").read_text())
-        print(f"  {kills[1] if kills else '?'} processes were killed for memory, {farm.made(out)} of {farm.count} outcomes", flush=True)
+        print(f"  {kills[1] if kills else '?'} processes were killed for memory, {farm.made(out)} of "
+              f"{farm.count} outcomes", flush=True)
         restart_in(cluster, group.parent)
     finally:
         restart_nodes(cluster)
@@ -280,9 +303,11 @@ SCENES = {scene.__name__: scene for scene in (plain, node, controller, twice, me
 def main(words):
     missing = [name for name in NEEDED if not shutil.which(name)]
     if missing or os.getuid() or len(words) < 2:
-        print(f"{__doc__}\nmissing: {', '.join(missing) or 'nothing'}" + ("" if not os.getuid() else "; it isn't run as root"))
+        print(f"{__doc__}\nmissing: {', '.join(missing) or 'nothing'}"
+              + ("" if not os.getuid() else "; it isn't run as root"))
         return 2
-    shb, work, names = pathlib.Path(words[0]).resolve(), pathlib.Path(words[1]).resolve(), words[2:] or [*SCENES, "many"]
+    shb, work, names = (pathlib.Path(words[0]).resolve(), pathlib.Path(words[1]).resolve(),
+                        words[2:] or [*SCENES, "many"])
     signal.signal(signal.SIGTERM, lambda number, frame: sys.exit(1))      # so that the daemons are ended
     work.mkdir()
     cluster, farm, good = Cluster(work / "run"), None, []

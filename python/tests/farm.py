@@ -19,7 +19,8 @@ RACE = b"T1|w(x)|a.c:1\nT2|w(x)|b.c:2\n"            # one place
 OTHER_ORDER = b"T2|w(x)|b.c:2\nT1|w(x)|a.c:1\n"     # the same place, the other access first
 CLEAN = b"T1|w(x)|a.c:1\nT1|w(x)|b.c:2\n"           # one thread
 BAD = b"oops\n"
-BAD_WORDS = "line 1: the line has no operation field; it is `oops`: a line is THREAD|OPERATION|LOCATION, with bars between; there are no comments"
+BAD_WORDS = ("line 1: the line has no operation field; it is `oops`: a line is THREAD|OPERATION|LOCATION, "
+             "with bars between; there are no comments")
 
 
 class Answer(typing.NamedTuple):
@@ -29,8 +30,8 @@ class Answer(typing.NamedTuple):
 
 
 def put_program(source, target, text=None):
-    """Copies a program by a process of its own: tests run side by side, and one that is just starting a program would
-    still hold a file that this process writes, which the system then refuses to run."""
+    """Copies a program by a process of its own: tests run side by side, and one that is just starting a
+    program would still hold a file that this process writes, which the system then refuses to run."""
     subprocess.run(["install", "-m", "755", source, target], input=text, check=True)
 
 
@@ -51,9 +52,11 @@ class Case(side_by_side.Case):
         return path
 
     def run_alone(self):
-        """Runs a copy of the command from now on. Of the checkout nothing but the packages is beside it, so a recorder that was built isn't."""
+        """Runs a copy of the command from now on. Of the checkout nothing but the packages is beside it, so a
+        recorder that was built isn't."""
         self.command = self.folder / "alone" / "python" / "shb-farm"
-        shutil.copytree(HERE.parent, self.command.parent, ignore=shutil.ignore_patterns("tests", "__pycache__", "shb-farm"))
+        shutil.copytree(HERE.parent, self.command.parent,
+                        ignore=shutil.ignore_patterns("tests", "__pycache__", "shb-farm"))
         put_program(HERE.parent / "shb-farm", self.command)
 
     def script(self, name, text):
@@ -84,7 +87,8 @@ class Case(side_by_side.Case):
 
     def farm(self, *words, shb=None, out=None, **settings):
         """Runs the farm to its end."""
-        ran = subprocess.run(self.words(*words, out=out), env=self.environment(shb, **settings), capture_output=True, timeout=SECONDS)
+        ran = subprocess.run(self.words(*words, out=out), env=self.environment(shb, **settings),
+                             capture_output=True, timeout=SECONDS)
         return Answer(ran.returncode, ran.stdout.decode(), ran.stderr.decode())
 
     def table(self, name, out=None):

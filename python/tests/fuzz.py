@@ -3,9 +3,9 @@
 
     fuzz.py SECONDS [SEED [READER..]]
 
-Each READER has so many seconds; all have where none is named. A changed file by which lines of the readers ran one after the other
-that hadn't before is changed further. What is found is put into files/, which test_readers.py reads. It says how many files each
-reader had.
+Each READER has so many seconds; all have where none is named. A changed file by which lines of the readers
+ran one after the other that hadn't before is changed further. What is found is put into files/, which
+test_readers.py reads. It says how many files each reader had.
 """
 
 import pathlib
@@ -63,7 +63,8 @@ def keep(name, fault, count, text):
 
 
 def fuzz(name, read, text, end, pick):
-    """Reads changed files until the time is over. Returns how many there were, and how many of them went a new way."""
+    """Reads changed files until the time is over. Returns how many there were, and how many of them went
+    a new way."""
     ways, pool, count, found = Ways(), [text], 0, set()
     ways.of(read, text)
     while time.monotonic() < end:

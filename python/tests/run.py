@@ -1,5 +1,6 @@
 #!/usr/bin/env python3
-"""The tests of what the commands share, and of the farm, two at a time; ends with the line 'N passed, N failed'.
+"""The tests of what the commands share, and of the farm, two at a time; ends with the line 'N
+passed, N failed'.
 
     run.py [SHB [TEST..]]
 

@@ -65,10 +65,12 @@ class Tables(farm.Case):
         (self.traces / "gone.std").symlink_to("nowhere")
         answer = self.farm("--known", self.known(b"k.c:1\tk.c:2\n"))
         self.assertEqual((answer.status, answer.out), (1, FULL_TEXT))
-        for name, wanted in (("places.txt", FULL_TEXT), ("places.tsv", FULL_PLACES), ("traces.tsv", FULL_TRACES),
+        for name, wanted in (("places.txt", FULL_TEXT), ("places.tsv",
+                                                         FULL_PLACES), ("traces.tsv", FULL_TRACES),
                              ("unknown.places", "a.c:1\tb.c:2\tx\n")):
             self.assertEqual(re.sub(r"\t\d+\.\d\d\t\d+\n", "\tS\tM\n", (self.out / name).read_text()), wanted)
-        self.assertEqual([path.name for path in (self.out / "reports").glob("*.report")], [f"{key_of('one.std')}.report"])
+        self.assertEqual(
+            [path.name for path in (self.out / "reports").glob("*.report")], [f"{key_of('one.std')}.report"])
         self.assertEqual((self.out / "reports" / f"{key_of('one.std')}.report").read_bytes(), ONE_REPORT)
         self.assertEqual(list((self.out / "tmp").iterdir()), [])
 
@@ -76,15 +78,17 @@ class Tables(farm.Case):
         """What wrote it may have died."""
         self.trace("empty.std", b"")
         answer = self.farm()
-        self.assertEqual((answer.status, answer.out.splitlines()[-1]), (0, "report  empty.std  it has no events"))
+        self.assertEqual((answer.status, answer.out.splitlines()[-1]), (0, "report  empty.std  it has no "
+                                                                        "events"))
 
     def test_no_trace(self):
         self.trace("trace.txt", RACE)
-        self.assertEqual(self.farm(), (4, "", f"shb-farm: {self.traces}: there is no trace in this folder and below (NAME.std, "
-                                              "NAME.std.gz or NAME.std.xz)\n"))
+        self.assertEqual(self.farm(), (4, "", f"shb-farm: {self.traces}: there is no trace in this folder "
+                                              "and below (NAME.std, NAME.std.gz or NAME.std.xz)\n"))
         (self.traces / "nightly").symlink_to("not mounted")
         answer = self.farm()
-        self.assertEqual((answer.status, self.ends()), (5, {"nightly": ("refused", "No such file or directory")}))
+        self.assertEqual(
+            (answer.status, self.ends()), (5, {"nightly": ("refused", "No such file or directory")}))
 
     def test_a_program_that_writes_no_whole_report(self):
         self.trace("race.std", RACE)
@@ -93,17 +97,22 @@ class Tables(farm.Case):
                 "head -c -1": "line 11 of the report is cut off: `end`; it should be `end`",
                 "sed /^second/d": "line 10 of the report is `end`; it should be `second ACCESS`",
                 "sed 's/^second T2/second T1/'": "race 1 of the report: the events 1 and 2 don't conflict",
-                "sed 's/^and .*/and c.c:3/'": "the places that the report begins with aren't those of its races"}
+                "sed 's/^and .*/and c.c:3/'": "the places that the report begins with aren't those of its "
+                                              "races"}
         for number, (words, wanted) in enumerate(said.items()):
             shb = self.script(f"shb{number}", f"{farm.SHB} \"$@\" | {words}\n")
             answer = self.farm("--memory", "256", shb=shb)
-            self.assertEqual((answer.status, self.ends()["race.std"]), (2, ("missing", f"`shb` wrote no whole report: {wanted}")))
+            self.assertEqual((answer.status, self.ends()["race.std"]), (2, ("missing", "`shb` wrote no "
+                                                                            f"whole report: {wanted}")))
 
     def test_a_full_report_that_is_not_whole(self):
         self.trace("race.std", RACE)
-        shb = self.script("cut", f"case \"$*\" in *--list*) exec {farm.SHB} \"$@\" ;; esac\n{farm.SHB} \"$@\" | head -n -1\n")
+        shb = self.script("cut", f"case \"$*\" in *--list*) exec {farm.SHB} \"$@\" ;; esac\n{farm.SHB} "
+                                 "\"$@\" | head -n -1\n")
         self.assertEqual(self.farm("--memory", "256", shb=shb).status, 2)
-        self.assertEqual(self.table("places.tsv"), [["1", "unknown", "a.c:1", "b.c:2", "race.std", "missing", "1", "x", ""]])
+        self.assertEqual(
+            self.table("places.tsv"), [["1", "unknown", "a.c:1", "b.c:2", "race.std", "missing", "1", "x",
+                                        ""]])
         self.assertEqual(list((self.out / "reports").glob("*.report")), [])
 
     def test_a_long_location_does_not_make_all_lines_long(self):
@@ -134,7 +143,8 @@ class Tables(farm.Case):
                 (["--memory", "x"], 3, "argument --memory: it takes a number from 1"),
                 (["--known", self.folder / "none"], 4, f"{self.folder}/none: No such file or directory"),
                 (["--known", self.known(b"# one\nno tab\n")], 4,
-                 f"{self.folder}/known, line 2: a place is two locations or functions and a variable, with tabs between them")):
+                 f"{self.folder}/known, line 2: a place is two locations or functions and a variable, with "
+                 "tabs between them")):
             answer = self.farm(*words)
             self.assertEqual((answer.status, answer.out), (status, ""))
             self.assertIn(f"shb-farm: {said}", answer.err)
@@ -143,22 +153,29 @@ class Tables(farm.Case):
 
     def test_where_standard_output_is_full_or_closed(self):
         self.trace("race.std", RACE)
-        run = lambda script: subprocess.run(["sh", "-c", script, "sh", *self.words("--jobs", "1")], env=self.environment(),
-                                            stdout=subprocess.PIPE, stderr=subprocess.PIPE, timeout=farm.SECONDS)
+        run = lambda script: subprocess.run(["sh", "-c", script, "sh", *self.words("--jobs", "1")],
+                                            env=self.environment(),
+                                            stdout=subprocess.PIPE, stderr=subprocess.PIPE,
+                                            timeout=farm.SECONDS)
         ran = run('exec "$@" > /dev/full')
-        self.assertEqual((ran.returncode, ran.stderr.splitlines()[-1]), (4, b"shb-farm: standard output: No space left on device"))
+        self.assertEqual((ran.returncode, ran.stderr.splitlines()[-1]), (4, b"shb-farm: standard output: No "
+                                                                         b"space left on device"))
         ran = run('exec "$@" >&-')
-        self.assertEqual((ran.returncode, ran.stderr), (1, b""))     # there is an unknown place; all else stands from the first run
+        # there is an unknown place; all else stands from the first run
+        self.assertEqual((ran.returncode, ran.stderr), (1, b""))
         ran = run('exec "$@" <&- 2>&-')
-        self.assertEqual((ran.returncode, ran.stdout.splitlines()[0]), (1, b"traces 1 reports 1 refused 0 missing 0"))
+        self.assertEqual((ran.returncode, ran.stdout.splitlines()[0]), (1, b"traces 1 reports 1 refused 0 "
+                                                                        b"missing 0"))
         for path in self.out.rglob("*.outcome"):
             path.unlink()
         self.assertEqual(run('exec "$@" <&- >&- 2>&-').returncode, 1)
         self.assertEqual(self.ends()["race.std"][0], "report")
 
     def test_a_fault_of_the_farm_itself_is_no_unknown_place(self):
-        script = "import sys\nfrom shb_farm import command\ncommand.run = None\nsys.exit(command.main(sys.argv[1:]))"
-        ran = subprocess.run([sys.executable, "-c", script, *self.words()[2:]], env=self.environment(PYTHONPATH=farm.HERE.parent),
+        script = ("import sys\nfrom shb_farm import command\ncommand.run = "
+                  "None\nsys.exit(command.main(sys.argv[1:]))")
+        ran = subprocess.run([sys.executable, "-c", script, *self.words()[2:]],
+                             env=self.environment(PYTHONPATH=farm.HERE.parent),
                              stdout=subprocess.PIPE, stderr=subprocess.PIPE, timeout=farm.SECONDS)
         self.assertEqual((ran.returncode, ran.stdout), (4, b""))
         self.assertTrue(ran.stderr.startswith(b"shb-farm: Traceback "), ran.stderr)
@@ -169,21 +186,26 @@ class Tables(farm.Case):
         self.assertEqual(self.farm(), (4, "", f"shb-farm: {self.traces}: No such file or directory\n"))
 
     def test_a_program_that_is_not_there(self):
-        said = rf"^there is no analyser at {self.folder}/bin/shb; .* `make build` makes it, and SHB=PROGRAM names another$"
-        with mock.patch.object(command, "ANALYSER", f"{self.folder}/bin/shb"), self.assertRaisesRegex(Refused, said):
+        said = (rf"^there is no analyser at {self.folder}/bin/shb; .* `make build` makes it, and SHB=PROGRAM "
+                r"names another$")
+        with mock.patch.object(command, "ANALYSER",
+                               f"{self.folder}/bin/shb"), self.assertRaisesRegex(Refused, said):
             command.pass_of(command.arguments([str(self.traces), str(self.out)]), "room")
 
     def test_an_engine_that_is_not_there(self):
         self.trace("race.std", RACE)
         answer = self.farm("--engine", "slurm", PATH=self.folder)
-        self.assertEqual((answer.status, answer.err.splitlines()[-1]), (4, "shb-farm: sbatch isn't installed"))
+        self.assertEqual(
+            (answer.status, answer.err.splitlines()[-1]), (4, "shb-farm: sbatch isn't installed"))
 
     def test_unknown_places_come_first(self):
         self.trace("a.std", RACE)
-        self.trace("b.std", RACE + b"T1|w(y)|k.c:1\nT2|w(y)|k.c:1\nT1|w(z)|k.c:3\nT2|w(z)|k.c:3\nT1|w(z)|k.c:2\n")
+        self.trace("b.std",
+                   RACE + b"T1|w(y)|k.c:1\nT2|w(y)|k.c:1\nT1|w(z)|k.c:3\nT2|w(z)|k.c:3\nT1|w(z)|k.c:2\n")
         self.farm("--known", self.known(b"a.c:1\tb.c:2\n"))
         self.assertEqual([line[:4] for line in self.table("places.tsv")], [
-            ["1", "unknown", "k.c:1", "k.c:1"], ["1", "unknown", "k.c:2", "k.c:3"], ["1", "unknown", "k.c:3", "k.c:3"],
+            ["1", "unknown", "k.c:1", "k.c:1"], ["1", "unknown", "k.c:2",
+                                                 "k.c:3"], ["1", "unknown", "k.c:3", "k.c:3"],
             ["2", "known", "a.c:1", "b.c:2"]])
 
     def test_the_example_is_the_smallest_trace(self):
@@ -191,7 +213,9 @@ class Tables(farm.Case):
         self.trace("c.std", RACE)
         self.trace("b.std", OTHER_ORDER)
         self.farm()
-        self.assertEqual(self.table("places.tsv"), [["3", "unknown", "a.c:1", "b.c:2", "b.std", f"reports/{key_of('b.std')}.report", "2", "x", ""]])
+        self.assertEqual(
+            self.table("places.tsv"), [["3", "unknown", "a.c:1", "b.c:2", "b.std",
+                                        f"reports/{key_of('b.std')}.report", "2", "x", ""]])
 
     def test_help(self):
         answer = self.farm("--help")
@@ -201,7 +225,8 @@ class Tables(farm.Case):
 
 class Names(farm.Case):
     def test_names_that_are_hard_for_a_shell(self):
-        names = ["a b.std", "quote'.std", 'double".std', "$HOME.std", "-x.std", "back\\slash.std", "sub folder/deep/x.std",
+        names = ["a b.std", "quote'.std", 'double".std', "$HOME.std", "-x.std", "back\\slash.std",
+                 "sub folder/deep/x.std",
                  "*.std", "line\nbreak.std", "tab\t.std", os.fsdecode(b"byte\xff.std"), "{}.std", ";true.std"]
         for name in names:
             self.trace(name, RACE)
@@ -215,7 +240,9 @@ class Names(farm.Case):
         self.trace("folder.std/inner.std", CLEAN)
         os.mkfifo(self.traces / "pipe.std")
         self.assertEqual(self.farm().status, 5)
-        self.assertEqual({name: end[1] for name, end in self.ends().items() if end[0] == "refused"}, {"pipe.std": "not a regular file"})
+        self.assertEqual(
+            {name: end[1] for name, end in self.ends().items() if end[0] == "refused"}, {
+                "pipe.std": "not a regular file"})
         self.assertIn("folder.std/inner.std", self.ends())
 
     def test_links_to_folders_are_followed(self):
@@ -233,15 +260,19 @@ class Names(farm.Case):
         (self.traces / "reports").symlink_to(self.out / "reports")
         (self.out / "reports" / "window-0001.std").write_bytes(BAD)
         answer = self.farm("--links")
-        self.assertEqual((answer.status, list(self.ends())), (1, ["nightly/deep/race.std", "plain/clean.std"]), answer.err)
+        self.assertEqual(
+            (answer.status, list(self.ends())), (1, ["nightly/deep/race.std", "plain/clean.std"]), answer.err)
 
     def test_results_beside_the_traces_are_refused(self):
         """And nothing is written there."""
         self.trace("below/race.std", RACE)
         for out in (self.traces, self.traces / "below" / "..", self.folder):
             answer = self.farm(out=out)
-            self.assertEqual((answer.status, answer.err), (4, f"shb-farm: {out}: TRACES is this folder or below it; name another OUT, which may be below TRACES\n"))
-        self.assertEqual(sorted(path.name for path in self.folder.rglob("*")), ["below", "race.std", "traces"])
+            self.assertEqual((answer.status, answer.err), (4, f"shb-farm: {out}: TRACES is this folder or "
+                                                              "below it; name another OUT, which may be "
+                                                              "below TRACES\n"))
+        self.assertEqual(
+            sorted(path.name for path in self.folder.rglob("*")), ["below", "race.std", "traces"])
         self.assertEqual(self.farm(out=self.traces / "out").status, 1)
 
     def test_links_that_lead_out_are_refused(self):
@@ -255,9 +286,12 @@ class Names(farm.Case):
         (self.traces / "q").symlink_to(far)
         answer = self.farm()
         self.assertEqual((answer.status, self.ends()), (5, {
-            **dict.fromkeys(["clean.std", "inside.std"], ("report", "events 2 threads 1 locks 0 variables 1")),
-            **dict.fromkeys(["p.std", "q"], ("refused", "it is a link that leads out of the folder; --links follows it"))}), answer.err)
-        self.assertFalse(any(b"secret\n" in path.read_bytes() for path in self.out.rglob("*") if path.is_file()))
+            **dict.fromkeys(["clean.std", "inside.std"], ("report",
+                                                          "events 2 threads 1 locks 0 variables 1")),
+            **dict.fromkeys(["p.std", "q"], ("refused", "it is a link that leads out of the folder; --links "
+                                                        "follows it"))}), answer.err)
+        self.assertFalse(
+            any(b"secret\n" in path.read_bytes() for path in self.out.rglob("*") if path.is_file()))
         self.assertEqual(self.farm("--links").status, 5)
         self.assertIn("it is `secret`", self.ends()["p.std"][1])
 
@@ -272,12 +306,15 @@ class Names(farm.Case):
         self.trace("bad.std.gz", gzip.compress(BAD))
         self.trace("a.gz", RACE)
         self.assertEqual(self.farm().status, 1)
-        self.assertEqual(self.table("places.tsv")[0][:5], ["2", "unknown", "a.c:1", "b.c:2", min(("a.std.gz", "b.std.xz"), key=self.size)])
+        self.assertEqual(self.table("places.tsv")[0][:5], ["2", "unknown", "a.c:1", "b.c:2",
+                                                           min(("a.std.gz", "b.std.xz"), key=self.size)])
         ends = self.ends()
         self.assertEqual({name: end[0] for name, end in ends.items()}, {
-            "a.std.gz": "report", "b.std.xz": "report", "bad.std.gz": "refused", "cut.std.gz": "refused", "cut.std.xz": "refused",
+            "a.std.gz": "report", "b.std.xz": "report", "bad.std.gz": "refused", "cut.std.gz": "refused",
+            "cut.std.xz": "refused",
             "damaged.std.gz": "refused", "no.std.gz": "refused", "no.std.xz": "refused"})
-        self.assertEqual((ends["bad.std.gz"][1], ends["no.std.gz"][1]), (BAD_WORDS, "it can't be unpacked: Not a gzipped file"))
+        self.assertEqual((ends["bad.std.gz"][1], ends["no.std.gz"][1]), (BAD_WORDS, "it can't be unpacked: "
+                                                                         "Not a gzipped file"))
         for name in ("cut.std.gz", "cut.std.xz", "damaged.std.gz", "no.std.gz", "no.std.xz"):
             self.assertTrue(ends[name][1].startswith("it can't be unpacked: "), ends[name])
         self.assertEqual(list((self.out / "tmp").iterdir()), [])
@@ -291,17 +328,23 @@ class Names(farm.Case):
         work = Pass("", "", str(self.traces), str(self.out), "")
         self.assertEqual(merging.ending_of(work, "race.std").size, len(RACE))
         with mock.patch.object(merging.os, "access", lambda path, mode: not str(path).endswith("race.std")):
-            self.assertEqual(merging.ending_of(work, "race.std"), merging.Ending("refused", "Permission denied", [], None))
+            self.assertEqual(merging.ending_of(work, "race.std"),
+                             merging.Ending("refused", "Permission denied", [], None))
 
     def test_names_that_are_long_or_lie_in_one_another(self):
         """Each has an outcome and a report of its own."""
-        names = ["n" * 251 + ".std", "x.std", "x.std.outcome/y.std", "z.std", "z.std.report/w.std", "a/b.std", "a_b.std"]
+        names = ["n" * 251 + ".std", "x.std", "x.std.outcome/y.std", "z.std", "z.std.report/w.std", "a/b.std",
+                 "a_b.std"]
         for number, name in enumerate(names):
             self.trace(name, RACE.replace(b"a.c", b"%d.c" % number))
         answer = self.farm()
-        self.assertEqual((answer.status, {name: end[0] for name, end in self.ends().items()}), (1, dict.fromkeys(names, "report")), answer.err)
+        self.assertEqual(
+            (answer.status, {name: end[0] for name, end in self.ends().items()}), (
+                1, dict.fromkeys(names, "report")), answer.err)
         reports = {row[5] for row in self.table("places.tsv")}
-        self.assertEqual((len(reports), [(self.out / report).is_file() for report in reports]), (len(names), [True] * len(names)))
+        self.assertEqual(
+            (len(reports), [(self.out / report).is_file() for report in reports]), (
+                len(names), [True] * len(names)))
 
     def test_outcomes_in_the_folder_of_the_traces(self):
         self.trace("race.std", RACE)
@@ -334,5 +377,6 @@ class Installed(farm.Case):
             link = self.folder / f"link-{root.name}"
             link.symlink_to(root / command)
             environment = {name: value for name, value in os.environ.items() if name != "SHB"}
-            ran = subprocess.run([link, self.traces, root / "out"], env=environment, capture_output=True, timeout=farm.SECONDS)
+            ran = subprocess.run([link, self.traces, root / "out"], env=environment, capture_output=True,
+                                 timeout=farm.SECONDS)
             self.assertEqual(ran.returncode, 1, ran.stderr)

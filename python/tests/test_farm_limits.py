@@ -49,7 +49,8 @@ exit 4
 
     def test_a_pass_that_did_not_suffice_is_not_run_again(self):
         self.trace("race.std", RACE)
-        shb = self.script("hungry", f'[ "$(ulimit -v)" -ge 614400 ] && exec {farm.SHB} "$@"\necho "out of memory" >&2\nexit 4\n')
+        shb = self.script("hungry", f'[ "$(ulimit -v)" -ge 614400 ] && exec {farm.SHB} "$@"\necho "out of '
+                                    'memory" >&2\nexit 4\n')
         self.assertEqual(self.farm("--memory", "100", shb=shb).status, 5)
         answer = self.farm("--memory", "100,600", "--known", self.known(b"*\t*\n"), shb=shb)
         self.assertEqual(answer.status, 0)
@@ -63,9 +64,11 @@ exit 4
     def test_a_machine_that_gives_less_makes_no_outcome(self):
         self.trace("race.std", RACE)
         limit = lambda: resource.setrlimit(resource.RLIMIT_AS, (900 * MIB, 900 * MIB))
-        ran = subprocess.run(self.words("--memory", "1000"), env=self.environment(), capture_output=True, preexec_fn=limit)
+        ran = subprocess.run(self.words("--memory", "1000"), env=self.environment(), capture_output=True,
+                             preexec_fn=limit)
         self.assertEqual(ran.returncode, 2)
-        self.assertIn(b"shb-farm: race.std: the machine's limit of memory is lower than that of the pass\n", ran.stderr)
+        self.assertIn(b"shb-farm: race.std: the machine's limit of memory is lower than that of the pass\n",
+                      ran.stderr)
         self.assertFalse((self.out / "outcomes").exists())
 
     def test_the_first_pass_has_room_for_a_trace_as_recorded(self):
@@ -76,7 +79,8 @@ exit 4
 
 class Time(farm.Case):
     def test_processor_time(self):
-        shb = self.script("slow", "[ -e \"$0.quick\" ] || while :; do :; done\nexec " + str(farm.SHB) + ' "$@"\n')
+        shb = self.script("slow",
+                          "[ -e \"$0.quick\" ] || while :; do :; done\nexec " + str(farm.SHB) + ' "$@"\n')
         self.trace("race.std", RACE)
         answer = self.farm("--seconds", "1", shb=shb)
         self.assertEqual((answer.status, self.ends()["race.std"]), (5, ("time", "1")))
@@ -91,7 +95,9 @@ class Size(farm.Case):
         self.trace("many.std", many_places(110))        # 5,995 places
         answer = self.farm("--size", "1")
         self.assertEqual((answer.status, self.ends()["many.std"]), (5, ("size", "1")))
-        self.assertIn("\nrefused  many.std  its report, or the text of a packed trace, is longer than 1 MiB\n", answer.out)
+        self.assertIn(
+            "\nrefused  many.std  its report, or the text of a packed trace, is longer than 1 MiB\n",
+            answer.out)
         self.assertEqual(self.farm("--size", "8").status, 1)
         self.assertEqual(self.ends()["many.std"][0], "report")
 
@@ -99,7 +105,9 @@ class Size(farm.Case):
         """Its list has a few lines, and its schedule is as long as the trace."""
         self.trace("long.std", b"T1|w(y)|q\n" * 200_000 + RACE)
         self.assertEqual(self.farm("--size", "1").status, 1)
-        self.assertEqual(self.table("places.tsv"), [["1", "unknown", "a.c:1", "b.c:2", "long.std", "its report, or the text of a packed trace, is longer than 1 MiB", "1", "x", ""]])
+        self.assertEqual(
+            self.table("places.tsv"), [["1", "unknown", "a.c:1", "b.c:2", "long.std", "its report, or the "
+                                        "text of a packed trace, is longer than 1 MiB", "1", "x", ""]])
         self.assertEqual(list((self.out / "reports").glob("*.report")), [])
         self.assertEqual(self.farm("--size", "2").status, 1)
         self.assertEqual(self.table("places.tsv")[0][5], f"reports/{key_of('long.std')}.report")
@@ -110,7 +118,8 @@ class Ends(farm.Case):
         work = Pass("", "", "", "", "", memory=256, seconds=60, size=1)
         for status, said, written, wanted in (
             (0, "", 9, End("report", "")),
-            (2, "line 1: the operation is not known", 0, End("refused", "line 1: the operation is not known")),
+            (2, "line 1: the operation is not known", 0,
+             End("refused", "line 1: the operation is not known")),
             (2, "", 0, End("memory", "256")),
             (4, "out of memory", 5, End("memory", "256")),
             (4, "cannot write", MIB, End("size", "1")),
@@ -126,7 +135,8 @@ class Ends(farm.Case):
 
     def test_what_failed_is_missing_with_its_words_and_tried_again(self):
         self.trace("race.std", RACE)
-        shb = self.script("failing", f'[ -e "$0.well" ] && exec {farm.SHB} "$@"\necho some words >&2\nexit 7\n')
+        shb = self.script("failing", f'[ -e "$0.well" ] && exec {farm.SHB} "$@"\necho some words >&2\nexit '
+                                     '7\n')
         self.assertEqual(self.farm(shb=shb).status, 2)
         self.assertEqual(self.ends()["race.std"], ("missing", "status 7 some words"))
         (self.folder / "failing.well").touch()
@@ -134,7 +144,8 @@ class Ends(farm.Case):
 
     def test_a_killed_run_is_tried_again_in_the_next_pass(self):
         self.trace("race.std", RACE)
-        shb = self.script("killed", f'[ -e "$0.once" ] && exec {farm.SHB} "$@"\ntouch "$0.once"\nkill -9 $$\n')
+        shb = self.script("killed",
+                          f'[ -e "$0.once" ] && exec {farm.SHB} "$@"\ntouch "$0.once"\nkill -9 $$\n')
         self.assertEqual(self.farm("--memory", "256,512", shb=shb).status, 1)
 
     def test_a_trace_that_changes_while_it_is_read_is_missing(self):

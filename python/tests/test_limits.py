@@ -12,6 +12,8 @@ HEADER = pathlib.Path(__file__).resolve().parents[2] / "recorder/converter/conve
 class Limits(unittest.TestCase):
     def test_the_recorder_has_the_same(self):
         written = dict(re.findall(r"(SHB_[A-Z]+) = ([0-9< ]+)", HEADER.read_text()))
-        found = {name: int(first) << int(shift or 0) for name, text in written.items() for first, _, shift in [text.partition(" << ")]}
-        self.assertEqual(found, {"SHB_EVENTS": limits.MOST_EVENTS, "SHB_THREADS": limits.MOST_THREADS, "SHB_LINE": limits.MOST_LINE,
+        found = {name: int(first) << int(shift or 0) for name, text in written.items()
+                 for first, _, shift in [text.partition(" << ")]}
+        self.assertEqual(found, {"SHB_EVENTS": limits.MOST_EVENTS, "SHB_THREADS": limits.MOST_THREADS,
+                                 "SHB_LINE": limits.MOST_LINE,
                                  "SHB_BYTES": limits.MOST_TEXT})

@@ -23,7 +23,8 @@ sum """
 
 class Files(farm.Case):
     def test_the_text_of_an_outcome(self):
-        places = [Place(b"a", b"b c", {b"x y": (1, 2), b"z\xff": (3, 4)}, True), Place(b"", b"", {b"v": (5, 6)}, False)]
+        places = [Place(b"a", b"b c", {b"x y": (1, 2), b"z\xff": (3, 4)}, True),
+                  Place(b"", b"", {b"v": (5, 6)}, False)]
         outcome = Outcome("d/x\ty.std", "p1", "t1", "12:34", COST, "report", "events 2", places)
         text = outcomes.text_of(outcome)
         self.assertEqual(text[:-65], TEXT)
@@ -34,7 +35,8 @@ class Files(farm.Case):
 
     def test_what_is_not_whole_is_no_outcome(self):
         path = self.folder / "outcome"
-        text = outcomes.text_of(Outcome("n", "p", "t", "1:2", COST, "refused", "words", [Place(b"sum ", b"end", {b"v": (1, 2)}, False)]))
+        text = outcomes.text_of(Outcome("n", "p", "t", "1:2", COST, "refused",
+                                        "words", [Place(b"sum ", b"end", {b"v": (1, 2)}, False)]))
         for number in range(len(text)):
             path.write_bytes(text[:number])
             self.assertIsNone(outcomes.read(path, "n"))
@@ -49,7 +51,10 @@ class Files(farm.Case):
         fields = ["n", "p", "t", "1:2", [1.0, 2, 3], "report", "x", [["a", "b", [["v", 1, 2]], False]]]
         path = self.folder / "outcome"
         for number in range(len(fields)):
-            for bad in (None, 1, "", "x", [], [float("inf"), 2, 3], [1, float("inf"), 3], [1, 2, 3], [["a"]], [["a", "b", ["v"], False]], {"a": 1}):
+            for bad in (None, 1, "",
+                        "x", [], [float("inf"), 2, 3], [1, float("inf"),
+                                                        3], [1, 2, 3], [["a"]], [["a", "b", ["v"], False]], {
+                                                            "a": 1}):
                 self.put(path, json.dumps([*fields[:number], bad, *fields[number + 1:]]))
                 outcomes.read(path, "n")    # None or an outcome, and no fault
         for bad in ("", "x", "{}", "[]", "[" * 100_000, json.dumps([*fields, 1])):
@@ -70,7 +75,8 @@ class Again(farm.Case):
         self.race, self.bad = self.trace("race.std", RACE), self.trace("bad.std", BAD)
         self.trace("clean.std", CLEAN)
         self.first = self.farm(shb=self.shb)
-        self.assertEqual((self.first.status, self.runs()), (1, 6))      # three lists, a full report, and the view's two
+        # three lists, a full report, and the view's two
+        self.assertEqual((self.first.status, self.runs()), (1, 6))
 
     def again(self, count, status=1):
         answer = self.farm(shb=self.shb)
@@ -183,7 +189,8 @@ class Engines(farm.Case):
 
     def test_two_farms_at_once(self):
         plain = self.farm(out=self.folder / "plain")
-        started = [subprocess.Popen(self.words(), env=self.environment(), stdout=subprocess.PIPE, stderr=subprocess.PIPE) for _ in "ab"]
+        started = [subprocess.Popen(self.words(), env=self.environment(), stdout=subprocess.PIPE,
+                                    stderr=subprocess.PIPE) for _ in "ab"]
         for farm_ in started:
             self.assertEqual(farm_.communicate(timeout=farm.SECONDS)[0].decode(), plain.out)
             self.assertEqual(farm_.returncode, 1)
@@ -219,7 +226,8 @@ echo '17;loop'
         self.script("bin/sbatch", sbatch or self.sbatch)
         self.script("bin/squeue", squeue)
         self.script("bin/scancel", f"echo $1 >> {self.folder}/cancelled\n")
-        return self.farm("--engine", "slurm", "--memory", "256", *words, PATH=f"{self.folder}/bin:{os.environ['PATH']}", **settings)
+        return self.farm("--engine", "slurm", "--memory", "256", *words,
+                         PATH=f"{self.folder}/bin:{os.environ['PATH']}", **settings)
 
     def test_all_tasks_run(self):
         plain = self.farm(out=self.folder / "plain")
@@ -249,7 +257,8 @@ exit 1
         answer = self.slurm(squeue, LOST=3)
         said = [line for line in answer.err.splitlines() if "controller" in line]
         self.assertEqual((answer.status, said), (1, [
-            "shb-farm: Slurm's controller doesn't answer; job 17 is waited for: slurm_load_jobs error: Unable to contact slurm controller",
+            "shb-farm: Slurm's controller doesn't answer; job 17 is waited for: slurm_load_jobs error: "
+            "Unable to contact slurm controller",
             "shb-farm: Slurm's controller answers again"]))
 
     def test_a_job_that_cannot_be_cancelled_is_said(self):
@@ -257,7 +266,9 @@ exit 1
         self.script("bin/squeue", f"touch {self.folder}/asked\necho RUNNING None\n")
         self.script("bin/scancel", "echo 'scancel: error: Unable to contact slurm controller' >&2; exit 1\n")
         words = self.words("--engine", "slurm", "--memory", "256")
-        started = subprocess.Popen(words, env=self.environment(PATH=f"{self.folder}/bin:{os.environ['PATH']}"), stdout=subprocess.DEVNULL,
+        started = subprocess.Popen(words,
+                                   env=self.environment(PATH=f"{self.folder}/bin:{os.environ['PATH']}"),
+                                   stdout=subprocess.DEVNULL,
                                    stderr=subprocess.PIPE)
         deadline = time.monotonic() + farm.SECONDS
         while not (self.folder / "asked").exists():
@@ -266,10 +277,12 @@ exit 1
         started.terminate()
         said = started.communicate(timeout=farm.SECONDS)[1].decode()
         self.assertEqual(started.returncode, 128 + signal.SIGTERM)
-        self.assertIn("shb-farm: job 17 may go on: scancel ended with status 1: scancel: error: Unable to contact slurm controller\n", said)
+        self.assertIn("shb-farm: job 17 may go on: scancel ended with status 1: scancel: error: Unable to "
+                      "contact slurm controller\n", said)
 
     def test_a_held_task_is_given_up_and_missing(self):
-        held = "[ \"$1 $2 $3\" = '--noheader --jobs=17 --format=%T %r' ] && echo 'PENDING launch failed requeued held'\n"
+        held = ("[ \"$1 $2 $3\" = '--noheader --jobs=17 --format=%T %r' ] && echo 'PENDING launch failed "
+                "requeued held'\n")
         answer = self.slurm(held)
         self.assertEqual(answer.status, 2)
         self.assertEqual([end[0] for end in self.ends().values()], ["report", "report", "missing"])
@@ -277,11 +290,14 @@ exit 1
         self.assertEqual(self.slurm("exit 0\n", LOST=1).status, 1)
 
     def test_an_array_that_is_forgotten_has_ended(self):
-        self.assertEqual(self.slurm("echo 'slurm_load_jobs error: Invalid job id specified' >&2; exit 1\n", LOST=3).status, 1)
+        self.assertEqual(self.slurm("echo 'slurm_load_jobs error: Invalid job id specified' >&2; exit 1\n",
+                                    LOST=3).status, 1)
 
     def test_a_refusal_ends_the_farm_at_once(self):
-        answer = self.slurm("exit 0\n", f"echo >> {self.folder}/asked; echo 'no such partition' >&2; exit 1\n")
-        self.assertEqual((answer.status, answer.out, answer.err), (4, "", "shb-farm: sbatch ended with status 1: no such partition\n"))
+        answer = self.slurm("exit 0\n",
+                            f"echo >> {self.folder}/asked; echo 'no such partition' >&2; exit 1\n")
+        self.assertEqual((answer.status, answer.out, answer.err), (4, "", "shb-farm: sbatch ended with "
+                                                                   "status 1: no such partition\n"))
         self.assertEqual((self.folder / "asked").read_text(), "\n")
 
 
@@ -303,7 +319,8 @@ exec {farm.SHB} "$@"
     def start(self):
         """A farm that has made some outcomes and waits in the middle of others."""
         (self.out / "outcomes").mkdir(parents=True)
-        started = subprocess.Popen(self.words("--jobs", "2"), env=self.environment(self.shb), stdout=subprocess.DEVNULL,
+        started = subprocess.Popen(self.words("--jobs", "2"), env=self.environment(self.shb),
+                                   stdout=subprocess.DEVNULL,
                                    stderr=subprocess.DEVNULL)
         deadline = time.monotonic() + farm.SECONDS
         while not (self.pids.exists() and self.pids.read_text()) and started.poll() is None:

@@ -82,7 +82,8 @@ def read_stacks(text):
             found = Stacks(file.name, 3)
             for event in range(-1, 6):
                 found.of_event(event), found.free_of(event), found.local_of(b"stack.main-0x20", event)
-            found.of_thread(b"T1"), found.of_variable(b"a.c:1#7+8"), found.of_variable(b"#" + b"9" * 30), found.functions
+            found.of_thread(b"T1"), found.of_variable(b"a.c:1#7+8"), found.of_variable(
+                b"#" + b"9" * 30), found.functions
             for use in found.uses:
                 use.gives(), use.takes()
         except BadStacks as fault:
@@ -147,7 +148,8 @@ T2|vw(y)|a.c:8
 T1|wait(l)|a.c:9
 T1|acquire(l)
 """
-READERS = {"stacks": (read_stacks, STACKS), "report": (read_report, REPORT), "listed": (read_listed, LISTED), "known": (read_known, KNOWN),
+READERS = {"stacks": (read_stacks, STACKS), "report": (read_report, REPORT), "listed": (read_listed, LISTED),
+           "known": (read_known, KNOWN),
            "trace": (read_trace, b"T1|w(x)|1\nT2 | w(x)|2\n"), "fix": (read_trace_to_fix, FIX)}
 
 
@@ -163,7 +165,8 @@ def mutated(pick, text):
         elif kind == 2:
             text[at:at] = text[pick.randrange(len(text) + 1):][:pick.randrange(1, 60)]
         elif kind == 3:
-            text[at:at] = pick.choice([b"99999999999999999999999", b"-1", b"0", b"\t", b"\n", b" ", b"|", b"\0", b"\xff", b"18446744073709551616", b"4294967295", b"*", b"\\"])
+            text[at:at] = pick.choice([b"99999999999999999999999", b"-1", b"0", b"\t", b"\n", b" ", b"|",
+                                       b"\0", b"\xff", b"18446744073709551616", b"4294967295", b"*", b"\\"])
         elif kind == 4:
             lines = bytes(text).split(b"\n")
             pick.shuffle(lines)
@@ -196,11 +199,16 @@ class Readers(side_by_side.Case):
     def test_accesses_that_come_again(self):
         """They are what they were; a line of a first access is none of a second one."""
         again = b"race 2: 1 3\nfirst T1|w(x)|a.c:1\nsecond T2|w(x)|b.c:2\n"
-        text = REPORT.replace(b"schedule 0:\n", again).replace(b"events 2", b"events 3").replace(b"races 1", b"races 2").replace(b"place 1: 1", b"place 1: 2")
+        text = REPORT.replace(b"schedule 0:\n", again).replace(b"events 2", b"events 3").replace(
+            b"races 1", b"races 2").replace(b"place 1: 1", b"place 1: 2")
         one, other = (accesses for _, accesses in Report(io.BytesIO(text)).races())
         self.assertEqual(one, other)
-        for before, after, wanted in ((b"second T2|w(x)|b.c:2\nend", b"first T1|w(x)|a.c:1\nend", "line 13 of the report is `first T1|w(x)|a.c:1`; it should be `second ACCESS`"),
-                                      (b"1 3\nfirst T1|w(x)|a.c:1", b"1 3\nsecond T2|w(x)|b.c:2", "line 12 of the report is `second T2|w(x)|b.c:2`; it should be `first ACCESS`")):
+        for before, after, wanted in ((b"second T2|w(x)|b.c:2\nend", b"first T1|w(x)|a.c:1\nend",
+                                       "line 13 of the report is `first T1|w(x)|a.c:1`; it should be `second "
+                                       "ACCESS`"),
+                                      (b"1 3\nfirst T1|w(x)|a.c:1", b"1 3\nsecond T2|w(x)|b.c:2",
+                                       "line 12 of the report is `second T2|w(x)|b.c:2`; it should be `first "
+                                       "ACCESS`")):
             with self.assertRaises(BadReport) as refused:
                 list(Report(io.BytesIO(text.replace(before, after))).races())
             self.assertEqual(str(refused.exception), wanted)
@@ -208,7 +216,10 @@ class Readers(side_by_side.Case):
     def test_words_name_the_line(self):
         for number, line in enumerate(LINES.splitlines(True), 2):
             path = self.folder / "a.stacks"
-            path.write_bytes(STACKS.replace(line, line[:-1] + b"\tx y z\n" if line.startswith((b"stack", b"block", b"free", b"use")) else line.replace(b"\t", b" ")))
+            path.write_bytes(
+                STACKS.replace(line, line[:-1] + b"\tx y z\n"
+                               if line.startswith((b"stack", b"block", b"free", b"use"))
+                               else line.replace(b"\t", b" ")))
             for read in (lambda: Stacks(path, 3), lambda: Stacks(path)):
                 with self.assertRaises(BadStacks) as refused:
                     read()
@@ -217,7 +228,8 @@ class Readers(side_by_side.Case):
     def test_deep_stacks_have_an_end(self):
         """Also where a stack is further out than itself, or has many frames."""
         path = self.folder / "a.stacks"
-        path.write_bytes(b"shb-stacks 1 %020d\n" % 1 + struct.pack("<I", 1) + b"frame f\ta.c:1\n" + b"stack 1 1 " + b"1 " * 9_000 + b"\n"
+        path.write_bytes(b"shb-stacks 1 %020d\n" % 1 + struct.pack("<I", 1) + b"frame f\ta.c:1\n"
+                         + b"stack 1 1 " + b"1 " * 9_000 + b"\n"
                          + b"thread T\t1\n" * 100)
         found = Stacks(path, 1)
         self.assertEqual((len(found.of_event(1)), len(found.of_thread(b"T"))), (2_000, 2_000))

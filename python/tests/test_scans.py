@@ -9,9 +9,11 @@ from shb_farm.passes import key_of
 
 MANY = 4_194_304        # events that a report with schedules may be of
 END = b"A|end\n"
-FAR = b"T3|w(y)|k.c:1\nT4|r(z)|k.c:2\n" + END * MANY + b"T4|r(y)|k.c:2\nT3|w(z)|k.c:1\n"  # two races at two places, far apart
+# two races at two places, far apart
+FAR = b"T3|w(y)|k.c:1\nT4|r(z)|k.c:2\n" + END * MANY + b"T4|r(y)|k.c:2\nT3|w(z)|k.c:1\n"
 THREADS = b"".join(b"T%d|w(x)|q.c:1\n" % number for number in range(1025))
-NOTE = "it is longer than a report with schedules may be of: what is kept is that of `shb places --list`, without schedules"
+NOTE = ("it is longer than a report with schedules may be of: what is kept is that of `shb places --list`, "
+        "without schedules")
 
 
 class LongTraces(farm.Case):
@@ -23,13 +25,20 @@ class LongTraces(farm.Case):
         self.trace("long.std", FAR)
         self.trace("race.std", RACE)
         answer = self.farm()
-        self.assertEqual((answer.status, self.ends()["long.std"]), (1, ("report", f"events {MANY + 4} threads 3 locks 0 variables 2; {NOTE}")))
+        self.assertEqual((answer.status, self.ends()["long.std"]), (1, ("report", f"events {MANY + 4} "
+                                                                        "threads 3 locks 0 variables 2; "
+                                                                        f"{NOTE}")))
         self.assertTrue(answer.out.endswith(f"\n\nreport  long.std  {NOTE}\n"))
         [invocation] = json.loads((self.out / "places.sarif").read_text())["runs"][0]["invocations"]
-        self.assertEqual(invocation["toolExecutionNotifications"], [{"level": "note", "message": {"text": f"long.std: {NOTE}"}}])
+        self.assertEqual(
+            invocation["toolExecutionNotifications"], [
+                {"level": "note", "message": {"text": f"long.std: {NOTE}"}}])
         kept = f"reports/{key_of('long.std')}.report"
-        self.assertEqual(self.table("places.tsv"), [["1", "unknown", "a.c:1", "b.c:2", "race.std", f"reports/{key_of('race.std')}.report", "1", "x", ""],
-                                                    ["1", "unknown", "k.c:1", "k.c:2", "long.std", kept, "2", "y, z", ""]])
+        self.assertEqual(
+            self.table("places.tsv"), [["1", "unknown", "a.c:1", "b.c:2", "race.std",
+                                        f"reports/{key_of('race.std')}.report", "1", "x", ""],
+                                                    ["1", "unknown", "k.c:1", "k.c:2", "long.std", kept, "2",
+                                                     "y, z", ""]])
         self.assertEqual((self.out / kept).read_bytes(), b"""shb-report 2
 events 4194308 threads 3 locks 0 variables 2
 races 2
@@ -54,8 +63,10 @@ end
         self.trace("threads.std", THREADS)
         shb = self.counting()
         self.assertEqual(self.farm(shb=shb).status, 1)
-        self.assertEqual(self.ends()["threads.std"], ("report", f"events 1025 threads 1025 locks 0 variables 1; {NOTE}"))
-        self.assertEqual(self.runs(), 3)        # a list; then for what is kept a report, which is refused, and a list
+        self.assertEqual(self.ends()["threads.std"], ("report", "events 1025 threads 1025 locks 0 variables "
+                                                                f"1; {NOTE}"))
+        # a list; then for what is kept a report, which is refused, and a list
+        self.assertEqual(self.runs(), 3)
         self.assertEqual(self.farm(shb=shb).status, 1)
         self.assertEqual(self.runs(), 0)
         (self.out / "reports" / f"{key_of('threads.std')}.report").unlink()
@@ -74,4 +85,5 @@ end
         self.assertRegex(self.ends()["long.std"][1], r"^line 1026: the line has no operation field")
 
     def test_a_text_that_no_report_is_of_begins_with_little_memory(self):
-        self.assertEqual((running.memory_for(running.MOST_TEXT) > 1024, running.memory_for(running.MOST_TEXT + 1)), (True, running.LIST_MIB))
+        self.assertEqual((running.memory_for(running.MOST_TEXT) > 1024,
+                          running.memory_for(running.MOST_TEXT + 1)), (True, running.LIST_MIB))

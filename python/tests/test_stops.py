@@ -23,5 +23,6 @@ sys.exit(subprocess.call([sys.executable, "-c", "import os; print(os.getsid(0) =
 
 class Helpers(unittest.TestCase):
     def test_a_signal_to_the_group_does_not_end_a_helper_that_begins(self):
-        ran = subprocess.run([sys.executable, "-c", COMMAND], cwd=PYTHON, stdout=subprocess.PIPE, stderr=subprocess.PIPE)
+        ran = subprocess.run([sys.executable, "-c", COMMAND], cwd=PYTHON, stdout=subprocess.PIPE,
+                             stderr=subprocess.PIPE)
         self.assertEqual((ran.returncode, ran.stdout, ran.stderr), (0, b"True\n", b""))

@@ -23,13 +23,16 @@ class Packed(farm.Case):
         self.trace("b.std.gz", gzip.compress(bomb))
         self.trace("race.std", RACE)
         answer = self.farm("--size", "2")
-        self.assertEqual((answer.status, answer.out.splitlines()[0]), (1, "traces 3 reports 1 refused 2 missing 0"), answer.err)
-        self.assertEqual({name: end for name, end in self.ends().items() if name != "race.std"}, dict.fromkeys(["a.std.xz", "b.std.gz"], ("size", "2")))
+        self.assertEqual((answer.status, answer.out.splitlines()[0]), (1, "traces 3 reports 1 refused 2 "
+                                                                       "missing 0"), answer.err)
+        self.assertEqual({name: end for name, end in self.ends().items() if name != "race.std"},
+                         dict.fromkeys(["a.std.xz", "b.std.gz"], ("size", "2")))
         self.assertIn("its report, or the text of a packed trace, is longer than 2 MiB", answer.out)
         again = self.farm("--size", "2", "--memory", "256,512")
         self.assertNotIn("traces with 512 MiB", again.err)
         self.assertEqual(list((self.out / "tmp").iterdir()), [])
-        self.assertEqual(self.farm("--size", "4").out.splitlines()[0], "traces 3 reports 3 refused 0 missing 0")
+        self.assertEqual(self.farm("--size", "4").out.splitlines()[0],
+                         "traces 3 reports 3 refused 0 missing 0")
 
     def test_unpacking_has_the_limits_of_the_analysis(self):
         """What never ends, takes memory without end, or is killed ends as that."""
@@ -41,9 +44,14 @@ class Packed(farm.Case):
             return bytes(2 << 30)
 
         work = Pass("", "", "", "", str(self.folder), memory=64, seconds=1, size=1)
-        for opener, wanted in ((endless, ("time", "1")), (greedy, ("refused", "it can't be unpacked: that takes more than 1024 MiB of memory")),
-                               (lambda trace: os.kill(os.getpid(), signal.SIGKILL), ("failed", "unpacking was ended by signal 9"))):
-            with open(os.devnull, "rb") as trace, open(self.folder / "text", "wb") as text, self.assertRaises(traces.BadPacking) as refused:
+        for opener, wanted in ((endless, ("time", "1")), (greedy, ("refused", "it can't be unpacked: that "
+                                                                   "takes more than 1024 MiB of memory")),
+                               (lambda trace: os.kill(os.getpid(),
+                                                      signal.SIGKILL), ("failed", "unpacking was ended by "
+                                                                        "signal 9"))):
+            with open(os.devnull, "rb") as trace, open(self.folder / "text",
+                                                       "wb") as text, self.assertRaises(
+                                                           traces.BadPacking) as refused:
                 traces.unpack(opener, trace, text, work)
             self.assertEqual(refused.exception.end, wanted)
 
@@ -63,18 +71,24 @@ class Variables(farm.Case):
         self.assertEqual(self.farm().status, 1)
         self.assertEqual((self.out / "unknown.places").read_bytes(), b"a.c:1\tb.c:2\tx\na.c:1\tb.c:2\ty\n")
         answer = self.farm("--known", self.known(b"a.c:1\tb.c:2\tx\n"))
-        self.assertEqual((answer.status, (self.out / "unknown.places").read_bytes()), (1, b"a.c:1\tb.c:2\ty\n"))
+        self.assertEqual(
+            (answer.status, (self.out / "unknown.places").read_bytes()), (1, b"a.c:1\tb.c:2\ty\n"))
         self.assertEqual(self.table("places.tsv")[0][7], "y, x")
         self.assertEqual(self.farm("--known", self.known(b"a.c:1\tb.c:2\tx\na.c:1\tb.c:2\ty\n")).status, 0)
         answer = self.farm("--known", self.known(b"a.c:1\tb.c:2\n"))
-        self.assertEqual((answer.status, f"{self.folder}/known, line 1: no variable is named" in answer.err), (0, True), answer.err)
+        self.assertEqual(
+            (answer.status, f"{self.folder}/known, line 1: no variable is named" in answer.err), (0, True),
+            answer.err)
 
     def test_stale_lines(self):
         self.trace("race.std", RACE)
         known = self.known(b"a.c:1\tb.c:2\tx\n9999\t8888\tx\n")
         for words, wanted in ((), 0), (("--fail-on-stale",), 1):
             answer = self.farm(*words, "--known", known)
-            self.assertEqual((answer.status, f"shb-farm: {known}, line 2: no race matched `9999\\t8888\\tx`\n" in answer.err), (wanted, True), answer.err)
+            self.assertEqual(
+                (answer.status,
+                 f"shb-farm: {known}, line 2: no race matched `9999\\t8888\\tx`\n" in answer.err), (
+                     wanted, True), answer.err)
             self.assertIn("stale\t1\n", (self.out / "facts.tsv").read_text())
 
     def test_no_line_is_stale_while_places_are_not_known(self):
@@ -84,9 +98,12 @@ class Variables(farm.Case):
         known = self.known(b"a.c:1\tb.c:2\tx\nk.c:1\tk.c:2\ty\n")
         said = f"shb-farm: {known}: which lines are stale isn't known: 1 trace without a list of places\n"
         for how, kind, status in (("exit 9", "missing", 2), ("echo out of memory >&2; exit 4", "memory", 5)):
-            shb = self.script("failing", f"cat > {self.folder}/$$\ngrep -q k.c {self.folder}/$$ && {{ {how}; }}\nexec {farm.SHB} \"$@\" < {self.folder}/$$\n")
-            answer = self.farm("--fail-on-stale", "--known", known, "--memory", "256", shb=shb, out=self.folder / kind)
-            self.assertEqual((self.ends(self.folder / kind)["b.std"][0], answer.status), (kind, status), answer.err)
+            shb = self.script("failing", f"cat > {self.folder}/$$\ngrep -q k.c {self.folder}/$$ && {{ {how}; "
+                                         f"}}\nexec {farm.SHB} \"$@\" < {self.folder}/$$\n")
+            answer = self.farm("--fail-on-stale", "--known", known, "--memory", "256", shb=shb,
+                               out=self.folder / kind)
+            self.assertEqual((self.ends(self.folder / kind)["b.std"][0], answer.status), (kind, status),
+                             answer.err)
             self.assertEqual((said in answer.err, "no race matched" in answer.err), (True, False), answer.err)
             self.assertIn("stale\t0\n", (self.folder / kind / "facts.tsv").read_text())
         self.assertEqual(self.farm("--fail-on-stale", "--known", known).status, 0)
@@ -98,13 +115,16 @@ class Variables(farm.Case):
         known = self.known((self.out / "unknown.places").read_bytes())
         self.assertEqual(self.farm("--known", known).status, 0)
         self.trace("b.std", b"T1|w(q)|u.c:20\nT2|w(q)|u.c:21\n")
-        self.trace("b.stacks", b"shb-stacks 1 %020d\n" % 2 + bytes(8) + b"frame brand_new\tu.c:20\nframe brand_new\tu.c:21\n")
+        self.trace("b.stacks", b"shb-stacks 1 %020d\n" % 2 + bytes(8) + b"frame brand_new\tu.c:20\nframe "
+                   b"brand_new\tu.c:21\n")
         self.assertEqual(self.farm("--known", known).status, 1)
 
 
 class Facts(farm.Case):
     def facts(self):
-        return {name: int(count) for name, count in (line.split("\t") for line in (self.out / "facts.tsv").read_text().splitlines())}
+        return {name: int(count)
+                for name, count in (line.split("\t")
+                                    for line in (self.out / "facts.tsv").read_text().splitlines())}
 
     def test_each_fact_can_be_asked_for(self):
         """The status says one of them; the example in the help asks for a refused trace."""
@@ -112,25 +132,31 @@ class Facts(farm.Case):
         self.trace("other.std", OTHER_ORDER)
         self.trace("bad.std", BAD)
         self.assertEqual(self.farm().status, 1)
-        self.assertEqual(self.facts(), {"traces": 3, "reports": 2, "refused": 1, "missing": 0, "damaged": 0, "places": 2, "unknown": 2, "known": 0,
+        self.assertEqual(self.facts(), {"traces": 3, "reports": 2, "refused": 1, "missing": 0, "damaged": 0,
+                                        "places": 2, "unknown": 2, "known": 0,
                                         "stale": 0, "unreported": 0})
         [line] = [line for line in self.farm("--help").out.splitlines() if "awk" in line]
-        ask = lambda: subprocess.run(["sh", "-c", line.strip().replace("out/facts.tsv", str(self.out / "facts.tsv"))]).returncode
+        ask = lambda: subprocess.run(
+            ["sh", "-c", line.strip().replace("out/facts.tsv", str(self.out / "facts.tsv"))]).returncode
         self.assertEqual(ask(), 1)
         (self.traces / "bad.std").unlink()
         self.assertEqual((self.farm().status, ask()), (1, 0))
 
     def test_the_counts_are_those_of_the_program(self):
         self.trace("places.std", (farm.TOP / "examples" / "places.std").read_bytes())
-        listed = subprocess.run([farm.SHB, "places", "--list", farm.TOP / "examples" / "places.std"], stdout=subprocess.PIPE).stdout
+        listed = subprocess.run([farm.SHB, "places", "--list", farm.TOP / "examples" / "places.std"],
+                                stdout=subprocess.PIPE).stdout
         self.farm()
         count = self.facts()["places"]
         self.assertIn(b"\nplaces %d\n" % count, listed)
-        self.assertEqual((self.table("traces.tsv")[0][2], json.loads((self.out / "places.json").read_text())["summary"]["places"]), (str(count), count))
+        self.assertEqual((self.table("traces.tsv")[0][2],
+                          json.loads((self.out / "places.json").read_text())["summary"]["places"]), (
+                              str(count), count))
 
     def test_what_is_new_since_an_earlier_farm(self):
         """By functions and variables: moved lines and the other order are the same."""
-        stacks = lambda *lines: (b"shb-stacks 1 %020d\n" % 2 + bytes(8) + b"".join(b"frame f\ta.c:%d\n" % line for line in lines))
+        stacks = lambda *lines: (b"shb-stacks 1 %020d\n" % 2 + bytes(8)
+                                 + b"".join(b"frame f\ta.c:%d\n" % line for line in lines))
         self.trace("race.std", RACE)
         self.trace("moved.std", b"T1|w(x)|a.c:5\nT2|w(x)|a.c:6\n")
         self.trace("moved.stacks", stacks(5, 6))
@@ -146,21 +172,32 @@ class Facts(farm.Case):
         answer = self.farm("--since", old)
         self.assertEqual(answer.out.splitlines()[2], f"since {old}: new 1 gone 1 same 2", answer.out)
         self.assertIn("\n\ngone  g.c:1  g.c:2  g\n", answer.out)
-        self.assertEqual({row[4]: row[8] for row in self.table("places.tsv")}, {"race.std": "same", "moved.std": "same", "new.std": "new"})
-        self.assertEqual({name: self.facts()[name] for name in ("new", "gone", "same")}, {"new": 1, "gone": 1, "same": 2})
-        self.assertEqual({place["example"]: place["since"] for place in json.loads((self.out / "places.json").read_text())["places"]},
+        self.assertEqual(
+            {row[4]: row[8] for row in self.table("places.tsv")}, {
+                "race.std": "same", "moved.std": "same", "new.std": "new"})
+        self.assertEqual(
+            {name: self.facts()[name] for name in ("new", "gone", "same")}, {"new": 1, "gone": 1, "same": 2})
+        self.assertEqual(
+            {place["example"]: place["since"]
+             for place in json.loads((self.out / "places.json").read_text())["places"]},
                          {"race.std": "same", "moved.std": "same", "new.std": "new"})
 
     def test_an_earlier_result_that_is_none(self):
         self.trace("race.std", RACE)
         path = self.folder / "old.json"
         none = "this is no places.json of `shb-farm` or `shb-record`\n"
-        for text, said in ((b"", none), (b"int main;", none), (b"{}", "a part of it is missing"), (b"[1]", "a part of it is missing"), (b"\xff", none),
-                           (b'{"form": "shb-places", "version": 2, "places": []}', "it isn't of form shb-places, version 1"), (b"[" * 100_000, "a part of it"),
-                           (b'{"form": "shb-places", "version": 1, "places": [{"accesses": 3}]}', "a part of it is missing")):
+        for text, said in ((b"", none), (b"int main;",
+                                         none), (b"{}", "a part of it is missing"), (b"[1]", "a part of it "
+                                                                                     "is missing"), (b"\xff",
+                                                                                                     none),
+                           (b'{"form": "shb-places", "version": 2, "places": []}', "it isn't of form "
+                            "shb-places, version 1"), (b"[" * 100_000, "a part of it"),
+                           (b'{"form": "shb-places", "version": 1, "places": [{"accesses": 3}]}',
+                            "a part of it is missing")):
             path.write_bytes(text)
             answer = self.farm("--since", path)
-            self.assertEqual((answer.status, answer.out, answer.err.startswith(f"shb-farm: {path}: "), said in answer.err), (4, "", True, True), answer.err)
+            self.assertEqual((answer.status, answer.out, answer.err.startswith(f"shb-farm: {path}: "),
+                              said in answer.err), (4, "", True, True), answer.err)
         self.assertEqual(self.farm("--since", self.folder / "none").status, 4)
 
     def test_results_for_programs(self):
@@ -170,20 +207,30 @@ class Facts(farm.Case):
         self.farm()
         found = json.loads((self.out / "places.json").read_text())
         [place] = found["places"]
-        self.assertEqual((found["form"], found["version"], found["command"], found["summary"]["status"]), ("shb-places", 1, "shb-farm", 1))
-        self.assertEqual((place["state"], place["places"], place["traces"], place["example"], place["variables"]),
+        self.assertEqual((found["form"], found["version"], found["command"],
+                          found["summary"]["status"]), ("shb-places", 1, "shb-farm", 1))
+        self.assertEqual((place["state"], place["places"], place["traces"], place["example"],
+                          place["variables"]),
                          ("unknown", 1, 1, "race.std", [{"name": "x", "state": "unknown", "races": 1}]))
-        self.assertEqual([(access["location"], access["uses"], access["threads"], access["without_lock"]) for access in place["accesses"]],
+        self.assertEqual(
+            [(access["location"], access["uses"], access["threads"], access["without_lock"])
+             for access in place["accesses"]],
                          [("a.c:1", {"write": 1}, {"T1": 1}, 1), ("b.c:2", {"write": 1}, {"T2": 1}, 1)])
-        self.assertEqual(place["facts"], ["In this trace no lock is held at any access; 2 threads write, at a.c:1 and b.c:2.",
-                                          "Remedy: make it atomic if it is a flag or a counter; else hold one lock at a.c:1 and b.c:2."])
-        self.assertEqual([(trace["trace"], trace["outcome"]) for trace in found["traces"]], [("clean.std", "report"), ("race.std", "report")])
+        self.assertEqual(place["facts"], ["In this trace no lock is held at any access; 2 threads write, at "
+                                          "a.c:1 and b.c:2.",
+                                          "Remedy: make it atomic if it is a flag or a counter; else hold "
+                                          "one lock at a.c:1 and b.c:2."])
+        self.assertEqual(
+            [(trace["trace"], trace["outcome"]) for trace in found["traces"]], [
+                ("clean.std", "report"), ("race.std", "report")])
         self.assertTrue(all(trace["seconds"] >= 0 and trace["MiB"] > 0 for trace in found["traces"]))
 
     def test_a_view_that_fails_is_left_out(self):
         self.trace("race.std", RACE)
         answer = self.farm(SHB_VIEW=self.script("view", "echo broken >&2; exit 2\n"))
-        self.assertEqual((answer.status, [row[5] for row in self.table("places.tsv")]), (1, [f"reports/{passes.key_of('race.std')}.report"]))
+        self.assertEqual(
+            (answer.status, [row[5] for row in self.table("places.tsv")]), (
+                1, [f"reports/{passes.key_of('race.std')}.report"]))
         self.assertNotIn("facts", json.loads((self.out / "places.json").read_text())["places"][0])
 
     def test_many_traces_say_how_far_they_are(self):
@@ -191,10 +238,11 @@ class Facts(farm.Case):
         for number in range(100):
             self.trace(f"{number}.std", CLEAN)
         go = self.folder / "go"
-        shb = self.script("waiting", f"while [ $(ls {self.out}/outcomes | wc -l) -ge 60 ] && [ ! -e {go} ]; do sleep 0.05; done\n"
-                                     f"exec {farm.SHB} \"$@\"\n")
+        shb = self.script("waiting", f"while [ $(ls {self.out}/outcomes | wc -l) -ge 60 ] && [ ! -e {go} ]; "
+                                     f"do sleep 0.05; done\nexec {farm.SHB} \"$@\"\n")
         (self.out / "outcomes").mkdir(parents=True)
-        started = subprocess.Popen(self.words("--jobs", "1"), env=self.environment(shb), stdout=subprocess.DEVNULL, stderr=subprocess.PIPE)
+        started = subprocess.Popen(self.words("--jobs", "1"), env=self.environment(shb),
+                                   stdout=subprocess.DEVNULL, stderr=subprocess.PIPE)
         for line in started.stderr:
             if line.endswith(b" of 100 traces done\n"):
                 go.touch()

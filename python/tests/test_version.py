@@ -16,11 +16,14 @@ class Version(side_by_side.Case):
     def setUp(self):
         super().setUp()
         self.copy = self.folder / "top" / "copy"
-        shutil.copytree(TOP / "python", self.copy / "python", ignore=shutil.ignore_patterns("__pycache__", "tests"))
+        shutil.copytree(TOP / "python", self.copy / "python",
+                        ignore=shutil.ignore_patterns("__pycache__", "tests"))
 
     def git(self, folder, *words):
-        environment = {**os.environ, "GIT_AUTHOR_DATE": WHEN, "GIT_COMMITTER_DATE": WHEN, "GIT_CONFIG_GLOBAL": "/dev/null"}
-        ran = subprocess.run(["git", "-C", folder, "-c", "user.name=n", "-c", "user.email=e", *words], env=environment, stdout=subprocess.PIPE, check=True)
+        environment = {**os.environ, "GIT_AUTHOR_DATE": WHEN, "GIT_COMMITTER_DATE": WHEN,
+                       "GIT_CONFIG_GLOBAL": "/dev/null"}
+        ran = subprocess.run(["git", "-C", folder, "-c", "user.name=n", "-c", "user.email=e", *words],
+                             env=environment, stdout=subprocess.PIPE, check=True)
         return ran.stdout.decode().strip()
 
     def commit(self, folder):
@@ -30,7 +33,8 @@ class Version(side_by_side.Case):
 
     def version(self, **settings):
         words = [sys.executable, "-B", self.copy / "python/shb-fix", "--version"]
-        return subprocess.run(words, env={**os.environ, **settings}, stdout=subprocess.PIPE, check=True).stdout.decode()
+        return subprocess.run(words, env={**os.environ, **settings}, stdout=subprocess.PIPE,
+                              check=True).stdout.decode()
 
     def test_a_checkout(self):
         commit = self.commit(self.copy)
@@ -54,5 +58,6 @@ class Version(side_by_side.Case):
         (self.copy / "VERSION").write_text("2026.02.03-0123456789ab\n")
         for name in ("shb_common", "shb_fix", "shb-fix"):
             os.rename(self.copy / "python" / name, self.copy / name)
-        said = subprocess.run([sys.executable, "-B", self.copy / "shb-fix", "--version"], stdout=subprocess.PIPE, check=True).stdout
+        said = subprocess.run([sys.executable, "-B", self.copy / "shb-fix", "--version"],
+                              stdout=subprocess.PIPE, check=True).stdout
         self.assertEqual(said, b"shb-fix 2026.02.03-0123456789ab\n")

@@ -8,10 +8,11 @@
         --steps   writes what each check costs (steps.py)
 
 `rt ci` proves the crates in a copy of the repository that has no must-fail edits; it takes over what an
-earlier run on this machine has proved of the same files over the same libraries. As soon as a crate is proved its edits
-are tried over the libraries that are built by then (joint.py), those that the record (record.py) doesn't answer for and of
-the others a tenth; as soon as the program is linked the tests of tests/, recorder/, python/ and packaging/ run on it, and
-what it costs is counted (tests/costs.py), two of these at once. Each part ends with a line 'N passed, N failed', and so does the whole.
+earlier run on this machine has proved of the same files over the same libraries. As soon as a crate is proved
+its edits are tried over the libraries that are built by then (joint.py), those that the record (record.py)
+doesn't answer for and of the others a tenth; as soon as the program is linked the tests of tests/, recorder/,
+python/ and packaging/ run on it, and what it costs is counted (tests/costs.py), two of these at once. Each
+part ends with a line 'N passed, N failed', and so does the whole.
 """
 
 import argparse
@@ -37,7 +38,9 @@ import steps
 ROOT = pathlib.Path(__file__).resolve().parent.parent.parent
 SUMS = ROOT / "tests" / "gate" / "refused.sums"
 MEMORY = 3_000_000_000  # a check of edits waits until so many bytes are free; most take less than 2.5 GB
-SUITES = ("recorder/tests/run.py", "tests/run.py", "tests/costs.py", "python/tests/run.py", "packaging/tests/run.py")  # the longest first
+# the longest first
+SUITES = ("recorder/tests/run.py", "tests/run.py", "tests/costs.py", "python/tests/run.py",
+          "packaging/tests/run.py")
 AT_ONCE = 2  # suites
 CLOSING = re.compile(r"(\d+) passed, (\d+) failed(?:, \d+ skipped)?")
 
@@ -46,7 +49,8 @@ def git(*words):
     return subprocess.run(["git", "-C", ROOT, *words], capture_output=True, check=True, text=True).stdout
 
 
-LEFT_OUT = re.compile(r"/must-fail/|^tests/calls/")  # edits, and a crate that has no proof: `rt ci` would refuse its files
+# edits, and a crate that has no proof: `rt ci` would refuse its files
+LEFT_OUT = re.compile(r"/must-fail/|^tests/calls/")
 
 
 def copy_without_edits(room):
@@ -75,7 +79,8 @@ class Count:
 
 
 class Edits:
-    """The edits that are tried, each crate's in turn, as many crates side by side as there are processors and memory for."""
+    """The edits that are tried, each crate's in turn, as many crates side by side as there are processors
+    and memory for."""
 
     def __init__(self, room, tries_all):
         self.crates, self.tries_all = kit.crates_of(room), tries_all
@@ -87,7 +92,8 @@ class Edits:
         self.pool = concurrent.futures.ThreadPoolExecutor(kit.processors(), initializer=lambda: os.nice(10))
 
     def chosen(self, name):
-        """The edits of a crate to try: all where the record doesn't answer for them, else those that the commit draws."""
+        """The edits of a crate to try: all where the record doesn't answer for them, else those that
+        the commit draws."""
         edits = self.layers.edits(name)
         is_known = not self.tries_all and self.sums[name] == self.known.get(name)
         return [edit for edit in edits if not is_known or record.is_drawn(self.commit, edit)]
@@ -131,14 +137,17 @@ class Edits:
 def run_suite(script, program):
     """Runs tests on the built program. The script's name, its status and output."""
     words = [sys.executable, "-u", str(ROOT / script), str(program)]
-    ran = subprocess.run(words, cwd=ROOT, stdin=subprocess.DEVNULL, stdout=subprocess.PIPE, stderr=subprocess.STDOUT)
+    ran = subprocess.run(words, cwd=ROOT, stdin=subprocess.DEVNULL, stdout=subprocess.PIPE,
+                         stderr=subprocess.STDOUT)
     return script, ran.returncode, ran.stdout.decode(errors="replace")
 
 
 def prove(room, command, edits, pool, count):
-    """Runs `rt ci` in the room, and begins what waits for its steps. Gives the results of the suites, which are there later."""
+    """Runs `rt ci` in the room, and begins what waits for its steps. Gives the results of the suites, which
+    are there later."""
     suites, last, began = [], "", time.monotonic()
-    how = {"stdout": subprocess.PIPE, "text": True, "errors": "replace", "env": {**os.environ, "PYTHONUNBUFFERED": "1"}}
+    how = {"stdout": subprocess.PIPE, "text": True, "errors": "replace",
+           "env": {**os.environ, "PYTHONUNBUFFERED": "1"}}
     with subprocess.Popen(command, cwd=room, stdin=subprocess.DEVNULL, **how) as proofs:
         for line in proofs.stdout:
             print(line, end="", flush=True)

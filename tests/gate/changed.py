@@ -1,14 +1,19 @@
 #!/usr/bin/env python3
-"""Checks what a change can have broken, and says what it leaves out. The gate alone (make test) is the verdict.
+"""Checks what a change can have broken, and says what it leaves out. The gate alone (make test)
+is the verdict.
 
-    changed.py [--quick] [BASE]     BASE is main where it is left out: what was committed since, and what isn't committed yet
+    changed.py [--quick] [BASE]     BASE is main where it is left out: what was committed since, and what
+                                    isn't committed yet
 
 - the form of the must-fail edits, the layout, the names in documents;
-- `rt check` in each crate that changed and, without --quick, in those above it: over the work that earlier checks kept;
-- without --quick: the must-fail edits of the crates that the record (tests/gate/refused.sums) doesn't answer for, the crates'
+- `rt check` in each crate that changed and, without --quick, in those above it: over the work that
+earlier checks kept;
+- without --quick: the must-fail edits of the crates that the record (tests/gate/refused.sums) doesn't answer
+for, the crates'
   calls, and the Python tests of the folders that changed.
 
---quick is what takes less than five minutes after a small change, once the crates below have been checked before.
+--quick is what takes less than five minutes after a small change, once the crates below have
+been checked before.
 """
 
 import argparse
@@ -41,7 +46,8 @@ def git(*words):
 def files_since(base):
     """The files that differ from where the branch left the base, with those that aren't committed."""
     since = git("merge-base", base, "HEAD").strip()
-    return {*git("diff", "--name-only", since).split("\n"), *git("ls-files", "-o", "--exclude-standard").split("\n")} - {""}
+    return {*git("diff", "--name-only", since).split("\n"),
+            *git("ls-files", "-o", "--exclude-standard").split("\n")} - {""}
 
 
 def crates_in(files, known, parts=("src/", "specs/", "proofs/")):
@@ -63,7 +69,8 @@ class Steps:
 
     def run(self, what, words, cwd=ROOT):
         """Runs a command, whose output is shown where it fails."""
-        ran = subprocess.run(words, cwd=cwd, stdin=subprocess.DEVNULL, stdout=subprocess.PIPE, stderr=subprocess.STDOUT)
+        ran = subprocess.run(words, cwd=cwd, stdin=subprocess.DEVNULL, stdout=subprocess.PIPE,
+                             stderr=subprocess.STDOUT)
         if ran.returncode:
             print(ran.stdout.decode(errors="replace"), end="")
         self.note(what, ran.returncode == 0)
@@ -71,7 +78,8 @@ class Steps:
 
 
 def try_edits(steps, layers, known):
-    """Tries the edits of the crates that the record doesn't answer for, over the libraries that checks left."""
+    """Tries the edits of the crates that the record doesn't answer for, over the libraries
+    that checks left."""
     sums = record.read(SUMS)
     stale = [it for it in known if layers.edits(it) and layers.state(it, kit.logic()) != sums.get(it)]
     print(f"the record doesn't answer for the edits of {len(stale)} crates: {' '.join(stale) or 'none'}")
@@ -82,13 +90,15 @@ def try_edits(steps, layers, known):
 
 
 def run_suites(steps, files):
-    """Runs the Python tests of the folders that changed, on the program if it is built. Those that it leaves out."""
+    """Runs the Python tests of the folders that changed, on the program if it is built. Those that
+    it leaves out."""
     wanted = [suite for suite, heads in SUITES.items() if any(it.startswith(heads) for it in files)]
     program = next((it for it in (ROOT / "crates/shb/out/shb", ROOT / "bin/shb") if it.exists()), None)
     if program is None:
         return [*SUITES] if wanted else []
     for suite in wanted:
-        steps.run(f"{suite} on {program.relative_to(ROOT)}", [sys.executable, f"{suite}/run.py", str(program)])
+        steps.run(
+            f"{suite} on {program.relative_to(ROOT)}", [sys.executable, f"{suite}/run.py", str(program)])
     return [it for it in SUITES if it not in wanted]
 
 
@@ -102,7 +112,8 @@ def check_change(base, is_quick):
     for name in to_check:
         steps.run(f"rt check {name}", ["rt", "check"], ROOT / "crates" / name)
     if is_quick:
-        left_out += ["the crates above those that changed", "all must-fail edits", "the tests of the crates and of the folders"]
+        left_out += ["the crates above those that changed", "all must-fail edits",
+                     "the tests of the crates and of the folders"]
     else:
         left_out.append("a tenth of the edits that the record answers for")
         steps.run("tests/calls.py", [sys.executable, "tests/calls.py"])

@@ -1,8 +1,10 @@
 """What the gate takes from the kit beside its commands. Another kit may want changes here, and only here.
 
-- the kit's command `rt` as a module: it reads an edit, and checks a copy of a crate over the libraries that `rt ci` left;
+- the kit's command `rt` as a module: it reads an edit, and checks a copy of a crate over the libraries that
+`rt ci` left;
 - the lines of `rt ci` that tell when a crate's library is there;
-- the checked modules of a built library, which lie in an archive of ar: their names tell how the checker names functions.
+- the checked modules of a built library, which lie in an archive of ar: their names tell how the
+checker names functions.
 """
 
 import functools
@@ -27,18 +29,21 @@ def command():
 
 
 def logic():
-    """The number of the kit's logic, the last word of its own line. Kits of other names that have it prove the same."""
+    """The number of the kit's logic, the last word of its own line. Kits of other names that have it
+    prove the same."""
     return pathlib.Path(command().KIT, "KIT-ID").read_text().split()[-1]
 
 
 def proofs_from(anew):
-    """The words after `rt` that prove everything, all of it anew if that is wanted. Some kits keep no proof and know no word for this."""
+    """The words after `rt` that prove everything, all of it anew if that is wanted. Some kits keep no proof
+    and know no word for this."""
     keeps = "--anew" in pathlib.Path(command().__file__).read_text()
     return ["ci", *["--anew"] * (anew and keeps)]
 
 
 def crates_of(room):
-    """The crates of the repository in a folder, by name. They are checked over the libraries that were built there.
+    """The crates of the repository in a folder, by name. They are checked over the libraries that
+    were built there.
 
     The folder is the working folder from then on, and what is checked ends when this process ends.
     """
@@ -48,7 +53,8 @@ def crates_of(room):
 
 
 def built_in(line):
-    """The crate whose library is there by this line of `rt ci`: proved now, or by an earlier run on this machine."""
+    """The crate whose library is there by this line of `rt ci`: proved now, or by an earlier run
+    on this machine."""
     found = re.fullmatch(r"rt: (\w+) (?:proved|is kept: .*)\n", line)
     return found and found[1]
 
@@ -74,29 +80,34 @@ def functions_of(crate):
 
 
 def change(edits, crate):
-    """The texts of the files that some edits change together, by path, or None where they can't be applied to one copy."""
+    """The texts of the files that some edits change together, by path, or None where they can't be applied
+    to one copy."""
     return command().edited("\n".join(edit.read_text() for edit in edits), crate.folder)[0]
 
 
 def check(crate, texts, functions, kept):
-    """Checks some functions of a copy of a crate that has these texts, over the work that a folder keeps. Its status and output."""
+    """Checks some functions of a copy of a crate that has these texts, over the work that a folder keeps. Its
+    status and output."""
     only = [word for name in sorted(functions) for word in ("--only", name)]
     ran = command().checked(crate, texts, ["--jobs", "1", *only], kept)
     return ran.returncode, ran.stdout
 
 
 def is_unread(line, texts):
-    """Whether a line says that a text couldn't be read, or that the work of a library below couldn't be used: no contract was tried then."""
+    """Whether a line says that a text couldn't be read, or that the work of a library below couldn't be used:
+    no contract was tried then."""
     return command().unread(line, texts) or bool(command().rtlib.STALE.search(line))
 
 
 def try_alone(crate, edit):
-    """Tries one edit as the kit does, on the whole crate from nothing. Whether it is refused, and what to say."""
+    """Tries one edit as the kit does, on the whole crate from nothing. Whether it is refused, and
+    what to say."""
     rt = command()
     answer, said = rt.must_fail(crate, str(edit), ["--jobs", "1"])
     if isinstance(answer, bool):  # some kits say no more of an edit
         return answer, said
-    return {rt.REFUSED: True, rt.AT_LIMIT: True, rt.BAD: False, rt.MISSED: False, rt.UNSURE: False}[answer], said
+    return ({rt.REFUSED: True, rt.AT_LIMIT: True, rt.BAD: False, rt.MISSED: False, rt.UNSURE: False}[answer],
+            said)
 
 
 def free_memory():

@@ -1,16 +1,18 @@
 """What the must-fail edits of each crate were refused on: tests/gate/refused.sums, a line a crate.
 
-Whether an edit is refused rests on the crate's own text, on the contracts, definitions and lemmas of the crates below, and
-on the kit's logic. It doesn't rest on bodies below, since a proof reads none. So the sum of a crate is over these texts, without
-comments. Where it is as the record has it, a tenth of the crate's edits is tried, which the commit draws: a forged line is
-found out by one gate in ten for each edit. A crate that isn't in the record has all its edits tried.
+Whether an edit is refused rests on the crate's own text, on the contracts, definitions and lemmas of the
+crates below, and on the kit's logic. It doesn't rest on bodies below, since a proof reads none. So the sum of
+a crate is over these texts, without comments. Where it is as the record has it, a tenth of the crate's edits
+is tried, which the commit draws: a forged line is found out by one gate in ten for each edit. A crate that
+isn't in the record has all its edits tried.
 """
 
 import hashlib
 import pathlib
 import re
 
-OF_A_PROOF = ("Answers.antt", "Invariants.antt", "Proof.antt")  # of one function's proof; the other files of proofs/ are lemmas
+# of one function's proof; the other files of proofs/ are lemmas
+OF_A_PROOF = ("Answers.antt", "Invariants.antt", "Proof.antt")
 DRAWN = 10  # of so many edits that the record answers for, one is tried
 
 
@@ -26,7 +28,8 @@ HEAD = re.compile(r"( *)(?:pub(?:\(\w+\))? )?(?:const |unsafe )*(fn|impl|trait|s
 
 
 def without_bodies(text):
-    """A file of Rattle without the bodies of its functions with contracts, whose braces have lines of their own."""
+    """A file of Rattle without the bodies of its functions with contracts, whose braces have lines
+    of their own."""
     kept, end, is_function = [], None, {}
     for line in text.split("\n"):
         if end is not None and line != end:
@@ -82,7 +85,8 @@ class Layers:
         return sorted((self.folder / name / "must-fail").glob("*.edit"))
 
     def state(self, name, logic):
-        """A sum of all that the answers to a crate's edits rest on. The kit is told by the number of its logic."""
+        """A sum of all that the answers to a crate's edits rest on. The kit is told by the number
+        of its logic."""
         own = texts(self.folder / name, "src", "specs", "proofs", "must-fail")
         below = [(it, seen_from_above(self.folder / it)) for it in self.below(name)]
         return sum_of([logic, name, self.uses[name], own, below])

@@ -4,8 +4,8 @@
     steps.py LOG ci [--anew]  runs `rt ci` in this folder; the gate's option --steps LOG does so
     steps.py --sum LOG        prints the sums by crate and kind, and the ten dearest steps
 
-A line of LOG is a check: CPU seconds, wall seconds, MB, what it was (proof, tests or edits), the crate. Written by the
-processes that the kit's command starts, which is read as a module (kit.py).
+A line of LOG is a check: CPU seconds, wall seconds, MB, what it was (proof, tests or edits), the crate.
+Written by the processes that the kit's command starts, which is read as a module (kit.py).
 """
 
 import collections
@@ -51,7 +51,8 @@ def print_sums(log):
         sums[crate][kind].append(float(cpu))
         sums["all"][kind].append(float(cpu))
     for crate, kinds in sorted(sums.items()):
-        print(crate, *[f"{kind} {sum(all_of):.0f} s ({len(all_of)})" for kind, all_of in kinds.items()], sep="  ")
+        print(crate, *[f"{kind} {sum(all_of):.0f} s ({len(all_of)})" for kind, all_of in kinds.items()],
+              sep="  ")
     print(f"all: {sum(float(step[0]) for step in steps) / 60:.0f} CPU minutes")
     for step in sorted(steps, key=lambda step: -float(step[0]))[:10]:
         print(f"{float(step[0]):6.0f} s", *step[3:])
