@@ -25,8 +25,8 @@ def arguments():
     parser.add_argument("--private", type=int, default=30, help="accesses of own variables, in 100")
     parser.add_argument("--section", type=int, default=6, help="accesses in a locked section")
     parser.add_argument("--reads", type=int, default=67, help="reads, in 100 accesses")
-    parser.add_argument("--alive", type=int, help="how many threads run at once (all of them where it is "
-                                                  "left out)")
+    parser.add_argument("--alive", type=int,
+                        help="how many threads run at once (all of them where it is left out)")
     parser.add_argument("--races", type=int, default=0,
                         help="unprotected pairs of writes, in a million steps")
     parser.add_argument("--open", type=int, default=16, help="variables that nothing protects")

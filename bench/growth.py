@@ -1,7 +1,9 @@
 #!/usr/bin/env python3
-"""Shows how time grows with a trace: for each shape of traces the processor time for a number of events and
-for four times as many, with one worker, and the ratio, which is about 4 where time is linear. By hand, on the
-built program. `list` is `shb races --list`, `places` is `shb places`, and `check` checks what `places` wrote.
+"""Shows how time grows with a trace.
+
+For each shape of traces the processor time for a number of events and for four times as many, with one
+worker, and the ratio, which is about 4 where time is linear. By hand, on the built program. `list` is `shb
+races --list`, `places` is `shb places`, and `check` checks what `places` wrote.
 
     growth.py [--events N] [--only WORD] [PROGRAM]
 """
@@ -63,8 +65,8 @@ SHAPES = {
     "1,000 threads read": lambda n: (f"T{k % 1000}|r(x)\n" for k in range(n)),
     "1,000 threads read what one wrote": lambda n: ["T0|w(x)\n", *(f"T{k % 1000}|r(x)\n" for k in range(n))],
     "one writes what 1,000 threads read": lambda n: [*(f"T{k % 1000}|r(x)\n" for k in range(n)), "T0|w(x)\n"],
-    "each reads what the one before wrote": lambda n: (f"T{k % 250}|r(c{k})\nT{k % 250}|w(c{k + 1})\n"
-                                                       for k in range(n // 2)),
+    "each reads what the one before wrote": lambda n: (f"T{k % 250}|r(c{k})\n"
+                                                       f"T{k % 250}|w(c{k + 1})\n" for k in range(n // 2)),
     "1,000 threads write under a lock": under_a_lock(1000, "w"),
     "8 threads write under a lock, after a race": after_a_race(8, "w"),
     "64 threads write under a lock, after a race": after_a_race(64, "w"),

@@ -1,8 +1,9 @@
 #!/usr/bin/env python3
-"""Times the built program on made traces, or on the given ones, and prints a table: for each trace, form of
-the report and number of workers the least wall time of some runs, its ratio to that with one worker, the
-processor time of that run and the most memory; and, of one worker, the ratio to `wc -l` of the trace. All is
-of this one run. Of given traces list reports are made, or with --full full ones.
+"""Times the built program on made traces, or on the given ones, and prints a table.
+
+For each trace, form of the report and number of workers it has the least wall time of some runs, its ratio to
+that with one worker, the processor time of that run and the most memory; and, of one worker, the ratio to
+`wc -l` of the trace. All is of this one run. Of given traces list reports are made, or with --full full ones.
 
     measure.py [--large] [--repeats N] [--only WORD] [PROGRAM]
     measure.py [--full] [--repeats N] PROGRAM TRACE..
@@ -47,9 +48,8 @@ TRACES = [
     Trace("a million, 1,000 threads forked and joined, 16 at once",
           million("--threads", "1000", "--alive", "16", *SOME_RACES)),
     Trace("a million, one late race", million("--late"), ("full",)),
-    Trace(
-        "a hundred thousand, many races, long schedules", ["--events", "100000", "--races",
-                                                           "20000"], ("list", "full")),
+    Trace("a hundred thousand, many races, long schedules", ["--events", "100000", "--races", "20000"],
+          ("list", "full")),
     Trace("four million", ["--events", "4000000", *SOME_RACES], is_large=True),
     Trace("four million, 32 threads", ["--events", "4000000", "--threads", "32", *SOME_RACES], is_large=True),
 ]

@@ -46,9 +46,8 @@ def least(words, runs, record):
     for _ in range(runs):
         for name, more in settings.items():
             figures[name].append(measured(words, more))
-    return (
-        *([min(column) for column in zip(*figures[name])]
-          for name in settings), (record.stat().st_size - HEADER_BYTES) // RECORD_BYTES)
+    return *([min(column) for column in zip(*figures[name])]
+             for name in settings), (record.stat().st_size - HEADER_BYTES) // RECORD_BYTES
 
 
 def print_row(name, words, runs, folder):

@@ -1,7 +1,8 @@
 #!/usr/bin/env python3
-"""Looks for traces that are slow to analyse: draws traces of few parameters, counts instructions for each
-byte that is read or written (valgrind's callgrind, one worker), and climbs from the dearest to its
-neighbours. By hand, on the built program.
+"""Looks for traces that are slow to analyse.
+
+It draws traces of few parameters, counts instructions for each byte that is read or written (valgrind's
+callgrind, one worker), and climbs from the dearest to its neighbours. By hand, on the built program.
 
     slow.py [--minutes N] [--events N] [--seed N] [--form places|races] [PROGRAM]
 

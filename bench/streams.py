@@ -1,6 +1,5 @@
 #!/usr/bin/env python3
-"""Measures `shb places --list` on streams of any length, which are made meanwhile, and prints
-time and memory.
+"""Measures time and memory of `shb places --list` on streams of any length, which are made meanwhile.
 
     streams.py [--events N,..] [--beside COMMAND] [PROGRAM]
 

@@ -1,7 +1,8 @@
 #!/usr/bin/env python3
-"""Counts what the built program costs on some traces, in instructions or memory, and compares this with
-bounds. No clause of a contract speaks of cost, so only this step notices a table that isn't found again, or a
-search that looks twice.
+"""Counts what the built program costs on some traces, in instructions or memory, against bounds.
+
+No clause of a contract speaks of cost, so only this step notices a table that isn't found again, or a search
+that looks twice.
 
     costs.py [--only WORD] [--write] [PROGRAM]
 
@@ -214,10 +215,8 @@ def key(cost):
 
 
 def bounds():
-    return (
-        {name: int(bound)
-         for name, bound in (line.split("\t") for line in BOUNDS.read_text().splitlines() if line)}
-        if BOUNDS.exists() else {})
+    return {name: int(bound) for name, bound in (line.split("\t") for line in BOUNDS.read_text().splitlines()
+                                                 if line)} if BOUNDS.exists() else {}
 
 
 def complaints(cost, once, twice, bound):
@@ -246,9 +245,8 @@ def main():
     chosen = [cost for cost in costs() if options.only in key(cost)]
     known, failed = bounds(), 0
     with concurrent.futures.ThreadPoolExecutor(AT_ONCE) as pool:
-        for cost, (once, twice) in zip(chosen,
-                                       pool.map(lambda cost: measured(options.program.resolve(), cost),
-                                                chosen)):
+        for cost, (once, twice) in zip(
+            chosen, pool.map(lambda cost: measured(options.program.resolve(), cost), chosen)):
             if options.write:
                 known[key(cost)] = cost.bound(once)
             wrong = [*complaints(cost, once, twice, known.get(key(cost)))]

@@ -27,8 +27,8 @@ OUTSIDE = {
     "a message of Slurm": "Duplicate jobid",
     "options of gcc": "func instrument lubsan param",
     "settings of CMake, Meson and make": "DCMAKE_CXX_FLAGS DCMAKE_C_FLAGS Db_sanitize LDFLAGS",
-    "names of ThreadSanitizer's that the recorder leaves out": "__interceptor_* __sanitizer_syscall_pre_* "
-                                                               "_post_*",
+    "names of ThreadSanitizer's that the recorder leaves out":
+        "__interceptor_* __sanitizer_syscall_pre_* _post_*",
     "others of these, and one that it makes by macros": "__tsan_default_suppressions __tsan_read4_pc",
     "a descriptor": "fd5",
     "a service": "gitlab",
@@ -293,9 +293,8 @@ def faults_of_trusted(crates, text):
     lines = [line.partition(":") for line in crates.splitlines()]
     own = {name.split()[0] for name, _, _ in lines if name.split()}
     section = text.partition("### Trusted\n")[2].partition("\n#")[0]
-    return [f"not among what is trusted: {name}"
-            for name in sorted({word for _, _, used in lines for word in used.split()} - own)
-            if f"`{name}`" not in section]
+    return [f"not among what is trusted: {name}" for name in sorted(
+        {word for _, _, used in lines for word in used.split()} - own) if f"`{name}`" not in section]
 
 
 def main():
@@ -304,8 +303,8 @@ def main():
     wrong = {text: ["the test of this script"] for text in failed_tests()}
     wrong["docs/*.md and READMEs together"] = faults_of_all(repository)
     wrong.update((document, faults_of(repository, document)) for document in repository.documents)
-    wrong["crates.txt"] = faults_of_trusted(
-        (ROOT / "crates.txt").read_text(), (ROOT / "docs/GUARANTEES.md").read_text())
+    wrong["crates.txt"] = faults_of_trusted((ROOT / "crates.txt").read_text(),
+                                            (ROOT / "docs/GUARANTEES.md").read_text())
     for name, faults in wrong.items():
         for fault in faults:
             print(f"{name}: {fault}")

@@ -69,9 +69,8 @@ def functions(sources, crate):
 
 def without_edit(sources, edited):
     """The exported functions that no edit is named after; `edited` has the names of each crate's edits."""
-    return {
-        crate: {name for name in functions(sources, crate)
-                if name.split("::")[-1] not in edited.get(crate, ())}
+    return {crate: {name for name in functions(sources, crate)
+                    if name.split("::")[-1] not in edited.get(crate, ())}
             for crate in sources.codes}
 
 
@@ -103,7 +102,6 @@ def unedited(sources, edited):
 def sources():
     """The sources of the crates, as surface.py reads them."""
     crates = HERE.parent / "crates"
-    return surface.Sources(
-        {it.name: {path.relative_to(it / "src").as_posix(): path.read_text()
-                   for path in sorted((it / "src").rglob("*.rt"))}
+    return surface.Sources({it.name: {path.relative_to(it / "src").as_posix(): path.read_text()
+                                      for path in sorted((it / "src").rglob("*.rt"))}
                             for it in sorted(crates.iterdir()) if (it / "src").is_dir()})

@@ -69,7 +69,7 @@ class Reader:
                 word, name, local, location, *sums = fields
                 is_local = name.startswith("stack.")
                 for count, thread, locks in accesses_of(
-                        list(zip(sums[::3], map(int, sums[1::3]), sums[2::3]))):
+                    list(zip(sums[::3], map(int, sums[1::3]), sums[2::3]))):
                     yield Access(None, thread, "r" if word == "r" else "w", name, location,
                                  *(frozenset(lasting.get(lock, lock) for lock in its) for its in locks),
                                  word == "f", word == "a", local if is_local else lasting.get(name, ""),
@@ -169,9 +169,8 @@ def accesses_of(sums):
                                     key=lambda it: (re.sub("[0-9]", "", it[2]), it)):
         arcs.append((kind, name, at, count))
         at = (at + count) % held
-    bounds = sorted(
-        {0, bare, bare + held, *ends,
-         *(bare + place % held for _, _, start, count in arcs for place in (start, start + count))})
+    bounds = sorted({0, bare, bare + held, *ends, *(bare + place % held for _, _, start, count in arcs
+                                                    for place in (start, start + count))})
     for begin, end in zip(bounds, bounds[1:]):
         thread = of("by")[bisect.bisect(ends, begin)][0]
         its = [(kind, name) for kind, name, start, count in arcs if begin >= bare
@@ -339,9 +338,8 @@ class Group:
         named = {access.number: access.name for access in self.traced}
         races = [race for race in self.races_of_form() if named.get(race[0]) in names]
         lines = {access.number: access.location for access in self.traced}
-        return Group(self.reader, {**self.fact, "group": names,
-                                   "all_races": races}, {(lines[first], lines[second])
-                                                         for first, second in races})
+        return Group(self.reader, {**self.fact, "group": names, "all_races": races},
+                     {(lines[first], lines[second]) for first, second in races})
 
     def check_alone(self):
         """A fact holds of each variable in the same form: no earlier one holds of one of them alone."""
@@ -414,10 +412,8 @@ class Group:
 
     @staticmethod
     def misses(store, load):
-        return [order
-                for order, has in (
-                    ("release", store.order in ("release", "both")), (
-                        "acquire", load.order in ("acquire", "both"))) if not has]
+        return [order for order, has in (("release", store.order in ("release", "both")),
+                                         ("acquire", load.order in ("acquire", "both"))) if not has]
 
     def check_published(self):
         by_number, places = {access.number: access for access in self.traced}, set()
@@ -522,8 +518,9 @@ class Group:
         for variable in of if len(set(of.values())) > 1 else ():
             held = collections.Counter()
             for access in self.all:
-                for lock in access.held | access.shared if access.variable == variable and not access.is_free else ():
-                    held[lock] += access.count
+                if access.variable == variable and not access.is_free:
+                    for lock in access.held | access.shared:
+                        held[lock] += access.count
             if (any(count > held[of[variable]] for lock, count in held.items()
                     if NUMBERS.sub("*", lock) == name) and not self.is_merged()):
                 yield f"{of[variable]} isn't the lock that most accesses of {variable} hold"
@@ -554,9 +551,9 @@ class Group:
         is_bare = not any(access.held or access.shared for line in lines for access in self.used(line))
         if not is_bare and not some and len(holding) <= len(lines):
             yield "the lines hold other locks, and are not fewer"
-        if (not is_beside(of, self.variables)
-            and not any(access.word == "w" for line in holding for access in self.at(line)) and any(
-                access.word == "r" for line in lines for access in self.used(line))):
+        if not is_beside(of, self.variables) and not any(access.word == "w" for line in holding
+                                                         for access in self.at(line)) and any(
+                access.word == "r" for line in lines for access in self.used(line)):
             yield "readers alone hold it"
         if (len(set(of.values())) > 1
             and len({re.sub(r"(#|\[)[0-9]+", r"\1", lock) for lock in of.values()}) > 1):
@@ -594,9 +591,8 @@ class Group:
                     yield f"{line} doesn't hold {of}"
         for line in lines:
             every = [self.locks(access) for access in self.used(line)]
-            if (len(self.variables) == 1 and every
-                and frozenset.intersection(*every)
-                != {lock for of in held.get(line, ()) for lock in of.values()}):
+            if len(self.variables) == 1 and every and frozenset.intersection(*every) != {
+                lock for of in held.get(line, ()) for lock in of.values()}:
                 yield f"{line} holds others"
 
     def has_without(self, are_kept=False):
@@ -645,9 +641,8 @@ class Group:
         return len(self.variables) == 1 and any(
             len({self.has(access, lock) for access in self.used(line)}) == 2
             and any(access.word == "w" for access in self.used(line))
-            and not all(
-                any(re.sub("[0-9]", "", other) == re.sub("[0-9]", "", lock) for other in self.locks(access))
-                for access in self.used(line))
+            and not all(any(re.sub("[0-9]", "", other) == re.sub("[0-9]", "", lock)
+                            for other in self.locks(access)) for access in self.used(line))
             for line in self.lines
             for lock in self.held_at(line) - self.reader.private)
 

@@ -17,13 +17,11 @@ class Made:
         self.code = {thread: [] for thread in self.threads}
         # how often a line uses a field, a global variable, an atomic in a way, all that is handed on,
         # and frees
-        self.weights = pick.choice(
-            ((8, 3, 2, 2, 1, 1, 1, 1, 1), (1, 0, 1, 1, 3, 0, 1, 6,
-                                           6), (1, 0, 1, 1, 3, 0, 1, 6,
-                                                6), (8, 0, 0, 0, 0, 0, 1, 0, 0), (2, 0, 1, 1, 2, 3, 0, 1, 1),
-                                    (4, 0, 0, 0, 3, 0, 2, 2, 2)))
-        self.guards = pick.choice(
-            ((6, 2, 2, 1, 3, 1), (1, 0, 0, 0, 9, 0), (9, 0, 0, 0, 2, 1), (1, 0, 5, 3, 1, 0)))
+        self.weights = pick.choice(((8, 3, 2, 2, 1, 1, 1, 1, 1), (1, 0, 1, 1, 3, 0, 1, 6, 6),
+                                    (1, 0, 1, 1, 3, 0, 1, 6, 6), (8, 0, 0, 0, 0, 0, 1, 0, 0),
+                                    (2, 0, 1, 1, 2, 3, 0, 1, 1), (4, 0, 0, 0, 3, 0, 2, 2, 2)))
+        self.guards = pick.choice(((6, 2, 2, 1, 3, 1), (1, 0, 0, 0, 9, 0), (9, 0, 0, 0, 2, 1),
+                                   (1, 0, 5, 3, 1, 0)))
         # long traces have few atomics that are handed on in each race
         self.is_short = self.weights[-1] >= 6
         if self.is_short:
@@ -82,9 +80,9 @@ class Made:
         elif kind == "free":
             found.append(("free", thing, line))
         elif kind == "hand":
-            found += [("access", b"w", self.field(thing, name),
-                       line), ("store", atomic, order if order in (b"relaxed", b"release") else b"relaxed",
-                               line + b"1")]
+            found += [("access", b"w", self.field(thing, name), line),
+                      ("store", atomic, order if order in (b"relaxed", b"release") else b"relaxed",
+                       line + b"1")]
         elif kind == "taken":
             found += [("load", atomic, order if order in (b"relaxed", b"acquire") else b"relaxed",
                        line + b"1"), ("if-handed", atomic, self.field(thing, name), line)]
@@ -285,12 +283,12 @@ def counted_beside():
 
 def handed_by_others():
     """Two races of one place, between the accesses of each of which another atomic is handed on."""
-    trace = (
-        b"T0|w(x)|f.c:1\nT0|r(B)|f.c:2\nT1|r(B)|f.c:3\nT1|r(x)|f.c:4\nT1|acq(l)|f.c:5\nT1|rel(l)|f.c:5\nT0|acq(l)|f.c:6\nT0|rel(l)|f.c:6\n"
+    trace = (b"T0|w(x)|f.c:1\nT0|r(B)|f.c:2\nT1|r(B)|f.c:3\nT1|r(x)|f.c:4\n"
+             b"T1|acq(l)|f.c:5\nT1|rel(l)|f.c:5\nT0|acq(l)|f.c:6\nT0|rel(l)|f.c:6\n"
              b"T0|w(x)|f.c:1\nT0|r(C)|f.c:7\nT1|r(C)|f.c:8\nT1|r(x)|f.c:4\n")
     uses = b"".join(b"use %d\t%b\tT%d\tf.c:%d\t%b relaxed\n" % use for use in (
-        (2, b"B", 0, 2, b"store"), (3, b"B", 1, 3,
-                                    b"load"), (10, b"C", 0, 7, b"store"), (11, b"C", 1, 8, b"load")))
+        (2, b"B", 0, 2, b"store"), (3, b"B", 1, 3, b"load"), (10, b"C", 0, 7, b"store"),
+        (11, b"C", 1, 8, b"load")))
     return trace, b"shb-stacks 1 %020d\n" % 12 + bytes(48) + uses
 
 
@@ -311,9 +309,8 @@ def crossed_locks():
     the other's, and under none."""
     lines = []
     for one, other in ((1, 2), (2, 1)):
-        lines += [b"T0|acq(o[%d].l)|f.c:1" % one,
-                  *[b"T0|w(o[%d].a)|f.c:%d" % (one, line) for line in (7, 8, 9)],
-                  b"T0|rel(o[%d].l)|f.c:3" % one]
+        lines += [b"T0|acq(o[%d].l)|f.c:1" % one, *[b"T0|w(o[%d].a)|f.c:%d" % (one, line)
+                                                    for line in (7, 8, 9)], b"T0|rel(o[%d].l)|f.c:3" % one]
         lines += [b"T1|acq(o[%d].l)|f.c:4" % other, b"T1|w(o[%d].a)|f.c:5" % one,
                   b"T1|rel(o[%d].l)|f.c:6" % other, b"T1|r(o[%d].a)|f.c:2" % one]
     return whole(lines)
@@ -331,8 +328,8 @@ def at_times():
 def freed_after():
     """A line writes under a lock, another one reads without it, and at last the block is freed without it,
     in no race."""
-    trace = (
-        b"T0|fork(T1)|f.c:1\nT0|acq(m)|f.c:2\nT0|w(x)|f.c:3\nT0|rel(m)|f.c:4\nT1|r(x)|f.c:5\nT0|join(T1)|f.c:6\nT0|w(x)|f.c:7\n")
+    trace = (b"T0|fork(T1)|f.c:1\nT0|acq(m)|f.c:2\nT0|w(x)|f.c:3\nT0|rel(m)|f.c:4\nT1|r(x)|f.c:5\n"
+             b"T0|join(T1)|f.c:6\nT0|w(x)|f.c:7\n")
     return trace, b"shb-stacks 1 %020d\n" % 7 + bytes(28) + b"free 7 7\n"
 
 

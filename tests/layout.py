@@ -1,16 +1,42 @@
 #!/usr/bin/env python3
-"""Formats a copy of each crate, and says which files 'rt fmt' would change. `rt ci` refuses a crate with such
-a file, but only once it has proved those below it. Ends with the line 'N passed, N failed'.
+"""Says which files of crates 'rt fmt' would change, and which lines of Python are too long.
+
+Each crate is formatted in a copy. `rt ci` refuses one that isn't, but only once it has proved those below it.
+Ends with the line 'N passed, N failed'.
 """
 
 import filecmp
 import pathlib
+import re
 import shutil
 import subprocess
 import sys
 import tempfile
 
 ROOT = pathlib.Path(__file__).resolve().parent.parent
+MOST = 110      # characters in a line of Python
+UNWRAPPED = "recorder/"     # its Python isn't looked at yet
+
+
+def is_python(name, text):
+    """Whether a file is Python: commands have no ending."""
+    return name.endswith(".py") or bool(re.match("#!.*python", text))
+
+
+def too_long(name, text):
+    """The lines of a file of Python that are too long."""
+    return [f"{name}:{number}: {len(line)} characters, and {MOST} are allowed"
+            for number, line in enumerate(text.split("\n"), 1) if len(line) > MOST]
+
+
+def python_files(root):
+    """The files of Python that git tracks or would, each with its text."""
+    listing = ["git", "-C", root, "ls-files", "-co", "--exclude-standard"]
+    for name in subprocess.run(listing, capture_output=True, check=True, text=True).stdout.splitlines():
+        if (root / name).is_file() and not name.startswith(UNWRAPPED):
+            text = (root / name).read_text(encoding="utf-8", errors="replace")
+            if is_python(name, text):
+                yield name, text
 
 
 def changed(folder, copy):
@@ -29,17 +55,23 @@ def misplaced(folder, copies):
 
 def main():
     crates = [*sorted(path.parent for path in (ROOT / "crates").glob("*/src")), ROOT / "tests" / "calls"]
-    failed = 0
+    passed = failed = 0
+    for name, text in python_files(ROOT):
+        wrong = too_long(name, text)
+        failed += bool(wrong)
+        passed += not wrong
+        print(*wrong, sep="\n", end="\n" * bool(wrong))
     with tempfile.TemporaryDirectory() as room:
         shutil.copy(ROOT / "crates.txt", room)
         copies = pathlib.Path(room) / "crates"
         for crate in crates:
             wrong = misplaced(crate, copies)
             failed += bool(wrong)
+            passed += not wrong
             for what in wrong:
                 print(f"not as rt fmt lays it out: {what}")
-    print(f"{len(crates) - failed} passed, {failed} failed")
-    return 1 if failed or not crates else 0
+    print(f"{passed} passed, {failed} failed")
+    return 1 if failed or not passed else 0
 
 
 if __name__ == "__main__":

@@ -191,9 +191,8 @@ class Sizes:
         owner, _, name = callee.name.rpartition("::")
         place, count = ([*callee.arguments].index(argument) - callee.takes_self,
                         len(callee.arguments) - callee.takes_self)
-        head = (
-            r"\." if callee.takes_self
-            else (rf"\b(?:{owner}|Self)(?:::<[^()]*>)?::" if owner else r"(?<![\w.:])"))
+        head = r"\." if callee.takes_self else (rf"\b(?:{owner}|Self)(?:::<[^()]*>)?::" if owner
+                                                else r"(?<![\w.:])")
         for function in self.functions:
             for found in re.finditer(rf"{head}{name}(?:::<[^()]*>)?(?=\()", function.text):
                 ends = end_of(function.text, found.end())
@@ -209,9 +208,8 @@ class Sizes:
             self.look_at_requests(function)
         for callee, argument in self.passed_on:  # it grows meanwhile
             self.look_at_calls(callee, argument)
-        return (
-            self.wrong + [f"{file}: {size} is no size there"
-                          for file, size in OTHERS if file in self.codes and (file, size) not in self.used])
+        return self.wrong + [f"{file}: {size} is no size there" for file, size in OTHERS if file in self.codes
+                             and (file, size) not in self.used]
 
 
 def wrong_in(name, text):

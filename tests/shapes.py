@@ -77,8 +77,8 @@ def learning(n):
     """The same, where each access comes after its thread has learned something else."""
     pick = random.Random(1)
     for k in range(n // 5):
-        yield (
-            f"A|w(x)|a{pick.randrange(100)}\nC|w(y{k % 7})|c\nB|r(y{k % 7})|d\nB|w(x)|b{pick.randrange(100)}\nB|r(q)|e\n")
+        yield (f"A|w(x)|a{pick.randrange(100)}\nC|w(y{k % 7})|c\nB|r(y{k % 7})|d\n"
+               f"B|w(x)|b{pick.randrange(100)}\nB|r(q)|e\n")
 
 
 def both_kinds(n):
@@ -210,8 +210,8 @@ def memory_in_order(n):
     for k in range(n):
         thread, number = k // 50 % 4, (k // 200 * 50 + k % 50) % 2000
         variable = f"src/codec/block_compressor.cc:{1000 + thread}#{number // 512}+{number % 512 * 8}"
-        yield (
-            f"worker-{thread}.run|{'w' if k % 3 == 0 else 'r'}({variable})|codec/block_compressor.cc:{100 + k % 40}\n")
+        yield (f"worker-{thread}.run|{'w' if k % 3 == 0 else 'r'}({variable})|"
+               f"codec/block_compressor.cc:{100 + k % 40}\n")
 
 
 def forked_and_joined(n):
@@ -224,9 +224,8 @@ def variables_under_a_lock(n):
     """200 threads in turn write 30 of 20,010 variables each under a lock: in the end each thread has
     written each variable."""
     for k in range(n // 32):
-        yield (
-            f"T{k % 200}|acq(l)|a\n" + "".join(f"T{k % 200}|w(v{(30 * k + i) % 20010})|b\n"
-                                               for i in range(30)) + f"T{k % 200}|rel(l)|c\n")
+        yield f"T{k % 200}|acq(l)|a\n" + "".join(f"T{k % 200}|w(v{(30 * k + i) % 20010})|b\n"
+                                                 for i in range(30)) + f"T{k % 200}|rel(l)|c\n"
 
 
 def variables_of_many_threads(n):

@@ -126,9 +126,8 @@ class Sources:
             return ";"
         if kind == "trait":
             types = [f"type {it}" for it in re.findall(r"(?m)^    type (\w+)", inner)]
-            return (
-                " { %s }"
-                % "; ".join(types + [f"{name}{types}" for name, types in functions(inner, False).items()]))
+            return " { %s }" % "; ".join(
+                types + [f"{name}{types}" for name, types in functions(inner, False).items()])
         found = members(inner)
         if kind == "struct" and not all(it.startswith("pub ") for it in found):
             return ""

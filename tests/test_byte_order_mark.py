@@ -34,9 +34,8 @@ class ByteOrderMarks(program.Case):
 
     def test_a_refused_trace(self):
         """The fault comes first, and what the line has comes last."""
-        for text, fault in ((MARK + b"# a comment\n",
-                             b"line 1: the line has no operation field\n"), (MARK, b"line 1: the line has no "
-                                                                             b"operation field\n"),
+        for text, fault in ((MARK + b"# a comment\n", b"line 1: the line has no operation field\n"),
+                            (MARK, b"line 1: the line has no operation field\n"),
                             (MARKED + b"T0|x\n", b"line 3: the operation is not known\n")):
             with self.subTest(text):
                 self.expect(program.run(["races"], text), 2, b"", fault + SAID)

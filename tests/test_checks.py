@@ -102,9 +102,8 @@ LINES = [
 
 
 def places(count):
-    return (
-        b"places %d\n" % count + b"".join(b"place %d: 1\nat \nand \n" % number
-                                          for number in range(1, count + 1)))
+    return b"places %d\n" % count + b"".join(b"place %d: 1\n"
+                                             b"at \nand \n" % number for number in range(1, count + 1))
 
 
 # Changes of the places.

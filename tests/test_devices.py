@@ -17,13 +17,9 @@ class Devices(program.Case):
 
     def writers(self):
         """The words that write, and what each is given."""
-        return ((["races", self.trace], b""), (["races", "--list"],
-                                               TRACE), ([],
-                                                        TRACE), (["places", self.trace], b""), (
-                                                            ["places", "--list", self.trace],
-                                                            b""), (["places", "--list"],
-                                                                   TRACE), (["check", self.trace],
-                                                                            self.report), (["--help"], b""))
+        return ((["races", self.trace], b""), (["races", "--list"], TRACE), ([], TRACE),
+                (["places", self.trace], b""), (["places", "--list", self.trace], b""),
+                (["places", "--list"], TRACE), (["check", self.trace], self.report), (["--help"], b""))
 
     def test_a_missing_file(self):
         """The first line is fixed; the second names the file, without what doesn't print, and
@@ -70,9 +66,8 @@ class Devices(program.Case):
         self.assertEqual((ran.returncode, ran.stdout, ran.stderr), (0, self.report, b""))
 
     def test_standard_input_that_is_a_terminal(self):
-        for words, given, said in ((["places"], b"",
-                                    "reading the trace from standard input"), ([], b"", "reading the trace "
-                                                                               "from standard input"),
+        for words, given, said in ((["places"], b"", "reading the trace from standard input"),
+                                   ([], b"", "reading the trace from standard input"),
                                    (["check", self.trace], b"", "reading the report from standard input")):
             master, terminal = os.openpty()
             started = subprocess.Popen([program.PATH, *words], stdin=terminal, stdout=subprocess.PIPE,
@@ -138,8 +133,8 @@ class Devices(program.Case):
 
     def test_a_failing_standard_error_is_passed_over(self):
         refused = self.file(b"oops\n", "oops.std")
-        for words, status in ((["races", refused], 2), (["frobnicate"],
-                                                        3), (["races", self.folder / "none"], 4)):
+        for words, status in ((["races", refused], 2), (["frobnicate"], 3),
+                              (["races", self.folder / "none"], 4)):
             with open("/dev/full", "wb") as full:
                 self.assertEqual(program.run(words, stderr=full), (status, b"", None))
 

@@ -26,7 +26,8 @@ MADE = int(os.environ.get("SHB_FACTS", 300))  # traces
 def facts_of(trace, stacks, written=None):
     """The facts of a trace's groups, each with the pairs of lines of its group, as `places.json` has them.
     `written` is a report, where it isn't the trace's own."""
-    with tempfile.TemporaryFile() as file, tempfile.TemporaryFile() as report, tempfile.NamedTemporaryFile() as beside:
+    with tempfile.TemporaryFile() as file, tempfile.TemporaryFile() as report, \
+            tempfile.NamedTemporaryFile() as beside:
         file.write(trace)
         report.write(written or shb.report(trace, False))
         beside.write(stacks)
@@ -41,9 +42,8 @@ def facts_of(trace, stacks, written=None):
         made = view.Subject(given, counts, 0, False, counts.events)
         how = asked()._replace(has_windows=False)
         for section in view.make_sections(how, kinds, made, Trace(file, QUIET), gathered.groups())[1]:
-            yield (
-                result.group_entry(shown, section), [tuple(map(text, pair.locations))
-                                                     for pair in section.group.pairs])
+            yield result.group_entry(shown, section), [tuple(map(text, pair.locations))
+                                                       for pair in section.group.pairs]
 
 
 def read_again(traces):
@@ -75,7 +75,5 @@ class Facts(program.Case):
         self.assertEqual(
             (fact["form"], list(facts_reader.Reader(trace).faults([(fact, pairs)]))), ("ordered", []))
         fact["form"] = "apart"
-        self.assertNotEqual(
-            list(
-                facts_reader.Reader(trace).faults(
-                    [({**fact, "lines": ["a.c:1", "a.c:4"], "held": {}, "all_hold": False}, pairs)])), [])
+        self.assertNotEqual(list(facts_reader.Reader(trace).faults(
+            [({**fact, "lines": ["a.c:1", "a.c:4"], "held": {}, "all_hold": False}, pairs)])), [])

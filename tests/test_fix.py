@@ -27,14 +27,14 @@ REPAIRS = [
 ORDERED = [
     ("a lock that was held", "T1|w(x) T1|rel(l)|2", "T1|acq(l)|2 T1|w(x) T1|rel(l)|2"),
     ("no release", "T0|acq(l)|1 T1|acq(l)|2", "T0|acq(l)|1 T0|rel(l)|2 T1|acq(l)|2"),
-    ("no release before a join", "T0|fork(T1) T1|acq(l) T0|join(T1)", "T0|fork(T1) T1|acq(l) T1|rel(l) "
-                                                                      "T0|join(T1)"),
+    ("no release before a join", "T0|fork(T1) T1|acq(l) T0|join(T1)",
+     "T0|fork(T1) T1|acq(l) T1|rel(l) T0|join(T1)"),
     ("a late fork", "T1|w(x)|1 T0|fork(T1)|2", "T0|fork(T1)|2 T1|w(x)|1"),
     ("a lock that was held, and volatiles", "T0|vw(f) T1|vr(f) T0|rel(l)",
      "T0|acq(l) T0|acq(f#volatile.0.T1) T0|rel(f#volatile.0.T1) T1|acq(f#volatile.0.T1) "
      "T1|rel(f#volatile.0.T1) T0|rel(l)"),
-    ("a late fork in a log with others", "T2|w(x) T1|w(x) T2|w(y) T1|fork(T2) T2|w(z)", "T1|fork(T2) T2|w(x) "
-     "T1|w(x) T2|w(y) T2|w(z)"),
+    ("a late fork in a log with others", "T2|w(x) T1|w(x) T2|w(y) T1|fork(T2) T2|w(z)",
+     "T1|fork(T2) T2|w(x) T1|w(x) T2|w(y) T2|w(z)"),
 ]
 # and what is only written in another form.
 TRANSLATED = [
@@ -45,7 +45,8 @@ TRANSLATED = [
                                            "T1|acq(f#volatile.0.T1)|2 T1|rel(f#volatile.0.T1)|2"),
     ("a volatile read before a write", "T0|w(x) T0|vr(f) T1|vw(f) T1|w(x)", "T0|w(x) T1|w(x)"),
     ("volatile writes of which the newest is read", "T0|vw(f)|1 T0|vw(f)|2 T1|vr(f)|3 T1|vr(f)|4 T0|vw(f)|5",
-     "T0|acq(f#volatile.1.T1)|2 T0|rel(f#volatile.1.T1)|2 T1|acq(f#volatile.1.T1)|3 T1|rel(f#volatile.1.T1)|3"),
+     "T0|acq(f#volatile.1.T1)|2 T0|rel(f#volatile.1.T1)|2 "
+     "T1|acq(f#volatile.1.T1)|3 T1|rel(f#volatile.1.T1)|3"),
     ("volatile writes of two threads, read twice", "T0|vw(f)|1 T2|vw(f)|2 T1|vr(f)|3 T2|vw(f)|4 T1|vr(f)|5",
      "T0|acq(f#volatile.0.T1)|1 T0|rel(f#volatile.0.T1)|1 T2|acq(f#volatile.1.T1)|2 "
      "T2|rel(f#volatile.1.T1)|2 T1|acq(f#volatile.0.T1)|3 T1|rel(f#volatile.0.T1)|3 "
@@ -69,15 +70,14 @@ RACES = [
      "main|fork(A) main|fork(B) A|rdlock(t) A|r(x)|1 A|rdunlock(t) main|wrlock(t) main|w(x)|2 "
      "main|wrunlock(t) B|rdlock(t) B|r(x)|3 B|rdunlock(t)", []),
     ("what comes after a writer's release isn't",
-     "main|fork(A) main|wrlock(t) main|wrunlock(t) main|w(x)|1 A|rdlock(t) A|r(x)|2 A|rdunlock(t)", [
-         ("1", "2")]),
+     "main|fork(A) main|wrlock(t) main|wrunlock(t) main|w(x)|1 A|rdlock(t) A|r(x)|2 A|rdunlock(t)",
+     [("1", "2")]),
     ("a get comes after each earlier put of a queue, and a put after no get",
-     "main|fork(A) main|fork(B) A|w(x)|1 A|vw(q) A|vw(q) B|vr(q) B|r(x)|2 B|w(y)|3 A|vw(q) A|r(y)|4", [
-         ("3", "4")]),
+     "main|fork(A) main|fork(B) A|w(x)|1 A|vw(q) A|vw(q) B|vr(q) B|r(x)|2 B|w(y)|3 A|vw(q) A|r(y)|4",
+     [("3", "4")]),
 ]
-OPERATIONS = [f"{word}({name})"
-              for word in ("r", "w", "acq", "rel", "vr", "vw", "rdlock", "wrlock", "rdunlock", "wrunlock",
-                           "wait", "notify") for name in "xy"]
+OPERATIONS = [f"{word}({name})" for word in ("r", "w", "acq", "rel", "vr", "vw", "rdlock", "wrlock",
+                                             "rdunlock", "wrunlock", "wait", "notify") for name in "xy"]
 OPERATIONS += ([f"{word}(T{k})" for word in ("fork", "join") for k in range(4)]
                + ["begin", "end", "unknown", "READ(x)"])
 
@@ -128,8 +128,8 @@ class Fix(program.Case):
 
     def test_what_is_printed_of_a_line(self):
         """A line is quoted, and of two things the one that was done is named."""
-        for line, wanted in ((" T0|w(x)", "blanks were dropped"), ("T0|writ(x)|b", "`T0|writ(x)|b` is no "
-                                                                   "event: dropped")):
+        for line, wanted in ((" T0|w(x)", "blanks were dropped"),
+                             ("T0|writ(x)|b", "`T0|writ(x)|b` is no event: dropped")):
             ran = fixed(f"T1|w(y)\n{line}\n".encode())
             self.assertEqual(ran.stderr.decode(), f"line 2: {wanted}\nshb-fix: 1 repair\n")
 
@@ -148,16 +148,15 @@ class Fix(program.Case):
     def test_a_file_that_is_no_trace(self):
         form = "a line is THREAD|OPERATION|LOCATION, with bars between%s; there are no comments"
         first = "no line is an event; the first is `%s`: "
-        for text, wanted in ((b"\n\nT0,w(x),a.c:1\n" * 3,
-                              first % "T0,w(x),a.c:1" + form % ", not commas"), (
-                                  b"rd(T1,x)\n", first % "rd(T1,x)" + form % ", not commas"),
-                             (b'{"thread": 1}\n', first % '{"thread": 1}' + form % ""), (
-                                 b"comment\n" * 3, first % "comment" + form % ""),
-                             (b"a|b|c\n", first % "a|b|c" + "a line is THREAD|OPERATION|LOCATION, such as "
-                                                            "T1|w(x)|a.c:3"),
+        for text, wanted in ((b"\n\nT0,w(x),a.c:1\n" * 3, first % "T0,w(x),a.c:1" + form % ", not commas"),
+                             (b"rd(T1,x)\n", first % "rd(T1,x)" + form % ", not commas"),
+                             (b'{"thread": 1}\n', first % '{"thread": 1}' + form % ""),
+                             (b"comment\n" * 3, first % "comment" + form % ""),
+                             (b"a|b|c\n",
+                              first % "a|b|c" + "a line is THREAD|OPERATION|LOCATION, such as T1|w(x)|a.c:3"),
                              ("T0|w(x)\n".encode("utf-16"), "the file is UTF-16: save it as UTF-8"),
-                             (program.run(["places"], b"T1|w(x)|a\nT2|w(x)|b\n").out, "the file is a report "
-                              "of `shb`, not a trace")):
+                             (program.run(["places"], b"T1|w(x)|a\nT2|w(x)|b\n").out,
+                              "the file is a report of `shb`, not a trace")):
             ran = fixed(text)
             self.assertEqual((ran.returncode, ran.stdout,
                               ran.stderr.decode()), (2, b"", f"shb-fix: {wanted}\n"))
@@ -188,8 +187,8 @@ class Fix(program.Case):
         with open("/dev/full", "wb") as full:
             ran = subprocess.run([sys.executable, COMMAND], input=b"T|w(x)\n", stdout=full,
                                  stderr=subprocess.PIPE)
-        self.assertEqual((ran.returncode, ran.stderr), (4,
-                                                        b"shb-fix: cannot write: No space left on device\n"))
+        self.assertEqual((ran.returncode, ran.stderr),
+                         (4, b"shb-fix: cannot write: No space left on device\n"))
 
     def test_standard_files_that_are_closed_or_full(self):
         """Output that is lost is a fault; what is lost of the list of repairs isn't."""

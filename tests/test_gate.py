@@ -83,8 +83,8 @@ class Edits(side_by_side.Case):
 
     def test_two_edits_of_a_function_are_two_checks(self):
         edits = [self.edit("first.left", LEFT), self.edit("first.same", FIRST)]
-        self.tried(edits, (1, "fn low::first: not proved; it calls low::f\n"), (1, "fn low::first: not "
-                                                                                "proved\n"))
+        self.tried(edits, (1, "fn low::first: not proved; it calls low::f\n"),
+                   (1, "fn low::first: not proved\n"))
         self.assertEqual([functions for _, functions in self.checks], [{"first"}, {"first"}])
         self.assertEqual(self.alone, [])
 
@@ -102,9 +102,8 @@ class Edits(side_by_side.Case):
         for kind in kinds.values():
             rt = types.SimpleNamespace(**kinds, must_fail=lambda *_: (kind, f"must-fail low/x.edit: {kind}"))
             with self.subTest(kind), mock.patch.object(kit, "command", lambda: rt):
-                self.assertEqual(kit.try_alone(self.crate,
-                                               "x.edit"), (kind in ("refused", "limit"),
-                                                           f"must-fail low/x.edit: {kind}"))
+                self.assertEqual(kit.try_alone(self.crate, "x.edit"),
+                                 (kind in ("refused", "limit"), f"must-fail low/x.edit: {kind}"))
         for answer in (True, False):  # of a kit that says no more
             rt = types.SimpleNamespace(must_fail=lambda *_, answer=answer: (answer, "said"))
             with self.subTest(answer), mock.patch.object(kit, "command", lambda: rt):
@@ -116,8 +115,8 @@ class Edits(side_by_side.Case):
     def test_a_kit_is_asked_to_prove_anew_where_it_knows_the_word(self):
         script = self.folder / "rt"
         with mock.patch.object(kit, "command", lambda: types.SimpleNamespace(__file__=str(script))):
-            for text, anew, words in (
-                    ("--anew", True, ["ci", "--anew"]), ("--anew", False, ["ci"]), ("none", True, ["ci"])):
+            for text, anew, words in (("--anew", True, ["ci", "--anew"]), ("--anew", False, ["ci"]),
+                                      ("none", True, ["ci"])):
                 script.write_text(text)
                 with self.subTest(text, anew=anew):
                     self.assertEqual(kit.proofs_from(anew), words)
@@ -125,9 +124,8 @@ class Edits(side_by_side.Case):
     def test_kits_of_one_logic_share_a_record(self):
         for line in ("kit-1 logic 0123", "kit-2 logic 0123\n"):
             (self.folder / "KIT-ID").write_text(line)
-            with self.subTest(line), mock.patch.object(kit,
-                                                       "command", lambda: types.SimpleNamespace(
-                                                           KIT=str(self.folder))):
+            with self.subTest(line), mock.patch.object(kit, "command",
+                                                       lambda: types.SimpleNamespace(KIT=str(self.folder))):
                 self.assertEqual(kit.logic(), "0123")
 
     def test_proved_edit_fails(self):
@@ -157,16 +155,16 @@ class Edits(side_by_side.Case):
             with self.subTest(other):
                 both = (said + f"fn low::third: no proof: expected answers in ./proofs/{other}/Answers.antt; "
                                "`search` did not prove `x`\n")
-                self.assertEqual(
-                    self.tried([self.edit("first.same", FIRST)], (1, both)), {"first.same.edit": is_refused})
+                self.assertEqual(self.tried([self.edit("first.same", FIRST)], (1, both)),
+                                 {"first.same.edit": is_refused})
 
     def test_empty_answers_and_checks_that_die_say_nothing(self):
-        for status, said in ((0, ""), (1, ""), (2, "fn low::first: not proved\n"), (-9, "fn low::first: not "
-                                                                                    "proved\n"), (3, "")):
+        for status, said in ((0, ""), (1, ""), (2, "fn low::first: not proved\n"),
+                             (-9, "fn low::first: not proved\n"), (3, "")):
             with self.subTest(status=status, said=said):
                 self.alone = []
-                self.assertEqual(
-                    self.tried([self.edit("first.same", FIRST)], (status, said)), {"first.same.edit": False})
+                self.assertEqual(self.tried([self.edit("first.same", FIRST)], (status, said)),
+                                 {"first.same.edit": False})
                 self.assertEqual(self.alone, ["first.same.edit"])
 
     def test_unread_text_says_nothing(self):
@@ -174,9 +172,8 @@ class Edits(side_by_side.Case):
         self.assertEqual(self.tried([self.edit("first.same", FIRST)], (1, said)), {"first.same.edit": False})
 
     def test_edit_that_does_not_apply_is_tried_alone(self):
-        for name, text in (
-                ("old.gone", "file: src/lib.rt\nold: n + 2\nnew: n\n"), ("file.gone", "file: src/no.rt\nold: "
-                                                                         "n\nnew: m\n")):
+        for name, text in (("old.gone", "file: src/lib.rt\nold: n + 2\nnew: n\n"),
+                           ("file.gone", "file: src/no.rt\nold: n\nnew: m\n")):
             with self.subTest(name):
                 self.alone = []
                 self.assertEqual(self.tried([self.edit(name, text)]), {f"{name}.edit": False})
@@ -239,7 +236,8 @@ class Records(side_by_side.Case):
     def test_a_crate_is_built_where_it_is_proved_and_where_an_earlier_run_proved_it(self):
         lines = {
             "rt: low proved\n": "low",
-            "rt: low is kept: an earlier run on this machine proved the same files over the same libraries\n": "low",
+            "rt: low is kept: an earlier run on this machine proved the same files over the same libraries\n":
+                "low",
             "rt: low NOT PROVED\n": None,
             "rt: low: its tests are proved\n": None,
             "fn low::first: proved\n": None,

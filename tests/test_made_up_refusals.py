@@ -140,8 +140,9 @@ class Sizes(unittest.TestCase):
                        f"{FILE}:11: with_capacity(alloc, most)")
 
     def test_methods(self):
-        code = "impl<T> Table<T> {\n    fn new(alloc: Global, room: usize) -> Self {\n        Vec::with_capacity(alloc, room)\n    }\n\n" \
-            "    fn grow(&mut self, more: usize) {\n        self.items.reserve(more);\n    }\n}\n"
+        code = ("impl<T> Table<T> {\n    fn new(alloc: Global, room: usize) -> Self {\n"
+                "        Vec::with_capacity(alloc, room)\n    }\n\n"
+                "    fn grow(&mut self, more: usize) {\n        self.items.reserve(more);\n    }\n}\n")
         self.wrong(code, shb_run="fn f() {\n    Table::new(alloc, 9).grow(xs.len());\n    Other::new(alloc, "
                                  "!0);\n}\n")
         self.wrong(code, "shb_run/src/lib.rt:2: Table::new(alloc, !0)", "shb_run/src/lib.rt:2: .grow(1 << 9)",

@@ -48,9 +48,8 @@ class NewCrate(side_by_side.Case):
 
     def test_what_is_refused_changes_nothing(self):
         before = self.files()
-        for words in (
-                [], [""], ["shb"], ["shb_"], ["shb_X"], ["other"], ["shb_a/b"], ["../shb_a"], ["shb_io"], [
-                    "shb_new", "shb_none"]):
+        for words in ([], [""], ["shb"], ["shb_"], ["shb_X"], ["other"], ["shb_a/b"], ["../shb_a"],
+                      ["shb_io"], ["shb_new", "shb_none"]):
             ran = self.run_it(*words)
             self.assertEqual((ran.returncode, ran.stdout), (2, b""), words)
             self.assertTrue(ran.stderr.startswith(b"new-crate: "), ran.stderr)

@@ -119,7 +119,8 @@ NAMES = (
 # A read learns of the write that it reads: 1 and 2 race, 1 and 3 don't. The lock orders 5 and 9, and nothing
 # 7 and 10.
 ORDERS = (
-    b"T1|w(x)|a\nT2|r(x)|b\nT2|w(x)|c\nT3|acq(l)\nT3|w(y)|d\nT3|rel(l)\nT3|w(z)|e\nT4|acq(l)\nT4|w(y)|f\nT4|w(z)|g\nT4|rel(l)\n",
+    b"T1|w(x)|a\nT2|r(x)|b\nT2|w(x)|c\nT3|acq(l)\nT3|w(y)|d\nT3|rel(l)\nT3|w(z)|e\n"
+    b"T4|acq(l)\nT4|w(y)|f\nT4|w(z)|g\nT4|rel(l)\n",
     one_each(
         (11, 4, 1, 3),
         [
@@ -131,7 +132,8 @@ ORDERS = (
 
 # Marks, forks, joins and locks stand at locations too, which make no places.
 OTHERS = (
-    b"T1|fork(T2)|s\nT1|begin|s\nT1|w(x)|s\nT2|acq(l)|s\nT2|r(x)|t\nT2|rel(l)|s\nT1|join(T2)|s\nT1|w(x)|u\nT1|end|s\n",
+    b"T1|fork(T2)|s\nT1|begin|s\nT1|w(x)|s\nT2|acq(l)|s\nT2|r(x)|t\nT2|rel(l)|s\nT1|join(T2)|s\n"
+    b"T1|w(x)|u\nT1|end|s\n",
     one_each((9, 2, 1, 1), [(b"3 5", b"s", b"t", b"T1|w(x)|s", b"T2|r(x)|t", b"3: 1 2 4")]),
 )
 
@@ -160,8 +162,8 @@ TWO = (
     report(
         (6, 2, 0, 2),
         [(2, b"a", b"b")],
-        [(b"3 4", b"T1|w(x)|a", b"T2|w(x)|b", b"2: 1 2"), (b"2 5", b"T1|w(f(y))|a", b"T2|w(f(y))|b",
-                                                           b"2: 1 4")],
+        [(b"3 4", b"T1|w(x)|a", b"T2|w(x)|b", b"2: 1 2"),
+         (b"2 5", b"T1|w(f(y))|a", b"T2|w(f(y))|b", b"2: 1 4")],
     ),
 )
 
@@ -309,8 +311,7 @@ class Places(program.Case):
                     "".join(line[2:] + "\n" for line in shown.splitlines()).encode())
 
     def test_refused_words(self):
-        for words in (["places", "a", "b"], ["places", "--workers",
-                                             "0"], ["places", "--workers",
-                                                    "65"], ["places", "--all"], ["races", "--variables"]):
+        for words in (["places", "a", "b"], ["places", "--workers", "0"], ["places", "--workers", "65"],
+                      ["places", "--all"], ["races", "--variables"]):
             answer = program.run(words)
             self.assertEqual((answer.status, answer.out, answer.err[:7]), (3, b"", b"error: "))

@@ -144,12 +144,8 @@ class Refusals(Refusing):
 
     def test_nothing_is_read_after_the_end(self):
         trace, report = self.file(LOCKED), program.run(["races"], LOCKED).out
-        for words, given in (([], LOCKED), (["races"],
-                                            b""), (["races", trace],
-                                                   b""), (["places", "--list"],
-                                                          LOCKED), (["places", "--list", trace],
-                                                                    b""), (["places", trace],
-                                                                           b""), (["check", trace], report), (
-                                                                               ["check", trace], b"")):
+        for words, given in (([], LOCKED), (["races"], b""), (["races", trace], b""),
+                             (["places", "--list"], LOCKED), (["places", "--list", trace], b""),
+                             (["places", trace], b""), (["check", trace], report), (["check", trace], b"")):
             answer, is_refused = self.run_refused(words, given, WATCH_READS=1)
             self.assertEqual((answer, is_refused), (program.run(words, given), False))

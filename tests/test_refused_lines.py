@@ -10,9 +10,10 @@ ROWS = (
      ["the line is `T2|acq(m)|b.c:2`", "`m` is held by `T1` since line 1: `T1|acq(m)|a.c:1`"]),
     # Again by its holder; released; of another lock; empty lines, a carriage return and a mark count
     # as lines.
-    ("T1|acq(m)|1\nT1|rel(m)|2\n\r\n\nT2|acq(n)|3\nT1|acq(m)|4\r\nT1|acq(m)|5\nT1|rel(m)|6\nT2|begin\nT2|acq(m)|7\nT1|rel(m)|8\n",
-     "line 10: the lock is held by another thread", ["the line is `T2|acq(m)|7`", "`m` is held by `T1` since "
-                                                     "line 6: `T1|acq(m)|4`"]),
+    ("T1|acq(m)|1\nT1|rel(m)|2\n\r\n\nT2|acq(n)|3\nT1|acq(m)|4\r\nT1|acq(m)|5\nT1|rel(m)|6\n"
+     "T2|begin\nT2|acq(m)|7\nT1|rel(m)|8\n",
+     "line 10: the lock is held by another thread",
+     ["the line is `T2|acq(m)|7`", "`m` is held by `T1` since line 6: `T1|acq(m)|4`"]),
     ("T1|acq(m)|1\nT2|rel(m)|2\n", "line 2: the lock is not held by this thread",
      ["the line is `T2|rel(m)|2`", "`m` is held by `T1` since line 1: `T1|acq(m)|1`"]),
     ("T1|acq(m)|1\nT1|rel(m)|2\nT1|rel(m)|3\n",
@@ -69,8 +70,9 @@ class Refused(program.Case):
 
     def test_bytes_that_are_no_text(self):
         trace = self.file(b"T|w(x)|\xff\nT|\xff\xfe|\n")
-        self.expect(program.run(["places", "--list", trace]), 2, b"", (
-            f"line 2: the operation is not known\nthe line is `T|\\xff\\xfe|`\n`\\xff\\xfe` {OPERATIONS}\n").encode())
+        said = (f"line 2: the operation is not known\nthe line is `T|\\xff\\xfe|`\n"
+                f"`\\xff\\xfe` {OPERATIONS}\n")
+        self.expect(program.run(["places", "--list", trace]), 2, b"", said.encode())
 
     def test_what_cannot_be_read_again_is_not_told_of(self):
         """Standard input, and a pipe by its name."""

@@ -96,10 +96,10 @@ class Surface(unittest.TestCase):
         self.assertEqual(self.changed("Kind, ", "", "lib.rt"), [lines[1], lines[11]])
 
     def test_a_deleted_or_renamed_item(self):
-        self.assertEqual(self.changed("pub fn bytes", "pub fn all_bytes"), ["Room::bytes(&self, u32) -> "
-                                                                            "Result<&[u8], Pair>"] * 2)
-        self.assertEqual(self.changed("pub fn bytes", "fn bytes"), ["Room::bytes(&self, u32) -> "
-                                                                    "Result<&[u8], Pair>"] * 2)
+        self.assertEqual(self.changed("pub fn bytes", "pub fn all_bytes"),
+                         ["Room::bytes(&self, u32) -> Result<&[u8], Pair>"] * 2)
+        self.assertEqual(self.changed("pub fn bytes", "fn bytes"),
+                         ["Room::bytes(&self, u32) -> Result<&[u8], Pair>"] * 2)
         self.assertEqual(len(self.changed("pub struct Pair", "pub struct Couple")), 2)
         self.assertEqual(self.changed("pub fn advance", "pub fn proceed",
                                       "machine.rt"), ["fn machine::advance(&dyn Step<u32>)"])
@@ -119,16 +119,11 @@ class Surface(unittest.TestCase):
 
     def test_other_fields_and_variants(self):
         kind, pair = TABLE.split("\n")[1].strip(), TABLE.split("\n")[2].strip()
-        for old, new in (
-                ("First,", "First,\n    Fourth,"), ("First,",
-                                                    ""), ("First,",
-                                                          "Primary,"), ("{ at: usize }",
-                                                                        "(usize)"), ("(u32, Pair)", "(u32)")):
+        for old, new in (("First,", "First,\n    Fourth,"), ("First,", ""), ("First,", "Primary,"),
+                         ("{ at: usize }", "(usize)"), ("(u32, Pair)", "(u32)")):
             self.assertEqual(self.changed(old, new), [kind] * 2, new)
-        for old, new in (("pub first: u32", "first: u32"), ("pub first: u32",
-                                                            "pub first: u64"), ("pub first: u32,",
-                                                                                ""), ("pub second",
-                                                                                      "pub other")):
+        for old, new in (("pub first: u32", "first: u32"), ("pub first: u32", "pub first: u64"),
+                         ("pub first: u32,", ""), ("pub second", "pub other")):
             self.assertEqual(self.changed(old, new), [pair, pair.replace("Pair", "Two")], new)
         self.assertEqual(self.changed("pub struct Unit;", "pub struct Unit {\n    pub a: u32,\n}",
                                       "machine.rt"), ["struct machine::Unit;"])
@@ -139,8 +134,8 @@ class Surface(unittest.TestCase):
             len(self.changed("First,\n    Second(u32, Pair),", "Second(u32, Pair),\n    First,")), 2)
 
     def test_a_reason_that_isnt_given(self):
-        self.assertEqual(self.wrong(reasons="- **Another**"), ["Room::bytes(&self, u32) -> Result<&[u8], "
-                                                               "Pair>"])
+        self.assertEqual(self.wrong(reasons="- **Another**"),
+                         ["Room::bytes(&self, u32) -> Result<&[u8], Pair>"])
 
     def test_a_crate_that_isnt_there(self):
         self.assertEqual(self.wrong(table="middle\n    struct Room\n"), ["struct Room"])
@@ -175,21 +170,18 @@ class Exports(unittest.TestCase):
 
     def test_names_that_the_table_lacks(self):
         table = "low\n    struct Pair\n    Room::bytes(&self)\n    mod machine\n"
-        self.assertEqual(exports.beyond(self.sources,
-                                        table), {"low": {"Kind", "make_pair", "go_on"},
-                                                 "high": {"laws", "Room"}})
+        self.assertEqual(exports.beyond(self.sources, table),
+                         {"low": {"Kind", "make_pair", "go_on"}, "high": {"laws", "Room"}})
 
     def test_functions_without_an_edit(self):
         """Those of other crates have their edits there, and laws need none."""
         self.assertEqual(set(exports.functions(self.sources, "low")), {"make_pair", "Room::bytes", "advance"})
-        self.assertEqual(
-            exports.without_edit(self.sources, {"low": {"bytes"}}), {
-                "low": {"make_pair", "advance"}, "high": set()})
+        self.assertEqual(exports.without_edit(self.sources, {"low": {"bytes"}}),
+                         {"low": {"make_pair", "advance"}, "high": set()})
 
     def test_a_new_export_and_an_old_line(self):
         listed = exports.read("low\n    also Kind, Gone\n    unedited Room::bytes\n", "also")
         self.assertEqual(listed, {"low": {"Kind", "Gone"}})
-        self.assertEqual(
-            list(exports.differences({"low": {"Kind", "New"}}, listed, "is new", "is old")), [
-                "low: New is new", "low: Gone is old"])
+        self.assertEqual(list(exports.differences({"low": {"Kind", "New"}}, listed, "is new", "is old")),
+                         ["low: New is new", "low: Gone is old"])
         self.assertEqual(list(exports.differences({"low": {"Kind", "Gone"}}, listed, "is new", "is old")), [])

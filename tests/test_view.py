@@ -106,7 +106,8 @@ places.std: 6 races at 3 places, in 1 group (4 events, 4 threads, 0 locks, 1 var
 
 1. total: Counter.java:12 writes, Report.java:30 reads without a lock (6 races, 3 places)
    In this trace no lock is held at any access; 3 threads write, at Counter.java:12.
-   Remedy: make it atomic if it is a flag or a counter; else hold one lock at Counter.java:12 and Report.java:30.
+   Remedy: make it atomic if it is a flag or a counter; else hold one lock at Counter.java:12 and \
+Report.java:30.
    Report.java:30 read what Counter.java:12 wrote. This racy read may hide other races: fix it and run again.
    Counter.java:12: 3 writes by T1, T2 and T4
      no lock held
@@ -186,7 +187,8 @@ class Facts(program.Case):
 
     def test_a_line_that_sometimes_lacks_the_lock(self):
         self.assertEqual(self.said("A acq l 1", "A w x 2", "A rel l 3", "B r x 4", "B acq l 5", "B r x 4"),
-                         ["In this trace every write holds l, and f.c:4 reads without it at 1 of 2 accesses."])
+                         ["In this trace every write holds l, and f.c:4 reads without it at 1 of 2 "
+                          "accesses."])
 
     def test_a_lock_at_some_lines_that_write(self):
         self.assertEqual(self.said("A acq l 1", "A w x 2", "A rel l 3", "B w x 4"),
@@ -197,11 +199,11 @@ class Facts(program.Case):
 
     def test_a_line_that_writes_and_sometimes_lacks_the_lock(self):
         """As in a helper that one caller calls without the lock; of several such lines each is said."""
-        self.assertEqual(self.said("A acq l 1", "A w x 2", "A rel l 3", "B w x 2"), ["In this trace l is "
-                                                                                     "held at 1 of 2 "
-                                                                                     "accesses at f.c:2."])
+        self.assertEqual(self.said("A acq l 1", "A w x 2", "A rel l 3", "B w x 2"),
+                         ["In this trace l is held at 1 of 2 accesses at f.c:2."])
         self.assertEqual(self.said("A acq l 1", "A w x 2", "A w x 10", "A rel l 3", "B w x 2", "B w x 10"),
-                         ["In this trace l is held at 1 of 2 accesses at f.c:2 and 1 of 2 accesses at f.c:10."])
+                         ["In this trace l is held at 1 of 2 accesses at f.c:2 and 1 of 2 accesses at "
+                          "f.c:10."])
 
     def test_lines_that_hold_different_locks(self):
         """What tells most is that each holds a lock, not that one lacks the other's."""
@@ -252,16 +254,16 @@ class Facts(program.Case):
         self.assertIn("   f.c:3: 1 read by C\n", out)
 
     def test_several_threads_write(self):
-        self.assertEqual(self.said("A w x 1", "B w x 2"), ["In this trace no lock is held at any access; 2 "
-                                                           "threads write, at f.c:1 and f.c:2."])
+        self.assertEqual(self.said("A w x 1", "B w x 2"), [
+            "In this trace no lock is held at any access; 2 threads write, at f.c:1 and f.c:2."])
         self.assertEqual(self.said("A w x 1", "B acq l 2", "B w x 3", "B rel l 4", "C w x 3", "D w x 5",
                                    "D acq l 2", "D r x 6"),
                          ["In this trace every read holds l, and f.c:3, f.c:1 and f.c:5 write without it at "
                           "3 of 4 accesses."])
 
     def test_one_thread_writes(self):
-        self.assertEqual(self.said("A w x 1", "B acq l 2", "B r x 3"), ["In this trace every read holds l, "
-                                                                        "and f.c:1 writes without it."])
+        self.assertEqual(self.said("A w x 1", "B acq l 2", "B r x 3"),
+                         ["In this trace every read holds l, and f.c:1 writes without it."])
 
     def test_a_lock_that_readers_alone_hold_is_no_rule(self):
         """The writer never holds it; so nothing says that it belongs to the variable."""
@@ -308,10 +310,10 @@ class Sites(program.Case):
                           "B acq l 5", "B r x 4", "B acq n 6",
                           "B r x 7", "C acq n2 8", "C r x 9")
         self.assertEqual(said[5:15], [
-            "   f.c:2: 1 write by A", "     holds l; holds m", "     races with f.c:4 (1 race) and f.c:9 (1 "
-                                                               "race)",
-            "   f.c:4: 2 reads by B", "     holds l at 1 of 2; no lock held at 1 of 2", "     races with "
-            "f.c:2 (1 race)",
+            "   f.c:2: 1 write by A", "     holds l; holds m",
+            "     races with f.c:4 (1 race) and f.c:9 (1 race)",
+            "   f.c:4: 2 reads by B", "     holds l at 1 of 2; no lock held at 1 of 2",
+            "     races with f.c:2 (1 race)",
             "   f.c:9: 1 read by C", "     holds n2", "     races with f.c:2 (1 race)",
             "   f.c:7: 1 read by B"])
         self.assertEqual(said[15:], ["     holds l; holds n"])
@@ -382,8 +384,8 @@ class Sites(program.Case):
         said = self.lines("A w x 1", "B w x 2", "B r x 3", "A r x 1", "A w x 1")
         self.assertEqual(said[3:], [
             "   In this trace the locks held at 2 accesses aren't counted.",
-            "   f.c:1: 2 writes by A", "     no lock held", "     races with f.c:2 (2 races) and f.c:3 (2 "
-                                                            "races)",
+            "   f.c:1: 2 writes by A", "     no lock held",
+            "     races with f.c:2 (2 races) and f.c:3 (2 races)",
             "   f.c:2: 1 write by B", "     no lock held", "     races with f.c:1 (2 races)",
             "   (further lines): 2 reads", "     locks not counted at 2 of 2"])
 
@@ -485,16 +487,16 @@ class Groups(program.Case):
         for variables, name in (
             ([b"x"], [b"x"]),
             ([b"cache.c:19#71+80", b"cache.c:19#43+80"], [b"cache.c:19+80", " (2 blocks)"]),
-            ([b"slabs.c:615#134+1", b"slabs.c:615#134+22",
-              b"slabs.c:615#134"], [b"slabs.c:615#134", " (3 variables)"]),
+            ([b"slabs.c:615#134+1", b"slabs.c:615#134+22", b"slabs.c:615#134"],
+             [b"slabs.c:615#134", " (3 variables)"]),
             ([b"slabs.c:615#134+1", b"slabs.c:615#9+2"], [b"slabs.c:615", " (2 variables)"]),
             ([b"stats", b"stats+8"], [b"stats", " (2 variables)"]),
             ([b"stats", b"settings+8"], [b"stats", " and ", b"settings+8"]),
             ([b"stats", b"settings+8", b"hits"], [b"stats", " and ", "2 others"]),
             ([b"stack.T1-0x20", b"stack.T1-0x28"], [b"stack.T1", " (2 variables)"]),
             ([b"stack.T1.run-0x20", b"stack.T1.run-0x28"], [b"stack.T1.run", " (2 variables)"]),
-            ([b"lib.so.1:q.head", b"lib.so.1:q.at[1][20].x+2",
-              b"lib.so.1:q"], [b"lib.so.1:q", " (3 variables)"]),
+            ([b"lib.so.1:q.head", b"lib.so.1:q.at[1][20].x+2", b"lib.so.1:q"],
+             [b"lib.so.1:q", " (3 variables)"]),
             ([b"count.0", b"count.1"], [b"count.0", " and ", b"count.1"]),
         ):
             self.assertEqual(groups.common_name(variables), name)
@@ -530,9 +532,8 @@ class Groups(program.Case):
 
     def test_the_variable_of_nearly_all_races_is_named(self):
         """The list begins with the others, which the first race of each place has."""
-        events = (
-            ["A w first 1", "B w first 2"] + [f"{thread} w served {line}"
-                                              for thread, line in (("A", 1), ("B", 2)) for _ in range(330)])
+        events = ["A w first 1", "B w first 2"] + [
+            f"{thread} w served {line}" for thread, line in (("A", 1), ("B", 2)) for _ in range(330)]
         out = run_here([self.file(trace_of(*events))])[1]
         self.assertIn("   Variables: first and served\n", out)
 
@@ -547,9 +548,8 @@ class Groups(program.Case):
             self.assertEqual(out.split("races with f.c:399 (1 race)\n")[-1][-len(more or "\n"):] if more
                              else "", more)
         with unittest.mock.patch.object(view, "MOST_GROUPS", 201):
-            self.assertTrue(run_here([self.file(trace_of(*events))])[1].endswith("lock (1 race, 1 "
-                                                                                 "place)\n\nand 1 more "
-                                                                                 "group\n"))
+            self.assertTrue(run_here([self.file(trace_of(*events))])[1].endswith(
+                "lock (1 race, 1 place)\n\nand 1 more group\n"))
 
 
 class Issues(program.Case):
@@ -633,9 +633,8 @@ class Windows(program.Case):
                 schedule = schedules[window.accesses]
                 self.assertEqual(window.schedule, (len(schedule), schedule))
                 self.assertEqual(window.before, [e for e in schedule if e in window.before])
-                self.assertTrue(
-                    all(shb.is_edge(events, s - 1, e - 1) and events[s - 1][0] != events[e - 1][0]
-                        for s, e in window.edges))
+                self.assertTrue(all(shb.is_edge(events, s - 1, e - 1) and events[s - 1][0] != events[e - 1][0]
+                                    for s, e in window.edges))
                 edges += len(window.edges)
                 for access in window.accesses:
                     own = [e for e in schedule if events[e - 1][0] == events[access - 1][0]]
@@ -651,8 +650,8 @@ class Windows(program.Case):
                 for access in window.accesses:
                     own = [e for e in range(access - 1) if events[e][0] == events[access - 1][0]][
                         -counting.BEFORE:]
-                    self.assertEqual(
-                        [window.events[e + 1].source for e in own], [source(events, e) for e in own])
+                    self.assertEqual([window.events[e + 1].source for e in own],
+                                     [source(events, e) for e in own])
                     forks = [e + 1 for e, event in enumerate(events)
                              if event[1:] == (b"fork", events[access - 1][0])]
                     self.assertEqual(window.forks[access], forks[0] if forks else 0)
@@ -673,14 +672,15 @@ class Names(program.Case):
                            (b"\x1b[2J\t\n", r"\x1b[2J\x09\x0a"), (b"\\xff", r"\\xff"), (b"a\\b", r"a\\b"),
                            (b"\x9b", r"\x9b"), ("\u009b".encode(), r"\u009b"), (b"\x7f", r"\x7f"),
                            ("a\u202eb".encode(), r"a\u202eb"), ("a\u2066b\u00a0".encode(), r"a\u2066b\u00a0"),
-                           ("x\u0301".encode(), "x\u0301"), ("\u0301x".encode(), r"\u0301x"), (
-                               b"\xed\xa0\x80", r"\xed\xa0\x80"),
+                           ("x\u0301".encode(), "x\u0301"), ("\u0301x".encode(), r"\u0301x"),
+                           (b"\xed\xa0\x80", r"\xed\xa0\x80"),
                            ("x".encode() + "\u0301".encode() * 5, "x" + "\u0301" * 3 + r"\u0301\u0301"),
                            ("\U000e0041".encode(), r"\U000e0041")):
             self.assertEqual(names.readable(name), said)
 
     def test_what_cannot_be_seen(self):
-        for character in "\u200b\u2060\u3164\u115f\u1160\u2800\uffa0\ufe0f\ufe00\u034f\u180b\u17b4\u00ad\ufeff\u2028":
+        for character in ("\u200b\u2060\u3164\u115f\u1160\u2800\uffa0\ufe0f\ufe00\u034f\u180b\u17b4\u00ad"
+                          "\ufeff\u2028"):
             self.assertEqual(names.readable(f"a{character}b".encode()), f"a\\u{ord(character):04x}b")
         self.assertEqual(names.readable("a\U000e0100b".encode()), r"a\U000e0100b")
 

@@ -14,17 +14,30 @@ TRIAL = """
 <script>
 "use strict";
 {
-const numbers = () => [...document.querySelectorAll("#groups .group")].filter((it) => it.getClientRects().length)
+const numbers = () => [...document.querySelectorAll("#groups .group")]
+  .filter((it) => it.getClientRects().length)
   .map((it) => it.querySelector(".no").textContent).join();
 const output = document.querySelector(".filter output"), field = document.querySelector(".filter input");
-const ask = (words) => { field.value = words; field.dispatchEvent(new Event("input")); return [numbers(), output.textContent]; };
-const press = (key, at) => { at.dispatchEvent(new KeyboardEvent("keydown", { key, bubbles: true })); return document.activeElement; };
-const click = (name) => { const button = document.querySelector(`.heads .${name}`); button.click(); return [numbers().slice(0, 8), button.getAttribute("aria-pressed")]; };
-const found = { all: ask(""), line: ask("G.C:57"), thread: ask("other.late"), none: ask("g.c:999"), words: ask("main g.c:12"), again: ask("") };
+const ask = (words) => {
+  field.value = words;
+  field.dispatchEvent(new Event("input"));
+  return [numbers(), output.textContent];
+};
+const press = (key, at) => {
+  at.dispatchEvent(new KeyboardEvent("keydown", { key, bubbles: true }));
+  return document.activeElement;
+};
+const click = (name) => {
+  const button = document.querySelector(`.heads .${name}`);
+  button.click();
+  return [numbers().slice(0, 8), button.getAttribute("aria-pressed")];
+};
+const found = { all: ask(""), line: ask("G.C:57"), thread: ask("other.late"), none: ask("g.c:999"),
+  words: ask("main g.c:12"), again: ask("") };
 found.sorted = [click("var"), click("var"), click("no")];
 const head = document.querySelector("#group-1 summary");
-found.keys = [press("/", document.body) === field, press("ArrowDown", head).parentElement.id, press("End", head).parentElement.id,
-  press("Escape", head) === head];
+found.keys = [press("/", document.body) === field, press("ArrowDown", head).parentElement.id,
+  press("End", head).parentElement.id, press("Escape", head) === head];
 history.replaceState(null, "", "#group-56");
 dispatchEvent(new HashChangeEvent("hashchange"));
 const row = document.getElementById("group-56");
@@ -42,7 +55,8 @@ BLANKS = """
 "use strict";
 for (const row of document.querySelectorAll(".group")) draw(row), row.open = true;
 const seen = (where) => [...new Set([...document.querySelectorAll(where)].map((name) => name.innerText))];
-document.body.textContent = "FOUND" + JSON.stringify([seen("#groups .var code"), seen("table.sites tbody td:nth-child(3) code")]) + "END";
+document.body.textContent = "FOUND" + JSON.stringify(
+  [seen("#groups .var code"), seen("table.sites tbody td:nth-child(3) code")]) + "END";
 </script>
 </body>"""
 
@@ -95,10 +109,8 @@ class Browser(program.Case):
             self.assertEqual(found["all"], [sixty, "60 groups"])
             self.assertEqual(
                 (found["line"], found["thread"]), (["57", "1 of 60 groups"], ["59,60", "2 of 60 groups"]))
-            self.assertEqual((found["none"], found["words"],
-                              found["again"]), (["",
-                                                 "0 of 60 groups"], ["12", "1 of 60 groups"], [
-                                                     sixty, "60 groups"]))
+            self.assertEqual((found["none"], found["words"], found["again"]),
+                             (["", "0 of 60 groups"], ["12", "1 of 60 groups"], [sixty, "60 groups"]))
             self.assertEqual(
                 found["sorted"], [["1,2,3,4,", "true"], ["60,59,58", "mixed"], ["1,2,3,4,", "true"]])
             self.assertEqual(found["keys"], [True, "group-2", "group-60", True])
@@ -129,13 +141,16 @@ class Browser(program.Case):
 for (const row of rows) draw(row);
 for (const part of document.querySelectorAll("details")) part.open = true;
 const boxes = [...document.querySelectorAll(".wide, pre, figure, .sites, svg")];
-const cuts = boxes.filter((box) => box.scrollWidth > box.clientWidth + 1), hidden = boxes.filter((box) => !box.getBoundingClientRect().height);
+const cuts = boxes.filter((box) => box.scrollWidth > box.clientWidth + 1);
+const hidden = boxes.filter((box) => !box.getBoundingClientRect().height);
 document.title = [document.documentElement.scrollWidth, cuts.length, hidden.length, boxes.length].join(" ");
 </script></body>"""
             text = re.sub(r"<meta http-equiv[^>]*>", "", page.read_text(encoding="utf-8"))
             page.write_text(text.replace("</body>", script), encoding="utf-8")
-            frame = self.file(b"""<iframe src="page.html" style="width:400px;height:900px;border:0"></iframe><script>
-onload = () => document.title = document.querySelector("iframe").contentDocument.title;</script>""", "frame.html")
+            frame = self.file(b"""<iframe src="page.html" style="width:400px;height:900px;border:0"></iframe>
+<script>
+onload = () => document.title = document.querySelector("iframe").contentDocument.title;
+</script>""", "frame.html")
             shown = self.shown(browser, frame, "--allow-file-access-from-files", "--window-size=800,1000")
             width, *boxes = map(int, re.search("<title>([0-9 ]+)</title>", shown).group(1).split())
             self.assertLessEqual(width, 400)

@@ -113,10 +113,10 @@ exec REAL "$@"
         self.assertEqual((document["form"], document["version"], document["command"], document["notes"][-1]),
                          ("shb-places", 1, "shb-view", "Code of <b>lib\\x1b.so isn't seen."))
         [place] = document["places"]
-        self.assertEqual(
-            [(access["location"], access["uses"], access["threads"]) for access in place["accesses"]],
-                         [("start.c:6", {"write": 1}, {"main": 1}), (
-                             "worker.c:3", {"write": 1}, {"worker": 1})])
+        self.assertEqual([(access["location"], access["uses"], access["threads"])
+                          for access in place["accesses"]],
+                         [("start.c:6", {"write": 1}, {"main": 1}),
+                          ("worker.c:3", {"write": 1}, {"worker": 1})])
         self.assertEqual((place["places"], place["races"],
                           place["variables"]), (1, 1, [{"name": "count", "races": 1}]))
 
@@ -152,8 +152,8 @@ exec REAL "$@"
         for text, fault, line, hint in (
             (b"A|w(x)\nA\tw(x)\n", "line 2: the line has no operation field", "A\\x09w(x)",
              "a line is THREAD|OPERATION|LOCATION, with bars between, not tabs; there are no comments"),
-            (b"\n\nA|W(x)\n", "line 3: the operation is not known", "A|W(x)", "operations are written in "
-             "small letters, as `w`"),
+            (b"\n\nA|W(x)\n", "line 3: the operation is not known", "A|W(x)",
+             "operations are written in small letters, as `w`"),
             (b"\xef\xbb\xbf# a comment\n", "line 1: the line has no operation field", "\\ufeff# a comment",
              "the file begins with a byte order mark: save it without one"),
             (b"A|rel(l)\n", "line 1: the lock is not held by this thread", "A|rel(l)",
@@ -230,9 +230,8 @@ class Files(Fake):
         none = self.folder / "no\x1bne"
         shown = f"{self.folder}/no\\x1bne"
         self.assertEqual(self.said([none]), f"{shown}: No such file or directory")
-        self.assertEqual(self.said([self.folder]),
-                         f"{self.folder} isn't a regular file: the trace is read more than once, so save it "
-                         "to a file")
+        self.assertEqual(self.said([self.folder]), f"{self.folder} isn't a regular file: the trace is read "
+                                                   "more than once, so save it to a file")
         self.assertEqual(self.said(["--source", none, TRACE]), f"--source: {shown} isn't a folder")
 
     def test_a_pipe_is_no_trace(self):
@@ -276,8 +275,8 @@ class Files(Fake):
         script = 'ulimit -f 4; exec "$@"'  # blocks of 512 or 1,024 bytes: less than the style alone
         answer = subprocess.run(["sh", "-c", script, "sh", *words], env=settings(), capture_output=True,
                                 timeout=program.SECONDS)
-        self.assertEqual((answer.returncode, answer.stderr.decode()), (2, f"shb-view: {page}: File too "
-                                                                       "large\n"))
+        self.assertEqual((answer.returncode, answer.stderr.decode()),
+                         (2, f"shb-view: {page}: File too large\n"))
         self.assertEqual((page.read_bytes(), len(list(self.folder.iterdir()))), (b"old", 1))
 
     def test_a_fault_that_comes_again_when_the_file_is_closed_names_the_page(self):
@@ -325,8 +324,8 @@ class Statuses(Fake):
     def test_a_full_disk(self):
         with open("/dev/full", "wb") as full:
             answer = run([TRACE], stdout=full)
-        self.assertEqual((answer.status, answer.err), (2, b"shb-view: standard output: No space left on "
-                                                          b"device\n"))
+        self.assertEqual((answer.status, answer.err),
+                         (2, b"shb-view: standard output: No space left on device\n"))
 
     def test_a_reader_that_went_away(self):
         read_end, write_end = os.pipe()

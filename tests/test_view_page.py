@@ -91,29 +91,27 @@ class Pages(program.Case):
 
     def test_a_row_for_each_group(self):
         page = self.page(self.example("unlocked-read"))
-        self.assertEqual([text for _, text in page.all("summary")], ["1 items main.c:11 reads without lock "
-                                                                     "main.c:11 1 race",
-                                                                     "2 closed main.c:12 writes, queue.c:29 "
-                                                                     "reads without a lock main.c:12 2 races"])
+        self.assertEqual([text for _, text in page.all("summary")],
+                         ["1 items main.c:11 reads without lock main.c:11 1 race",
+                          "2 closed main.c:12 writes, queue.c:29 reads without a lock main.c:12 2 races"])
         self.assertEqual([(attributes["id"], attributes["class"]) for attributes, _ in page.all("details")],
                          [("group-1", "group rank1"), ("group-2", "group rank3")])
 
     def test_every_line_by_hand(self):
         [group] = self.page(self.example("account")).data()["groups"]
         self.assertEqual(group["sites"], [
-            [[["account.c:10"]], "",
-             "2 reads and 2 writes", [["T1.pay"], " and ", ["main"]], [["held", ["holds ", ["door"], ""]]],
+            [[["account.c:10"]], "", "2 reads and 2 writes", [["T1.pay"], " and ", ["main"]],
+             [["held", ["holds ", ["door"], ""]]],
              [["account.c:8"], " (1 race)"], True],
-            [[["account.c:8"]], "",
-             "2 reads", [["T1.pay"], " and ", ["main"]], [["none", ["no lock held"]]], [
-                 ["account.c:10"], " (1 race)"], True]])
+            [[["account.c:8"]], "", "2 reads", [["T1.pay"], " and ", ["main"]], [["none", ["no lock held"]]],
+             [["account.c:10"], " (1 race)"], True]])
         self.assertIn(["Remedy: ", "hold ", ["door"], " at ", ["account.c:8"], "."], group["about"])
 
     def test_the_text_of_a_group(self):
         [(_, issue)] = self.page(self.example("fork-join")).all("pre")
-        self.assertEqual(issue.splitlines()[:3], ["data race on count: worker.c:3 and start.c:6",
-                                                  "(one race in a recorded run)",
-                                                  "  write by worker at worker.c:3 (event 4)"])
+        self.assertEqual(issue.splitlines()[:3],
+                         ["data race on count: worker.c:3 and start.c:6", "(one race in a recorded run)",
+                          "  write by worker at worker.c:3 (event 4)"])
 
     def test_events_by_hand(self):
         """Each with its number, lane, words and place; and with its line and that line's number, for which
@@ -123,15 +121,13 @@ class Pages(program.Case):
             [2, 1, "starts worker", "start.c:5 · 2", "line 2: main|fork(worker)|start.c:5\nno lock held"],
             [3, 0, "reads config", "worker.c:2 · 3", "line 3: worker|r(config)|worker.c:2\nno lock held"]])
         [group] = self.page(b"\n\r\nA|w(x)\n\nB|w(x)\n").data()["groups"]
-        self.assertEqual(
-            [event[6].splitlines()[0] for event in group["picture"]["events"]], [
-                "line 3: A|w(x)", "line 5: B|w(x)"])
+        self.assertEqual([event[6].splitlines()[0] for event in group["picture"]["events"]],
+                         ["line 3: A|w(x)", "line 5: B|w(x)"])
 
     def test_known_groups_are_folded_behind_the_others(self):
         only = {(b"main.c:11", b"queue.c:22"): {b"items"}}
-        self.assertEqual(
-            [(attributes["class"], text)
-             for attributes, text in self.page(self.example("unlocked-read"), new=only).all("span", "tag")],
+        page = self.page(self.example("unlocked-read"), new=only)
+        self.assertEqual([(attributes["class"], text) for attributes, text in page.all("span", "tag")],
                          [("tag new", "new"), ("tag known", "known")])
 
     def test_commands_that_run_it_again(self):
@@ -225,9 +221,8 @@ class Pages(program.Case):
         good, said = self.of_run(program.PATH)
         verdict = ("Each race that the page shows has a schedule in the page's trace: shb places --variables "
                    "page.std | shb check page.std finds them good.")
-        self.assertEqual(
-            [(attributes["class"], re.sub(r"\S+/page.std", "page.std", text))
-             for attributes, text in good.all("p", "verdict")],
+        self.assertEqual([(attributes["class"], re.sub(r"\S+/page.std", "page.std", text))
+                          for attributes, text in good.all("p", "verdict")],
                          [("verdict good", verdict)])
         self.assertIn("good: after its 0 events of the page's trace both accesses can execute next.",
                       "".join(text for _, text in good.all("details")))
@@ -240,12 +235,11 @@ class Pages(program.Case):
                                      for name in ("page.std", "uses", "stacks", "page.html"))
         trace.write_bytes((EXAMPLES / "places.std").read_bytes())
         used = re.findall(rb"(.*)\|([rw])\((.*)\)\|(.*)\n", trace.read_bytes())
-        uses.write_bytes(
-            b"shb-uses 2\n"
-            + b"".join(b"use\t%b\t%b\t\t%b\tby\t1\t%b\tbare\t1\t0\nevent\t%d\t%d\n"
-                       % (word, name, at, thread, number, number)
-                                                    for number, (thread, word, name, at) in enumerate(
-                                                        used, 1)) + b"events\t4\n")
+        uses.write_bytes(b"shb-uses 2\n"
+                         + b"".join(b"use\t%b\t%b\t\t%b\tby\t1\t%b\tbare\t1\t0\n"
+                                    b"event\t%d\t%d\n" % (word, name, at, thread, number, number)
+                                    for number, (thread, word, name, at) in enumerate(used, 1))
+                         + b"events\t4\n")
         stacks.write_bytes(b"shb-stacks 1 %020d\n" % 4 + bytes(16))
         with contextlib.redirect_stderr(io.StringIO()) as said:
             command.explain(command.show_run, recorded_run(trace, uses, stacks), asked(shb), path,
@@ -283,9 +277,8 @@ class Pages(program.Case):
         self.assertLess(len(said), 400)
 
     def test_a_judge_that_fails(self):
-        for script, how in (
-                (b"kill -9 $$", "was ended by signal 9"), (b"echo 'out of memory' >&2; exit 4",
-                                                           "ended with status 4: out of memory")):
+        for script, how in ((b"kill -9 $$", "was ended by signal 9"),
+                            (b"echo 'out of memory' >&2; exit 4", "ended with status 4: out of memory")):
             page, _ = self.judged(script)
             self.assertIn(f"No schedules were made: shb check {how}", [text for _, text in page.all("p")])
 
@@ -308,9 +301,8 @@ class Pictures(program.Case):
         for window, found in self.pictures:
             self.assertEqual([event[0] for event in found["events"]], [*window.before, *window.accesses])
             threads = [window.events[event[0]].event.thread for event in found["events"]]
-            self.assertEqual(
-                [found["lanes"][event[1]] for event in found["events"]], [
-                    names.readable(thread) for thread in threads])
+            self.assertEqual([found["lanes"][event[1]] for event in found["events"]],
+                             [names.readable(thread) for thread in threads])
 
     def test_edges_that_are_left_out_follow_from_others(self):
         """By the order of each thread and the edges that are drawn, what all edges order is ordered."""

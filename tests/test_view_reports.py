@@ -24,8 +24,8 @@ class Taken(program.Case):
                 wanted[pair] = wanted.get(pair, 0) + count
             for schedules in (False, True):
                 found = sections(text, shb.report(text, schedules), schedules or None)
-                self.assertEqual(
-                    {pair.locations: pair.races for section in found for pair in section.group.pairs}, wanted)
+                self.assertEqual({pair.locations: pair.races for section in found
+                                  for pair in section.group.pairs}, wanted)
 
     def test_leading_races_alone(self):
         trace = (EXAMPLES / "places.std").read_bytes()
@@ -37,8 +37,8 @@ class Taken(program.Case):
         self.assertEqual(judge.verdict(trace, report), b"ok 2\n")
         [section] = sections(trace, report)
         self.assertEqual({pair.locations: pair.races for pair in section.group.pairs},
-                         {(b"Counter.java:12", b"Counter.java:12"): 1, (
-                             b"Counter.java:12", b"Report.java:30"): 1})
+                         {(b"Counter.java:12", b"Counter.java:12"): 1,
+                          (b"Counter.java:12", b"Report.java:30"): 1})
 
     def test_changed_reports(self):
         """A good report is shown, and one whose form, counts or places are wrong is refused;
@@ -91,26 +91,26 @@ class Refused(program.Case):
         other = "the trace isn't the one that `shb` read: it was changed in between"
         race = "race 1 of the report: "
         for old, new, said in (
-            (b"first A|w(x)|3", b"first A|w(x)|9", "the places that the report begins with aren't those of "
-                                                   "its races"),
+            (b"first A|w(x)|3", b"first A|w(x)|9", "the places that the report begins with aren't those "
+                                                   "of its races"),
             (b"second B|w(x)|4", b"second C|w(x)|4", other),
             (b"race 1: 3 4", b"race 1: 1 4", other),
-            (b"race 1: 3 4", b"race 1: 4 3", race + "4 and 3 aren't two events of the trace, the earlier "
-                                                    "first"),
-            (b"race 1: 3 4", b"race 1: 3 7", race + "3 and 7 aren't two events of the trace, the earlier "
-                                                    "first"),
-            (b"race 1: 3 4", b"race 1: 0 4", race + "0 and 4 aren't two events of the trace, the earlier "
-                                                    "first"),
+            (b"race 1: 3 4", b"race 1: 4 3",
+             race + "4 and 3 aren't two events of the trace, the earlier first"),
+            (b"race 1: 3 4", b"race 1: 3 7",
+             race + "3 and 7 aren't two events of the trace, the earlier first"),
+            (b"race 1: 3 4", b"race 1: 0 4",
+             race + "0 and 4 aren't two events of the trace, the earlier first"),
             (b"first A|w(x)|3", b"first B|w(x)|3", race + "the events 3 and 4 don't conflict"),
             (b"first A|w(x)|3", b"first A|w(z)|3", race + "the events 3 and 4 don't conflict"),
-            (b"first A|w(x)|3\nsecond B|w(x)|4", b"first A|r(x)|3\nsecond B|r(x)|4", race + "the events 3 "
-             "and 4 don't conflict"),
-            (b"first A|w(x)|3", b"first A|acq(x)|3", "line 9 of the report is `first A|acq(x)|3`; it should "
-                                                     "be `first ACCESS`"),
-            (b"race 1: 3 4", b"race 2: 3 4", "line 8 of the report has the number 2; it should be `race 1: I "
-                                             "J`"),
-            (b"schedule 2: 1 2", b"schedule x: 1 2", "line 11 of the report is `schedule x: 1 2`; it should "
-                                                     "be `schedule N: N EVENTS`"),
+            (b"first A|w(x)|3\nsecond B|w(x)|4", b"first A|r(x)|3\nsecond B|r(x)|4",
+             race + "the events 3 and 4 don't conflict"),
+            (b"first A|w(x)|3", b"first A|acq(x)|3",
+             "line 9 of the report is `first A|acq(x)|3`; it should be `first ACCESS`"),
+            (b"race 1: 3 4", b"race 2: 3 4", "line 8 of the report has the number 2; it should be "
+                                             "`race 1: I J`"),
+            (b"schedule 2: 1 2", b"schedule x: 1 2",
+             "line 11 of the report is `schedule x: 1 2`; it should be `schedule N: N EVENTS`"),
             (b"at 3", b"at 4", "the places that the report begins with aren't those of its races"),
             (b"end\n", b"end", "line 12 of the report is cut off: `end`; it should be `end`"),
             (b"end\n", b"", "line 12 of the report is missing; it should be `end`"),
@@ -119,12 +119,12 @@ class Refused(program.Case):
                                                "`shb-report 2`"),
             (b"shb-report 2", b"\x1b[31m\xff", "line 1 of the report is `\\x1b[31m\\xff`; it should be "
                                                "`shb-report 2`"),
-            (b"shb-report 2", b"x" * 70, f"line 1 of the report is `{'x' * 58}..`; it should be `shb-report "
-                                         "2`"),
+            (b"shb-report 2", b"x" * 70, f"line 1 of the report is `{'x' * 58}..`; it should be "
+                                         "`shb-report 2`"),
             (b"shb-report 2", b"x" * 5000, f"line 1 of the report is too long: `{'x' * 58}..`; it should be "
                                            "`shb-report 2`"),
-            (b"races 1", b"races " + b"9" * 21, f"line 3 of the report is `races {'9' * 21}`; it should be "
-                                                "`races R`"),
+            (b"races 1", b"races " + b"9" * 21, f"line 3 of the report is `races {'9' * 21}`; it should "
+                                                "be `races R`"),
         ):
             self.assertIn(old, report)
             self.assertEqual(self.refused(report.replace(old, new)), said)
@@ -151,6 +151,6 @@ class Refused(program.Case):
             self.refused(report)
 
     def test_a_report_without_end(self):
-        with open("/dev/zero", "rb") as zeros, self.assertRaisesRegex(BadReport, "line 1 of the report is "
-                                                                      "too long"):
+        with open("/dev/zero", "rb") as zeros, \
+                self.assertRaisesRegex(BadReport, "line 1 of the report is too long"):
             Lines(zeros).next(re.compile(b"shb"), "shb-report 2")

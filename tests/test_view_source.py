@@ -65,8 +65,8 @@ class Found(program.Case):
         self.assertEqual(self.place(b"one/util.c:1").line(), b"1")
         for location in (b"util.c:1", b"three/util.c:1"):
             place = self.place(location)
-            self.assertEqual((place.line(), place.fault), (None, "2 files are named util.c; --source can "
-                                                                 "name the folder of one of them"))
+            self.assertEqual((place.line(), place.fault),
+                             (None, "2 files are named util.c; --source can name the folder of one of them"))
 
     def test_the_first_folder_counts(self):
         self.put("new/util.c", b"new\n")
@@ -99,17 +99,16 @@ class Found(program.Case):
 
     def test_lines_end_with_line_feeds_alone(self):
         self.put("src/a.c", b"one\r\ntwo\rstill two\r\nthree")
-        self.assertEqual(
-            [self.place(b"a.c:%d" % number).line()
-             for number in (2, 3, 4)], [b"two\rstill two\r", b"three", None])
+        self.assertEqual([self.place(b"a.c:%d" % number).line() for number in (2, 3, 4)],
+                         [b"two\rstill two\r", b"three", None])
         self.put("src/b.c", b"")
         self.assertEqual(self.place(b"b.c:1").fault, "the file has 0 lines")
 
     def test_a_newer_file(self):
         self.put("src/a.c", time=2001)
         place = self.place(b"a.c:1")
-        self.assertEqual((place.line(), place.fault), (b"one", "the file is newer than the trace; its lines "
-                                                               "may have moved"))
+        self.assertEqual((place.line(), place.fault),
+                         (b"one", "the file is newer than the trace; its lines may have moved"))
 
     def test_links_and_hidden_folders_are_passed_over(self):
         target = self.put("target.c")
@@ -131,8 +130,8 @@ class Found(program.Case):
         source = Source([self.folder / "src"], 2000, {})
         path.unlink()
         path.symlink_to("/etc/passwd")
-        self.assertEqual(source.place(b"a.c:1")[2:4], ([], "the file can't be read (Too many levels of "
-                                                           "symbolic links)"))
+        self.assertEqual(source.place(b"a.c:1")[2:4],
+                         ([], "the file can't be read (Too many levels of symbolic links)"))
 
     def test_what_is_found(self):
         self.put("src/a.c", time=2001)
@@ -141,8 +140,8 @@ class Found(program.Case):
         said = f"Source lines of {self.folder}/src: "
         self.assertEqual(list(source.missing([b"a.c:1", b"a.c:2", b"b.c:1", b"c.c:1", b"?"])),
                          [said + "2 of 3 files found, 1 newer than the trace."])
-        self.assertEqual(list(source.missing([b"b.c:1", b"c.c:1"])), [said + "1 of 2 files found, none newer "
-                                                                      "than the trace."])
+        self.assertEqual(list(source.missing([b"b.c:1", b"c.c:1"])),
+                         [said + "1 of 2 files found, none newer than the trace."])
         kept, sources.MOST_FILES = sources.MOST_FILES, 2
         self.addCleanup(setattr, sources, "MOST_FILES", kept)
         self.put("src/c.c")
@@ -197,12 +196,12 @@ class Shown(program.Case):
     def test_text_by_hand(self):
         self.assertEqual(self.shown().splitlines()[1:], [
             "", "1. total: a.c:3 reads without door (1 race, 1 place)",
-            "   In this trace every write holds door, and a.c:3 reads without it.", "   Remedy: hold door at "
-            "a.c:3.",
+            "   In this trace every write holds door, and a.c:3 reads without it.",
+            "   Remedy: hold door at a.c:3.",
             "   a.c:3 read what a.c:8 wrote. This racy read may hide other races: fix it and run again.",
             "   a.c:8: 1 write by A", "     | total++;", "     holds door", "     races with a.c:3 (1 race)",
-            "   a.c:3: 1 read by B", "     | static int total;", "     no lock held", "     races with a.c:8 "
-            "(1 race)"])
+            "   a.c:3: 1 read by B", "     | static int total;", "     no lock held",
+            "     races with a.c:8 (1 race)"])
 
     def test_page_by_hand(self):
         path = self.folder / "page.html"
@@ -232,8 +231,8 @@ class Shown(program.Case):
         one, other = page.group()["sides"]
         self.assertEqual((said(one["at"]), said(one["locks"]), one["head"],
                           one["lines"][2]), ("<u>&.c:3", "holding <u>", "void <u>f(void)", "  </td><u>x;"))
-        self.assertEqual((said(other["at"]), other["fault"], "lines" in other), ("<u>&.c:9", "the file has 4 "
-                                                                                 "lines", False))
+        self.assertEqual((said(other["at"]), other["fault"], "lines" in other),
+                         ("<u>&.c:9", "the file has 4 lines", False))
 
     def test_a_fault_is_said_beside_the_code(self):
         self.shown()

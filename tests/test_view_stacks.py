@@ -77,9 +77,10 @@ class Stacks(program.Case):
     def test_functions_of_the_system(self):
         """The innermost and the outermost are left out, several between others are one line, and the
         page has all."""
-        tables = TABLES.replace(b"stack 8 6 8 9", b"stack 8 6 8 3 9 3 8").replace(
-            b"stack 6 0 5", b"stack 6 0 5 8 3").replace(
-            b"stack 7 8 6", b"stack 7 8 3 6")
+        tables = TABLES
+        for old, new in ((b"stack 8 6 8 9", b"stack 8 6 8 3 9 3 8"), (b"stack 6 0 5", b"stack 6 0 5 8 3"),
+                         (b"stack 7 8 6", b"stack 7 8 3 6")):
+            tables = tables.replace(old, new)
         self.assertIn("     in get\n       from (2 functions of the system's headers or libraries)\n"
                       "       from sorter (no line is known: it called code without -fsanitize=thread)\n"
                       "       from (2 functions of the system's headers or libraries)\n       from main "
@@ -103,9 +104,8 @@ class Stacks(program.Case):
 
     def test_what_is_told_alike_is_told_once(self):
         """Threads, and blocks, whose stacks differ in what isn't shown."""
-        trace = (b"main|fork(T1)|a.c:30\nmain|fork(T2)|a.c:30\n"
-                 + b"".join(b"%b|w(a.c:9#%d)|a.c:5\n" % (thread, block) for block in (2, 3)
-                            for thread in (b"T1", b"T2")))
+        trace = b"main|fork(T1)|a.c:30\nmain|fork(T2)|a.c:30\n" + b"".join(
+            b"%b|w(a.c:9#%d)|a.c:5\n" % (thread, block) for block in (2, 3) for thread in (b"T1", b"T2"))
         tables = TABLES + b"stack 10 0 1 8\nstack 11 6 8 7\nthread T2\t10\nblock 3 11\n"
         out = self.shown(stacks([1, 1, 2, 2, 2, 2], tables), trace=trace)[1]
         self.assertIn("   threads T1 and T2 were created in main a.c:30\n", out)
@@ -170,25 +170,23 @@ class Stacks(program.Case):
             self.assertEqual([side["head"] for side in Page(page.read_text()).group()["sides"]], [words] * 2)
 
     def test_a_lock_that_both_accesses_hold_for_reading_was_taken_once(self):
-        trace = (
-            b"main|fork(T1)|a.c:1\nT1|acq(m@reader.T1)|a.c:4\nT1|w(x)|a.c:5\nmain|acq(m@reader.main)|a.c:4\nmain|w(x)|a.c:5\n")
+        trace = (b"main|fork(T1)|a.c:1\nT1|acq(m@reader.T1)|a.c:4\nT1|w(x)|a.c:5\n"
+                 b"main|acq(m@reader.main)|a.c:4\nmain|w(x)|a.c:5\n")
         out = self.shown(stacks([1, 9, 5, 9, 5]), "--all", trace=trace)[1]
         self.assertEqual(out.count("   lock m for reading, held at a.c:5, was taken in make a.c:9, from main "
                                    "a.c:31\n"), 1)
 
     def test_locals(self):
         """A variable on a stack has the name of a local that it is at all its racing accesses."""
-        trace = (
-            b"main|fork(T1)|a.c:1\nT1|w(stack.main-0x40)|a.c:5\nmain|w(stack.main-0x40)|a.c:7\nT1|w(stack.main-0x38)|a.c:6\n"
-                 b"main|w(stack.main-0x38)|a.c:8\n")
-        tables = (TABLES + b"local 2\tstack.main-0x40\tx.head of main\nlocal 4\tstack.main-0x38\tx.size of "
-                           b"main\n")
+        trace = (b"main|fork(T1)|a.c:1\nT1|w(stack.main-0x40)|a.c:5\nmain|w(stack.main-0x40)|a.c:7\n"
+                 b"T1|w(stack.main-0x38)|a.c:6\nmain|w(stack.main-0x38)|a.c:8\n")
+        tables = (TABLES + b"local 2\tstack.main-0x40\tx.head of main\n"
+                           b"local 4\tstack.main-0x38\tx.size of main\n")
         page = self.folder / "page.html"
-        for more, names in (
-                (b"", ["1. x of main (2 variables): "]), (
-                    b"local 3\tstack.main-0x40\t\n", ["1. stack.main-0x40: ", "x.size of main: "]),
-                            (b"local 5\tstack.main-0x38\ty of f\n", [
-                                "x.head of main: ", "stack.main-0x38: "]),
+        for more, names in ((b"", ["1. x of main (2 variables): "]),
+                            (b"local 3\tstack.main-0x40\t\n", ["1. stack.main-0x40: ", "x.size of main: "]),
+                            (b"local 5\tstack.main-0x38\ty of f\n",
+                             ["x.head of main: ", "stack.main-0x38: "]),
                             (b"local 9\tstack.main-0x38\ty of f\n", ["1. x of main (2 variables): "])):
             _, out, err = self.shown(stacks([1] * 5, tables + more), "--all", trace=trace)
             self.assertEqual(err, "")
@@ -224,8 +222,8 @@ class Stacks(program.Case):
     def test_members_of_blocks(self):
         """A variable and a lock have one name in headline, facts, events and lines; a block is named where
         two have the type."""
-        trace = (
-            b"main|fork(T1)|a.c:1\nT1|acq(a.c:9#2)|a.c:4\nT1|w(a.c:9#2+40)|a.c:5\nT1|rel(a.c:9#2)|a.c:6\nmain|w(a.c:9#2+40)|a.c:7\n")
+        trace = (b"main|fork(T1)|a.c:1\nT1|acq(a.c:9#2)|a.c:4\nT1|w(a.c:9#2+40)|a.c:5\n"
+                 b"T1|rel(a.c:9#2)|a.c:6\nmain|w(a.c:9#2+40)|a.c:7\n")
         page, json = self.folder / "page.html", self.folder / "places.json"
         for block in ("", " of a.c:9#2"):
             member, lock = f"Account.balance{block}", f"Account.lock{block}"
@@ -245,10 +243,11 @@ class Stacks(program.Case):
     def test_members_of_two_blocks(self):
         """Two blocks of one line are counted; their locks are two."""
         trace = b"main|fork(T1)|a.c:1\n" + b"".join(
-            b"T1|acq(a.c:9#%d)|a.c:4\nT1|w(a.c:9#%d+40)|a.c:5\nT1|rel(a.c:9#%d)|a.c:6\nmain|w(a.c:9#%d+40)|a.c:7\n" % ((k,) * 4) for k in (2, 3))
-        tables = (TABLES + b"".join(b"local 0\ta.c:9#%d+40\tAccount.balance of a.c:9#%d\nlocal "
-                                    b"0\ta.c:9#%d\tAccount.lock of a.c:9#%d\n"
-                                   % ((k,) * 4) for k in (2, 3)))
+            b"T1|acq(a.c:9#%d)|a.c:4\nT1|w(a.c:9#%d+40)|a.c:5\nT1|rel(a.c:9#%d)|a.c:6\n"
+            b"main|w(a.c:9#%d+40)|a.c:7\n" % ((k,) * 4) for k in (2, 3))
+        tables = TABLES + b"".join(b"local 0\ta.c:9#%d+40\tAccount.balance of a.c:9#%d\n"
+                                   b"local 0\ta.c:9#%d\tAccount.lock of a.c:9#%d\n"
+                                   % ((k,) * 4) for k in (2, 3))
         _, out, err = self.shown(stacks([0] * 9, tables), trace=trace)
         self.assertEqual(err, "")
         self.assertIn("1. Account.balance (2 blocks): ", out)
@@ -257,9 +256,8 @@ class Stacks(program.Case):
     def test_locks_and_atomics_on_stacks(self):
         """They have the name of the local that they are, where that is the same one in the whole trace, also
         of a lock for reading."""
-        for lock, more, name in ((b"stack.main-0x40", b"",
-                                  "q.m of main"), (b"stack.main-0x40@reader.T1", b"", "q.m of main for "
-                                                   "reading"),
+        for lock, more, name in ((b"stack.main-0x40", b"", "q.m of main"),
+                                 (b"stack.main-0x40@reader.T1", b"", "q.m of main for reading"),
                                  (b"stack.main-0x40", b"local 5\tstack.main-0x40\ty of f\n",
                                   "stack.main-0x40")):
             trace = (
@@ -284,8 +282,8 @@ class Stacks(program.Case):
 
     def test_a_free(self):
         """One call frees a block of two variables that another thread uses: it is one free, and no write."""
-        trace = (
-            b"main|fork(T1)|a.c:1\nT1|r(a.c:9#2)|a.c:5\nT1|r(a.c:9#2+8)|a.c:6\nmain|w(a.c:9#2)|a.c:7\nmain|w(a.c:9#2+8)|a.c:7\n")
+        trace = (b"main|fork(T1)|a.c:1\nT1|r(a.c:9#2)|a.c:5\nT1|r(a.c:9#2+8)|a.c:6\n"
+                 b"main|w(a.c:9#2)|a.c:7\nmain|w(a.c:9#2+8)|a.c:7\n")
         _, out, err = self.shown(stacks(tables=TABLES + b"free 4 5\n"), "--all", trace=trace)
         self.assertEqual(err, "")
         self.assertIn("1. a.c:9#2 (2 variables): freed at a.c:7 while in use (2 races, 2 places)\n   In this "
@@ -309,8 +307,8 @@ class Stacks(program.Case):
                   "a.c:5")
         for order, event, headline, fact in (
                 ((0, 1, 2), 3, "freed at a.c:7 while in use", f"{before}."),
-                ((0, 2, 1), 2, "used at a.c:5 after it was freed at a.c:7", f"{before}. The use at a.c:5 "
-                 "came after it here: a use after free."),
+                ((0, 2, 1), 2, "used at a.c:5 after it was freed at a.c:7",
+                 f"{before}. The use at a.c:5 came after it here: a use after free."),
                 ((0, 1, 2, 3), 3, "used at a.c:6 after it was freed at a.c:7",
                  f"{before} and a.c:6. The use at a.c:6 came after it here: a use after free.")):
             with self.subTest(order):
@@ -338,19 +336,18 @@ class Stacks(program.Case):
                  "a.c:6 writes slot without release"),
                 (("main store release", "T1 load relaxed"), ("with release", "relaxed", "acquire"),
                  "a.c:4 reads slot without acquire"),
-                (("main store relaxed", "T1 load relaxed"), both, "a.c:6 writes slot without release, and "
-                                                                  "a.c:4 reads it without acquire"),
-                (("main store relaxed", "T1 load relaxed",
-                  "T1 fence acquire"), ("relaxed", "with acquire", "release"), "a.c:6 writes slot without "
-                 "release"),
-                (("main store relaxed", "T1 fence acquire", "T1 load relaxed"), both, "a.c:6 writes slot "
-                 "without release, and a.c:4 reads it without acquire"),
-                (("main store relaxed", "T2 update relaxed", "T1 load relaxed"), both, "a.c:6 writes slot "
-                 "without release, and a.c:4 reads it without acquire"),
-                (("main store release", "T1 load acquire"), None,
-                 None), (("T1 load relaxed", "main store relaxed"), None, None),
-                (("main store relaxed", "T2 store relaxed", "T1 load relaxed"), None,
-                 None), (("T1 store relaxed", "T1 load relaxed"), None, None),
+                (("main store relaxed", "T1 load relaxed"), both,
+                 "a.c:6 writes slot without release, and a.c:4 reads it without acquire"),
+                (("main store relaxed", "T1 load relaxed", "T1 fence acquire"),
+                 ("relaxed", "with acquire", "release"), "a.c:6 writes slot without release"),
+                (("main store relaxed", "T1 fence acquire", "T1 load relaxed"), both,
+                 "a.c:6 writes slot without release, and a.c:4 reads it without acquire"),
+                (("main store relaxed", "T2 update relaxed", "T1 load relaxed"), both,
+                 "a.c:6 writes slot without release, and a.c:4 reads it without acquire"),
+                (("main store release", "T1 load acquire"), None, None),
+            (("T1 load relaxed", "main store relaxed"), None, None),
+                (("main store relaxed", "T2 store relaxed", "T1 load relaxed"), None, None),
+            (("T1 store relaxed", "T1 load relaxed"), None, None),
                 (("main update relaxed", "T1 update relaxed"), None, None)):
             with self.subTest(uses):
                 out = self.with_uses(3, uses)
@@ -364,8 +361,8 @@ class Stacks(program.Case):
     def with_uses(self, event, uses):
         """What is said of a race of main's write with T1's read, where an atomic is used before an event."""
         lines = {"store": "a.c:6", "load": "a.c:4", "update": "a.c:8", "fence": "a.c:3"}
-        trace = (
-            b"main|fork(T1)|a.c:1\nmain|w(a.c:9#2)|a.c:5\nT1|r(a.c:9#2)|a.c:7\nmain|join(T1)|a.c:8\nmain|fork(T2)|a.c:9\n")
+        trace = (b"main|fork(T1)|a.c:1\nmain|w(a.c:9#2)|a.c:5\nT1|r(a.c:9#2)|a.c:7\n"
+                 b"main|join(T1)|a.c:8\nmain|fork(T2)|a.c:9\n")
         tables = ""
         for thread, kind, order in map(str.split, uses):
             tables += f"use {event}\t{'slot' * (kind != 'fence')}\t{thread}\t{lines[kind]}\t{kind} {order}\n"
@@ -377,8 +374,8 @@ class Stacks(program.Case):
         """Those that the first sentence names, where they are near an access."""
         (self.folder / "a.c").write_text("".join(f"line {number}\n" for number in range(1, 20)))
         os.utime(self.folder / "a.c", (1000, 1000))
-        trace = (
-            b"main|fork(T1)|a.c:1\nmain|w(a.c:9#2)|a.c:5\nT1|r(a.c:9#2)|a.c:7\nmain|join(T1)|a.c:8\nmain|fork(T2)|a.c:9\n")
+        trace = (b"main|fork(T1)|a.c:1\nmain|w(a.c:9#2)|a.c:5\nT1|r(a.c:9#2)|a.c:7\n"
+                 b"main|join(T1)|a.c:8\nmain|fork(T2)|a.c:9\n")
         tables = b"use 3\tslot\tmain\ta.c:6\tstore relaxed\nuse 3\tslot\tT1\ta.c:15\tload acquire\n"
         page = self.folder / "page.html"
         self.shown(stacks(tables=TABLES + tables), "--source", self.folder, "--html", page, trace=trace)
@@ -395,9 +392,8 @@ class Stacks(program.Case):
         self.assertIn("In this trace l is held at 1 of 2 accesses at a.c:5.", out)
         self.assertIn("     in add<> (1 of 2 accesses)\n       from std::each each.h:8\n", out)
         self.assertIn("     in add<> (1 of 2 accesses, no lock held)\n       from main a.c:31\n", out)
-        self.assertEqual(
-            [said(side["locks"]) for side in Page(page.read_text()).group()["sides"]], [
-                "holding l", "no lock held"])
+        self.assertEqual([said(side["locks"]) for side in Page(page.read_text()).group()["sides"]],
+                         ["holding l", "no lock held"])
         self.assertNotIn("accesses, no lock held", self.shown(stacks())[1])
 
     def test_sources_that_were_recorded(self):
@@ -432,8 +428,8 @@ class Stacks(program.Case):
                 self.assertRegex(err, rf"app.stacks is damaged in line {2 + TABLES.count(10)}: `")
         for content in (stacks(tables=TABLES + b"frame x\ty"), b"shb-stacks 1 " + b"9" * 20 + b"\n"):
             self.assertEqual(self.shown(content)[0], 4)
-        odd = (([9] * 5, b"stack 9 9\n"), ([7] * 5, b""), ([2**32 - 1] * 5,
-                                                           TABLES), (NODES, TABLES + b"new kind\n"))
+        odd = (([9] * 5, b"stack 9 9\n"), ([7] * 5, b""), ([2**32 - 1] * 5, TABLES),
+               (NODES, TABLES + b"new kind\n"))
         for nodes, tables in odd:
             with self.subTest(tables=tables):
                 self.assertEqual(self.shown(stacks(nodes, tables))[0], 0)

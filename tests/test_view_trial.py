@@ -118,8 +118,8 @@ class Trials(program.Case):
                   "local 2\tstack.main-0x10\tts of sleep<b>"]
         group, remedy = self.group(lines, beside, stacks=[0, 1, 2])
         self.assertEqual((group["form"], group["gone"], remedy), ("no-lock", ["f.c:2"], ""))
-        self.assertEqual(self.faults(group, gone=[]), ["no-lock of ['stack.main-0x10']: other lines use what "
-                                                       "is gone"])
+        self.assertEqual(self.faults(group, gone=[]),
+                         ["no-lock of ['stack.main-0x10']: other lines use what is gone"])
         self.assertNotIn("gone", self.group(lines, beside, stacks=[0, 2, 2])[0])
         self.assertNotIn("gone", self.group(lines, beside, stacks=[0, 1, 1])[0])
         buffer = [*beside[:-1], "local 2\tstack.main-0x10\tbuffer of main"]  # which a system's function fills
@@ -129,6 +129,6 @@ class Trials(program.Case):
         """A flag that is read again, or set again; a result that is waited for, or has no join; what may lie
         between two parts."""
         for lines, more in (([*LATE, LATE[2]], []), ([*LATE, LATE[1]], []), (LATE, ["repeated\t3"]),
-                            (LATE, ["repeated\t2"]), (EARLY, ["repeated\t4"]), (EARLY[:-1], []), (
-                                LATE, ["part\t3"]), (EARLY, ["part\t4"])):
+                            (LATE, ["repeated\t2"]), (EARLY, ["repeated\t4"]), (EARLY[:-1], []),
+                            (LATE, ["part\t3"]), (EARLY, ["part\t4"])):
             self.assertNotIn("moved", self.group(lines, (), more)[0])

@@ -120,6 +120,6 @@ class Words(program.Case):
     def test_options_stand_in_any_order(self):
         trace = self.file(b"T1|w(x)\nT2|w(x)\n")
         wanted = program.run(["races", "--list", trace])
-        for words in (["races", trace, "--list"], ["races", "--workers", "64", trace,
-                                                   "--list"], ["races", "--workers=1", "--list", trace]):
+        for words in (["races", trace, "--list"], ["races", "--workers", "64", trace, "--list"],
+                      ["races", "--workers=1", "--list", trace]):
             self.assertEqual(program.run(words), wanted)

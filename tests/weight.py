@@ -1,6 +1,8 @@
 #!/usr/bin/env python3
-"""Compares the lines of each crate and folder with weight.tsv. Each has exactly the lines that the table
-says, so that a change which adds lines changes the table too, and its commit says what a user gains by them.
+"""Compares the lines of each crate and folder with weight.tsv.
+
+Each has exactly the lines that the table says, so that a change which adds lines changes the table too, and
+its commit says what a user gains by them.
 
     weight.py [--lower]
 

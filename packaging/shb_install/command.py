@@ -13,8 +13,8 @@ from shb_common.words import Refused
 from shb_install import machine, package, placing, sources, tree
 
 EPILOG = """\
-Exit status: 0; 1 if it can't be done, with the reason. Then an older installation stays as it was, or is listed so that
-installing again goes on and uninstalling leaves nothing."""
+Exit status: 0; 1 if it can't be done, with the reason. Then an older installation stays as it was, or is
+listed so that installing again goes on and uninstalling leaves nothing."""
 
 
 def arguments(words):
@@ -63,8 +63,8 @@ def install(options):
 def uninstall(options):
     place = place_of(options)
     was_there = placing.uninstall(place)
-    print(f"uninstalled from {place}" if was_there else f"nothing is installed in {place}: there is no "
-                                                        f"{place / placing.LISTED}")
+    print(f"uninstalled from {place}" if was_there
+          else f"nothing is installed in {place}: there is no {place / placing.LISTED}")
 
 
 def packaged(options, made, prefix, library, strip=lambda made: None):

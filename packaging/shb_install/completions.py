@@ -26,8 +26,7 @@ def quoted(text):
 
 # ---- bash ----
 def bash(help_, helps):
-    """Words that begin with a dash are options; for others, where nothing is said here, bash completes
-    files."""
+    """Words that begin with a dash are options; for others bash completes files if nothing is said here."""
     inner = subcommands(help_, helps)
     name = "_" + re.sub("[^a-z]", "_", help_.command)
     lines = [f"# Completes {help_.command} in bash; made from its help.", f"{name}() {{",

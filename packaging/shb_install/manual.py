@@ -7,9 +7,8 @@ import textwrap
 EXIT_STATUS = "Exit status:"    # as the paragraph begins in a help without headings
 ARGUMENTS, OPTIONS = "positional arguments", ("options", "optional arguments")     # as argparse calls them
 
-ESCAPES = (("\\", r"\e"), ("-", r"\-"), ("'", r"\(aq"), ("`",
-                                                         r"\(ga"), ("^",
-                                                                    r"\(ha"), ("~", r"\(ti"), ('"', r"\(dq"))
+ESCAPES = (("\\", r"\e"), ("-", r"\-"), ("'", r"\(aq"), ("`", r"\(ga"), ("^", r"\(ha"), ("~", r"\(ti"),
+           ('"', r"\(dq"))
 
 
 def page(help_, version, date, others):

@@ -21,18 +21,19 @@ PROVED = """\
 # shb {version}
 
 Made from commit {commit} of {date}. `bin/shb` (SHA-256 {checksum}) {origin}
-The other commands aren't part of what is proved. [docs/GUARANTEES.md](docs/GUARANTEES.md) says what is proved,
-and on what it rests.
+The other commands aren't part of what is proved. [docs/GUARANTEES.md](docs/GUARANTEES.md) says what is
+proved, and on what it rests.
 
 The commands need Linux on x86-64, a processor of level x86-64-v{level} or higher, for which shb is built, and
-glibc {glibc} or later, the highest version of a symbol that their files ask for. shb-farm and shb-view need Python 3.8 or later too,
-shb-record also libdw.so.1 of elfutils (Debian's libdw1). A program that it records has to be compiled by gcc or clang, which may
-be on another machine.
+glibc {glibc} or later, the highest version of a symbol that their files ask for. shb-farm and shb-view need
+Python 3.8 or later too, shb-record also libdw.so.1 of elfutils (Debian's libdw1). A program that it records
+has to be compiled by gcc or clang, which may be on another machine.
 """
 BUILT = """was built
 by the Rattle kit (logic {logic}), which builds a crate only after all its proofs passed."""
 NAMED = """was named by
-who made this package (SHB=), and not compared with a build by the Rattle kit (logic {logic}): that it is proved is their word."""
+who made this package (SHB=), and not compared with a build by the Rattle kit (logic {logic}): that it is
+proved is their word."""
 
 CONTROL = """\
 Package: shb
@@ -53,8 +54,8 @@ Description: data races of a recorded run of a concurrent program
 COPYRIGHT = """\
 Copyright {year} the authors of shb's commits.
 
-No licence has been chosen yet: that is for the maintainers to decide. Until then nobody else may copy, change or
-distribute this package.
+No licence has been chosen yet: that is for the maintainers to decide. Until then nobody else may copy, change
+or distribute this package.
 """
 
 CHANGES = """\
@@ -92,8 +93,8 @@ def is_built_here(shb):
 
 def proved_text(tree, shb, name, commit, seconds):
     """By which commit and kit the program was proved, as far as that is known, and what the commands need."""
-    origin = (BUILT if is_built_here(shb) else NAMED).format(
-        logic=LOGIC.search((TOP / "build.sh").read_text())[1])
+    logic = LOGIC.search((TOP / "build.sh").read_text())[1]
+    origin = (BUILT if is_built_here(shb) else NAMED).format(logic=logic)
     paths = [tree / name for name in files_in(tree)]
     return PROVED.format(version=name, commit=commit, date=day(seconds),
                          checksum=checksum_of(tree / "bin/shb"), origin=origin,

@@ -20,9 +20,8 @@ OF_THE_CHECKOUT = ("docs/GATE.md", "docs/PROOF-NOTES.md")   # they are about fil
 PLACES = ("bin", HOME, "share/doc/shb", "share/man/man1", "share/bash-completion/completions",
           "share/zsh/site-functions",
           "share/fish/vendor_completions.d")
-COMPLETIONS = (
-    (completions.bash, "share/bash-completion/completions/{}"), (
-        completions.zsh, "share/zsh/site-functions/_{}"),
+COMPLETIONS = ((completions.bash, "share/bash-completion/completions/{}"),
+               (completions.zsh, "share/zsh/site-functions/_{}"),
                (completions.fish, "share/fish/vendor_completions.d/{}.fish"))
 # as in its Makefile without -g, which names folders
 RECORDER_FLAGS = "-O2 -Wall -Wextra -Wno-unused-parameter"

@@ -34,8 +34,10 @@ def copy_of_repository(folder):
     folder.mkdir(parents=True)
     for name in PARTS:
         source = TOP / name
-        shutil.copytree(source, folder / name, ignore=ignore) if source.is_dir() else shutil.copy(
-            source, folder / name)
+        if source.is_dir():
+            shutil.copytree(source, folder / name, ignore=ignore)
+        else:
+            shutil.copy(source, folder / name)
     time = "2026-01-02T03:04:05 +0100"
     environment = {**os.environ, "GIT_AUTHOR_DATE": time, "GIT_COMMITTER_DATE": time}
     for words in (["init", "-q"], ["add", "."], ["-c", "user.name=maintainers", "-c",

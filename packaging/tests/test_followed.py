@@ -175,8 +175,8 @@ class Extracted(installing.Case):
         self.assertEqual(found, [("one  # status 66: a race", 66), ("cat <<'END'\na\nEND", 0), ("two", 0)])
 
     def test_a_command_that_fails_ends_the_script(self):
-        for command, wanted, status in (("false", 0, 99), ("true", 1,
-                                                           99), ("false", 1, 0), ("cat <<'END'\nEND", 0, 0)):
+        for command, wanted, status in (("false", 0, 99), ("true", 1, 99), ("false", 1, 0),
+                                        ("cat <<'END'\nEND", 0, 0)):
             self.assertEqual(subprocess.run(["sh", "-c", step(command, wanted)],
                                             stderr=subprocess.DEVNULL).returncode, status)
 

@@ -54,9 +54,8 @@ class Tree(installing.Case):
         links = [(path, name) for path in folder.rglob("*.md")
                  for name in re.findall(r"\]\(([^)#:]+)[)#]", path.read_text())]
         self.assertGreater(len(links), 10)
-        self.assertEqual(
-            [f"{path.relative_to(folder)}: {name}"
-             for path, name in links if not (path.parent / name).exists()], [])
+        self.assertEqual([f"{path.relative_to(folder)}: {name}" for path, name in links
+                          if not (path.parent / name).exists()], [])
 
     def test_the_last_line_of_a_help_is_the_version(self):
         version = (self.prefix / "lib/shb/VERSION").read_text()
@@ -179,9 +178,8 @@ class Tree(installing.Case):
         call(self.prefix / "bin" / "shb-farm", trace.parent, out, env={}, status=1)
         self.assertEqual((out / "unknown.places").read_text(),
                          "a.c:1\tb.c:2\tx\na.c:1\tfar.c:9\tx\nk.c:1\tk.c:2\ty\n")
-        self.assertIn(
-            "\nlong.std\treport\t3\tevents 4194310 threads 5 locks 0 variables 2; ", (
-                out / "traces.tsv").read_text())
+        self.assertIn("\nlong.std\treport\t3\tevents 4194310 threads 5 locks 0 variables 2; ",
+                      (out / "traces.tsv").read_text())
 
     def test_nothing_names_the_checkout_or_a_folder_that_is_gone(self):
         for name, content in contents(self.prefix).items():

@@ -81,8 +81,8 @@ Exit status: 66 if there is a race;
 class Parts(installing.Case):
     def test_options_without_a_heading(self):
         found = helptext.parse("shb-r", WITHOUT_HEADINGS)
-        self.assertEqual((found.about, found.usage), ("runs a program", "shb-r [OPTION].. PROGRAM "
-                                                      "[ARGUMENT].."))
+        self.assertEqual((found.about, found.usage),
+                         ("runs a program", "shb-r [OPTION].. PROGRAM [ARGUMENT].."))
         self.assertEqual(found.options, [Option(["-o"], "DIR", "the folder of results"),
                                          Option(["--keep"], "", "keep it")])
 
@@ -92,9 +92,8 @@ class Parts(installing.Case):
         self.assertEqual(found.options, [Option(["--workers"], "N", "How many, 1 to 64"),
                                          Option(["--list"], "", "Leave them out: yes"),
                                          Option(["-h", "--help"], "", "Print help")])
-        self.assertEqual(
-            found.parts[3:], [
-                ("The trace", ["  One event a line:", "    r(X)   reads"]), ("", ["Exit status: 0", "done"])])
+        self.assertEqual(found.parts[3:], [("The trace", ["  One event a line:", "    r(X)   reads"]),
+                                           ("", ["Exit status: 0", "done"])])
 
     def test_argparse(self):
         found = helptext.parse("shb-x", ARGPARSE)
@@ -167,9 +166,8 @@ class Pages(installing.Case):
     def test_a_help_is_80_columns_wide(self):
         """But the line of a path, which isn't cut."""
         for words, text in self.helps():
-            self.assertEqual(
-                [line for line in text.splitlines() if len(line) > 80 and str(self.prefix) not in line], [],
-                words)
+            self.assertEqual([line for line in text.splitlines() if len(line) > 80
+                              and str(self.prefix) not in line], [], words)
 
     def test_a_page_is_80_columns_wide(self):
         self.need("man")

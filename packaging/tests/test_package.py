@@ -38,9 +38,8 @@ class Package(installing.Case):
             members = tar.getmembers()
         self.assertEqual([member.name for member in members], sorted(member.name for member in members))
         self.assertEqual({member.name.split("/")[0] for member in members}, {top})
-        self.assertEqual(
-            {(member.uid, member.gid, member.uname, member.mtime)
-             for member in members}, {(0, 0, "root", COMMIT_TIME)})
+        self.assertEqual({(member.uid, member.gid, member.uname, member.mtime) for member in members},
+                         {(0, 0, "root", COMMIT_TIME)})
         self.assertEqual((unpacked / "lib/shb/VERSION").read_text(), f"{COMMIT_DAY}-{commit[:12]}\n")
         proved = (unpacked / "share/doc/shb/PROVED.md").read_text()
         checksum = call("sha256sum", installing.SHB).split()[0]
@@ -60,8 +59,8 @@ class Package(installing.Case):
         copy = self.clone()
         (copy / "bin").mkdir()
         checksum = call("sha256sum", installing.SHB).split()[0]
-        for left, wanted in ((checksum, "only after all its proofs passed"), ("0" * 64, "was named by\nwho "
-                                                                              "made this package")):
+        for left, wanted in ((checksum, "only after all its proofs passed"),
+                             ("0" * 64, "was named by\nwho made this package")):
             (copy / "bin/shb.sum").write_text(f"{left}  -\n")
             call("make", "-s", "-C", copy, "deb", f"SHB={installing.SHB}")
             [package] = copy.glob("*.deb")

@@ -75,11 +75,10 @@ class Placing(Base):
         stranger = self.folder / "stranger"
         stranger.write_text("precious")
         tree = self.tree(SECOND)
-        for name, make in (
-                ("bin/shb", lambda path: path.symlink_to(stranger)), (
-                    "bin/new", lambda path: path.write_text("theirs")),
-                           ("bin/link", lambda path: path.mkdir()), (
-                               "bin/shb.shb-new", lambda path: path.symlink_to(stranger)),
+        for name, make in (("bin/shb", lambda path: path.symlink_to(stranger)),
+                           ("bin/new", lambda path: path.write_text("theirs")),
+                           ("bin/link", lambda path: path.mkdir()),
+                           ("bin/shb.shb-new", lambda path: path.symlink_to(stranger)),
                            (placing.LISTED, lambda path: path.write_text("")),
                            (placing.LISTED + placing.NEW, lambda path: path.write_text("theirs"))):
             (self.place / name).parent.mkdir(parents=True)
@@ -113,9 +112,8 @@ class Placing(Base):
             (self.folder / "elsewhere/deep/link").resolve(), (self.place / "lib/shb/pack/part.py").resolve())
         self.assertEqual((self.place / "bin/link").read_text(), "part")
         placing.uninstall(self.place)
-        self.assertEqual((list(self.place.iterdir()),
-                          contents(self.place)), (
-                              [self.place / "bin"], {"bin": str(self.folder / "elsewhere/deep")}))
+        self.assertEqual((list(self.place.iterdir()), contents(self.place)),
+                         ([self.place / "bin"], {"bin": str(self.folder / "elsewhere/deep")}))
 
     @mock.patch.object(placing, "is_root", lambda: True)
     def test_root_follows_no_link_out_of_the_prefix(self):
@@ -144,8 +142,8 @@ class Placing(Base):
             placing.uninstall(self.place)
         (self.place / placing.LISTED).unlink()
         (self.place / placing.LISTED).write_text(placing.LISTED + "\n")
-        with mock.patch.object(os, "geteuid", return_value=os.geteuid() + 1), self.assertRaisesRegex(
-                Refused, "isn't a file of yours"):
+        with mock.patch.object(os, "geteuid", return_value=os.geteuid()
+                               + 1), self.assertRaisesRegex(Refused, "isn't a file of yours"):
             placing.uninstall(self.place)
         self.assertTrue((self.place / placing.LISTED).exists())
 
@@ -166,8 +164,7 @@ class Broken(Base):
 
     @contextlib.contextmanager
     def failing(self, number, fault):
-        """Step `number` raises the fault instead, and so do those after it if the process is stopped
-        there."""
+        """Step `number` raises the fault instead, and so do later ones if the process is stopped there."""
         count = 0
 
         def instead(real):

@@ -179,8 +179,7 @@ def side_in(field):
 
 
 def words_of_stale(lines, names):
-    """What is said of lines that matched nothing. `names` are those of the source files
-    (`programs.Names`)."""
+    """What is said of lines that matched nothing. `names` are the source files' (`programs.Names`)."""
     for line in lines[:MOST_STALE]:
         several = [files for _, pieces in line.sides
                    for files in [names.several(pieces[0].rpartition(b":")[0])] if files]
@@ -234,8 +233,8 @@ class Known:
         sides = tuple(map(side_in, fields[:2]))
         self.lines.append(Line(number, line, sides, pieces_of(fields[2]) if len(fields) == 3 else None))
         if all(len(pieces) == 1 for _, pieces in sides):
-            self.exact.setdefault(tuple(sorted((kind, pieces[0]) for kind, pieces in sides)), []).append(
-                len(self.lines) - 1)
+            self.exact.setdefault(tuple(sorted((kind, pieces[0]) for kind, pieces in sides)),
+                                  []).append(len(self.lines) - 1)
         else:
             self.patterns.append(len(self.lines) - 1)
 
@@ -275,9 +274,8 @@ class Known:
         """The lines with stars whose first field this one matches, and those whose second."""
         if key not in self.found:
             kind, name = key
-            self.found[key] = tuple(
-                {number for number in self.patterns
-                 for is_function, pieces in [self.lines[number].sides[side]]
+            self.found[key] = tuple({number for number in self.patterns
+                                     for is_function, pieces in [self.lines[number].sides[side]]
                                      if is_function == kind and matches(pieces, name)} for side in (0, 1))
         return self.found[key]
 

@@ -12,4 +12,5 @@ def part(*paths):
 
 
 ANALYSER = part("../bin/shb", "../../bin/shb")
-NO_ANALYSER = "there is no analyser at {}; in a checkout `make build` makes it, and SHB=PROGRAM names another".format
+NO_ANALYSER = ("there is no analyser at {}; in a checkout `make build` makes it, "
+               "and SHB=PROGRAM names another").format

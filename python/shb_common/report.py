@@ -86,8 +86,8 @@ class Lines:
     def accesses(self, what, first, second, events):
         """The lines of two accesses that conflict, each with its fields. They are of these events of so many;
         `what` has them."""
-        (first_line, one), (second_line, other) = (self.access(FIRST, "first ACCESS"),
-                                                   self.access(SECOND, "second ACCESS"))
+        first_line, one = self.access(FIRST, "first ACCESS")
+        second_line, other = self.access(SECOND, "second ACCESS")
         if not 0 < first < second <= events:
             raise BadReport(f"{what} of the report: {first} and {second} aren't two events of the trace, the "
                             "earlier first")
@@ -174,8 +174,8 @@ class Report:
 
     def read_race(self, number):
         first, second = self.lines.numbered(RACE, f"race {number}: I J", number)
-        (first_line, one), (second_line, other) = self.lines.accesses(
-            f"race {number}", first, second, self.counts.events)
+        accesses = self.lines.accesses(f"race {number}", first, second, self.counts.events)
+        (first_line, one), (second_line, other) = accesses
         if number == 1:
             self.has_schedules = self.lines.line.startswith(b"schedule ")
         schedule = self.lines.pass_schedule() if self.has_schedules else None

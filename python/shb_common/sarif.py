@@ -99,9 +99,8 @@ def location_of(place, **more):
     """A location object: with a file and a line, or with a name alone."""
     if place.kind == NAME:
         return {**more, "logicalLocations": [{"fullyQualifiedName": named(place)}]}
-    return {**more,
-            "physicalLocation": {"artifactLocation": uri_of(place.path, BASE),
-                                 "region": {"startLine": place.line}}}
+    return {**more, "physicalLocation": {"artifactLocation": uri_of(place.path, BASE),
+                                         "region": {"startLine": place.line}}}
 
 
 def primary_of(place, example):
@@ -151,10 +150,8 @@ def thread_flow(access, sources):
     for frame in reversed(access.frames):
         place = place_of(frame.location, sources, access.files.get(parts_of(frame.location)[0], b""))
         if place.kind != NAME and not frame.in_system:
-            steps.append(
-                {"location": location_of(place,
-                                         message={
-                                             "text": f"{name} in {plain(printable(bare(frame.function)) or 'a function')}"})})
+            function = plain(printable(bare(frame.function)) or "a function")
+            steps.append({"location": location_of(place, message={"text": f"{name} in {function}"})})
     return {"id": name, "message": {"text": plain(f"{name}: {printable(access.operation)}")},
             "locations": steps}
 

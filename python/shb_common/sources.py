@@ -29,8 +29,8 @@ class Index:
                         pending.append(entry.path)
                     elif entry.is_file(follow_symlinks=False) and not self.is_full():
                         self.count += 1
-                        self.paths.setdefault(entry.name, {}).setdefault(
-                            os.path.relpath(entry.path, top), entry.path)
+                        self.paths.setdefault(entry.name,
+                                              {}).setdefault(os.path.relpath(entry.path, top), entry.path)
 
     def is_full(self):
         """Whether there may be files that weren't looked at."""

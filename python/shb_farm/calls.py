@@ -84,9 +84,9 @@ def accesses_in(report, pairs, path):
         for race, accesses in read.races():
             place = known.pair_of(*(access.location for access in accesses))
             if place in pairs and place not in found:
-                found[place] = tuple(Access(*line.split(b"|")[:2], calls.of_event(number), calls.sources)
-                                     for number, line in (
-                                         (race.first, race.first_line), (race.second, race.second_line)))
+                found[place] = tuple(
+                    Access(*line.split(b"|")[:2], calls.of_event(number), calls.sources)
+                    for number, line in ((race.first, race.first_line), (race.second, race.second_line)))
     return found
 
 

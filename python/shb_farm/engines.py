@@ -98,8 +98,7 @@ def cancel(array):
 
 
 def call(words):
-    """Runs a command to its end; returns its status and what it said on standard output and standard
-    error."""
+    """Runs a command to its end; returns its status and what it said on both standard streams."""
     try:
         ran = subprocess.run(words, stdin=subprocess.DEVNULL, stdout=subprocess.PIPE, stderr=subprocess.PIPE)
     except FileNotFoundError:

@@ -40,9 +40,8 @@ def make_outcome(work, name):
             new = old._replace(stamp=stamp)
         else:
             end, places = reports.analysed(work, name, trace)
-            new = outcomes.Outcome(name, work.program, checksum, stamp,
-                                   Cost(round(METER.seconds, 2), METER.kib, METER.text), end.kind, end.words,
-                                   places)
+            new = outcomes.Outcome(name, work.program, checksum, stamp, Cost(
+                round(METER.seconds, 2), METER.kib, METER.text), end.kind, end.words, places)
     put(place, outcomes.text_of(new), work.room)
     if new.kind == "failed":
         tell(f"shb-farm: {name}: {new.words}")

@@ -65,9 +65,8 @@ def rows_of(endings, known_places, calls):
 
 def named(place, local_of):
     """A place of an outcome, with its variables as the program has them."""
-    return place._replace(
-        variables={local_name(variable, events, local_of): events
-                   for variable, events in place.variables.items()})
+    return place._replace(variables={local_name(variable, events, local_of): events
+                                     for variable, events in place.variables.items()})
 
 
 def facts_of(rows, endings, stale, damaged, since):

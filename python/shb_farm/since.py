@@ -44,9 +44,8 @@ def read(path):
         found = parsed(text)
         if found["form"] != result.FORM or found["version"] != result.VERSION:
             raise ValueError(f"it isn't of form {result.FORM}, version {result.VERSION}")
-        return [
-            (keys_of_entry(entry), [*(access["location"] for access in entry["accesses"]),
-                                    ", ".join(one["name"] for one in entry["variables"])])
+        return [(keys_of_entry(entry), [*(access["location"] for access in entry["accesses"]),
+                                        ", ".join(one["name"] for one in entry["variables"])])
                 for entry in found["places"]]
     except (ValueError, KeyError, TypeError, AttributeError, RecursionError) as fault:
         said = str(fault) if isinstance(fault, ValueError) else "a part of it is missing, or of another kind"

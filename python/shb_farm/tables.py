@@ -54,10 +54,10 @@ def traces_table(endings):
 
 
 def why(ending):
-    return {"memory": f"out of memory in {ending.words} MiB",
+    said = {"memory": f"out of memory in {ending.words} MiB",
             "time": f"not done in {ending.words} s of processor time",
-            "size": f"its report, or the text of a packed trace, is longer than {ending.words} MiB"}.get(
-                ending.kind, ending.words)
+            "size": f"its report, or the text of a packed trace, is longer than {ending.words} MiB"}
+    return said.get(ending.kind, ending.words)
 
 
 def note_of(ending):
@@ -125,10 +125,8 @@ def log(found, sources, entries, accesses):
         seen = f"{have.format(len(endings))}, for example {printable(field(row.example))}"
         alerts.append(sarif.Alert(row, facts, seen, os.fsencode(row.example),
                                   accesses.get(row.key, ()), {"traces": row.traces}))
-    return sarif.log(alerts,
-                     sources, [notification_of(name, ending)
-                               for name, ending in endings.items() if ending.kind != "report"
-                               or note_of(ending)],
+    return sarif.log(alerts, sources, [notification_of(name, ending) for name, ending in endings.items()
+                                       if ending.kind != "report" or note_of(ending)],
                      found.status != 2, found.status)
 
 
@@ -146,11 +144,10 @@ def write(out, room, found, sources, stacks):
     `stacks` the call stacks."""
     said, entries = text(found), calls.entries_of(found.rows, out)
     facts = "".join(f"{name}\t{count}\n" for name, count in found.facts.items()).encode()
-    for name, content in (
-            ("places.tsv", places_table(found)), ("traces.tsv",
-                                                  traces_table(found.endings)), ("facts.tsv", facts),
-                          ("unknown.places", unknown_places(found.rows)), (
-                              "places.txt", said.encode("utf-8", "surrogateescape")),
+    for name, content in (("places.tsv", places_table(found)), ("traces.tsv", traces_table(found.endings)),
+                          ("facts.tsv", facts),
+                          ("unknown.places", unknown_places(found.rows)),
+                          ("places.txt", said.encode("utf-8", "surrogateescape")),
                           ("places.json", result.in_bytes(document(found, entries))),
                           ("places.sarif",
                            log(found, sources, entries, stacks.accesses_of(found.rows, out)))):

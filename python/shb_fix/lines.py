@@ -60,9 +60,8 @@ def kind_of(file):
     """What a file is that is no trace, if its beginning shows it."""
     file.seek(0)
     start = file.read(max(map(len, BEGINNINGS)))
-    return next(
-        (hint for beginning, hint in BEGINNINGS.items() if beginning != MARK and start.startswith(beginning)),
-        "")
+    return next((hint for beginning, hint in BEGINNINGS.items() if beginning != MARK
+                 and start.startswith(beginning)), "")
 
 
 def no_event(file):

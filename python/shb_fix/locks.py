@@ -7,9 +7,8 @@ from shb_fix.events import Event, OWN
 VOLATILE, READER = OWN.encode() + b"volatile.", OWN.encode() + b"reader."
 
 # Forms that are translated, of one event and of several.
-ACCESS, READ_LOCK, WRITE_LOCK, WAIT, NOTIFY = (("volatile access",
-                                                "volatile accesses"), ("reader lock",), ("writer lock",), (
-                                                    "wait",), ("notification",))
+ACCESS, READ_LOCK, WRITE_LOCK, WAIT, NOTIFY = (("volatile access", "volatile accesses"), ("reader lock",),
+                                               ("writer lock",), ("wait",), ("notification",))
 
 
 class Uses:

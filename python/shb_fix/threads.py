@@ -104,8 +104,8 @@ class Plan:
         for event in events:
             if event in moved:
                 self.before[moved[event]].append(event)
-        self.gone = {event.line for event in lives.turns} - {
-            event.line for event in events if event not in moved}
+        kept = {event.line for event in events if event not in moved}
+        self.gone = {event.line for event in lives.turns} - kept
         self.forked = {event.name for event in events if event.word == b"fork"}
 
     def followed(self, events):

@@ -25,7 +25,7 @@ def part(content, section):
 def symbols_of(content, sections, table, texts):
     texts = part(content, sections.get(texts, (0, 0, 0)))
     for name, info, _, place, value, size in struct.iter_unpack(
-            "<IBBHQQ", part(content, sections.get(table, (0, 0, 0)))):
+        "<IBBHQQ", part(content, sections.get(table, (0, 0, 0)))):
         yield Symbol(value, size, texts[name:texts.find(b"\0", name)], info & 15, place != 0)
 
 

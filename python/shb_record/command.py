@@ -41,18 +41,18 @@ gcc need nothing else. clang links a library of its own: link with
 A place is a pair of locations that race, that of the first access and that of the second,
 each of its own program's source file."""
 NOTES = """\
-The environment's SHB names another analyser. SHB_SEED, SHB_SLICE, SHB_CELLS, SHB_RECORDS and SHB_STALL are the
-recorder's (docs/RECORDER.md).
+The environment's SHB names another analyser. SHB_SEED, SHB_SLICE, SHB_CELLS, SHB_RECORDS and SHB_STALL are
+the recorder's (docs/RECORDER.md).
 
 The first SIGINT or SIGTERM stops the program, which it is passed on to unless the terminal did so, and shows
 what was recorded. A second one ends shb-record at once, and keeps the records that weren't shown.
 
-Exit status: 125 if a check failed, whatever else was found; 66 if there is a race of a variable that isn't known at
-its place, whatever the program's own status was; 67 with --fail-on-stale if there is none, and a line of known places
-matched nothing; 125 if nothing was recorded or something failed, with the reason; 124 if the recording is incomplete and
-there is no such race (if a signal killed the program, its own status, 128 + N, is returned instead); 126 or 127 if
-the program can't be run or isn't there; else the program's own. The last lines print the program's own
-status and the path of the page."""
+Exit status: 125 if a check failed, whatever else was found; 66 if there is a race of a variable that isn't
+known at its place, whatever the program's own status was; 67 with --fail-on-stale if there is none, and a
+line of known places matched nothing; 125 if nothing was recorded or something failed, with the reason; 124 if
+the recording is incomplete and there is no such race (if a signal killed the program, its own status,
+128 + N, is returned instead); 126 or 127 if the program can't be run or isn't there; else the program's own.
+The last lines print the program's own status and the path of the page."""
 
 
 def parser_of_words():
@@ -68,7 +68,8 @@ def parser_of_words():
                         "trace of its own, which is cut around its races")
     how_often = parser.add_mutually_exclusive_group()
     how_often.add_argument("--runs", metavar="N", type=number(1),
-                           help="run it N times, each with another interleaving (1); each place is shown once")
+                           help="run it N times, each with another interleaving (1); each place is shown "
+                                "once")
     how_often.add_argument("--until-found", metavar="N", type=number(1),
                            help="run it at most N times, and end after the first run with a race that isn't "
                                 "known")
@@ -97,8 +98,8 @@ def parser_of_words():
     parser.add_argument("--source", metavar="DIR", action="append", default=[],
                         help="look for source files below this folder too; may be given again. Those of the "
                              "debug information are found without it")
-    parser.add_argument("--strip", metavar="DIR", help="name files below this folder by their paths from it "
-                                                       "(shb-std --help)")
+    parser.add_argument("--strip", metavar="DIR",
+                        help="name files below this folder by their paths from it (shb-std --help)")
     parser.add_argument("--window", metavar="N", type=number(1), default=MOST_EVENTS,
                         help="the most events of a page's trace (%(default)s)")
     parser.add_argument("--wait", metavar="N", type=number(0),
@@ -157,8 +158,8 @@ def check_settings():
 
 def check_folders(options):
     """Refuses folders that aren't there, but the path of one on the machine that compiled the program."""
-    for name, folder in [("--source", folder) for folder in options.source] + [
-            ("--strip", options.strip or "/")]:
+    for name, folder in [("--source", folder)
+                         for folder in options.source] + [("--strip", options.strip or "/")]:
         if not os.path.isdir(folder) and not (name == "--strip" and os.path.isabs(folder)):
             raise Refused(f"{name}: {folder} isn't a folder")
 
@@ -194,9 +195,8 @@ def record(options):
     except (Refused, OSError) as fault:
         look.fail(fault)
     except KeyboardInterrupt:
-        look.fail(
-            Refused(f"stopped {counted(options.show, 'second')} after the signal (--wait)" if stops.is_late
-                    else "stopped at once"))
+        look.fail(Refused(f"stopped {counted(options.show, 'second')} after the signal (--wait)"
+                          if stops.is_late else "stopped at once"))
         results.keep_records()
     finally:
         stops.close()
@@ -275,7 +275,8 @@ def conclude(look, rows, status):
     for line in dict.fromkeys([*look.counts(), *look.notes, *look.meaning()]):
         say(line)
     if len(look.runs) > 1:
-        say(f"{counted(len(look.runs), 'run')} gave {counted(look.interleavings(), 'different interleaving')}")
+        interleavings = counted(look.interleavings(), "different interleaving")
+        say(f"{counted(len(look.runs), 'run')} gave {interleavings}")
     if look.again and look.options.runs > 1 and not look.options.replay:
         words = ["shb-record", "--replay", str(look.again), look.options.program, *look.options.arguments]
         say(f"the first run with such a place again: {shlex.join(words)}")
@@ -292,9 +293,8 @@ def logged(path):
     """What redirects what this command says to a file, if one is named."""
     found = contextlib.ExitStack()
     if path:
-        found.enter_context(
-            contextlib.redirect_stderr(
-                found.enter_context(open(path, "w", encoding="utf-8", errors="backslashreplace"))))
+        found.enter_context(contextlib.redirect_stderr(
+            found.enter_context(open(path, "w", encoding="utf-8", errors="backslashreplace"))))
     return found
 
 

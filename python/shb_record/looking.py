@@ -70,8 +70,8 @@ class Look:
                 words = shlex.join(["shb-record", "env", f"LD_PRELOAD={PRELOADED}", self.options.program,
                                     *self.options.arguments])
                 late = any(one and LATE in cut for one in looked for cut in one.conversion.cuts)
-                raise Refused("nothing of the run was recorded" + "; for a module with hooks that the "
-                                                                  f"program loads later run `{words}`" * late)
+                hint = f"; for a module with hooks that the program loads later run `{words}`"
+                raise Refused("nothing of the run was recorded" + hint * late)
             say(f"run {number}: {counted(len(looked), 'recorded process', 'recorded processes')}, none with "
                 "a second thread")
 
@@ -222,8 +222,8 @@ class Look:
         for note in conversion.notes:
             if (looked.events or note != KILLED) and note not in self.said:
                 self.said.update([note] if self.options.live else [])
-                more = "; SHB_RECORDS=NUMBER allows more records, of 16 bytes each" * ("SHB_RECORDS is "
-                                                                                       "reached" in note)
+                more = "; SHB_RECORDS=NUMBER allows more records, of 16 bytes each" * (
+                    "SHB_RECORDS is reached" in note)
                 say(f"{process.name} ({process.command}): {note}{more}")
 
     def note_cuts(self, looked):
@@ -251,9 +251,8 @@ class Look:
         """The view's page and text of new places that aren't known, and what it found; where it fails, the
         new places alone."""
         process, conversion, numbers = looked.process, looked.conversion, looked.conversion.numbers
-        is_on_page = [
-            any(one.place.variables[name].events in numbers
-                for name in one.variables & one.place.variables.keys()) for one in unknown]
+        is_on_page = [any(one.place.variables[name].events in numbers
+                          for name in one.variables & one.place.variables.keys()) for one in unknown]
         show_apart([one for one, is_there in zip(unknown, is_on_page) if not is_there])
         if not any(is_on_page):
             return

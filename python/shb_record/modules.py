@@ -84,8 +84,8 @@ class Modules:
         for path in bare:
             of_module.update(dict.fromkeys((read_in(path, exports_of) or set()) - recorded,
                                            os.path.basename(path)))
-        for function, called in set().union(
-                *(read_in(path, calls_of) or () for path in hooked)) if of_module else ():
+        for function, called in set().union(*(read_in(path, calls_of) or ()
+                                              for path in hooked)) if of_module else ():
             if called in of_module and not called.startswith(ORDERS_NOTHING):
                 found.setdefault(function, set()).add(of_module[called])
         return found

@@ -45,9 +45,10 @@ class Places(places.Places):
         keys = self.add((process.name, trace), origin, [place for place, _ in in_run])
         for key, (place, _) in zip(keys, in_run):
             behind = self.seen[key].behind
-            behind.update(
-                place.variables.keys() - before.get(key, set())) if is_behind else behind.difference_update(
-                    place.variables)
+            if is_behind:
+                behind.update(place.variables.keys() - before.get(key, set()))
+            else:
+                behind.difference_update(place.variables)
         new = [New(key, place, self.new_variables(key, names))
                for key, place, (_, names) in zip(keys, found, in_run)]
         its = [(key, place, names) for key, place, (_, names) in zip(keys, found, in_run)]

@@ -15,8 +15,8 @@ from shb_record.parts import now, say
 LIST = "made-by-shb-record.txt"
 LIST_BEGIN = "# What shb-record made in this folder"
 TABLES = "unknown.places", "places.tsv", "places.json", "places.sarif", "index.html"
-OURS = (
-    r"run\d+\.\d[\d-]*(\.\d+)?\.(rec|turns|std|places|uses|stacks|html)|work-\w+|places\.(tsv|json|sarif)|unknown\.places|index\.html")
+OURS = (r"run\d+\.\d[\d-]*(\.\d+)?\.(rec|turns|std|places|uses|stacks|html)|work-\w+|"
+        r"places\.(tsv|json|sarif)|unknown\.places|index\.html")
 
 
 class Results:

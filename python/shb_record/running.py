@@ -79,9 +79,8 @@ class Run:
                                    before if blocked is None else blocked)
             while self.program.poll() is None:
                 pause = [0 if look() else POLL] if look else []
-                self.take_signal(WATCHED,
-                                 min([*pause, *[end - time.monotonic() for end in [self.end] if end]],
-                                     default=None))
+                self.take_signal(WATCHED, min(
+                    [*pause, *[end - time.monotonic() for end in [self.end] if end]], default=None))
             self.wait_for_orphans()
         finally:
             signal.pthread_sigmask(signal.SIG_SETMASK, before)

@@ -76,11 +76,8 @@ def log(look, rows, entries, status):
 def without_numbers(found):
     """What is said of a place in each run alike: its headline and its remedy, without the
     numbers of blocks."""
-    return re.sub(r"#\d+", "",
-                  ". ".join(part
-                            for part in (found.get("headline", ""),
-                                         f"Remedy: {found['remedy']}" if found.get("remedy") else "")
-                            if part))
+    return re.sub(r"#\d+", "", ". ".join(part for part in (
+        found.get("headline", ""), f"Remedy: {found['remedy']}" if found.get("remedy") else "") if part))
 
 
 def access_of(one, sources):
@@ -98,8 +95,8 @@ def index(look, rows):
             f"<h1>{in_html(shlex.join([look.options.program, *look.options.arguments]))}</h1>",
             f"<p>{counted(count(row for row in rows if not row.is_known), 'unknown place')} with races</p>"]
     for (process, trace), found in look.found.items():
-        text.append(
-            f'<h2><a href="{urllib.parse.quote(trace.with_suffix(".html").name)}">{in_html(process)}</a></h2><ul>')
+        page = urllib.parse.quote(trace.with_suffix(".html").name)
+        text.append(f'<h2><a href="{page}">{in_html(process)}</a></h2><ul>')
         heads = dict.fromkeys(f"{place['variables'][0]['name']}: {place['headline']}"
                               for place in found["places"] if place["variables"])
         text += [f"<li>{in_html(head)}</li>" for head in heads] + ["</ul>"]

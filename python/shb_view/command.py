@@ -30,8 +30,8 @@ A place is a pair of locations that race, that of the first access and that of t
 
 def arguments(words, program):
     parser = Parser("shb-view", ABOUT, STATUS)
-    parser.add_argument("--html", metavar="PAGE", help="write a page to this file, not text to standard "
-                                                       "output")
+    parser.add_argument("--html", metavar="PAGE",
+                        help="write a page to this file, not text to standard output")
     parser.add_argument("--text", action="store_true", help="beside the page, write the text too")
     parser.add_argument("--title", metavar="TEXT", help="the title, if it isn't to be the trace's name")
     parser.add_argument("--source", metavar="DIR", action="append", default=[],

@@ -77,7 +77,8 @@ class Counting:
     def __init__(self, groups, wanted, kinds, uses=None):
         """`groups` has a number for each racing variable; `wanted` are the accesses to be noted, `kinds` says
         what an access is; `uses` are those of the whole run if the trace is a part of it."""
-        self.uses, self.are_apart = uses and uses.uses, uses.are_apart if uses else lambda first, second: False
+        self.uses = uses and uses.uses
+        self.are_apart = uses.are_apart if uses else lambda first, second: False
         self.groups, self.wanted, self.access_kinds = groups, wanted, kinds
         self.lines = kinds.gathered.lines
         self.reads, self.racing_reads = racing_reads(kinds.gathered.races)
@@ -163,9 +164,8 @@ class Counting:
             word, of = self.access_kinds.of(number, word, variable), self.access_kinds.in_trace(variable)
             if number in self.racing and stacks.numbers:
                 self.callers[of, location][stacks.numbers[number - 1], not held.locks] += 1
-            self.count(group,
-                       Access(number,
-                              variable, (location, thread, word, held.names(), b"" if word == b"f" else of),
+            self.count(group, Access(number, variable,
+                                     (location, thread, word, held.names(), b"" if word == b"f" else of),
                                      stacks.free_of(number) if word == b"f" else None))
 
     def count(self, group, access):

@@ -275,8 +275,8 @@ def publication(published):
         return None
     store, load, *_ = published[0][0]
     wrong, order = (load, "acquire") if store.gives() else (store, "release")
-    both = ("" if store.gives() or load.takes() else [", and ", place(load.location), " reads it without "
-                                                      "acquire"])
+    both = "" if store.gives() or load.takes() else [", and ", place(load.location),
+                                                     " reads it without acquire"]
     tag = [place(wrong.location), " reads " if wrong is load else " writes ", Code(published[0][0].name),
            f" without {order}", *both]
     said = [{"atomic": text(pair.store.name), "store": pair.store.said(), "load": pair.load.said(),
@@ -343,20 +343,17 @@ def freed(racing, whole):
             ", or free it after that use."]
     remedy = late if used else ["free it once."]
     if not after:
-        return Fact("freed",
-                    said, ["freed at " if used else "freed twice at ", *lines_of(frees),
-                           " while in use" if used else ""], [sentence], remedy)
+        return Fact("freed", said, ["freed at " if used else "freed twice at ", *lines_of(frees),
+                                    " while in use" if used else ""], [sentence], remedy)
     sentence += [" The use at ", *lines_of(after), " came after it here: a use after free."]
-    return Fact("freed",
-                said, ["used at ", *lines_of(after), " after it was freed at ", *lines_of(frees)], [sentence],
-                remedy)
+    return Fact("freed", said, ["used at ", *lines_of(after), " after it was freed at ", *lines_of(frees)],
+                [sentence], remedy)
 
 
 def not_atomic(racing, whole):
     """Racing lines that aren't atomic, where others are."""
-    atomic, plain = (
-        [site for site in racing if site.accesses[b"a"]], [site
-                                                           for site in racing if not site.accesses[b"a"]])
+    atomic = [site for site in racing if site.accesses[b"a"]]
+    plain = [site for site in racing if not site.accesses[b"a"]]
     if not atomic or not plain:
         return None
     verb, write = "is" if len(plain) == 1 else "are", "writes" if len(atomic) == 1 else "write"
@@ -369,8 +366,8 @@ def not_atomic(racing, whole):
 
 def uncounted(sites, whole):
     count = counted(sum(site.unknown for site in sites), "access", "accesses")
-    return Fact("uncounted", {}, ["locks not counted"], [[f"In this {whole} the locks held at {count} aren't "
-                                                          "counted."]])
+    return Fact("uncounted", {}, ["locks not counted"],
+                [[f"In this {whole} the locks held at {count} aren't counted."]])
 
 
 def by_weight(sites, locks):
@@ -430,9 +427,8 @@ def without(sites, racing, lock, locks, whole):
     at = (f" at {sum(site.total() - site.guarded(lock) for site in lacking):,} of "
           f"{sum(site.total() for site in lacking):,} accesses" if some else "")
     sentence = [f"In this {whole} ", *who, " holds ", *name, ", and ", *lines, f" {verb} without it{at}."]
-    instead = [
-        [place(site.location), " holds ", *listed([lock_name(other) for other in site.held()], MOST_NAMED)]
-        for site in lacking if site.held()]
+    instead = [[place(site.location), " holds ", *listed(
+        [lock_name(other) for other in site.held()], MOST_NAMED)] for site in lacking if site.held()]
     if instead:
         sentence += [" ", *listed(instead, MOST_NAMED), "."]
     said = {"lines": names_of(lacking), "sometimes": names_of(some), "scope": scope,
@@ -496,9 +492,8 @@ def sometimes(sites, racing, lock, locks, whole):
             "locks": by_variable(locks, lock)}
     tag = [*lines_of(some), " doesn't always hold " if len(some) == 1 else " don't always hold ",
            *lock_name(lock)]
-    return Fact("sometimes", said,
-                tag, [[f"In this {whole} ", *lock_name(lock), " is held at ", *listed(counts, MOST_NAMED),
-                       "."]],
+    return Fact("sometimes", said, tag,
+                [[f"In this {whole} ", *lock_name(lock), " is held at ", *listed(counts, MOST_NAMED), "."]],
                 ["hold ", *lock_name(lock), " at each access."], lock)
 
 
@@ -521,9 +516,8 @@ def apart(racing, locks, whole):
     common = set.intersection(*(set(site.held()) for site in racing))
     if common:
         name = lock_name(min(common))
-        return Fact("ordered", {}, ["every access holds ",
-                                    *name], [[f"In this {whole} every access holds ", *name, ": these are no "
-                                              "races."]])
+        return Fact("ordered", {}, ["every access holds ", *name],
+                    [[f"In this {whole} every access holds ", *name, ": these are no races."]])
     held = [listed(map(lock_name, site.held()), MOST_NAMED) or [unlike_words(site)] for site in racing]
     holds = [[place(site.location), " holds ", *its] for site, its in zip(racing, held)]
     all_hold = all(site.held() for site in racing)

@@ -128,9 +128,8 @@ class Facts:
         remedy = [part for its, one in zip(names, parts) if one.fact.remedy
                   for part in ("Of ", *its, ": ", *one.fact.remedy, " ")][:-1]
         first = parts[0].fact
-        return first._replace(form="mixed", said={"parts": said},
-                              tag=[*first.tag, " (", *names[0], "; others differ)"], sentences=sentences,
-                              remedy=remedy,
+        return first._replace(form="mixed", said={"parts": said}, tag=[
+            *first.tag, " (", *names[0], "; others differ)"], sentences=sentences, remedy=remedy,
                               handed=sum((one.fact.handed for one in parts), ()))
 
 
@@ -149,9 +148,8 @@ def part_of(group, names, kinds):
     """A group's races of some of its variables, by their names in the trace."""
     pairs, gathered = [], kinds.gathered
     for pair in group.pairs:
-        races = {
-            place: [gathered.variables[place][name]
-                    for name in names if name in gathered.variables.get(place, ())] for place in pair.orders}
+        races = {place: [gathered.variables[place][name] for name in names
+                         if name in gathered.variables.get(place, ())] for place in pair.orders}
         orders = {place: sum(its) for place, its in races.items() if its}
         if orders:
             pairs.append(Pair(pair.locations, pair.closest, orders))

@@ -11,8 +11,8 @@ from shb_view.words import Code
 # of any other one, which may be a local `of` a function.
 ON_STACK = re.compile(rb"(?P<base>stack\..*)(?P<block>)(?P<inside>-0x[0-9a-f]+)(?P<of>)", re.S)
 INSIDE = rb"(?P<inside>(?:\.[A-Za-z_]\w*|\[[0-9]+\])*(?:\+[0-9]+)?)"
-IN_BLOCK = re.compile(rb"(?P<base>.+?)" + INSIDE + rb"(?P<of> of "
-                                                   rb".+(?::[0-9]+|\+0x[0-9a-f]+))(?P<block>#[0-9]+)", re.S)
+IN_BLOCK = re.compile(rb"(?P<base>.+?)" + INSIDE
+                      + rb"(?P<of> of .+(?::[0-9]+|\+0x[0-9a-f]+))(?P<block>#[0-9]+)", re.S)
 NAME = re.compile(rb"(?P<base>.*?)(?P<block>#[0-9]+)?" + INSIDE + rb"(?P<of>(?: of .+)?)", re.S)
 
 # A race that was read: its events, the threads of the first and the second, its variable, and whether each

@@ -40,8 +40,8 @@ def handed(uses, has_frees, locals):
             for store in chain.values():
                 if (store.thread != use.thread and not (store.gives() and use.takes())
                     and (has_frees or store.kind != use.kind)):
-                    found[store.thread, use.thread].append(
-                        Handed(store, use, fence, locals.get(use.name, use.name)))
+                    passed = Handed(store, use, fence, locals.get(use.name, use.name))
+                    found[store.thread, use.thread].append(passed)
         if use.kind == b"store":
             chains[use.name] = {way: use}
         elif use.kind == b"update":
@@ -100,6 +100,6 @@ def published(races, pairs, frees):
             if not common:
                 return []
         pair = min(common.values(), key=lambda it: (it.store.event, it.load.event))
-        found.setdefault(pair.key()[:3], (pair, []))[1].extend(
-            [race.first, race.second] for race in its[:MOST_RACES])
+        races = [[race.first, race.second] for race in its[:MOST_RACES]]
+        found.setdefault(pair.key()[:3], (pair, []))[1].extend(races)
     return list(found.values())[:MOST_NAMED]

@@ -102,9 +102,8 @@ def header(view):
     bad = [bad_words(view)] * (view.verdict.is_good is False)
     verdict = [element("p", with_commands(words), class_="verdict bad") for words in bad]
     races, size = summary(view)
-    notes = [
-        element("p", with_commands(note), class_="verdict good" if view.verdict.is_good
-                and not number else "faint")
+    notes = [element("p", with_commands(note), class_="verdict good" if view.verdict.is_good and not number
+                     else "faint")
              for number, note in enumerate(notes_of(view))]
     return element("header", *verdict, element("h1", view.title),
                    *(element("p", note, class_="verdict bad") for note in view.notes),

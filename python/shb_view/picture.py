@@ -52,9 +52,8 @@ class Layout:
         self.top = HEAD * lanes + 4
         self.band = self.top + ROW * self.last + 6
         self.y = [self.height(min(at, self.last)) for at in range(len(events))]
-        self.spans = [(bar.lane, self.height(bar.top),
-                       self.height(bar.bottom) if bar.bottom <= self.last else self.band + BAND + GAP)
-                      for bar in bars]
+        self.spans = [(bar.lane, self.height(bar.top), self.height(bar.bottom) if bar.bottom <= self.last
+                       else self.band + BAND + GAP) for bar in bars]
         self.bar_slots = slots(self.spans)
         self.edge_slots = slots([(self.gap(edge), self.y[edge.first], self.y[edge.second]) for edge in edges])
         self.x, right = [], 6

@@ -35,9 +35,8 @@ def entry(view, section, pair, origin, names):
             found["code"] = result.text(code)
         if location in sites:
             found.update(site_entry(sites[location]))
-        found["stacks"] = [stack_entry(frames, count)
-                           for (frames, _), count in section.callers.get(location, ())[:MOST_STACKS]
-                           if frames]
+        found["stacks"] = [stack_entry(frames, count) for (frames, _),
+                           count in section.callers.get(location, ())[:MOST_STACKS] if frames]
         accesses.append(found)
     return {"places": len(pair.orders), "accesses": accesses, "variables": view.variables(pair),
             **({} if view.of_run else {"races": pair.races}),

@@ -79,9 +79,8 @@ class Source:
                   for found in [line_of(location)] if found}
         found = [place for place in places.values() if place and place.lines]
         newer = sum(place.is_newer for place in found)
-        folders = ", ".join([*(readable(os.fsencode(folder)) for folder in self.folders), *["the recorded "
-                                                                                            "program"] * bool(
-                                                                                                self.recorded)])
+        folders = ", ".join([*(readable(os.fsencode(folder)) for folder in self.folders),
+                             *["the recorded program"] * bool(self.recorded)])
         some = f" Only {sources.MOST_FILES:,} files were looked at." if self.index.is_full() else ""
         if newer or some or len(found) < len(places):
             yield (f"Source lines of {folders}: {len(found)} of {counted(len(places), 'file')} found, "

@@ -23,8 +23,8 @@ def perhaps_ordered(sites, callers, stacks, calls):
     for site in [site for site in sites if site.partners]:
         frames = {frame for (its, _), _ in callers.get(site.location, ()) for frame in its}
         started = {frame for thread in site.threads for frame in stacks.of_thread(thread)[:1]}
-        names = {bare(frame.function) for frame in frames} | {
-            parts_of(frame.location)[0] for frame in frames | started}
+        names = {bare(frame.function)
+                 for frame in frames} | {parts_of(frame.location)[0] for frame in frames | started}
         found.append(set().union(*(calls.get(name, ()) for name in names)))
     return sorted(set.intersection(*found)) if found else []
 
@@ -55,9 +55,8 @@ def told_together(kind, verb, its):
     for name, frames in its:
         key = tuple(map(tuple, caller_lines(frames, len(frames))))
         found.setdefault(key, ([], frames))[0].append([Code(name)])
-    return [
-        ([f"{kind}{'s' * (len(names) > 1)} ", *listed(names, MOST_NAMED),
-          f" {'was' if len(names) == 1 else 'were'} {verb}"], frames)
+    return [([f"{kind}{'s' * (len(names) > 1)} ", *listed(names, MOST_NAMED),
+              f" {'was' if len(names) == 1 else 'were'} {verb}"], frames)
             for names, frames in found.values()]
 
 

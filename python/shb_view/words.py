@@ -66,10 +66,8 @@ def flat_in(most):
 
 def thread_parts(site):
     """The threads that use a line, those with most accesses first."""
-    return listed(
-        [[Code(thread)]
-         for thread in sorted(site.threads, key=lambda thread: (-site.threads[thread], thread))],
-        MOST_THREADS)
+    return listed([[Code(thread)] for thread in sorted(
+        site.threads, key=lambda thread: (-site.threads[thread], thread))], MOST_THREADS)
 
 
 def lock_words(site):
@@ -87,8 +85,8 @@ def lock_words(site):
     if len(names) > len(always) + len(some):
         found.append(("some", [f"and {len(names) - len(always) - len(some):,} more"]))
     if site.bare:
-        found.append(("none", [NO_LOCK]) if site.bare == total else ("some", [NO_LOCK, f" at {site.bare:,} "
-                                                                              f"of {total:,}"]))
+        found.append(("none", [NO_LOCK]) if site.bare == total
+                     else ("some", [NO_LOCK, f" at {site.bare:,} of {total:,}"]))
     if site.unknown:
         found.append(("some", [f"locks not counted at {site.unknown:,} of {total:,}"]))
     return found
@@ -109,9 +107,8 @@ def share(count, total, is_bare):
 def partner_parts(site):
     """The lines that a line races with, most races first."""
     partners = sorted(site.partners.items(), key=lambda item: (-item[1], by_numbers(item[0])))
-    return listed(
-        [[place(location), f" ({counted(races, 'race')})" if races else ""] for location, races in partners],
-        MOST_PARTNERS)
+    return listed([[place(location), f" ({counted(races, 'race')})" if races else ""]
+                   for location, races in partners], MOST_PARTNERS)
 
 
 def summary(view):

@@ -162,14 +162,13 @@ class Farm:
 
     def finish(self, name, out, status):
         """Runs the farm again until it says what xargs' said (at most three times), and compares."""
-        wanted = 2 if (self.plain / "traces.tsv").read_text().count("\tmissing\t") else 1
-        lost = (out / "traces.tsv").read_text().count("\tmissing\t") - (
-            self.plain / "traces.tsv").read_text().count("\tmissing\t")
+        missing = lambda folder: (folder / "traces.tsv").read_text().count("\tmissing\t")
+        wanted = 2 if missing(self.plain) else 1
+        lost = missing(out) - missing(self.plain)
         print(f"  {lost} traces were lost and stated as missing", flush=True)
         for _ in range(3 if lost or status != wanted else 0):
             self.took("run again", self.slurm(out))
-            lost = (out / "traces.tsv").read_text().count("\tmissing\t") - (
-                self.plain / "traces.tsv").read_text().count("\tmissing\t")
+            lost = missing(out) - missing(self.plain)
             if not lost:
                 break
         return self.compare(name, out)
@@ -188,9 +187,8 @@ def make_traces(folder, events=100_000):
     for example in (TOP / "examples").glob("*.std"):
         shutil.copy(example, folder)
     (folder / "a folder").mkdir()
-    for name, text in (("empty.std", b""), ("bad-release.std",
-                                            b"T1|w(x)|a:1\nT1|rel(l)|a:2\n"), (
-                                                "bytes.std", bytes(range(256)) * 40),
+    for name, text in (("empty.std", b""), ("bad-release.std", b"T1|w(x)|a:1\nT1|rel(l)|a:2\n"),
+                       ("bytes.std", bytes(range(256)) * 40),
                        ("a folder/a name with 'quotes' and $HOME.std", b"T1|w(x)|a b:1\nT2|w(x)|a b:2\n"),
                        ("wide.std",
                         b"".join(b"T%d|w(x%d)|%s\n" % (k % 8, k, b"p" * 300) for k in range(800_000)))):
@@ -202,8 +200,8 @@ def make_traces(folder, events=100_000):
 def make_many(folder, count=10_000):
     folder.mkdir()
     for number in range(count):
-        (folder / f"{number:05}.std").write_bytes(b"T1|w(x)|a.c:%d\nT2|w(x)|b.c:%d\n"
-                                                  % (number % 7, number % 11))
+        (folder / f"{number:05}.std").write_bytes(b"T1|w(x)|a.c:%d\n"
+                                                  b"T2|w(x)|b.c:%d\n" % (number % 7, number % 11))
     return folder
 
 

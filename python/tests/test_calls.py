@@ -44,9 +44,8 @@ class Calls(Base):
         self.assertEqual(self.unknown(), b"# a.c:5\ta.c:7\n" + FUNCTIONS + b"b.c:1\tz.c:5\tx\n")
         known = self.known(self.unknown())
         self.trace("app.std", MOVED)
-        self.trace("app.stacks",
-                   stacks(tables=TABLES.replace(b"a.c:5",
-                                                b"a.c:15").replace(b"a.c:7", b"a.c:17") % b"/none/a.c"))
+        self.trace("app.stacks", stacks(tables=TABLES.replace(b"a.c:5", b"a.c:15").replace(
+            b"a.c:7", b"a.c:17") % b"/none/a.c"))
         self.assertEqual(self.farm("--known", known).status, 0)
         (self.traces / "app.stacks").unlink()
         self.assertEqual(self.farm("--known", known).status, 1)
@@ -90,9 +89,8 @@ class Calls(Base):
         """Its short name is the same in both; a known place of the one hides none of the other."""
         for name, function in (("one", b"known_stats"), ("two", b"pay")):
             self.trace(f"{name}.std", b"T1|w(v)|w.c:5\nT2|w(v)|w.c:5\n")
-            self.trace(f"{name}.stacks",
-                       stacks((0, 0),
-                              b"frame %s\tw.c:5\nsource w.c\t/x/%s/w.c\n" % (function, name.encode())))
+            self.trace(f"{name}.stacks", stacks((0, 0), b"frame %s\tw.c:5\nsource w.c\t/x/%s/w.c\n" % (
+                function, name.encode())))
         answer = self.farm("--known", self.known(b"one/w.c:known_stats()\tone/w.c:known_stats()\tv\n"))
         self.assertEqual((answer.status, [row[:4] for row in self.table("places.tsv")]), (1, [
             ["1", "unknown", "two/w.c:5", "two/w.c:5"], ["1", "known", "one/w.c:5", "one/w.c:5"]]),
@@ -139,9 +137,8 @@ class Calls(Base):
             for step in flow["locations"] for place in [step["location"]["physicalLocation"]]])
             for code_flow in result.get("codeFlows", []) for flow in code_flow["threadFlows"]]
 
-    WAYS = [
-        ("T1", "T1: w(x)", ["T1 in run {}:20", "T1 in add<> {}:5"]), (
-            "main", "main: w(x)", ["main in main {}:30", "main in get {}:7"])]
+    WAYS = [("T1", "T1: w(x)", ["T1 in run {}:20", "T1 in add<> {}:5"]),
+            ("main", "main: w(x)", ["main in main {}:30", "main in get {}:7"])]
 
     def ways(self, path):
         return [(thread, does, [step.format(path) for step in steps]) for thread, does, steps in self.WAYS]

@@ -65,8 +65,8 @@ class Tables(farm.Case):
         (self.traces / "gone.std").symlink_to("nowhere")
         answer = self.farm("--known", self.known(b"k.c:1\tk.c:2\n"))
         self.assertEqual((answer.status, answer.out), (1, FULL_TEXT))
-        for name, wanted in (("places.txt", FULL_TEXT), ("places.tsv",
-                                                         FULL_PLACES), ("traces.tsv", FULL_TRACES),
+        for name, wanted in (("places.txt", FULL_TEXT), ("places.tsv", FULL_PLACES),
+                             ("traces.tsv", FULL_TRACES),
                              ("unknown.places", "a.c:1\tb.c:2\tx\n")):
             self.assertEqual(re.sub(r"\t\d+\.\d\d\t\d+\n", "\tS\tM\n", (self.out / name).read_text()), wanted)
         self.assertEqual(
@@ -78,8 +78,8 @@ class Tables(farm.Case):
         """What wrote it may have died."""
         self.trace("empty.std", b"")
         answer = self.farm()
-        self.assertEqual((answer.status, answer.out.splitlines()[-1]), (0, "report  empty.std  it has no "
-                                                                        "events"))
+        self.assertEqual((answer.status, answer.out.splitlines()[-1]),
+                         (0, "report  empty.std  it has no events"))
 
     def test_no_trace(self):
         self.trace("trace.txt", RACE)
@@ -102,17 +102,16 @@ class Tables(farm.Case):
         for number, (words, wanted) in enumerate(said.items()):
             shb = self.script(f"shb{number}", f"{farm.SHB} \"$@\" | {words}\n")
             answer = self.farm("--memory", "256", shb=shb)
-            self.assertEqual((answer.status, self.ends()["race.std"]), (2, ("missing", "`shb` wrote no "
-                                                                            f"whole report: {wanted}")))
+            self.assertEqual((answer.status, self.ends()["race.std"]),
+                             (2, ("missing", f"`shb` wrote no whole report: {wanted}")))
 
     def test_a_full_report_that_is_not_whole(self):
         self.trace("race.std", RACE)
         shb = self.script("cut", f"case \"$*\" in *--list*) exec {farm.SHB} \"$@\" ;; esac\n{farm.SHB} "
                                  "\"$@\" | head -n -1\n")
         self.assertEqual(self.farm("--memory", "256", shb=shb).status, 2)
-        self.assertEqual(
-            self.table("places.tsv"), [["1", "unknown", "a.c:1", "b.c:2", "race.std", "missing", "1", "x",
-                                        ""]])
+        self.assertEqual(self.table("places.tsv"),
+                         [["1", "unknown", "a.c:1", "b.c:2", "race.std", "missing", "1", "x", ""]])
         self.assertEqual(list((self.out / "reports").glob("*.report")), [])
 
     def test_a_long_location_does_not_make_all_lines_long(self):
@@ -158,14 +157,14 @@ class Tables(farm.Case):
                                             stdout=subprocess.PIPE, stderr=subprocess.PIPE,
                                             timeout=farm.SECONDS)
         ran = run('exec "$@" > /dev/full')
-        self.assertEqual((ran.returncode, ran.stderr.splitlines()[-1]), (4, b"shb-farm: standard output: No "
-                                                                         b"space left on device"))
+        self.assertEqual((ran.returncode, ran.stderr.splitlines()[-1]),
+                         (4, b"shb-farm: standard output: No space left on device"))
         ran = run('exec "$@" >&-')
         # there is an unknown place; all else stands from the first run
         self.assertEqual((ran.returncode, ran.stderr), (1, b""))
         ran = run('exec "$@" <&- 2>&-')
-        self.assertEqual((ran.returncode, ran.stdout.splitlines()[0]), (1, b"traces 1 reports 1 refused 0 "
-                                                                        b"missing 0"))
+        self.assertEqual((ran.returncode, ran.stdout.splitlines()[0]),
+                         (1, b"traces 1 reports 1 refused 0 missing 0"))
         for path in self.out.rglob("*.outcome"):
             path.unlink()
         self.assertEqual(run('exec "$@" <&- >&- 2>&-').returncode, 1)
@@ -204,8 +203,8 @@ class Tables(farm.Case):
                    RACE + b"T1|w(y)|k.c:1\nT2|w(y)|k.c:1\nT1|w(z)|k.c:3\nT2|w(z)|k.c:3\nT1|w(z)|k.c:2\n")
         self.farm("--known", self.known(b"a.c:1\tb.c:2\n"))
         self.assertEqual([line[:4] for line in self.table("places.tsv")], [
-            ["1", "unknown", "k.c:1", "k.c:1"], ["1", "unknown", "k.c:2",
-                                                 "k.c:3"], ["1", "unknown", "k.c:3", "k.c:3"],
+            ["1", "unknown", "k.c:1", "k.c:1"], ["1", "unknown", "k.c:2", "k.c:3"],
+            ["1", "unknown", "k.c:3", "k.c:3"],
             ["2", "known", "a.c:1", "b.c:2"]])
 
     def test_the_example_is_the_smallest_trace(self):
@@ -213,9 +212,8 @@ class Tables(farm.Case):
         self.trace("c.std", RACE)
         self.trace("b.std", OTHER_ORDER)
         self.farm()
-        self.assertEqual(
-            self.table("places.tsv"), [["3", "unknown", "a.c:1", "b.c:2", "b.std",
-                                        f"reports/{key_of('b.std')}.report", "2", "x", ""]])
+        self.assertEqual(self.table("places.tsv"), [
+            ["3", "unknown", "a.c:1", "b.c:2", "b.std", f"reports/{key_of('b.std')}.report", "2", "x", ""]])
 
     def test_help(self):
         answer = self.farm("--help")
@@ -240,9 +238,8 @@ class Names(farm.Case):
         self.trace("folder.std/inner.std", CLEAN)
         os.mkfifo(self.traces / "pipe.std")
         self.assertEqual(self.farm().status, 5)
-        self.assertEqual(
-            {name: end[1] for name, end in self.ends().items() if end[0] == "refused"}, {
-                "pipe.std": "not a regular file"})
+        self.assertEqual({name: end[1] for name, end in self.ends().items() if end[0] == "refused"},
+                         {"pipe.std": "not a regular file"})
         self.assertIn("folder.std/inner.std", self.ends())
 
     def test_links_to_folders_are_followed(self):
@@ -268,9 +265,9 @@ class Names(farm.Case):
         self.trace("below/race.std", RACE)
         for out in (self.traces, self.traces / "below" / "..", self.folder):
             answer = self.farm(out=out)
-            self.assertEqual((answer.status, answer.err), (4, f"shb-farm: {out}: TRACES is this folder or "
-                                                              "below it; name another OUT, which may be "
-                                                              "below TRACES\n"))
+            self.assertEqual((answer.status, answer.err),
+                             (4, f"shb-farm: {out}: TRACES is this folder or below it; name another OUT, "
+                                 "which may be below TRACES\n"))
         self.assertEqual(
             sorted(path.name for path in self.folder.rglob("*")), ["below", "race.std", "traces"])
         self.assertEqual(self.farm(out=self.traces / "out").status, 1)
@@ -286,10 +283,11 @@ class Names(farm.Case):
         (self.traces / "q").symlink_to(far)
         answer = self.farm()
         self.assertEqual((answer.status, self.ends()), (5, {
-            **dict.fromkeys(["clean.std", "inside.std"], ("report",
-                                                          "events 2 threads 1 locks 0 variables 1")),
-            **dict.fromkeys(["p.std", "q"], ("refused", "it is a link that leads out of the folder; --links "
-                                                        "follows it"))}), answer.err)
+            **dict.fromkeys(
+                ["clean.std", "inside.std"], ("report", "events 2 threads 1 locks 0 variables 1")),
+            **dict.fromkeys(
+                ["p.std", "q"],
+                ("refused", "it is a link that leads out of the folder; --links follows it"))}), answer.err)
         self.assertFalse(
             any(b"secret\n" in path.read_bytes() for path in self.out.rglob("*") if path.is_file()))
         self.assertEqual(self.farm("--links").status, 5)
@@ -306,15 +304,15 @@ class Names(farm.Case):
         self.trace("bad.std.gz", gzip.compress(BAD))
         self.trace("a.gz", RACE)
         self.assertEqual(self.farm().status, 1)
-        self.assertEqual(self.table("places.tsv")[0][:5], ["2", "unknown", "a.c:1", "b.c:2",
-                                                           min(("a.std.gz", "b.std.xz"), key=self.size)])
+        self.assertEqual(self.table("places.tsv")[0][:5],
+                         ["2", "unknown", "a.c:1", "b.c:2", min(("a.std.gz", "b.std.xz"), key=self.size)])
         ends = self.ends()
         self.assertEqual({name: end[0] for name, end in ends.items()}, {
             "a.std.gz": "report", "b.std.xz": "report", "bad.std.gz": "refused", "cut.std.gz": "refused",
             "cut.std.xz": "refused",
             "damaged.std.gz": "refused", "no.std.gz": "refused", "no.std.xz": "refused"})
-        self.assertEqual((ends["bad.std.gz"][1], ends["no.std.gz"][1]), (BAD_WORDS, "it can't be unpacked: "
-                                                                         "Not a gzipped file"))
+        self.assertEqual((ends["bad.std.gz"][1], ends["no.std.gz"][1]),
+                         (BAD_WORDS, "it can't be unpacked: Not a gzipped file"))
         for name in ("cut.std.gz", "cut.std.xz", "damaged.std.gz", "no.std.gz", "no.std.xz"):
             self.assertTrue(ends[name][1].startswith("it can't be unpacked: "), ends[name])
         self.assertEqual(list((self.out / "tmp").iterdir()), [])
@@ -338,13 +336,11 @@ class Names(farm.Case):
         for number, name in enumerate(names):
             self.trace(name, RACE.replace(b"a.c", b"%d.c" % number))
         answer = self.farm()
-        self.assertEqual(
-            (answer.status, {name: end[0] for name, end in self.ends().items()}), (
-                1, dict.fromkeys(names, "report")), answer.err)
+        self.assertEqual((answer.status, {name: end[0] for name, end in self.ends().items()}),
+                         (1, dict.fromkeys(names, "report")), answer.err)
         reports = {row[5] for row in self.table("places.tsv")}
-        self.assertEqual(
-            (len(reports), [(self.out / report).is_file() for report in reports]), (
-                len(names), [True] * len(names)))
+        self.assertEqual((len(reports), [(self.out / report).is_file() for report in reports]),
+                         (len(names), [True] * len(names)))
 
     def test_outcomes_in_the_folder_of_the_traces(self):
         self.trace("race.std", RACE)

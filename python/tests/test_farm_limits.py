@@ -95,9 +95,8 @@ class Size(farm.Case):
         self.trace("many.std", many_places(110))        # 5,995 places
         answer = self.farm("--size", "1")
         self.assertEqual((answer.status, self.ends()["many.std"]), (5, ("size", "1")))
-        self.assertIn(
-            "\nrefused  many.std  its report, or the text of a packed trace, is longer than 1 MiB\n",
-            answer.out)
+        self.assertIn("\nrefused  many.std  its report, or the text of a packed trace, is longer "
+                      "than 1 MiB\n", answer.out)
         self.assertEqual(self.farm("--size", "8").status, 1)
         self.assertEqual(self.ends()["many.std"][0], "report")
 

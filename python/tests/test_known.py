@@ -71,8 +71,8 @@ class KnownPlaces(side_by_side.Case):
         self.known.has(sides(b"a.c:1", b"b.c:2"), b"x")
         self.known.has(sides(b"pool.c:1", b"z"), b"x")
         self.assertEqual(stale(), [5, 7, 8])
-        self.assertEqual(list(words_of_stale(self.known.stale()[:1], Names())), ["line 5: no race matched "
-                                                                                 "`lib.c:*\\tmain.c:3\\t*`"])
+        self.assertEqual(list(words_of_stale(self.known.stale()[:1], Names())),
+                         ["line 5: no race matched `lib.c:*\\tmain.c:3\\t*`"])
 
     def test_a_name_of_several_files_is_said(self):
         names = Names()
@@ -83,26 +83,23 @@ class KnownPlaces(side_by_side.Case):
                                 "files' paths: one/w.c, two/w.c")
 
     def test_patterns(self):
-        self.expect(True, (b"lib.c:77", b"main.c:3"), (b"main.c:3",
-                                                       b"lib.c:"), (b"pool.c:1", b"z"), (
-                                                           b"pool.c:1", b"pool.c:2"), (b"", b"pool.c:9"))
+        self.expect(True, (b"lib.c:77", b"main.c:3"), (b"main.c:3", b"lib.c:"), (b"pool.c:1", b"z"),
+                    (b"pool.c:1", b"pool.c:2"), (b"", b"pool.c:9"))
         self.expect(False, (b"lib.c:77", b"main.c:33"), (b"lib.c", b"main.c:3"), (b"xpool.c:1", b"z"))
 
     def test_functions(self):
         """Either side may be named by its function, whatever line of it that is."""
         functions = {b"a.c:5": {b"a.c:add<>()"}, b"a.c:7": {b"a.c:get()"}, b"b.c:5": {b"b.c:add<>()"},
                      b"c.c:1": {b"c.c:one()", b"c.c:two()"}}
-        for line, wanted in (
-                (b"a.c:add<>()\ta.c:get()", [(5, 7)]), (b"a.c:get()\ta.c:add<>()", [(5, 7)]), (
-                    b"a.c:5\ta.c:get()", [(5, 7)]),
-                             (b"a.c:add<>()\ta.c:add<>()", [(5, 5)]), (b"*:get()\t*:add*()", [(5, 7)]), (
-                                 b"b.c:add<>()\ta.c:get()", []),
+        for line, wanted in ((b"a.c:add<>()\ta.c:get()", [(5, 7)]), (b"a.c:get()\ta.c:add<>()", [(5, 7)]),
+                             (b"a.c:5\ta.c:get()", [(5, 7)]),
+                             (b"a.c:add<>()\ta.c:add<>()", [(5, 5)]), (b"*:get()\t*:add*()", [(5, 7)]),
+                             (b"b.c:add<>()\ta.c:get()", []),
                              (b"a.c:add<>()\ta.c:8", [])):
             known_, places = Known(line + b"\tx"), [(5, 5), (5, 7), (7, 7), (7, 8), (8, 8)]
             pairs = [(b"a.c:%d" % one, b"a.c:%d" % other) for one, other in places]
-            self.assertEqual(
-                [place for place, pair in zip(places, pairs)
-                 if known_.has(sides(*pair, functions=functions), b"x")], wanted, line)
+            self.assertEqual([place for place, pair in zip(places, pairs)
+                              if known_.has(sides(*pair, functions=functions), b"x")], wanted, line)
             self.assertFalse(any(known_.has(sides(*pair), b"x") for pair in pairs), line)
         for name in (b"c.c:one()", b"c.c:two()"):
             self.assertTrue(
@@ -118,9 +115,8 @@ class KnownPlaces(side_by_side.Case):
             self.assertTrue(Known(text).has(place, b"q"), text)
             self.assertFalse(Known(text).has(function, b"q"), text)
             self.assertFalse(Known(text).has(sides(location[:-2], location[:-2]), b"q"), text)
-        self.assertFalse(
-            Known(b"u.c:brand_new()\tu.c:brand_new()\tq").has(
-                sides(b"u.c:brand_new()", b"u.c:brand_new()"), b"q"))
+        self.assertFalse(Known(b"u.c:brand_new()\tu.c:brand_new()\tq").has(
+            sides(b"u.c:brand_new()", b"u.c:brand_new()"), b"q"))
 
     def test_lines_by_functions(self):
         """What is written by functions has the locations above, and is known again when lines have moved;
@@ -129,14 +125,13 @@ class KnownPlaces(side_by_side.Case):
                   b"b.c:1": {b"b.c:f()", b"b.c:g()"}}
         pairs = [(b"a.c:5", b"a.c:9"), (b"a.c:6", b"a.c:9"), (b"a.c:6", b"b.c:1"), (b"a.c:9", b"z.c:1")]
         text = b"".join(lines_of((sides(*pair, functions=before), [b"x"], False) for pair in pairs))
-        self.assertEqual(text, b"# a.c:5\ta.c:9\n# "
-                               b"a.c:6\ta.c:9\na.c:add()\ta.c:operator\\*()\tx\na.c:6\tb.c:1\tx\na.c:9\tz.c:1\tx\n")
+        self.assertEqual(text, b"# a.c:5\ta.c:9\n# a.c:6\ta.c:9\na.c:add()\ta.c:operator\\*()\tx\n"
+                               b"a.c:6\tb.c:1\tx\na.c:9\tz.c:1\tx\n")
         self.assertEqual(
             [Known(text).has(sides(*pair, functions=before), b"x") for pair in pairs], [True] * 4)
         after = {b"a.c:15": {b"a.c:add()"}, b"a.c:19": {b"a.c:operator*()"}}
-        self.assertEqual(
-            [Known(text).has(sides(*pair, functions=after), b"x")
-             for pair in ((b"a.c:15", b"a.c:19"), (b"a.c:15", b"a.c:15"))], [True, False])
+        self.assertEqual([Known(text).has(sides(*pair, functions=after), b"x")
+                          for pair in ((b"a.c:15", b"a.c:19"), (b"a.c:15", b"a.c:15"))], [True, False])
 
     def test_more_variables_than_are_listed_stay_unknown(self):
         """No star is written by itself: the line with it is a comment."""
@@ -148,18 +143,13 @@ class KnownPlaces(side_by_side.Case):
 
     def test_names_of_variables_that_last(self):
         """What differs from run to run is a star."""
-        for name, wanted in ((b"hits", b"hits"), (b"heap.cpp:13#7+40",
-                                                  b"heap.cpp:*#*+40"), (b"heap.cpp:13#7", b"heap.cpp:*#*"),
-                             (b"stack.T1.work-0x20",
-                              b"stack.*"), (b"0x55c58caa8f68",
-                                            b"0x*"), (b"0x7f00+8",
-                                                      b"0x*"), (b"0xg", b"0xg"), (
-                                                          b"grid[3][40].x",
-                                                          b"grid[*][*].x"), (b"x~4a10.next",
-                                                                             b"x~*.next"), (b"lib.so:x+8",
-                                                                                            b"lib.so:x+8"),
-                             (b"queue.head of main",
-                              b"queue.head of main"), (b"a*b", b"a\\*b"), (b"fd5.data", b"fd5.data")):
+        for name, wanted in ((b"hits", b"hits"), (b"heap.cpp:13#7+40", b"heap.cpp:*#*+40"),
+                             (b"heap.cpp:13#7", b"heap.cpp:*#*"),
+                             (b"stack.T1.work-0x20", b"stack.*"), (b"0x55c58caa8f68", b"0x*"),
+                             (b"0x7f00+8", b"0x*"), (b"0xg", b"0xg"), (b"grid[3][40].x", b"grid[*][*].x"),
+                             (b"x~4a10.next", b"x~*.next"), (b"lib.so:x+8", b"lib.so:x+8"),
+                             (b"queue.head of main", b"queue.head of main"), (b"a*b", b"a\\*b"),
+                             (b"fd5.data", b"fd5.data")):
             self.assertEqual(lasting(name), wanted)
             self.assertTrue(Known(b"a\tb\t" + wanted).has(sides(b"a", b"b"), name))
         many = [b"a.c:1#2+%d" % offset for offset in range(0, 80, 8)]
@@ -168,16 +158,15 @@ class KnownPlaces(side_by_side.Case):
 
     def test_other_signs_stand_for_themselves(self):
         self.expect(True, (b"a[0].c:?", b"z"), (b"a[0].c:7", b"y."))
-        self.expect(False, (b"a0.c:7", b"y."), (b"a[0].c:7",
-                                                b"y+"), (b"a0.c:?",
-                                                         b"z"), (b"a[0].c:1", b"z"), (b"a[0]xc:?", b"z"))
+        self.expect(False, (b"a0.c:7", b"y."), (b"a[0].c:7", b"y+"), (b"a0.c:?", b"z"), (b"a[0].c:1", b"z"),
+                    (b"a[0]xc:?", b"z"))
 
     def test_comments_are_no_places(self):
         self.expect(False, (b"# A comment, and an empty line", b""), (b"", b""))
 
     def test_lines_that_are_none(self):
-        for text, number, line in ((b"a\n", 1, "a"), (b"# x\n\na\tb\tc\td\n", 3,
-                                                      r"a\tb\tc\td"), (b"a\tb\na:1\x07\n", 2, r"a:1\x07")):
+        for text, number, line in ((b"a\n", 1, "a"), (b"# x\n\na\tb\tc\td\n", 3, r"a\tb\tc\td"),
+                                   (b"a\tb\na:1\x07\n", 2, r"a:1\x07")):
             with self.assertRaises(BadLine) as refused:
                 Known(text)
             form = "a place is two locations or functions and a variable, with tabs between them"
@@ -190,17 +179,15 @@ class KnownPlaces(side_by_side.Case):
         self.assertTrue(str(refused.exception).endswith(
             "; this is `race:pay`: ThreadSanitizer's `race:NAME` is written `*:NAME()`, `*`, `*` if NAME is "
             "a function, and `*NAME:*`, `*`, `*` if it is a file"), refused.exception)
-        for line, wanted in ((b"*:pay()\t*\t*\n", True), (b"*account.c:*\t*\t*\n",
-                                                          True), (b"*:fee()\t*\t*\n",
-                                                                  False), (b"*bank.c:*\t*\t*\n", False)):
+        for line, wanted in ((b"*:pay()\t*\t*\n", True), (b"*account.c:*\t*\t*\n", True),
+                             (b"*:fee()\t*\t*\n", False), (b"*bank.c:*\t*\t*\n", False)):
             place = sides(b"src/account.c:8", b"log.c:3",
                           functions={b"src/account.c:8": [b"src/account.c:pay()"]})
             self.assertEqual(Known(line).has(place, b"balance"), wanted, line)
 
     def test_files_that_are_something_else(self):
-        for text, said in (("a\tb\tx\n".encode("utf-16"),
-                            "the file is UTF-16: save it as UTF-8"), (b"\x1f\x8b\x08", "the file is packed "
-                                                                      "by gzip: unpack it first")):
+        for text, said in (("a\tb\tx\n".encode("utf-16"), "the file is UTF-16: save it as UTF-8"),
+                           (b"\x1f\x8b\x08", "the file is packed by gzip: unpack it first")):
             with self.assertRaises(BadLine) as refused:
                 Known(text)
             self.assertEqual(str(refused.exception), f"line 1: {said}")
@@ -227,18 +214,16 @@ class KnownPlaces(side_by_side.Case):
     def test_stars_and_signs(self):
         one = Known(b"op\\*\t*\t*\n\\#x*\tz\t*\n*ab*ab*\tq\t*\n")
         pairs = lambda *names: [one.has(sides(name, other), b"x") for name, other in names]
-        self.assertEqual(
-            pairs((b"op*", b"any"), (b"any", b"op*"), (b"#x1", b"z"), (b"abab", b"q"), (b"1ab2ab3", b"q")), [
-                True] * 5)
+        self.assertEqual(pairs((b"op*", b"any"), (b"any", b"op*"), (b"#x1", b"z"), (b"abab", b"q"),
+                               (b"1ab2ab3", b"q")), [True] * 5)
         self.assertEqual(
             pairs((b"opAny", b"any"), (b"\\#x1", b"z"), (b"aab", b"q"), (b"abb", b"q")), [False] * 4)
 
     def test_pieces_that_overlap(self):
-        for pattern, name, wanted in ((b"aba*ba", b"aba",
-                                       False), (b"aba*ba", b"ababa",
-                                                True), (b"a*a", b"a", False), (b"a*b*c", b"acbc", True),
-                                      (b"a*bc*c", b"abc",
-                                       False), (b"*", b"", True), (b"**", b"x", True), (b"a*", b"ba", False)):
+        for pattern, name, wanted in ((b"aba*ba", b"aba", False), (b"aba*ba", b"ababa", True),
+                                      (b"a*a", b"a", False), (b"a*b*c", b"acbc", True),
+                                      (b"a*bc*c", b"abc", False), (b"*", b"", True), (b"**", b"x", True),
+                                      (b"a*", b"ba", False)):
             self.assertEqual(Known(pattern + b"\tz\tx").has(sides(name, b"z"), b"x"), wanted, (pattern, name))
 
     def test_many_stars_search_no_part_twice(self):

@@ -51,10 +51,8 @@ class Files(farm.Case):
         fields = ["n", "p", "t", "1:2", [1.0, 2, 3], "report", "x", [["a", "b", [["v", 1, 2]], False]]]
         path = self.folder / "outcome"
         for number in range(len(fields)):
-            for bad in (None, 1, "",
-                        "x", [], [float("inf"), 2, 3], [1, float("inf"),
-                                                        3], [1, 2, 3], [["a"]], [["a", "b", ["v"], False]], {
-                                                            "a": 1}):
+            for bad in (None, 1, "", "x", [], [float("inf"), 2, 3], [1, float("inf"), 3], [1, 2, 3], [["a"]],
+                        [["a", "b", ["v"], False]], {"a": 1}):
                 self.put(path, json.dumps([*fields[:number], bad, *fields[number + 1:]]))
                 outcomes.read(path, "n")    # None or an outcome, and no fault
         for bad in ("", "x", "{}", "[]", "[" * 100_000, json.dumps([*fields, 1])):
@@ -266,9 +264,8 @@ exit 1
         self.script("bin/squeue", f"touch {self.folder}/asked\necho RUNNING None\n")
         self.script("bin/scancel", "echo 'scancel: error: Unable to contact slurm controller' >&2; exit 1\n")
         words = self.words("--engine", "slurm", "--memory", "256")
-        started = subprocess.Popen(words,
-                                   env=self.environment(PATH=f"{self.folder}/bin:{os.environ['PATH']}"),
-                                   stdout=subprocess.DEVNULL,
+        started = subprocess.Popen(words, env=self.environment(
+            PATH=f"{self.folder}/bin:{os.environ['PATH']}"), stdout=subprocess.DEVNULL,
                                    stderr=subprocess.PIPE)
         deadline = time.monotonic() + farm.SECONDS
         while not (self.folder / "asked").exists():
@@ -296,8 +293,8 @@ exit 1
     def test_a_refusal_ends_the_farm_at_once(self):
         answer = self.slurm("exit 0\n",
                             f"echo >> {self.folder}/asked; echo 'no such partition' >&2; exit 1\n")
-        self.assertEqual((answer.status, answer.out, answer.err), (4, "", "shb-farm: sbatch ended with "
-                                                                   "status 1: no such partition\n"))
+        self.assertEqual((answer.status, answer.out, answer.err),
+                         (4, "", "shb-farm: sbatch ended with status 1: no such partition\n"))
         self.assertEqual((self.folder / "asked").read_text(), "\n")
 
 

@@ -15,12 +15,12 @@ class Locations(side_by_side.Case):
     def test_a_file_by_its_whole_path(self):
         one = origin({b"w.c": b"/x/one/./w.c", b"a/u.c": b"/x/a/u.c", b"odd.c": b"/x/other.c"},
                      b"/x/prog", {b"w.c:5": {b"f"}})
-        for text, wanted in (
-                (b"w.c:5", (b"/x/one/w.c", b":5", {b"f"})), (b"w.c:6:2", (b"/x/one/w.c", b":6:2", ())), (
-                    b"a/u.c:1", (b"/x/a/u.c", b":1", ())),
-                             (b"odd.c:1", (b"/x/prog/odd.c", b":1", ())), (
-                                 b"lib.so+0x12", (b"/x/prog/lib.so", b"+0x12", ())), (
-                                     b"", (b"/x/prog", b"", ()))):
+        for text, wanted in ((b"w.c:5", (b"/x/one/w.c", b":5", {b"f"})),
+                             (b"w.c:6:2", (b"/x/one/w.c", b":6:2", ())),
+                             (b"a/u.c:1", (b"/x/a/u.c", b":1", ())),
+                             (b"odd.c:1", (b"/x/prog/odd.c", b":1", ())),
+                             (b"lib.so+0x12", (b"/x/prog/lib.so", b"+0x12", ())),
+                             (b"", (b"/x/prog", b"", ()))):
             self.assertEqual(one.location(text), Location(wanted[0], wanted[1], frozenset(wanted[2])))
         one.add_modules([b"/usr/lib/lib.so"])
         self.assertEqual(one.location(b"lib.so+0x12").path, b"/usr/lib/lib.so")
@@ -37,9 +37,8 @@ class Locations(side_by_side.Case):
         names = Names()
         for path in (b"/x/one/w.c", b"/x/two/w.c", b"/y/u.c", b"w.c"):
             names.add(path)
-        self.assertEqual(
-            [names.names(path)[0] for path in (b"/x/one/w.c", b"/x/two/w.c", b"/y/u.c", b"w.c")], [
-                b"one/w.c", b"two/w.c", b"u.c", b"w.c"])
+        self.assertEqual([names.names(path)[0] for path in (b"/x/one/w.c", b"/x/two/w.c", b"/y/u.c", b"w.c")],
+                         [b"one/w.c", b"two/w.c", b"u.c", b"w.c"])
         side = names.side(Location(b"/x/one/w.c", b":5", frozenset([b"f", b"g"])))
         self.assertEqual(side.names, (b"one/w.c:5", b"x/one/w.c:5", b"/x/one/w.c:5"))
         self.assertEqual([function[0] for function in side.functions], [b"one/w.c:f()", b"one/w.c:g()"])

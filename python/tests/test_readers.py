@@ -216,10 +216,8 @@ class Readers(side_by_side.Case):
     def test_words_name_the_line(self):
         for number, line in enumerate(LINES.splitlines(True), 2):
             path = self.folder / "a.stacks"
-            path.write_bytes(
-                STACKS.replace(line, line[:-1] + b"\tx y z\n"
-                               if line.startswith((b"stack", b"block", b"free", b"use"))
-                               else line.replace(b"\t", b" ")))
+            path.write_bytes(STACKS.replace(line, line[:-1] + b"\tx y z\n" if line.startswith(
+                (b"stack", b"block", b"free", b"use")) else line.replace(b"\t", b" ")))
             for read in (lambda: Stacks(path, 3), lambda: Stacks(path)):
                 with self.assertRaises(BadStacks) as refused:
                     read()

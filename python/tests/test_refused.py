@@ -19,29 +19,27 @@ LINES = (
     (b"T1|Unlock(l)|1\n", OPERATION, "T1|Unlock(l)|1", "this operation is written `rel`"),
     (b"T1|jump(l)|1\n", OPERATION, "T1|jump(l)|1", ""),
     (b"\x1f\x8b\x08|\n", OPERATION, "\\x1f\\x8b\\x08|", "the file is packed by gzip: unpack it first"),
-    (b"\xfd7zXZ\0\n", "the line has no operation field", "\\xfd7zXZ\\x00", "the file is packed by xz: unpack "
-     "it first"),
+    (b"\xfd7zXZ\0\n", "the line has no operation field", "\\xfd7zXZ\\x00",
+     "the file is packed by xz: unpack it first"),
     ("\ufeffT1|w(x)\n".encode("utf-16-le")[:-1], OPERATION,
      "\\xff\\xfeT\\x001\\x00|\\x00w\\x00(\\x00x\\x00)\\x00", "the file is UTF-16: save it as UTF-8"),
     ("T1|w(x)\n".encode("utf-16-be"), OPERATION, "\\x00T\\x001\\x00|\\x00w\\x00(\\x00x\\x00)\\x00",
      "the file is UTF-16, or no text: save it as UTF-8"),
-    (b"T1|w(x)|1\rT2|w(x)|2\r", OPERATION, "T1|w(x)|1\\rT2|w(x)|2", "a carriage return without a line feed: "
-                                                                    "lines end with a line feed, or with both"),
-    (b"T1,w(x),1\n", "the line has no operation field", "T1,w(x),1", "a line is THREAD|OPERATION|LOCATION, "
-                                                                     "with bars between, not commas; there "
-                                                                     "are no comments"),
+    (b"T1|w(x)|1\rT2|w(x)|2\r", OPERATION, "T1|w(x)|1\\rT2|w(x)|2",
+     "a carriage return without a line feed: lines end with a line feed, or with both"),
+    (b"T1,w(x),1\n", "the line has no operation field", "T1,w(x),1",
+     "a line is THREAD|OPERATION|LOCATION, with bars between, not commas; there are no comments"),
     (b"# a comment\n", "the line has no operation field", "# a comment",
      "a line is THREAD|OPERATION|LOCATION, with bars between; there are no comments"),
     (b"T1|rel(l)| | x\n", "the thread does not hold the lock", "T1|rel(l)| | x", ""),
-    (b"T1|rel(l)\n", "the lock is not held by this thread", "T1|rel(l)", "the log may begin while the lock "
-     "is held, or miss an acquire; `shb-fix` repairs such logs"),
-    (b"T1|acq(l)\n", "the lock is held by another thread", "T1|acq(l)", "the log may miss a release; "
-     "`shb-fix` repairs such logs"),
-    (b"T1|r(x)\n", "the thread was joined before", "T1|r(x)", "a join may have timed out, or the thread's "
-                                                              "name is used again; `shb-fix` repairs such "
-                                                              "logs"),
-    (b"T1|fork(T2)\n", "the thread was forked before", "T1|fork(T2)", "the thread's name may be used again; "
-                                                                      "`shb-fix` repairs such logs"),
+    (b"T1|rel(l)\n", "the lock is not held by this thread", "T1|rel(l)",
+     "the log may begin while the lock is held, or miss an acquire; `shb-fix` repairs such logs"),
+    (b"T1|acq(l)\n", "the lock is held by another thread", "T1|acq(l)",
+     "the log may miss a release; `shb-fix` repairs such logs"),
+    (b"T1|r(x)\n", "the thread was joined before", "T1|r(x)",
+     "a join may have timed out, or the thread's name is used again; `shb-fix` repairs such logs"),
+    (b"T1|fork(T2)\n", "the thread was forked before", "T1|fork(T2)",
+     "the thread's name may be used again; `shb-fix` repairs such logs"),
     (b"T1|rel(l)|" + b"x" * 5000 + b"\n", "the thread does not hold the lock", "T1|rel(l)|" + "x" * 48 + "..",
      ""),
 )
@@ -56,9 +54,8 @@ class Refused(farm.Case):
     def test_the_line_is_found(self):
         text = b"\n\r\n" + b"x" * 4200 + b"\n" + b"x" * 9000 + b"\nT1 |w(x)\nlast"
         for number, shown in ((1, ""), (3, "x" * 58 + ".."), (5, "T1 |w(x)"), (6, "last"), (7, "")):
-            self.assertTrue(refused.explained(f"line {number}: no",
-                                              io.BytesIO(text)).startswith(f"line {number}: no; it is "
-                                                                           f"`{shown}`"), number)
+            self.assertTrue(refused.explained(f"line {number}: no", io.BytesIO(text)).startswith(
+                f"line {number}: no; it is `{shown}`"), number)
 
     def test_other_words_stay(self):
         for words in ("it can't be unpacked", "line 0: x", "line x: y"):

@@ -137,9 +137,8 @@ class Log(Base):
         self.trace("clean.std", farm.CLEAN)
         run = self.log()
         self.assertEqual(run["results"], [])
-        self.assertEqual(
-            run["invocations"], [{"executionSuccessful": True, "exitCode": 0,
-                                  "toolExecutionNotifications": []}])
+        self.assertEqual(run["invocations"],
+                         [{"executionSuccessful": True, "exitCode": 0, "toolExecutionNotifications": []}])
 
     def test_the_version_of_what_is_installed(self):
         self.trace("clean.std", farm.CLEAN)
@@ -151,18 +150,16 @@ class Log(Base):
     def test_a_place(self):
         self.trace("race.std", RACE)
         result = self.log()["results"][0]
-        self.assertEqual(result["message"], {"text": "Data race on `x` between a.c:1 and [b.c:2](1). In this "
-                                                       "trace no lock is held at any access; 2 threads "
-                                                       "write, at a.c:1 and b.c:2. Remedy: make it atomic if "
-                                                       "it is a flag or a counter; else hold one lock at "
-                                                       "a.c:1 and b.c:2. 1 of 1 traces has it, for example "
-                                                       "race.std."})
+        self.assertEqual(result["message"],
+                         {"text": "Data race on `x` between a.c:1 and [b.c:2](1). In this trace no lock is "
+                                  "held at any access; 2 threads write, at a.c:1 and b.c:2. Remedy: make it "
+                                  "atomic if it is a flag or a counter; else hold one lock at a.c:1 and "
+                                  "b.c:2. 1 of 1 traces has it, for example race.std."})
         place = lambda uri, line: {"artifactLocation": {"uri": uri, "uriBaseId": "SRCROOT"},
                                    "region": {"startLine": line}}
         self.assertEqual(result["locations"], [{"physicalLocation": place("a.c", 1)}])
-        self.assertEqual(
-            result["relatedLocations"], [{"id": 1, "message": {"text": "The other access."},
-                                          "physicalLocation": place("b.c", 2)}])
+        self.assertEqual(result["relatedLocations"], [
+            {"id": 1, "message": {"text": "The other access."}, "physicalLocation": place("b.c", 2)}])
         self.assertEqual(result["suppressions"], [])
 
     def test_a_known_place_is_suppressed(self):
@@ -173,26 +170,22 @@ class Log(Base):
 
     def test_traces_without_a_report_are_notifications(self):
         self.trace("bad.std", BAD)
-        self.assertEqual(
-            self.log()["invocations"], [{"executionSuccessful": True, "exitCode": 5,
-                                         "toolExecutionNotifications": [
-            {"level": "warning", "message": {"text": "bad.std: " + farm.BAD_WORDS}}]}])
+        self.assertEqual(self.log()["invocations"],
+                         [{"executionSuccessful": True, "exitCode": 5, "toolExecutionNotifications": [
+                             {"level": "warning", "message": {"text": "bad.std: " + farm.BAD_WORDS}}]}])
         (self.traces / "gone.std").symlink_to("nowhere")
         invocation = self.log()["invocations"][0]
         self.assertEqual((invocation["executionSuccessful"], invocation["exitCode"]), (True, 5))
-        self.assertEqual(
-            invocation["toolExecutionNotifications"][1], {"level": "warning",
-                                                          "message": {"text": "gone.std: No such file or "
-                                                                      "directory"}})
+        self.assertEqual(invocation["toolExecutionNotifications"][1],
+                         {"level": "warning", "message": {"text": "gone.std: No such file or directory"}})
 
     def test_locations_of_all_kinds(self):
         """Each races with a write at a location that sorts last."""
         locations = [b"", b"1", b"a.c", b"a.c:0", b"a:1:2", b"dir/a b.c:12", b"./x/../y.c:3", b"/abs/c#.c:4",
                      b"//abs.c:4", b"c:d.c:5",
                      b"50%[1]\\?.c:6", "\u00e9.c:7".encode(), b"\xff\x1b.c:8", b"<b>.c:9", b"a.c:99999999999"]
-        self.trace("all.std",
-                   b"".join(b"T1|w(x%d)|%s\nT2|w(x%d)|\xff\xff\n" % (k, location, k)
-                            for k, location in enumerate(locations)))
+        self.trace("all.std", b"".join(b"T1|w(x%d)|%s\nT2|w(x%d)|\xff\xff\n" % (k, location, k)
+                                       for k, location in enumerate(locations)))
         run = self.log()
         self.assertEqual(len(run["results"]), len(locations))
         found = [result["locations"][0] for result in run["results"]]
@@ -226,9 +219,8 @@ class Repository(Base):
     def setUp(self):
         super().setUp()
         self.top = self.folder / "repository"
-        for name, text in (("src/a.c", "one\n  two  2\n"), ("src/b.c",
-                                                            "b one\nb two\nb two\n"), ("lib/same.c", "x\n"), (
-                                                                "src/same.c", "x\n"),
+        for name, text in (("src/a.c", "one\n  two  2\n"), ("src/b.c", "b one\nb two\nb two\n"),
+                           ("lib/same.c", "x\n"), ("src/same.c", "x\n"),
                            (".git/hidden.c", "x\n")):
             (self.top / name).parent.mkdir(parents=True, exist_ok=True)
             (self.top / name).write_text(text)
@@ -245,15 +237,12 @@ class Repository(Base):
 
     def test_the_file_that_a_path_ends_with(self):
         inside = lambda uri: {"uri": uri, "uriBaseId": "SRCROOT"}
-        for location, wanted in (
-                ("b.c:1", inside("src/b.c")), ("src/b.c:1",
-                                               inside("src/b.c")), (
-                                                   f"{self.top}/src/b.c:1", inside("src/b.c")),
-                                 ("./src/../src/b.c:1",
-                                  inside("src/b.c")), ("lib/same.c:1",
-                                                       inside("lib/same.c")), ("same.c:1", inside("same.c")),
-                                 ("rc/b.c:1", inside("rc/b.c")), ("hidden.c:1", inside("hidden.c")), (
-                                     "/src/b.c:1", {"uri": "file:///src/b.c"})):
+        for location, wanted in (("b.c:1", inside("src/b.c")), ("src/b.c:1", inside("src/b.c")),
+                                 (f"{self.top}/src/b.c:1", inside("src/b.c")),
+                                 ("./src/../src/b.c:1", inside("src/b.c")),
+                                 ("lib/same.c:1", inside("lib/same.c")), ("same.c:1", inside("same.c")),
+                                 ("rc/b.c:1", inside("rc/b.c")), ("hidden.c:1", inside("hidden.c")),
+                                 ("/src/b.c:1", {"uri": "file:///src/b.c"})):
             self.assertIn(wanted, self.uris("a.c:2", location), location)
 
     def hashes(self, *locations):
@@ -273,16 +262,15 @@ class Repository(Base):
         found = self.hashes("a.c:2", "b.c:2", "b.c:3")
         self.assertEqual(len(found), 3)
         self.assertEqual(len(set(found)), 3)
-        self.assertEqual(
-            {text.split(":")[0] for text in self.hashes("a.c:2", "b.c:2")} & {
-                text.split(":")[0] for text in self.hashes("a.c:2", "b.c:3")},
+        self.assertEqual({text.split(":")[0] for text in self.hashes("a.c:2", "b.c:2")}
+                         & {text.split(":")[0] for text in self.hashes("a.c:2", "b.c:3")},
                          {self.hashes("a.c:2", "b.c:2")[0].split(":")[0]})
 
     def test_no_such_folder(self):
         self.trace("race.std", RACE)
         answer = self.farm("--source", self.folder / "none")
-        self.assertEqual((answer.status, answer.err), (4, f"shb-farm: {self.folder}/none: no such folder of "
-                                                          "sources\n"))
+        self.assertEqual((answer.status, answer.err),
+                         (4, f"shb-farm: {self.folder}/none: no such folder of sources\n"))
 
 
 class Fingerprints(farm.Case):
@@ -308,9 +296,8 @@ class Fingerprints(farm.Case):
 
     def test_the_order_and_number_of_accesses_change_nothing(self):
         before = self.fingerprints(RACE)
-        self.assertEqual(self.fingerprints(farm.OTHER_ORDER, a=RACE,
-                                           b=RACE * 3 + b"T3|w(q)|z\n")["a.c:1", "b.c:2"],
-                         before["a.c:1", "b.c:2"])
+        self.assertEqual(self.fingerprints(farm.OTHER_ORDER, a=RACE, b=RACE * 3 + b"T3|w(q)|z\n")[
+            "a.c:1", "b.c:2"], before["a.c:1", "b.c:2"])
 
     def test_each_place_has_its_own(self):
         found = self.fingerprints(b"".join(b"T%d|w(x)|a.c:%d\n" % (k, k) for k in range(9)))

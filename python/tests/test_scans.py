@@ -25,18 +25,15 @@ class LongTraces(farm.Case):
         self.trace("long.std", FAR)
         self.trace("race.std", RACE)
         answer = self.farm()
-        self.assertEqual((answer.status, self.ends()["long.std"]), (1, ("report", f"events {MANY + 4} "
-                                                                        "threads 3 locks 0 variables 2; "
-                                                                        f"{NOTE}")))
+        self.assertEqual((answer.status, self.ends()["long.std"]),
+                         (1, ("report", f"events {MANY + 4} threads 3 locks 0 variables 2; {NOTE}")))
         self.assertTrue(answer.out.endswith(f"\n\nreport  long.std  {NOTE}\n"))
         [invocation] = json.loads((self.out / "places.sarif").read_text())["runs"][0]["invocations"]
-        self.assertEqual(
-            invocation["toolExecutionNotifications"], [
-                {"level": "note", "message": {"text": f"long.std: {NOTE}"}}])
+        self.assertEqual(invocation["toolExecutionNotifications"],
+                         [{"level": "note", "message": {"text": f"long.std: {NOTE}"}}])
         kept = f"reports/{key_of('long.std')}.report"
-        self.assertEqual(
-            self.table("places.tsv"), [["1", "unknown", "a.c:1", "b.c:2", "race.std",
-                                        f"reports/{key_of('race.std')}.report", "1", "x", ""],
+        self.assertEqual(self.table("places.tsv"), [["1", "unknown", "a.c:1", "b.c:2", "race.std",
+                                                     f"reports/{key_of('race.std')}.report", "1", "x", ""],
                                                     ["1", "unknown", "k.c:1", "k.c:2", "long.std", kept, "2",
                                                      "y, z", ""]])
         self.assertEqual((self.out / kept).read_bytes(), b"""shb-report 2
@@ -63,8 +60,8 @@ end
         self.trace("threads.std", THREADS)
         shb = self.counting()
         self.assertEqual(self.farm(shb=shb).status, 1)
-        self.assertEqual(self.ends()["threads.std"], ("report", "events 1025 threads 1025 locks 0 variables "
-                                                                f"1; {NOTE}"))
+        self.assertEqual(self.ends()["threads.std"],
+                         ("report", f"events 1025 threads 1025 locks 0 variables 1; {NOTE}"))
         # a list; then for what is kept a report, which is refused, and a list
         self.assertEqual(self.runs(), 3)
         self.assertEqual(self.farm(shb=shb).status, 1)

@@ -17,7 +17,8 @@ how = apart()
 def begin():
     os.kill(os.getpid(), signal.SIGTERM)
     how["preexec_fn"]()
-sys.exit(subprocess.call([sys.executable, "-c", "import os; print(os.getsid(0) == os.getpid())"], preexec_fn=begin))
+sys.exit(subprocess.call([sys.executable, "-c", "import os; print(os.getsid(0) == os.getpid())"],
+                         preexec_fn=begin))
 """
 
 

@@ -23,8 +23,8 @@ class Packed(farm.Case):
         self.trace("b.std.gz", gzip.compress(bomb))
         self.trace("race.std", RACE)
         answer = self.farm("--size", "2")
-        self.assertEqual((answer.status, answer.out.splitlines()[0]), (1, "traces 3 reports 1 refused 2 "
-                                                                       "missing 0"), answer.err)
+        self.assertEqual((answer.status, answer.out.splitlines()[0]),
+                         (1, "traces 3 reports 1 refused 2 missing 0"), answer.err)
         self.assertEqual({name: end for name, end in self.ends().items() if name != "race.std"},
                          dict.fromkeys(["a.std.xz", "b.std.gz"], ("size", "2")))
         self.assertIn("its report, or the text of a packed trace, is longer than 2 MiB", answer.out)
@@ -44,14 +44,13 @@ class Packed(farm.Case):
             return bytes(2 << 30)
 
         work = Pass("", "", "", "", str(self.folder), memory=64, seconds=1, size=1)
-        for opener, wanted in ((endless, ("time", "1")), (greedy, ("refused", "it can't be unpacked: that "
-                                                                   "takes more than 1024 MiB of memory")),
-                               (lambda trace: os.kill(os.getpid(),
-                                                      signal.SIGKILL), ("failed", "unpacking was ended by "
-                                                                        "signal 9"))):
-            with open(os.devnull, "rb") as trace, open(self.folder / "text",
-                                                       "wb") as text, self.assertRaises(
-                                                           traces.BadPacking) as refused:
+        for opener, wanted in (
+                (endless, ("time", "1")),
+                (greedy, ("refused", "it can't be unpacked: that takes more than 1024 MiB of memory")),
+                (lambda trace: os.kill(os.getpid(), signal.SIGKILL),
+                 ("failed", "unpacking was ended by signal 9"))):
+            with open(os.devnull, "rb") as trace, open(self.folder / "text", "wb") as text, \
+                    self.assertRaises(traces.BadPacking) as refused:
                 traces.unpack(opener, trace, text, work)
             self.assertEqual(refused.exception.end, wanted)
 
@@ -76,19 +75,16 @@ class Variables(farm.Case):
         self.assertEqual(self.table("places.tsv")[0][7], "y, x")
         self.assertEqual(self.farm("--known", self.known(b"a.c:1\tb.c:2\tx\na.c:1\tb.c:2\ty\n")).status, 0)
         answer = self.farm("--known", self.known(b"a.c:1\tb.c:2\n"))
-        self.assertEqual(
-            (answer.status, f"{self.folder}/known, line 1: no variable is named" in answer.err), (0, True),
-            answer.err)
+        self.assertEqual((answer.status, f"{self.folder}/known, line 1: no variable is named" in answer.err),
+                         (0, True), answer.err)
 
     def test_stale_lines(self):
         self.trace("race.std", RACE)
         known = self.known(b"a.c:1\tb.c:2\tx\n9999\t8888\tx\n")
         for words, wanted in ((), 0), (("--fail-on-stale",), 1):
             answer = self.farm(*words, "--known", known)
-            self.assertEqual(
-                (answer.status,
-                 f"shb-farm: {known}, line 2: no race matched `9999\\t8888\\tx`\n" in answer.err), (
-                     wanted, True), answer.err)
+            stale = f"shb-farm: {known}, line 2: no race matched `9999\\t8888\\tx`\n"
+            self.assertEqual((answer.status, stale in answer.err), (wanted, True), answer.err)
             self.assertIn("stale\t1\n", (self.out / "facts.tsv").read_text())
 
     def test_no_line_is_stale_while_places_are_not_known(self):
@@ -122,9 +118,8 @@ class Variables(farm.Case):
 
 class Facts(farm.Case):
     def facts(self):
-        return {name: int(count)
-                for name, count in (line.split("\t")
-                                    for line in (self.out / "facts.tsv").read_text().splitlines())}
+        lines = (self.out / "facts.tsv").read_text().splitlines()
+        return {name: int(count) for name, count in (line.split("\t") for line in lines)}
 
     def test_each_fact_can_be_asked_for(self):
         """The status says one of them; the example in the help asks for a refused trace."""
@@ -149,9 +144,8 @@ class Facts(farm.Case):
         self.farm()
         count = self.facts()["places"]
         self.assertIn(b"\nplaces %d\n" % count, listed)
-        self.assertEqual((self.table("traces.tsv")[0][2],
-                          json.loads((self.out / "places.json").read_text())["summary"]["places"]), (
-                              str(count), count))
+        summary = json.loads((self.out / "places.json").read_text())["summary"]
+        self.assertEqual((self.table("traces.tsv")[0][2], summary["places"]), (str(count), count))
 
     def test_what_is_new_since_an_earlier_farm(self):
         """By functions and variables: moved lines and the other order are the same."""
@@ -172,26 +166,22 @@ class Facts(farm.Case):
         answer = self.farm("--since", old)
         self.assertEqual(answer.out.splitlines()[2], f"since {old}: new 1 gone 1 same 2", answer.out)
         self.assertIn("\n\ngone  g.c:1  g.c:2  g\n", answer.out)
-        self.assertEqual(
-            {row[4]: row[8] for row in self.table("places.tsv")}, {
-                "race.std": "same", "moved.std": "same", "new.std": "new"})
+        self.assertEqual({row[4]: row[8] for row in self.table("places.tsv")},
+                         {"race.std": "same", "moved.std": "same", "new.std": "new"})
         self.assertEqual(
             {name: self.facts()[name] for name in ("new", "gone", "same")}, {"new": 1, "gone": 1, "same": 2})
-        self.assertEqual(
-            {place["example"]: place["since"]
-             for place in json.loads((self.out / "places.json").read_text())["places"]},
+        self.assertEqual({place["example"]: place["since"]
+                          for place in json.loads((self.out / "places.json").read_text())["places"]},
                          {"race.std": "same", "moved.std": "same", "new.std": "new"})
 
     def test_an_earlier_result_that_is_none(self):
         self.trace("race.std", RACE)
         path = self.folder / "old.json"
         none = "this is no places.json of `shb-farm` or `shb-record`\n"
-        for text, said in ((b"", none), (b"int main;",
-                                         none), (b"{}", "a part of it is missing"), (b"[1]", "a part of it "
-                                                                                     "is missing"), (b"\xff",
-                                                                                                     none),
-                           (b'{"form": "shb-places", "version": 2, "places": []}', "it isn't of form "
-                            "shb-places, version 1"), (b"[" * 100_000, "a part of it"),
+        for text, said in ((b"", none), (b"int main;", none), (b"{}", "a part of it is missing"),
+                           (b"[1]", "a part of it is missing"), (b"\xff", none),
+                           (b'{"form": "shb-places", "version": 2, "places": []}',
+                            "it isn't of form shb-places, version 1"), (b"[" * 100_000, "a part of it"),
                            (b'{"form": "shb-places", "version": 1, "places": [{"accesses": 3}]}',
                             "a part of it is missing")):
             path.write_bytes(text)
@@ -212,25 +202,22 @@ class Facts(farm.Case):
         self.assertEqual((place["state"], place["places"], place["traces"], place["example"],
                           place["variables"]),
                          ("unknown", 1, 1, "race.std", [{"name": "x", "state": "unknown", "races": 1}]))
-        self.assertEqual(
-            [(access["location"], access["uses"], access["threads"], access["without_lock"])
-             for access in place["accesses"]],
+        self.assertEqual([(access["location"], access["uses"], access["threads"], access["without_lock"])
+                          for access in place["accesses"]],
                          [("a.c:1", {"write": 1}, {"T1": 1}, 1), ("b.c:2", {"write": 1}, {"T2": 1}, 1)])
         self.assertEqual(place["facts"], ["In this trace no lock is held at any access; 2 threads write, at "
                                           "a.c:1 and b.c:2.",
                                           "Remedy: make it atomic if it is a flag or a counter; else hold "
                                           "one lock at a.c:1 and b.c:2."])
-        self.assertEqual(
-            [(trace["trace"], trace["outcome"]) for trace in found["traces"]], [
-                ("clean.std", "report"), ("race.std", "report")])
+        self.assertEqual([(trace["trace"], trace["outcome"]) for trace in found["traces"]],
+                         [("clean.std", "report"), ("race.std", "report")])
         self.assertTrue(all(trace["seconds"] >= 0 and trace["MiB"] > 0 for trace in found["traces"]))
 
     def test_a_view_that_fails_is_left_out(self):
         self.trace("race.std", RACE)
         answer = self.farm(SHB_VIEW=self.script("view", "echo broken >&2; exit 2\n"))
-        self.assertEqual(
-            (answer.status, [row[5] for row in self.table("places.tsv")]), (
-                1, [f"reports/{passes.key_of('race.std')}.report"]))
+        self.assertEqual((answer.status, [row[5] for row in self.table("places.tsv")]),
+                         (1, [f"reports/{passes.key_of('race.std')}.report"]))
         self.assertNotIn("facts", json.loads((self.out / "places.json").read_text())["places"][0])
 
     def test_many_traces_say_how_far_they_are(self):

@@ -58,8 +58,8 @@ class Asked(side_by_side.Case):
             races = b"".join(RACE % (number, number, name, name) for number, name in enumerate(names, 1))
             report = Report(io.BytesIO(HEAD + races + b"end\n"))
             if len(set(names)) == 2:
-                self.assertEqual(
-                    [place.variables.keys() for place in analyser.places_in(report.races())], [{b"x", b"y"}])
+                self.assertEqual([place.variables.keys() for place in analyser.places_in(report.races())],
+                                 [{b"x", b"y"}])
                 continue
             with self.assertRaises(BadReport) as refused:
                 analyser.places_in(report.races())
@@ -72,17 +72,16 @@ class Names(side_by_side.Case):
         """An atomic is one variable, a local has its own name where it is the same at both accesses, and a
         member of a block's type has none of the block's number, which differs from run to run."""
         access = lambda thread, word, name: Access(thread, word, name, b"a:1")
-        locals_ = {(b"stack.m-0x20", 1): b"q of m", (b"stack.m-0x20",
-                                                     2): b"q of m", (b"stack.m-0x20", 3): b""}
+        locals_ = {(b"stack.m-0x20", 1): b"q of m", (b"stack.m-0x20", 2): b"q of m",
+                   (b"stack.m-0x20", 3): b""}
         members = {b"a.c:9#2+40": b"Account.balance", b"a.c:9#3+40": b"Account[1].balance of a of b.c:9#3",
                    b"a.c:9#4": b"T+4 of app+0x1f#4"}
         local_of = lambda variable, event: members.get(variable) or locals_.get((variable, event), b"")
-        for name, events, wanted in ((b"x", (1, 2), b"x"), (b"x!T1", (1, 2),
-                                                            b"x"), (b"x!T9", (1, 2), b"x!T9"),
-                                     (b"stack.m-0x20", (1, 2),
-                                      b"q of m"), (b"stack.m-0x20", (1, 3), b"stack.m-0x20"),
-                                     (b"stack.m-0x20!T1", (1, 2),
-                                      b"q of m"), (b"a.c:9#2+40", (1, 2), b"Account.balance"),
+        for name, events, wanted in ((b"x", (1, 2), b"x"), (b"x!T1", (1, 2), b"x"),
+                                     (b"x!T9", (1, 2), b"x!T9"), (b"stack.m-0x20", (1, 2), b"q of m"),
+                                     (b"stack.m-0x20", (1, 3), b"stack.m-0x20"),
+                                     (b"stack.m-0x20!T1", (1, 2), b"q of m"),
+                                     (b"a.c:9#2+40", (1, 2), b"Account.balance"),
                                      (b"a.c:9#3+40!T1", (1, 2),
                                       b"Account[1].balance"), (b"a.c:9#4", (1, 2), b"T+4"),
                                      (b"a.c:9#5", (1, 2), b"a.c:9#5")):

@@ -1,6 +1,7 @@
 #!/usr/bin/env python3
-"""Checks what a change can have broken, and says what it leaves out. The gate alone (make test)
-is the verdict.
+"""Checks what a change can have broken, and says what it leaves out.
+
+The gate alone (make test) is the verdict.
 
     changed.py [--quick] [BASE]     BASE is main where it is left out: what was committed since, and what
                                     isn't committed yet

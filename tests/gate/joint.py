@@ -50,9 +50,8 @@ def changed_by(edit, folder):
             texts.setdefault(file, pathlib.Path(folder, file).read_text())
         elif word == "old":
             old, line = text, texts[file].partition(text)[0].count("\n")
-            found |= {
-                *[name for first, last, name in functions_in(file, texts[file]) if first <= line <= last][
-                    -1:]}
+            found |= {*[name for first, last, name in functions_in(file, texts[file])
+                        if first <= line <= last][-1:]}
         else:
             texts[file] = texts[file].replace(old, text)
     return found
