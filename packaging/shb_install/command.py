@@ -68,8 +68,7 @@ def uninstall(options):
 
 
 def packaged(options, made, prefix, library, strip=lambda made: None):
-    """Makes the tree of a package in an empty folder, of the commit alone, stripped or not. Its version, and
-    the commit's time."""
+    """Makes the tree of a package of the commit alone. Returns its version and the commit's time."""
     files, changed = sources.listed(), sources.changed()
     if changed:
         raise Refused("a package is made of a commit, and these files are changed since: "
@@ -100,7 +99,7 @@ def deb(options):
         made = pathlib.Path(room, "tree", "usr")
         made.mkdir(parents=True)
         name, seconds = packaged(options, made, "/usr", "/usr/lib/shb/libtsan.so", package.strip)
-        version = package.debian_version(name)
+        version = name.replace("-", "+")    # Debian takes what follows a hyphen for the packaging's revision
         write_package(options.out / f"shb_{version}_amd64.deb",
                       package.debian(made, version, sources.author(), seconds))
 

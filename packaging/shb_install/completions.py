@@ -69,8 +69,7 @@ def bash_options(help_):
 
 
 def bash_program(help_):
-    """Where a command runs another one: the first word that is no option and no value of one is completed
-    as a command."""
+    """Where a command runs another one: the first word that is no option and no value is a command."""
     valued = "|".join(name for option in help_.options if option.value for name in option.names)
     return ["    local at", "    for ((at = 1; at < COMP_CWORD; at++)); do",
             f"        case ${{COMP_WORDS[at]}} in {valued}) ((at += 1)) ;; -*) ;; *) return ;; esac",

@@ -55,8 +55,7 @@ def sentence(parts):
 
 
 def options_in(parts):
-    """The options: lines that begin with blanks and a dash, each with the lines after it that stand further
-    to the right."""
+    """The options: lines that begin with blanks and a dash, each with the further indented ones after it."""
     found, is_option = [], False
     for line in (line for _, body in parts for line in body):
         option = OPTION.match(line)

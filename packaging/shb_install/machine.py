@@ -1,5 +1,4 @@
-"""What processor and which C library programs need, as their files say, and whether this machine
-can run them."""
+"""What processor and C library programs need, by their files, and whether this machine can run them."""
 
 import re
 import shutil
@@ -36,12 +35,10 @@ def glibc_of(paths):
 
 
 def check(shb):
-    """Refuses a program that isn't there, or that this machine can't run, with its own words: it names what
-    a processor lacks."""
+    """Refuses a program that isn't there or that this machine can't run, in the program's own words."""
     if not shb.is_file():
         raise Refused(f"{shb}: no such program; `make build` builds bin/shb, SHB=PATH names another one")
-    ran = subprocess.run([shb.absolute(), "--help"], stdin=subprocess.DEVNULL, stdout=subprocess.PIPE,
-                         stderr=subprocess.PIPE)
+    ran = subprocess.run([shb.absolute(), "--help"], stdin=subprocess.DEVNULL, capture_output=True)
     if ran.returncode:
         said = ran.stderr.decode(errors="replace").strip()
         raise Refused(

@@ -25,8 +25,7 @@ def page(help_, version, date, others):
             lines += [".SH OPTIONS", *options(help_)]
         elif head:
             lines += [".SH " + roff("ARGUMENTS" if head == ARGUMENTS else head.upper())]
-            lines += as_texts(
-                [textwrap.dedent("\n".join(paragraph)).splitlines() for paragraph in paragraphs(body)])
+            lines += as_texts([textwrap.dedent("\n".join(its)).splitlines() for its in paragraphs(body)])
     for first, *rest in (paragraph for paragraph in free if paragraph[0].startswith(EXIT_STATUS)):
         lines += [".SH EXIT STATUS", *as_text([first[len(EXIT_STATUS):].strip(), *rest])]
     if others:

@@ -1,5 +1,4 @@
-"""The packages for machines without the kit: an archive and a package of Debian, whose bytes follow
-from the commit."""
+"""The packages for machines without the kit, whose bytes follow from the commit."""
 
 import email.utils
 import gzip
@@ -102,8 +101,7 @@ def proved_text(tree, shb, name, commit, seconds):
 
 
 def archive(tree, top, seconds):
-    """A tree as a tar.xz: sorted names below `top`, one time for all files, no owner and no mask
-    of this machine."""
+    """A tree as a tar.xz: sorted names below `top`, one time, no owner and no mask of this machine."""
     def alike(entry):
         entry.mtime, entry.uid, entry.gid, entry.uname, entry.gname = seconds, 0, 0, "root", "root"
         entry.mode = 0o777 if entry.issym() else 0o755 if entry.mode & 0o100 else 0o644
@@ -122,11 +120,6 @@ def checksum_line(content, name):
 def need_dpkg():
     if not shutil.which("dpkg-deb"):
         raise Refused("dpkg-deb isn't installed; it makes packages of Debian")
-
-
-def debian_version(name):
-    """The version of a package of Debian, where a hyphen would begin a revision of the packaging."""
-    return name.replace("-", "+")
 
 
 def debian(made, version, author, seconds):

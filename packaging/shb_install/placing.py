@@ -25,8 +25,6 @@ MOST_NAMES = 5              # that a refusal shows
 
 # The files and folders of an installation, as paths below the prefix; folders above it begin with `..`.
 Listed = collections.namedtuple("Listed", "files folders")
-
-
 NOTHING = Listed(frozenset(), frozenset())
 
 
@@ -79,8 +77,7 @@ def write_list(place, listed):
 
 def install(tree, place):
     """Puts the files and links of a tree below `place`, and takes away what an older version had besides. A
-    failure before all new files are there undoes it; then only names change. It refuses where a file that
-    isn't ours is in the way."""
+    failure before all new files are there undoes it; then only names change. A stranger's file is refused."""
     old, names = read_list(place), files_in(tree)
     for name in names:
         refuse_elsewhere(place, name)
@@ -120,8 +117,7 @@ def uninstall(place):
 
 
 def undo(place, names, old, folders):
-    """Takes away the new files that aren't in place yet; the list is the old one again. What can't be
-    undone stays listed."""
+    """Takes away the new files that aren't in place yet. What can't be undone stays listed."""
     with contextlib.suppress(OSError):
         remove_files(place, (name + NEW for name in [*names, LISTED]))
         if old == NOTHING:
@@ -143,15 +139,13 @@ def refuse_strangers(place, names, old):
 
 
 def missing_folders(place, names):
-    """The folders that these files need and that aren't there yet, the prefix and those above
-    it among them."""
+    """The folders that these files need and that aren't there yet, with the prefix and those above."""
     folders = {folder for name in names for folder in (place / name).parents}
     return {os.path.relpath(folder, place) for folder in folders if not folder.exists()}
 
 
 def put(tree, name, place):
-    """Puts a file of the tree beside its place, executable if it is so there; a link leads to the same file
-    of the tree."""
+    """Puts a file of the tree beside its place, with its mode; a link leads to the same file of the tree."""
     new = place / (name + NEW)
     new.parent.mkdir(parents=True, exist_ok=True)
     remove(new)

@@ -12,8 +12,7 @@ TOP = pathlib.Path(__file__).resolve().parents[2]
 def git(*words):
     """What git says of this checkout; it refuses where git isn't there, or doesn't say it."""
     try:
-        ran = subprocess.run(["git", "--no-optional-locks", "-C", TOP, *words], stdout=subprocess.PIPE,
-                             stderr=subprocess.PIPE)
+        ran = subprocess.run(["git", "--no-optional-locks", "-C", TOP, *words], capture_output=True)
     except FileNotFoundError:
         raise Refused("git isn't installed; only git knows which files belong to the commit") from None
     if ran.returncode:
@@ -23,8 +22,7 @@ def git(*words):
 
 
 def listed():
-    """The files that git has of this checkout, as paths below it. It refuses a folder that is only a part
-    of a checkout."""
+    """The files that git has of this checkout, as paths below it. A part of a checkout is refused."""
     if git("rev-parse", "--show-cdup").strip():
         raise Refused(f"{TOP} isn't a checkout of its own; only git knows which files belong to the commit")
     return [name for name in git("ls-files", "-z").split("\0") if name]
@@ -36,8 +34,7 @@ def changed():
 
 
 def version():
-    """The day of the last commit and its name, with a word where files were changed since; the whole
-    name; its time."""
+    """The last commit's day and name, with a word if files were changed since; its whole name; its time."""
     commit, seconds = git("log", "-1", "--format=%H %ct").split()
     name = f"{day(int(seconds)).replace('-', '.')}-{commit[:12]}"
     return name + ("-changed" if changed() else ""), commit, int(seconds)

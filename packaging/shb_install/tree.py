@@ -18,8 +18,7 @@ DOCUMENTS = ("README.md", "CHANGELOG.md", "SECURITY.md", "CITATION.cff", "record
 DOCUMENT_FOLDERS = ("docs/", "examples/")
 OF_THE_CHECKOUT = ("docs/GATE.md", "docs/PROOF-NOTES.md")   # they are about files that aren't installed
 PLACES = ("bin", HOME, "share/doc/shb", "share/man/man1", "share/bash-completion/completions",
-          "share/zsh/site-functions",
-          "share/fish/vendor_completions.d")
+          "share/zsh/site-functions", "share/fish/vendor_completions.d")
 COMPLETIONS = ((completions.bash, "share/bash-completion/completions/{}"),
                (completions.zsh, "share/zsh/site-functions/_{}"),
                (completions.fish, "share/fish/vendor_completions.d/{}.fish"))
@@ -66,8 +65,7 @@ def copy(source, place):
 
 
 def put_commands(folder, tree):
-    """Puts the commands of a folder, their packages and the recorder's library together, with links to the
-    commands in bin."""
+    """Puts the commands of a folder, their packages and the library together, with links in bin."""
     home = tree / HOME
     for source in sorted(folder.glob("shb-*")):
         copy(source, home / source.name)
@@ -92,8 +90,7 @@ def read_help(tree, prefix, words):
     environment = {"PATH": os.environ.get("PATH", os.defpath), "COLUMNS": "80", "LC_ALL": "C.UTF-8",
                    "PYTHONDONTWRITEBYTECODE": "1"}
     ran = subprocess.run([tree / "bin" / words[0], *words[1:], "--help"], env=environment,
-                         stdin=subprocess.DEVNULL,
-                         stdout=subprocess.PIPE, stderr=subprocess.PIPE)
+                         stdin=subprocess.DEVNULL, capture_output=True)
     if ran.returncode:
         said = ran.stderr.decode(errors="replace").strip()
         raise Refused(

@@ -21,8 +21,7 @@ Place = collections.namedtuple("Place", "first second variables has_more")
 
 
 class Answer(collections.namedtuple("Answer", "status said seconds kib", defaults=(0.0, 0))):
-    """How a run of the program ended: its status, what it said, the seconds of processor time and the KiB of
-    memory that it took."""
+    """How a run of the program ended: status, words, seconds of processor time and KiB of memory."""
 
     @property
     def words(self):
@@ -67,16 +66,9 @@ class Run:
 
 
 def rewound(file):
-    """An open file at its beginning, also for a process that gets it: Python's own `seek` may move in
-    its buffer alone."""
+    """An open file at its beginning, also for a child: Python's own `seek` may move in its buffer alone."""
     os.lseek(file.fileno(), 0, os.SEEK_SET)
     return file
-
-
-def call(words, given, out, **how):
-    """Runs a command on an open file, from its beginning, to its end, its output to another open file."""
-    with Run(words, rewound(given), out, **how) as run:
-        return run.answer()
 
 
 def words_in(said):

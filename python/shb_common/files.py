@@ -31,8 +31,7 @@ def read_at_most(path, most):
 
 @contextlib.contextmanager
 def temporary_file(folder):
-    """A new open file and its path; it is deleted at the end if it is still there. What was written counts
-    once it was flushed."""
+    """A new open file and its path; it is deleted at the end if it is still there. Flush what counts."""
     number, path = tempfile.mkstemp(dir=folder)
     file = open(number, "w+b")
     try:
@@ -45,8 +44,7 @@ def temporary_file(folder):
 
 
 def put(path, text, room=None):
-    """Puts a file in place whole; `room` is a folder of the same file system, that of the file where it
-    is left out."""
+    """Puts a file in place whole; `room` is a folder of the same file system (the file's own by default)."""
     path = pathlib.Path(path)
     with temporary_file(room or path.absolute().parent) as (file, new):
         file.write(text)

@@ -14,7 +14,7 @@ import os
 import re
 
 from shb_common.files import read_at_most
-from shb_common.refused import BEGINNINGS, LONGEST, MARK
+from shb_common.refused import LONGEST, MARK, other_kind
 from shb_common.words import Refused, printable
 
 MOST_BYTES = 64 << 20       # of a file of known places
@@ -29,8 +29,7 @@ FOREIGN = {
         "`*`, `*` if it is a file",
     rb"[^\t]* [^\t]*": "it has blanks",
 }
-# What differs from run to run in the name of a variable: the line and the number of a block, a thread's
-# stack, an index, an address.
+# What differs by run in the name of a variable: line and number of a block, a stack, an index, an address.
 BLOCK = re.compile(rb"(.+):[0-9]+#[0-9]+((?:\+[0-9]+)?)", re.S)
 STACK = re.compile(rb"stack\..+-0x[0-9a-f]+", re.S)
 INDEX = re.compile(rb"\[[0-9]+\]")
@@ -123,17 +122,15 @@ def lasting_names(variables):
 
 
 def fields_of(sides):
-    """Two sides as fields of the file, sorted: as functions where each location lies in one; and
-    as two locations."""
-    by_location, functions = (
-        tuple(sorted(side.field() for side in sides)), [side.function() for side in sides])
+    """Two sides as sorted fields of the file: as functions if each lies in one; and as two locations."""
+    by_location = tuple(sorted(side.field() for side in sides))
+    functions = [side.function() for side in sides]
     return (tuple(sorted(functions)) if all(functions) else by_location), by_location
 
 
 def lines_of(places):
     """The lines of a file of known places with these: each has its two sides, the names of its variables, and
-    whether there are more than these. By functions where these are known, with the locations in a comment
-    above."""
+    whether there are more. By functions if these are known, with the locations in a comment above."""
     found, more = {}, set()
     for sides, variables, has_more in places:
         fields, by_location = fields_of(sides)
@@ -181,12 +178,11 @@ def side_in(field):
 def words_of_stale(lines, names):
     """What is said of lines that matched nothing. `names` are the source files' (`programs.Names`)."""
     for line in lines[:MOST_STALE]:
-        several = [files for _, pieces in line.sides
-                   for files in [names.several(pieces[0].rpartition(b":")[0])] if files]
-        why = (f"; {printable(several[0][0])} is the end of {len(several[0][1])} source files' paths: "
-               if several else "")
-        yield (f"line {line.number}: no race matched `{printable(line.text)}`" + why
-               + ", ".join(map(printable, several[0][1][:3] if several else ())))
+        files = (names.several(pieces[0].rpartition(b":")[0]) for _, pieces in line.sides)
+        end, several = next(filter(None, files), (None, ()))
+        why = f"; {printable(end)} is the end of {len(several)} source files' paths: " if several else ""
+        yield (f"line {line.number}: no race matched `{printable(line.text)}`{why}"
+               + ", ".join(map(printable, several[:3])))
     if len(lines) > MOST_STALE:
         yield f"{len(lines) - MOST_STALE:,} more lines: no race matched"
 
@@ -200,8 +196,7 @@ def read(path):
 
 
 def given(path, say):
-    """The places of the file that a user named, if there is one; `say` is told where lines of it
-    name no variable."""
+    """The places of the file that a user named, if any; `say` is told of lines without a variable."""
     found = read(path) if path else Known()
     old = [line for line in found.lines if line.variable is None]
     if old:
@@ -216,9 +211,8 @@ class Known:
 
     def __init__(self, text=b""):
         self.lines, self.exact, self.patterns, self.found, self.used = [], {}, [], {}, set()
-        other = next((hint for start, hint in BEGINNINGS.items() if start != MARK and text.startswith(start)),
-                     None)
-        if other:
+        other = other_kind(text)
+        if other and not text.startswith(MARK):
             raise BadLine(f"line 1: {other}")
         for number, line in enumerate(text[len(MARK) if text.startswith(MARK) else 0:].split(b"\n"), 1):
             line = line[:-1] if line.endswith(b"\r") else line
@@ -233,22 +227,21 @@ class Known:
         sides = tuple(map(side_in, fields[:2]))
         self.lines.append(Line(number, line, sides, pieces_of(fields[2]) if len(fields) == 3 else None))
         if all(len(pieces) == 1 for _, pieces in sides):
-            self.exact.setdefault(tuple(sorted((kind, pieces[0]) for kind, pieces in sides)),
-                                  []).append(len(self.lines) - 1)
+            key = tuple(sorted((kind, pieces[0]) for kind, pieces in sides))
+            self.exact.setdefault(key, []).append(len(self.lines) - 1)
         else:
             self.patterns.append(len(self.lines) - 1)
 
     def has(self, sides, variable):
-        """Whether this variable is known at a place with these two sides; None stands for variables
-        that aren't named."""
+        """Whether a variable is known at a place with these sides; None stands for those without a name."""
         found = [line for line in self.lines_at(sides) if self.is_of(self.lines[line], variable)]
         self.used.update(found)
         return bool(found)
 
     def has_all(self, sides, variables, has_more=False):
         """Whether all variables of a place are known. `has_more` says that it has more than these."""
-        return all(
-            [self.has(sides, variable) for variable in [*variables, *[None] * (has_more or not variables)]])
+        names = [*variables, None] if has_more or not variables else variables
+        return all([self.has(sides, variable) for variable in names])   # of each it is noted what it used
 
     @staticmethod
     def is_of(line, variable):

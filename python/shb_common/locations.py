@@ -1,5 +1,4 @@
-"""Locations as compilers and the recorder write them: FILE:LINE, FILE:LINE:COLUMN or MODULE+OFFSET. Other
-texts are names."""
+"""Locations as compilers and the recorder write them: FILE:LINE, FILE:LINE:COLUMN or MODULE+OFFSET."""
 
 import re
 

@@ -1,5 +1,4 @@
-"""The places of several traces and programs: two locations that race, whichever comes first, with what is
-known of them."""
+"""The places of several traces and programs: two locations that race, whichever comes first."""
 
 import collections
 

@@ -37,10 +37,9 @@ class Origin:
         self.modules.update((posixpath.basename(path), path) for path in paths)
 
     def files(self):
-        """The paths of all its source files and of those of the locations that were asked for, each with its
-        name in the trace."""
-        return {**{normal(path): name for name, path in self.tables.sources.items() if is_end(name, path)},
-                **self.called}
+        """The paths of its source files and of the locations that were asked for, each with its name here."""
+        sources = self.tables.sources.items()
+        return {**{normal(path): name for name, path in sources if is_end(name, path)}, **self.called}
 
     def location(self, text):
         """The location that a trace writes so. A file whose path isn't known belongs to the program."""

@@ -10,8 +10,7 @@ COLLECT_EVERY = 100_000  # objects that are kept: Python's own 700 cost a short 
 
 
 def run(command, status):
-    """Runs a command. It ends with this status if this Python is too old for it, or lacks a module
-    of Python's library."""
+    """Runs a command. The status is this one if this Python is too old, or lacks a module of its library."""
     def end(why):
         sys.stderr.write("%s: %s\n" % (command, why))
         sys.exit(status)

@@ -62,10 +62,14 @@ def line_and_hint(words, file):
     if not found:
         return None
     file.seek(0)
-    start = file.read(max(map(len, BEGINNINGS)))
+    other = other_kind(file.read(LONGEST))
     line = line_in(file, int(found[1])).rstrip(b"\r\n")
-    other = next((hint for beginning, hint in BEGINNINGS.items() if start.startswith(beginning)), None)
     return line, other or hint_of(line) or repair_of(words)
+
+
+def other_kind(start):
+    """What a file is that begins with these bytes and is no trace; nothing where they don't show it."""
+    return next((hint for beginning, hint in BEGINNINGS.items() if start.startswith(beginning)), "")
 
 
 def repair_of(words):

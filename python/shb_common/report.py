@@ -114,8 +114,7 @@ class Lines:
             raise BadReport(f"line {self.number + 1} of the report comes after `end`")
 
     def pass_schedule(self):
-        """Where the schedule of the next line begins. The line may be long, and isn't kept; `shb
-        check` judges it."""
+        """Where the schedule of the next line begins. It may be long, and isn't kept: `check` judges it."""
         start = self.start
         self.number += 1
         if SCHEDULE.match(self.line) is None:
@@ -160,8 +159,7 @@ class Report:
         return found
 
     def races(self):
-        """The races, one after the other, each with its two accesses; the rest of the report is read
-        with the last."""
+        """The races, one after the other, each with its two accesses; with the last the rest is read."""
         places = {}
         for number in range(1, self.count + 1):
             race, accesses = self.read_race(number)

@@ -1,5 +1,4 @@
-"""Places as a log in SARIF 2.1.0, the static analysis results interchange format of OASIS: one
-result a place."""
+"""Places as a log in SARIF 2.1.0 of OASIS, one result a place."""
 
 import collections
 import os
@@ -29,6 +28,7 @@ RULE = {
                      "trace shb-view makes one."},
     "defaultConfiguration": {"level": "error"},
 }
+SUPPRESSIONS = [{"kind": "external", "justification": "It is in the file of known places."}]
 BASE = "SRCROOT"        # the folder that relative file names in the traces start from
 TRACES = "TRACES"       # the folder of the traces
 BASES = {BASE: "The folder that relative file names start from: the repository.",
@@ -104,8 +104,7 @@ def location_of(place, **more):
 
 
 def primary_of(place, example):
-    """The location of a result, which readers of such logs want in a file: without one it is the trace that
-    has the place."""
+    """The location of a result. Readers of such logs want a file: else it is the trace that has it."""
     if place.kind != NAME:
         return location_of(place)
     trace = {"artifactLocation": uri_of(example, TRACES), "region": {"startLine": 1}}
@@ -135,16 +134,14 @@ def line_fingerprint(first, second, alert):
 
 
 def code_flows(alert, sources):
-    """The property of a result with the ways to the two accesses of a race, a thread each; nothing where
-    they aren't known."""
+    """The property of a result with the calls to both accesses of a race, if they are known."""
     flows = [thread_flow(access, sources) for access in alert.accesses]
-    return ({"codeFlows": [{"threadFlows": flows}]} if flows
-            and all(flow["locations"] for flow in flows) else {})
+    are_known = flows and all(flow["locations"] for flow in flows)
+    return {"codeFlows": [{"threadFlows": flows}]} if are_known else {}
 
 
 def thread_flow(access, sources):
-    """The calls of a thread that lead to its access, the outermost first. What is no line of the program's
-    own isn't shown."""
+    """The calls of a thread to its access, the outermost first, that are lines of the program's own."""
     name = printable(access.thread)
     steps = []
     for frame in reversed(access.frames):
@@ -188,8 +185,7 @@ def result_of(alert, sources, seen):
         "relatedLocations": [location_of(place, id=number, message={"text": OTHERS[len(others)]})
                              for number, place in enumerate(others, 1)],
         "partialFingerprints": prints,
-        "suppressions": [{"kind": "external", "justification": "It is in the file of known places."}]
-        if alert.row.is_known else [],
+        "suppressions": SUPPRESSIONS if alert.row.is_known else [],
         "properties": {**alert.properties, "variables": [printable(name) for name in alert.variables()]},
         **code_flows(alert, sources),
     }

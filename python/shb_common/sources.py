@@ -1,5 +1,4 @@
-"""Source files below folders that the user named. A location is never opened as a path: it is looked
-up among these."""
+"""Source files below folders that the user named. No location is opened as a path: it is looked up here."""
 
 import contextlib
 import functools
@@ -29,8 +28,8 @@ class Index:
                         pending.append(entry.path)
                     elif entry.is_file(follow_symlinks=False) and not self.is_full():
                         self.count += 1
-                        self.paths.setdefault(entry.name,
-                                              {}).setdefault(os.path.relpath(entry.path, top), entry.path)
+                        its = self.paths.setdefault(entry.name, {})
+                        its.setdefault(os.path.relpath(entry.path, top), entry.path)
 
     def is_full(self):
         """Whether there may be files that weren't looked at."""
@@ -62,8 +61,7 @@ def lines_of(text):
 
 
 class Sources:
-    """The files below a folder, or none where no folder is given. Paths are bytes, and count
-    from the folder."""
+    """The files below a folder, if there is one. Paths are bytes, and count from the folder."""
 
     def __init__(self, folder=None):
         self.folder = os.fsencode(os.path.realpath(folder)) if folder else None
@@ -91,7 +89,6 @@ class Sources:
         return found[0] if len(found) == 1 else None
 
     def line(self, path, number):
-        """The text of a line of a file that was found, without blanks around it; None where there is
-        no such line."""
+        """The text of a line of a file that was found, without blanks around it; None if there is none."""
         lines, _, _ = self.read(os.path.join(self.folder, path))
         return b" ".join(lines[number - 1].split()) if number <= len(lines) else None

@@ -1,5 +1,4 @@
-"""Call stacks: the file that `shb-std --stacks` writes beside a trace. The head of
-recorder/converter/stacks.c has its form."""
+"""Call stacks, as `shb-std --stacks` writes them; the form is in recorder/converter/stacks.c."""
 
 import array
 import bisect
@@ -29,8 +28,7 @@ MOST_LINE = 1 << 20  # bytes of a line
 NUMBER = re.compile(rb"[0-9]{1,18}")
 SUM = re.compile(rb"[0-9a-f]{16}")  # of a line's text
 
-# A function and the place in it. Where the location is empty, the function called code without hooks, which
-# called on.
+# A function and the place in it. The location is empty if it called code without hooks, which called on.
 Frame = collections.namedtuple("Frame", "function location in_system")
 
 
@@ -58,8 +56,7 @@ class AtomicUse(collections.namedtuple("AtomicUse", "event name thread location 
     def said(self):
         """The same for programs."""
         return {"event": self.event, "thread": printable(self.thread), "location": printable(self.location),
-                "kind": self.kind.decode(),
-                "order": self.order.decode()}
+                "kind": self.kind.decode(), "order": self.order.decode()}
 
 
 class Stacks:
@@ -111,15 +108,13 @@ class Stacks:
         self.files.add(parts_of(location)[0])
 
     def local_of(self, variable, event):
-        """The local that a variable on a stack is at an event, or the member that one in a block
-        is; or nothing."""
+        """The local that a variable on a stack is at an event, or the member that one in a block is."""
         names = self.locals.get(variable, ())
         number = bisect.bisect(names, (event + 1,))
         return names[number - 1][1] if number else b""
 
     def lasting(self, variable, event):
-        """What a variable is at all events, whatever trace of the run they are of: a member that one in a
-        block is; or nothing."""
+        """What a variable is in any trace of the run, at all events: the member that one in a block is."""
         return self.local_of(variable, 0)
 
     def stack(self, number):
@@ -134,8 +129,7 @@ class Stacks:
 
     @functools.cached_property
     def lasting_locals(self):
-        """By variable, lock or atomic on a stack: the local that it is, where it is the same one
-        all the time."""
+        """By variable, lock or atomic on a stack: the local that it is, if that is always the same."""
         names = {variable: {name for _, name in found} for variable, found in self.locals.items()}
         return {variable: found.pop() for variable, found in names.items() if len(found) == 1
                 and b"" not in found}
@@ -167,8 +161,7 @@ def events_in(file):
 
 
 def entries_in(file, count):
-    """The lines of an open file of stacks of so many events, each as its kind and its fields. Lines of other
-    kinds are skipped."""
+    """The lines of an open file of stacks of so many events: kind and fields. Other kinds are skipped."""
     file.seek(BEGIN_BYTES + NUMBER_BYTES * count)
     frames = 0
     for number, line in enumerate(iter(lambda: file.readline(MOST_LINE), b""), 2):
@@ -217,14 +210,12 @@ def use_of(text):
     return use, order, bool(again)
 
 
-# What is between the fields of each kind of line (None: blanks), and what reads each. A stack has further
-# numbers, its frames.
+# What is between the fields of each kind of line (None: blanks), and what reads each. A stack has its frames.
 FORMS = {b"frame": (b"\t", bytes, bytes), b"system-frame": (b"\t", bytes, bytes),
-         b"thread": (b"\t", bytes, whole),
+         b"thread": (b"\t", bytes, whole), b"source": (b"\t", bytes, bytes),
+         b"line": (b"\t", bytes, sum_of), b"local": (b"\t", whole, bytes, bytes),
          b"stack": (None, whole, whole), b"block": (None, whole, whole), b"free": (None, whole, whole),
-         b"use": (b"\t", whole, bytes, bytes, bytes, use_of),
-         b"source": (b"\t", bytes, bytes), b"line": (b"\t", bytes, sum_of),
-         b"local": (b"\t", whole, bytes, bytes)}
+         b"use": (b"\t", whole, bytes, bytes, bytes, use_of)}
 
 
 def numbers_of(file, count):

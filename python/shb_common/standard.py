@@ -22,8 +22,7 @@ def open_standard_files():
 
 
 def tell(text):
-    """Prints a text on standard error. A fault of that is passed over, as `shb` does: the status still says
-    what was found."""
+    """Prints a text on standard error. A fault of that is passed over: the status says what was found."""
     try:
         print(text, file=sys.stderr, flush=True)
     except OSError:
@@ -36,8 +35,7 @@ def leave_standard_error():
 
 
 def leave_standard_output():
-    """After a fault of standard output: else Python tries again at its end, in words and with a status
-    of its own."""
+    """After a fault of standard output: else Python tries again at its end, with a status of its own."""
     os.dup2(os.open(os.devnull, os.O_WRONLY), sys.stdout.fileno())
 
 

@@ -1,11 +1,11 @@
-"""What `shb-std --uses` writes beside the trace of a page: how often each variable in a race was used in the
-whole run, and which events of that trace those of the races are. The head of recorder/converter/page.c has
-its form."""
+"""What `shb-std --uses` writes beside a page's trace: how often each racing variable was used in the run, and
+which events of that trace those of the races are. The form is in recorder/converter/page.c."""
 
 import bisect
 import collections
 
 from shb_common.files import open_regular
+from shb_common.stacks import whole
 from shb_common.words import printable
 
 BEGIN = b"shb-uses 2\n"
@@ -13,7 +13,6 @@ OTHER = "is of another version of shb: its first line isn't `shb-uses 2`"
 WORDS = b"r", b"w", b"a", b"f"
 # what each kind is of
 SUMS = {b"by": bytes, b"under": bytes, b"reading": bytes, b"bare": int, b"held": int, b"many": int}
-MOST_DIGITS = 18
 
 # The accesses of a variable at a location in one way: `word` is r, w, a (written atomically) or f (freed);
 # `local` the local that a variable on a stack was then, or nothing. Each of `sums` is a kind, a count, and a
@@ -51,20 +50,20 @@ class Uses:
             word, variable, local, location, *sums = fields[1:]
             if word not in WORDS or len(sums) % 3:
                 raise ValueError
-            its = zip(sums[::3], map(number_of, sums[1::3]), sums[2::3])
-            self.uses.append(Use(word, variable, local,
-                                 location, [(kind, count, SUMS[kind](of)) for kind, count, of in its]))
+            its = zip(sums[::3], map(whole, sums[1::3]), sums[2::3])
+            its = [(kind, count, SUMS[kind](of)) for kind, count, of in its]
+            self.uses.append(Use(word, variable, local, location, its))
         elif kind == b"event":
-            in_page, in_run = map(number_of, fields[1:])
+            in_page, in_run = map(whole, fields[1:])
             self.events[in_run], self.in_run[in_page] = in_page, in_run
         elif kind == b"repeated":
-            self.repeated.update(map(number_of, fields[1:]))
+            self.repeated.update(map(whole, fields[1:]))
         elif kind == b"seen":
             self.sights.add(tuple(fields[1:]))
         elif kind == b"part":
-            self.parts.extend(map(number_of, fields[1:]))
+            self.parts.extend(map(whole, fields[1:]))
         elif kind == b"events":
-            [self.count] = map(number_of, fields[1:])
+            [self.count] = map(whole, fields[1:])
         else:
             raise ValueError
 
@@ -76,9 +75,3 @@ class Uses:
     def are_apart(self, first, second):
         """Whether the page's trace lacks something between two events of it."""
         return bisect.bisect(self.parts, first) != bisect.bisect(self.parts, second)
-
-
-def number_of(text):
-    if not text.isdigit() or len(text) > MOST_DIGITS:
-        raise ValueError
-    return int(text)

@@ -18,8 +18,7 @@ def without_end(line):
 
 
 def atomic_of(first, second):
-    """The atomic that two racing accesses are of, or None: what a thread T writes atomically to X the
-    recorder names `X!T`."""
+    """The atomic of two racing accesses, if any: what a thread T writes atomically to X is named `X!T`."""
     write = first if first.word == b"w" else second
     base, _, thread = write.name.rpartition(b"!")
     return base if base and thread == write.thread else None
@@ -31,8 +30,7 @@ def variable_of(found):
 
 
 def without_block(name):
-    """The name of a member of a block's type without the block, which differs from run to run; any other name
-    as it is."""
+    """The name of a member of a block's type without the block, which differs by run; else the same name."""
     found = IN_BLOCK.fullmatch(name)
     return found[1] if found else name
 

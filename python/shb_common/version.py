@@ -19,8 +19,7 @@ def installed():
 
 
 def version():
-    """The day and the commit of what is installed, or of the checkout as far as git knows it, with a word if
-    files were changed since."""
+    """The day and the commit of what is installed, or of the checkout; with a word if files were changed."""
     if installed():
         return installed()
     last = of_git("log", "-1", *DAY_AND_COMMIT)

@@ -18,8 +18,7 @@ def in_html(text):
 
 
 def printable(text, most=None):
-    """The text on a terminal: what doesn't print is escaped. Of more than `most` columns the first ones,
-    and two dots."""
+    """The text on a terminal: what doesn't print is escaped. Of more than `most` columns the first ones."""
     found = text.decode("utf-8", "backslashreplace")
     found = "".join(sign if sign.isprintable() else sign.encode("unicode_escape").decode() for sign in found)
     return found if most is None or len(found) <= most else found[:most - 2] + ".."

@@ -97,8 +97,8 @@ def entries_of(rows, out):
         path = passes.found_path(out, example)
         try:
             if path.stat().st_size <= MOST_FOUND:
-                found.update(result.entries_of(example,
-                                               json.loads(path.read_text(encoding="ascii"))["places"]))
+                places = json.loads(path.read_text(encoding="ascii"))["places"]
+                found.update(result.entries_of(example, places))
         except (OSError, ValueError, KeyError, TypeError):
             continue    # the view didn't take it: then it is a place without facts
     return found

@@ -104,8 +104,7 @@ def arguments(words):
 
 
 def joined(words):
-    """The words of the command line, `--sbatch` with its value as one, since this begins with a dash
-    like an option."""
+    """The words of the command line, `--sbatch` and its value as one: that begins with a dash too."""
     at = words.index("--sbatch") if "--sbatch" in words[:-1] else len(words)
     return [*words[:at], *("=".join(words[at:at + 2]) for _ in words[at:at + 1]), *words[at + 2:]]
 
@@ -153,8 +152,7 @@ def pass_of(options, room):
 
 def run_passes(options, work, names, outside=()):
     """Runs the traces of these names, and returns how each ended. A trace begins with the first pass that has
-    room for its size, and goes on to the next where it ran out of memory or got no outcome. `outside` are
-    links that aren't followed."""
+    room for it, and goes on if it has no outcome or too little memory. `outside` are links to skip."""
     last = work._replace(memory=options.memory[-1])
     endings = {name: merging.ending_of(last, name, outside) for name in names}
     for memory in options.memory:
@@ -197,8 +195,8 @@ def run(options):
                       "below TRACES")
     if options.source and not os.path.isdir(options.source):
         raise Refused(f"{options.source}: no such folder of sources")
-    known_places, earlier = (known.given(options.known, engines.say),
-                             since.read(options.since) if options.since else None)
+    known_places = known.given(options.known, engines.say)
+    earlier = since.read(options.since) if options.since else None
     options.memory = options.memory or memory_of(options.engine)
     with passes.room_in(os.path.realpath(options.out)) as room:
         work = pass_of(options, room)
@@ -222,8 +220,7 @@ def run(options):
 
 
 def found_of(options, rows, endings, known_places, damaged, earlier):
-    """All that was found. If the places of a trace aren't known, it isn't known either which lines of the
-    known places are stale."""
+    """All that was found. Which known lines are stale isn't known unless the places of all traces are."""
     compared = None if earlier is None else since.compared(options.since, earlier, rows)
     stale = [] if merging.unseen(endings) else known_places.stale()
     facts = merging.facts_of(rows, endings, len(stale), damaged, compared)

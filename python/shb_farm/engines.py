@@ -20,8 +20,7 @@ from shb_common.standard import tell
 from shb_common.words import Refused, counted
 from shb_farm import passes, running
 
-# Without a PATH Python doesn't know its own name. A job needs nothing of this machine's packages, whose start
-# costs time.
+# Without a PATH Python doesn't know its own name. A job needs none of this machine's packages (-S).
 JOB = [sys.executable or "python3", "-I", "-S", str(pathlib.Path(__file__).resolve().with_name("job.py"))]
 TRACES_A_JOB = 50       # at most: so Python's start is a small part of a job
 MOST_TASKS = 1000       # of an array, below Slurm's own bound of 1,001
@@ -49,10 +48,8 @@ def run_slurm(work, path, options):
     log.mkdir(exist_ok=True)
     job = shlex.join([*JOB, path, str(tasks)])
     words = ["sbatch", "--parsable", "--requeue", f"--job-name=shb-farm-{work.memory}",
-             f"--array=0-{tasks - 1}", "--ntasks=1",
-             "--cpus-per-task=1", f"--mem={work.memory + BESIDE_MIB}", "--open-mode=append",
-             f"--output={log}/%A_%a",
-             *options.sbatch, "--wrap", f"exec {job}"]
+             f"--array=0-{tasks - 1}", "--ntasks=1", "--cpus-per-task=1", f"--mem={work.memory + BESIDE_MIB}",
+             "--open-mode=append", f"--output={log}/%A_%a", *options.sbatch, "--wrap", f"exec {job}"]
     status, said, why = call(words)
     if status:
         raise Refused(f"sbatch ended with status {status}: {' '.join(why.split())}")
@@ -100,7 +97,7 @@ def cancel(array):
 def call(words):
     """Runs a command to its end; returns its status and what it said on both standard streams."""
     try:
-        ran = subprocess.run(words, stdin=subprocess.DEVNULL, stdout=subprocess.PIPE, stderr=subprocess.PIPE)
+        ran = subprocess.run(words, stdin=subprocess.DEVNULL, capture_output=True)
     except FileNotFoundError:
         raise Refused(f"{words[0]} isn't installed")
     return ran.returncode, ran.stdout.decode(errors="replace"), ran.stderr.decode(errors="replace")
@@ -133,8 +130,7 @@ class Watch:
 
 
 def run_group(words, given, watch):
-    """Runs a command with all that it starts in a process group of its own, which ends with this process,
-    however that ends."""
+    """Runs a command with all that it starts in a process group, which ends when this process ends."""
     parent = os.getpid()
     with tempfile.TemporaryFile("w+") as numbers:
         numbers.write(given)

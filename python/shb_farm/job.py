@@ -40,8 +40,8 @@ def make_outcome(work, name):
             new = old._replace(stamp=stamp)
         else:
             end, places = reports.analysed(work, name, trace)
-            new = outcomes.Outcome(name, work.program, checksum, stamp, Cost(
-                round(METER.seconds, 2), METER.kib, METER.text), end.kind, end.words, places)
+            cost = Cost(round(METER.seconds, 2), METER.kib, METER.text)
+            new = outcomes.Outcome(name, work.program, checksum, stamp, cost, end.kind, end.words, places)
     put(place, outcomes.text_of(new), work.room)
     if new.kind == "failed":
         tell(f"shb-farm: {name}: {new.words}")
@@ -49,8 +49,7 @@ def make_outcome(work, name):
 
 
 def has_parent_in_session():
-    """Whether the parent is of the same session, as what started this process was. Who has lost its parent
-    has another one."""
+    """Whether the parent is of the same session: who has lost its own parent has one of another session."""
     try:
         return os.getsid(os.getppid()) == os.getsid(0)
     except ProcessLookupError:

@@ -9,15 +9,13 @@ from shb_common.places import Places, in_order
 from shb_common.variables import local_name
 from shb_farm import outcomes, passes, traces
 
-# How a trace ended: the kind of its outcome or `missing`, its words, its places, its size in bytes, or None
-# where it can't be run, and what it cost. The size of a packed trace is that of its text, where this is
-# known.
+# How a trace ended: the kind of its outcome or `missing`, its words, its places, its size in bytes (of its
+# text, if that is known; None if it can't be run), and what it cost.
 Ending = collections.namedtuple("Ending", "kind words places size cost", defaults=(None,))
 
 
 def ending_of(work, name, outside=()):
-    """How a trace ended, as far as its outcome under the limits of this pass says. `outside` are links
-    that aren't followed."""
+    """How a trace ended under the limits of this pass. `outside` are links that aren't followed."""
     if name in outside:
         return Ending("refused", traces.LEADS_OUT, [], None)
     path = pathlib.Path(work.traces) / name
@@ -75,16 +73,16 @@ def facts_of(rows, endings, stale, damaged, since):
     places, reports = sum(row.places for row in rows), kinds.count("report")
     missing = kinds.count("missing")
     facts = {"traces": len(kinds), "reports": reports, "refused": len(kinds) - reports - missing,
-             "missing": missing, "damaged": damaged,
-             "places": places, "unknown": unknown, "known": places - unknown, "stale": stale,
+             "missing": missing, "damaged": damaged, "places": places, "unknown": unknown,
+             "known": places - unknown, "stale": stale,
              "unreported": sum(row.report == "missing" for row in rows)}
-    return {**facts,
-            **({} if since is None else {"new": since.new, "gone": len(since.gone), "same": since.same})}
+    if since is not None:
+        facts.update(new=since.new, gone=len(since.gone), same=since.same)
+    return facts
 
 
 def unseen(endings):
-    """How many traces have places that nobody has seen: those without an outcome, and those that their limits
-    didn't suffice for."""
+    """How many traces have places that nobody has seen: without an outcome, or stopped by their limits."""
     return sum(ending.kind in ("missing", "memory", "time", "size") for ending in endings.values())
 
 

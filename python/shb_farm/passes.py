@@ -78,8 +78,7 @@ def is_left(path):
 
 
 def key_of(name):
-    """What the files of a trace are named by: the end of its name as far as it is plain, and a sum
-    of the whole."""
+    """What the files of a trace are named by: the plain end of its name, and a sum of the whole."""
     plain = OTHER.sub("_", name.rpartition("/")[2])[:MOST_OF_NAME]
     return f"{plain}-{blake2b(os.fsencode(name), digest_size=10).hexdigest()}"
 
@@ -94,8 +93,7 @@ def found_path(out, name):
 
 
 def kept_path(out, name):
-    """The report that was kept of a trace in a pass for full ones; of a trace that is too long for one it
-    has no schedules."""
+    """The report that was kept of a trace in a pass for full ones; a too long trace's has no schedules."""
     return pathlib.Path(out) / FOLDER_OF[FULL] / f"{key_of(name)}.report"
 
 

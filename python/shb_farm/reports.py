@@ -63,8 +63,7 @@ def kept(work, name, trace):
 
 
 def written(work, form, trace, out):
-    """How the program ended on an open trace, writing this form to an open file from its beginning; it
-    counts only whole."""
+    """How the program ended on an open trace, with its output in an open file, which counts only whole."""
     os.lseek(out.fileno(), 0, os.SEEK_SET)
     end = running.analyse(work, form, trace, out)
     if end.kind == "report":
@@ -124,8 +123,7 @@ def put_found(work, trace, name):
 
 
 def started_by(command):
-    """The words that start a command: this Python for one that is written in it, since there may be
-    no other one."""
+    """The words that start a command: this Python for one in Python, since there may be no other one."""
     with open(command, "rb") as file:
         is_ours = b"python" in file.readline(64)
     return [sys.executable, command] if is_ours and sys.executable else [command]

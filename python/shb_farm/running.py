@@ -64,8 +64,8 @@ METER = Meter()
 
 def limits_of(work):
     """Each limit of a pass: its name, its value, and what to call it."""
-    return ((resource.RLIMIT_AS, work.memory * MIB,
-             "memory"), (resource.RLIMIT_FSIZE, work.size * MIB, "file sizes"),
+    return ((resource.RLIMIT_AS, work.memory * MIB, "memory"),
+            (resource.RLIMIT_FSIZE, work.size * MIB, "file sizes"),
             (resource.RLIMIT_CPU, work.seconds, "processor time"))
 
 
@@ -85,11 +85,12 @@ def set_limits(work, parent):
 
 
 def run(work, words, given, out, **how):
-    """Runs a command to its end, with open files as its input, from its beginning, and its output;
-    returns its `Answer`."""
+    """Runs a command to its end on an open file, from its beginning; returns its `Answer`."""
     check_machine(work)
     parent = os.getpid()
-    answer = analyser.call(words, given, out, preexec_fn=lambda: set_limits(work, parent), **how)
+    begin = lambda: set_limits(work, parent)
+    with analyser.Run(words, analyser.rewound(given), out, preexec_fn=begin, **how) as ran:
+        answer = ran.answer()
     METER.add(answer.seconds, answer.kib)
     return answer
 

@@ -12,9 +12,14 @@ from shb_farm import calls
 WIDEST = 60         # columns of the text's tables; a longer field moves what stands after it
 MOST_NAMED = 3      # variables in a table
 
-# What a farm has found: a row for each two locations, how each trace ended, the facts as numbers, the lines
-# of the known places that matched nothing, what is new since an earlier farm or None, and the status.
-Found = collections.namedtuple("Found", "rows endings facts stale since status")
+
+class Found(collections.namedtuple("Found", "rows endings facts stale since status")):
+    """What a farm has found: a row for each two locations, how each trace ended, the facts as numbers, the
+    lines of the known places that matched nothing, what is new since an earlier farm or None, the status."""
+
+    def since_of(self, row):
+        """Whether a row is new, if that is asked: a list of one word, or an empty one."""
+        return [self.since.state_of(row)] if self.since else []
 
 
 def field(text):
@@ -34,22 +39,22 @@ def places_table(found):
     lines = [b"traces\tstate\tfirst\tsecond\texample\treport\tplaces\tvariables\tsince\n"]
     for row in found.rows:
         fields = [b"%d" % row.traces, field(row.state()), *row.names, field(row.example), field(row.report),
-                  b"%d" % row.places,
-                  variables_of(row), field(found.since.state_of(row) if found.since else "")]
+                  b"%d" % row.places, variables_of(row), field("".join(found.since_of(row)))]
         lines.append(b"\t".join(fields) + b"\n")
     return b"".join(lines)
 
 
 def traces_table(endings):
-    """A line for each trace: how it ended, how many places it has, the words of its outcome, and
-    what it cost."""
+    """A line for each trace: how it ended, its places, the words of its outcome, and what it cost."""
     lines = [b"trace\toutcome\tplaces\twords\tseconds\tMiB\n"]
     for name, ending in endings.items():
         places = b"%d" % len(ending.places) if ending.kind == "report" else b""
-        cost = ([b"%.2f" % ending.cost.seconds, b"%d" % (ending.cost.kib // 1024)] if ending.cost
-                else [b"", b""])
-        lines.append(b"\t".join([field(name), field(ending.kind), places, field(ending.words), *cost])
-                     + b"\n")
+        fields = [field(name), field(ending.kind), places, field(ending.words)]
+        if ending.cost:
+            fields += [b"%.2f" % ending.cost.seconds, b"%d" % (ending.cost.kib // 1024)]
+        else:
+            fields += [b"", b""]
+        lines.append(b"\t".join(fields) + b"\n")
     return b"".join(lines)
 
 
@@ -68,38 +73,29 @@ def note_of(ending):
 
 
 def aligned(lines):
-    """Lines of fields, each column as wide as its longest field up to WIDEST; the last one is left
-    as it is."""
+    """Lines of fields, each column but the last as wide as its longest field, up to WIDEST."""
     lines = [[printable(part) for part in line] for line in lines]
     widths = [min(max(map(len, column)), WIDEST) for column in zip(*lines)]
     return ["  ".join(part.ljust(width) for part, width in zip(line, widths)).rstrip() for line in lines]
 
 
 def text(found):
-    """What the farm prints: how much there is, the places, the traces without a report, and those of which
-    something is to know."""
-    rows, endings, facts = found.rows, found.endings, found.facts
-    lines = [f"traces {facts['traces']} reports {facts['reports']} refused {facts['refused']} missing "
-             f"{facts['missing']}",
-             f"places {facts['places']} unknown {facts['unknown']} known {facts['known']}"]
-    lines += ([f"since {found.since.name}: new {facts['new']} gone {facts['gone']} same {facts['same']}"]
-              if found.since else [])
-    if rows:
-        head = [b"traces", b"state", b"first", b"second", b"variables", b"example",
-                *([b"since"] if found.since else [])]
-        table = [[b"%d" % row.traces, field(row.state()), *row.names, variables_of(row), field(row.example),
-                  *([field(found.since.state_of(row))] if found.since else [])] for row in rows]
-        lines += ["", *aligned([head, *table])]
-    if found.since and found.since.gone:
-        lines += ["", *aligned([[b"gone", *map(os.fsencode, gone)] for gone in found.since.gone])]
+    """What is printed: the numbers, the places, traces without a report, and those with something to know."""
+    names = ("traces", "reports", "refused", "missing"), ("places", "unknown", "known")
+    lines = [" ".join(f"{name} {found.facts[name]}" for name in of_line) for of_line in names]
+    head, gone = [b"traces", b"state", b"first", b"second", b"variables", b"example"], []
+    if found.since:
+        lines.append("since {}: new {new} gone {gone} same {same}".format(found.since.name, **found.facts))
+        head.append(b"since")
+        gone = [[b"gone", *map(os.fsencode, words)] for words in found.since.gone]
+    rows = [[b"%d" % row.traces, field(row.state()), *row.names, variables_of(row), field(row.example),
+             *map(field, found.since_of(row))] for row in found.rows]
     lost = [[b"missing" if ending.kind == "missing" else b"refused", field(name), field(why(ending))]
-            for name, ending in endings.items() if ending.kind != "report"]
-    if lost:
-        lines += ["", *aligned(lost)]
+            for name, ending in found.endings.items() if ending.kind != "report"]
     noted = [[b"report", field(name), field(note_of(ending))]
-             for name, ending in endings.items() if note_of(ending)]
-    if noted:
-        lines += ["", *aligned(noted)]
+             for name, ending in found.endings.items() if note_of(ending)]
+    for table in ([head, *rows] if rows else [], gone, lost, noted):
+        lines += ["", *aligned(table)] if table else []
     return "".join(line + "\n" for line in lines)
 
 
@@ -109,25 +105,24 @@ def document(found, entries):
               for name, ending in found.endings.items()]
     places = [result.entry(row, result.entry_of(entries, row), traces=row.traces,
                            example=result.text(os.fsencode(row.example)),
-                           **({"since": found.since.state_of(row)} if found.since else {}))
+                           **{"since": state for state in found.since_of(row)})
               for row in found.rows]
     return result.document("shb-farm", {**found.facts, "status": found.status}, places,
                            stale=result.stale_of(found.stale), traces=traces)
 
 
 def log(found, sources, entries, accesses):
-    """The log for code review tools. `accesses` has those of a race at each place, where their
-    stacks are known."""
-    endings, alerts = found.endings, []
+    """The log for code review tools. `accesses` has those of a race at each place with known stacks."""
+    alerts = []
     for row in found.rows:
         facts = " ".join(result.entry_of(entries, row).get("facts", ()))
-        have = "1 of {} traces has it" if row.traces == 1 else f"{row.traces} of {{}} traces have it"
-        seen = f"{have.format(len(endings))}, for example {printable(field(row.example))}"
+        seen = (f"{row.traces} of {len(found.endings)} traces {'has' if row.traces == 1 else 'have'} it, "
+                f"for example {printable(field(row.example))}")
         alerts.append(sarif.Alert(row, facts, seen, os.fsencode(row.example),
                                   accesses.get(row.key, ()), {"traces": row.traces}))
-    return sarif.log(alerts, sources, [notification_of(name, ending) for name, ending in endings.items()
-                                       if ending.kind != "report" or note_of(ending)],
-                     found.status != 2, found.status)
+    notes = [notification_of(name, ending) for name, ending in found.endings.items()
+             if ending.kind != "report" or note_of(ending)]
+    return sarif.log(alerts, sources, notes, found.status != 2, found.status)
 
 
 LEVELS = {"missing": "error", "report": "note"}
@@ -135,8 +130,8 @@ LEVELS = {"missing": "error", "report": "note"}
 
 def notification_of(name, ending):
     """What is said of a trace that has no report, or of whose report something is to know."""
-    return (LEVELS.get(ending.kind, "warning"), f"{printable(field(name))}: "
-                                                f"{printable(field(note_of(ending) or why(ending)))}")
+    said = printable(field(note_of(ending) or why(ending)))
+    return LEVELS.get(ending.kind, "warning"), f"{printable(field(name))}: {said}"
 
 
 def write(out, room, found, sources, stacks):
@@ -144,12 +139,11 @@ def write(out, room, found, sources, stacks):
     `stacks` the call stacks."""
     said, entries = text(found), calls.entries_of(found.rows, out)
     facts = "".join(f"{name}\t{count}\n" for name, count in found.facts.items()).encode()
-    for name, content in (("places.tsv", places_table(found)), ("traces.tsv", traces_table(found.endings)),
-                          ("facts.tsv", facts),
-                          ("unknown.places", unknown_places(found.rows)),
-                          ("places.txt", said.encode("utf-8", "surrogateescape")),
-                          ("places.json", result.in_bytes(document(found, entries))),
-                          ("places.sarif",
-                           log(found, sources, entries, stacks.accesses_of(found.rows, out)))):
+    files = {"places.tsv": places_table(found), "traces.tsv": traces_table(found.endings),
+             "facts.tsv": facts, "unknown.places": unknown_places(found.rows),
+             "places.txt": said.encode("utf-8", "surrogateescape"),
+             "places.json": result.in_bytes(document(found, entries)),
+             "places.sarif": log(found, sources, entries, stacks.accesses_of(found.rows, out))}
+    for name, content in files.items():
         put(out / name, content, room)
     return said

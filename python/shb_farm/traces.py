@@ -64,8 +64,7 @@ def refuse(fault):
 
 @contextlib.contextmanager
 def unpacked(trace, name, work):
-    """The open text of a trace, which is an open file of this name: itself, or a new file where
-    it is packed."""
+    """The open text of an open trace of this name: itself, or a new file if it is packed."""
     opener = OPENERS.get(os.path.splitext(name)[1])
     if not opener:
         trace.seek(0)

@@ -77,8 +77,7 @@ class Trace:
 
 
 def repaired(trace, repairs):
-    """The events of a trace, repaired. They are made twice: what has to come before the first line shows
-    at the end."""
+    """The events of a trace, repaired. They are made twice: at the end it is known what comes first."""
     events, sections = trace.read(Repairs())
     for _ in events:
         pass

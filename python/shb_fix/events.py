@@ -28,8 +28,8 @@ class Repairs:
     ADDS_ORDER = "; this adds order, which can hide a race"
 
     def __init__(self):
-        self.kept, self.counts, self.translated, self.ordering = (
-            [], collections.Counter(), collections.Counter(), 0)
+        self.kept, self.ordering = [], 0
+        self.counts, self.translated = collections.Counter(), collections.Counter()
 
     def note(self, line, kind, words, adds_order=False):
         """Notes a repair of a line. `kind` says which repairs are alike."""

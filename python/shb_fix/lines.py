@@ -1,6 +1,6 @@
 """From lines to events: marks, blanks, comments and other spellings."""
 
-from shb_common.refused import BEGINNINGS, MARK, hint_of
+from shb_common.refused import MARK, hint_of, other_kind
 from shb_common.words import printable
 from shb_fix.events import Event
 
@@ -8,10 +8,9 @@ NAMED = {b"r", b"w", b"acq", b"rel", b"fork", b"join"}
 MARKS = {b"begin", b"end", b"branch"}
 FOREIGN = {b"vr", b"vw", b"rdlock", b"wrlock", b"rdunlock", b"wrunlock", b"wait", b"notify", b"notifyall"}
 SPELLINGS = {
-    b"read": b"r", b"write": b"w", b"lock": b"acq", b"acquire": b"acq", b"enter": b"acq", b"unlock": b"rel",
-    b"release": b"rel",
-    b"exit": b"rel", b"start": b"fork", b"enterbegin": b"begin", b"volatile_read": b"vr",
-    b"volatile_write": b"vw", b"rd": b"r", b"wr": b"w",
+    b"read": b"r", b"rd": b"r", b"write": b"w", b"wr": b"w", b"start": b"fork", b"enterbegin": b"begin",
+    b"lock": b"acq", b"acquire": b"acq", b"enter": b"acq", b"unlock": b"rel", b"release": b"rel",
+    b"exit": b"rel", b"volatile_read": b"vr", b"volatile_write": b"vw",
 }
 SPELLING, BRANCH = ("other spelling",), ("branch", "branches")     # forms that are translated
 COLUMNS = 60        # of a line that is quoted
@@ -59,9 +58,8 @@ def events_of(file, repairs):
 def kind_of(file):
     """What a file is that is no trace, if its beginning shows it."""
     file.seek(0)
-    start = file.read(max(map(len, BEGINNINGS)))
-    return next((hint for beginning, hint in BEGINNINGS.items() if beginning != MARK
-                 and start.startswith(beginning)), "")
+    start = file.read(COLUMNS)
+    return "" if start.startswith(MARK) else other_kind(start)
 
 
 def no_event(file):

@@ -7,8 +7,8 @@ from shb_fix.events import Event, OWN
 VOLATILE, READER = OWN.encode() + b"volatile.", OWN.encode() + b"reader."
 
 # Forms that are translated, of one event and of several.
-ACCESS, READ_LOCK, WRITE_LOCK, WAIT, NOTIFY = (("volatile access", "volatile accesses"), ("reader lock",),
-                                               ("writer lock",), ("wait",), ("notification",))
+ACCESS = "volatile access", "volatile accesses"
+READ_LOCK, WRITE_LOCK, WAIT, NOTIFY = ("reader lock",), ("writer lock",), ("wait",), ("notification",)
 
 
 class Uses:
@@ -81,8 +81,7 @@ def with_waits(events, repairs):
 
 
 def with_reader_locks(events, uses, repairs):
-    """Each reader of a reader-writer lock has a lock of its own, and a writer takes the locks of
-    all readers too."""
+    """Each reader of a reader-writer lock has a lock of its own, and a writer takes all of these too."""
     reading = collections.Counter()
     for event in events:
         held = (event.thread, event.name)
@@ -97,10 +96,11 @@ def with_reader_locks(events, uses, repairs):
             takes = event.word in (b"wrlock", b"acq")
             if event.word == b"wrlock":
                 repairs.translate(WRITE_LOCK)
-            each = (
-                [event.name] + [event.name + READER + reader for reader in uses.readers.get(event.name, ())])
-            yield from (event.like(b"acq" if takes else b"rel", name)
-                        for name in (each if takes else each[::-1]))
+            readers = [event.name + READER + reader for reader in uses.readers.get(event.name, ())]
+            if takes:
+                yield from (event.like(b"acq", name) for name in [event.name, *readers])
+            else:
+                yield from (event.like(b"rel", name) for name in [*reversed(readers), event.name])
         else:
             yield event
 
@@ -118,8 +118,7 @@ class Sections:
         return [Event(0, thread, b"rel", lock, location)] * count
 
     def allows_release(self, event):
-        """Whether a release by a thread that doesn't hold the lock stays: the log may have begun
-        after its acquire."""
+        """Whether a release by who doesn't hold the lock stays: the log may have begun after its acquire."""
         if event.name in self.known or event.thread in self.forked:
             self.repairs.note(event.line, "releases a lock that it doesn't hold",
                               "the thread doesn't hold this lock: dropped")

@@ -34,9 +34,9 @@ class Worker:
     """The process that makes a run. What it and the program write is in files until it is this run's turn."""
 
     def __init__(self, options, number, folder):
-        self.number, self.answer, out = (number, tempfile.TemporaryFile(dir=folder),
-                                         tempfile.TemporaryFile(dir=folder))
-        self.written = {1: out, 2: out if os.path.sameopenfile(1, 2) else tempfile.TemporaryFile(dir=folder)}
+        new = lambda: tempfile.TemporaryFile(dir=folder)
+        self.number, self.answer, out = number, new(), new()
+        self.written = {1: out, 2: out if os.path.sameopenfile(1, 2) else new()}
         before = signal.pthread_sigmask(signal.SIG_BLOCK, WATCHED)
         self.process = os.fork()
         if not self.process:

@@ -23,9 +23,8 @@ def part(content, section):
 
 
 def symbols_of(content, sections, table, texts):
-    texts = part(content, sections.get(texts, (0, 0, 0)))
-    for name, info, _, place, value, size in struct.iter_unpack(
-        "<IBBHQQ", part(content, sections.get(table, (0, 0, 0)))):
+    texts, table = (part(content, sections.get(section, (0, 0, 0))) for section in (texts, table))
+    for name, info, _, place, value, size in struct.iter_unpack("<IBBHQQ", table):
         yield Symbol(value, size, texts[name:texts.find(b"\0", name)], info & 15, place != 0)
 
 
@@ -72,8 +71,7 @@ def targets(content, sections, names, pattern, size):
 
 
 def plain(symbol):
-    """A function's name as a stack has it without parameters; of C++ as far as the mangled one
-    is names alone."""
+    """A function's name as a stack has it without parameters; in C++ as far as the symbol has names alone."""
     found = MANGLED.match(symbol)
     if not found:
         return symbol.partition(b".")[0]

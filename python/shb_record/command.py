@@ -66,6 +66,37 @@ def parser_of_words():
                         "While another call uses DIR, the results go to DIR-2, DIR-3 and so on. The places "
                         "are those of the whole run, however long it is (shb help places). A page has a "
                         "trace of its own, which is cut around its races")
+    add_runs(parser)
+    parser.add_argument("--known", metavar="FILE", dest="known_path",
+                        help="places to skip, as unknown.places has them: on a line two locations, "
+                        "FILE:LINE, or functions, FILE:FUNCTION(), in either order, and the variable, with "
+                        "tabs between; * stands for any text; a line that begins with # is a comment. A line "
+                        "with two fields applies to every variable. Lines that match nothing are reported")
+    parser.add_argument("--fail-on-stale", action="store_true",
+                        help="if no race is unknown, such lines end with status 67. A race that is in few "
+                        "runs needs --runs")
+    parser.add_argument("--source", metavar="DIR", action="append", default=[],
+                        help="look for source files below this folder too; may be given again. Those of the "
+                             "debug information are found without it")
+    parser.add_argument("--strip", metavar="DIR",
+                        help="name files below this folder by their paths from it (shb-std --help)")
+    parser.add_argument("--window", metavar="N", type=number(1), default=MOST_EVENTS,
+                        help="the most events of a page's trace (%(default)s)")
+    parser.add_argument("--wait", metavar="N", type=number(0),
+                        help=f"wait up to N seconds for processes that outlive the program ({WAIT}), and for "
+                        "those that SIGINT or SIGTERM is passed on to, before they are killed. If it is "
+                        "given, what is shown after such a signal has N seconds too")
+    parser.add_argument("--log", metavar="FILE",
+                        help="write to this file what otherwise goes to standard error, which then is the "
+                        "program's alone")
+    parser.add_argument("--keep", action="store_true", help="keep the records (16 bytes per access)")
+    parser.add_argument("words", metavar="PROGRAM", nargs=argparse.REMAINDER,
+                        help="the program, and the words that it is given")
+    return parser
+
+
+def add_runs(parser):
+    """Which runs are made, and with which order of turns."""
     how_often = parser.add_mutually_exclusive_group()
     how_often.add_argument("--runs", metavar="N", type=number(1),
                            help="run it N times, each with another interleaving (1); each place is shown "
@@ -87,31 +118,6 @@ def parser_of_words():
                         "with a place that isn't known leaves the list in the folder of its results. If the "
                         "list is left, it prints after how many turns; from there on the run is like any "
                         "other")
-    parser.add_argument("--known", metavar="FILE", dest="known_path",
-                        help="places to skip, as unknown.places has them: on a line two locations, "
-                        "FILE:LINE, or functions, FILE:FUNCTION(), in either order, and the variable, with "
-                        "tabs between; * stands for any text; a line that begins with # is a comment. A line "
-                        "with two fields applies to every variable. Lines that match nothing are reported")
-    parser.add_argument("--fail-on-stale", action="store_true",
-                        help="if no race is unknown, such lines end with status 67. A race that is in few "
-                        "runs needs --runs")
-    parser.add_argument("--source", metavar="DIR", action="append", default=[],
-                        help="look for source files below this folder too; may be given again. Those of the "
-                             "debug information are found without it")
-    parser.add_argument("--strip", metavar="DIR",
-                        help="name files below this folder by their paths from it (shb-std --help)")
-    parser.add_argument("--window", metavar="N", type=number(1), default=MOST_EVENTS,
-                        help="the most events of a page's trace (%(default)s)")
-    parser.add_argument("--wait", metavar="N", type=number(0),
-                        help=f"wait up to N seconds for processes that outlive the program ({WAIT}), and for "
-                        "those that SIGINT or SIGTERM is passed on to, before they are killed. If it is "
-                        "given, what is shown after such a signal has N seconds too")
-    parser.add_argument("--log", metavar="FILE", help="write to this file what otherwise goes to standard "
-                                                      "error, which then is the program's alone")
-    parser.add_argument("--keep", action="store_true", help="keep the records (16 bytes per access)")
-    parser.add_argument("words", metavar="PROGRAM", nargs=argparse.REMAINDER,
-                        help="the program, and the words that it is given")
-    return parser
 
 
 def arguments(words):
@@ -158,10 +164,11 @@ def check_settings():
 
 def check_folders(options):
     """Refuses folders that aren't there, but the path of one on the machine that compiled the program."""
-    for name, folder in [("--source", folder)
-                         for folder in options.source] + [("--strip", options.strip or "/")]:
-        if not os.path.isdir(folder) and not (name == "--strip" and os.path.isabs(folder)):
-            raise Refused(f"{name}: {folder} isn't a folder")
+    for folder in options.source:
+        if not os.path.isdir(folder):
+            raise Refused(f"--source: {folder} isn't a folder")
+    if options.strip and not os.path.isdir(options.strip) and not os.path.isabs(options.strip):
+        raise Refused(f"--strip: {options.strip} isn't a folder")
 
 
 def check_program(name):
@@ -289,15 +296,6 @@ def conclude(look, rows, status):
             "find one")
 
 
-def logged(path):
-    """What redirects what this command says to a file, if one is named."""
-    found = contextlib.ExitStack()
-    if path:
-        found.enter_context(contextlib.redirect_stderr(
-            found.enter_context(open(path, "w", encoding="utf-8", errors="backslashreplace"))))
-    return found
-
-
 def main(words):
     open_standard_files()
     try:
@@ -306,7 +304,10 @@ def main(words):
         if status:
             return status
         check_parts()
-        with logged(options.log):
+        if not options.log:
+            return record(options)
+        with open(options.log, "w", encoding="utf-8", errors="backslashreplace") as log, \
+                contextlib.redirect_stderr(log):
             return record(options)
     except CannotRun as fault:
         say(fault)

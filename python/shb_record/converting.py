@@ -47,8 +47,7 @@ class Records:
         self.folder = folder
 
     def left(self, number):
-        """What was recorded in this run, in the order of the processes' numbers; these are
-        looked at together."""
+        """What was recorded in this run, by the numbers of processes, which are looked at together."""
         def numbers(path):
             return [int(text) for text in re.findall(r"\d+", path.name)]
 
@@ -90,8 +89,8 @@ def replay_in(header):
 def check_room(process, most_events):
     """A page's trace has so many events at most. In measured programs at most a tenth of the record's entries
     have a line."""
-    needed, free = (min(process.record.stat().st_size // 2, most_events * LINE_BYTES),
-                    shutil.disk_usage(process.record.parent).free)
+    needed = min(process.record.stat().st_size // 2, most_events * LINE_BYTES)
+    free = shutil.disk_usage(process.record.parent).free
     if needed > free:
         raise Refused(f"{process.name}: its page may take about {needed:,} bytes of the disk, and {free:,} "
                       "are free; --window makes a smaller one")

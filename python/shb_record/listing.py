@@ -2,6 +2,7 @@
 
 import contextlib
 import os
+import shutil
 import tempfile
 
 from shb_common import analyser
@@ -53,8 +54,7 @@ class Listing:
     def copy(self, path):
         self.text.seek(0)
         with open(path, "wb") as out:
-            for part in iter(lambda: self.text.read(1 << 20), b""):
-                out.write(part)
+            shutil.copyfileobj(self.text, out)
 
 
 def listing(room):

@@ -53,9 +53,8 @@ class Segments:
         return process._replace(blocks=blocks) if blocks.exists() else process
 
     def counted(self, path):
-        """What the names of a process's results begin with, and the number of this segment of its. The
-        recorder drops what isn't taken soon enough; a process that becomes another program may begin with 1
-        again."""
+        """What the names of a process's results begin with, and the number of this segment of its. Some may
+        be dropped; a process that becomes another program may begin with 1 again."""
         base, segment = base_of(path), segment_of(path)
         file, count = self.last.get(base, (0, 0))
         missing = segment - 1 - (file if segment > file else 0)
@@ -67,8 +66,7 @@ class Segments:
         return base, count + missing + 1
 
     def release(self, process):
-        """Deletes what is left of a segment, but for the blocks at its end, which the next
-        one begins with."""
+        """Deletes what is left of a segment but the blocks at its end, with which the next one begins."""
         taken = process.record
         blocks = self.folder / f"{base_of(taken)}.blocks"
         blocks.unlink(missing_ok=True)

@@ -31,12 +31,11 @@ class Looked:
 
 
 class Look:
-    """Looks at the records of a source: those of runs that have ended (`Records`), or of one that
-    goes on (`Segments`)."""
+    """Looks at the records of runs that have ended (`Records`), or of one that goes on (`Segments`)."""
 
     def __init__(self, options, results, stops, source):
-        self.options, self.results, self.stops, self.source, self.started = (
-            options, results, stops, source, now()[:-3])
+        self.options, self.results, self.stops, self.source = options, results, stops, source
+        self.started = now()[:-3]
         self.places, self.pages, self.found = Places(options.known, options.live), [], {}
         # events that were looked at; segments without a page; records that can't be looked at
         self.events = self.passed = self.failed = 0
@@ -64,7 +63,7 @@ class Look:
         looked = [one for found in self.source.left(number) for one in self.look_at(number, found)]
         if len(self.runs) < number:
             raise Refused(f"{self.options.program} left no record. {cause(self.options.program)}")
-        self.is_cut = self.is_cut or self.source.dropped > 0
+        self.is_cut |= self.source.dropped > 0
         if not self.options.live and not any(one is None or one.events for one in looked):
             if self.is_cut:
                 words = shlex.join(["shb-record", "env", f"LD_PRELOAD={PRELOADED}", self.options.program,
@@ -141,7 +140,7 @@ class Look:
     def fail(self, fault):
         say(words_of(fault))
         self.has_failed = True
-        self.is_contradicted = self.is_contradicted or isinstance(fault, Contradiction)
+        self.is_contradicted |= isinstance(fault, Contradiction)
 
     def analyse(self, looked):
         check_room(looked.process, self.options.window)
@@ -154,8 +153,7 @@ class Look:
         self.keep_files(looked)
 
     def add_new(self, looked, places, is_behind=False):
-        """Takes some of the places of a process, as `Places.add_new` does. Without a page they are those
-        of earlier segments."""
+        """Takes places of a process, as `Places.add_new` does; without a page they are earlier segments'."""
         process = looked.process
         if places and not looked.conversion.used:
             return [], self.places.met_in(process, places)
@@ -222,8 +220,8 @@ class Look:
         for note in conversion.notes:
             if (looked.events or note != KILLED) and note not in self.said:
                 self.said.update([note] if self.options.live else [])
-                more = "; SHB_RECORDS=NUMBER allows more records, of 16 bytes each" * (
-                    "SHB_RECORDS is reached" in note)
+                is_full = "SHB_RECORDS is reached" in note
+                more = "; SHB_RECORDS=NUMBER allows more records, of 16 bytes each" if is_full else ""
                 say(f"{process.name} ({process.command}): {note}{more}")
 
     def note_cuts(self, looked):
@@ -231,13 +229,12 @@ class Look:
         thread was killed."""
         cuts = [cut for cut in looked.conversion.cuts if "a thread too many" not in cut
                 and (looked.events or cut != KILLED)]
-        self.is_cut = self.is_cut or bool(cuts) and cuts != [KILLED]
-        self.is_killed = self.is_killed or cuts == [KILLED]
-        self.has_threads = self.has_threads or bool(looked.events)
+        self.is_cut |= bool(cuts) and cuts != [KILLED]
+        self.is_killed |= cuts == [KILLED]
+        self.has_threads |= bool(looked.events)
 
     def keep_turns(self, process, has_unknown):
-        """Keeps the list of turns of a process with something to run again, and says how far
-        it followed one."""
+        """Keeps a process's turns if there is something to run again, and says how far it followed any."""
         turns = process.record.with_suffix(".turns")
         if turns.exists() and (has_unknown or self.options.keep):
             kept = self.results.keep(turns, f"{process.base}.turns")
@@ -248,8 +245,7 @@ class Look:
             say(f"{process.name} ({process.command}): {process.replay}")
 
     def show_places(self, looked, unknown):
-        """The view's page and text of new places that aren't known, and what it found; where it fails, the
-        new places alone."""
+        """The page and text of new unknown places, and what the view found; if it fails, the places alone."""
         process, conversion, numbers = looked.process, looked.conversion, looked.conversion.numbers
         is_on_page = [any(one.place.variables[name].events in numbers
                           for name in one.variables & one.place.variables.keys()) for one in unknown]
@@ -257,10 +253,9 @@ class Look:
         if not any(is_on_page):
             return
         first = [note for note in conversion.notes if note.startswith(CRASHED)] + conversion.cuts
-        notes = [f"{note[0].upper()}{note[1:]}."
-                 for note in [*first, *[process.replay] * bool(process.replay)]]
-        turns = (self.results.folder / f"{process.base}.turns"
-                 if process.record.with_suffix(".turns").exists() else "")
+        notes = [f"{note[0].upper()}{note[1:]}." for note in [*first, process.replay] if note]
+        has_turns = process.record.with_suffix(".turns").exists()
+        turns = self.results.folder / f"{process.base}.turns" if has_turns else ""
         page = self.results.path(f"{process.base}.html")
         # takes its time, and a run without a place does without
         from shb_view.command import explain, show_run

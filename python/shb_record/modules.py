@@ -34,8 +34,7 @@ class Modules:
 
     def __init__(self):
         self.kinds = {}     # by path: whether it has hooks, and whether debug information
-        # names of modules and files that stand in call stacks: what has them calls the program, or starts
-        # its threads
+        # modules and files that stand in call stacks: they call the program, or start its threads
         self.callers = set()
 
     def add(self, paths):
@@ -162,8 +161,7 @@ def is_library(name):
 
 
 def sections_of(content):
-    """By the names of the sections of an ELF file of 64 bits: their address, where they are in the file, and
-    how long they are."""
+    """The sections of a 64-bit ELF file by their names: address, place in the file, and length."""
     if content[:5] != b"\x7fELF\x02":
         raise ValueError
     start, = struct.unpack_from("<Q", content, 0x28)

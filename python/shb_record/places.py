@@ -22,8 +22,7 @@ class Places(places.Places):
     def __init__(self, given, is_endless=False):
         super().__init__(given)
         self.known_before, self.is_endless = set(), is_endless
-        # of such a run: by a program's variable at a place the key of that, and the variable's name on
-        # the page
+        # of such a run: by a program's variable at a place that place's key, and its name on the page
         self.met = {}
 
     def add_place(self, trace, order, first, second, variables, has_more):
@@ -38,8 +37,7 @@ class Places(places.Places):
     def add_new(self, process, trace, origin, found, numbers, is_behind=False):
         """Takes the places of a process, and returns those that are new, or have a new variable; and all,
         each with its key and the names of its variables in the trace and on the page. `numbers` has the races
-        that the page's trace has, whose locals are known; `is_behind` says that they were found behind known
-        races."""
+        of the page's trace, whose locals are known; `is_behind` says that known races are before them."""
         in_run = [named(place, origin.tables, numbers) for place in found]
         before = {key: set(seen.variables) - seen.behind for key, seen in self.seen.items()}
         keys = self.add((process.name, trace), origin, [place for place, _ in in_run])
@@ -49,17 +47,15 @@ class Places(places.Places):
                 behind.update(place.variables.keys() - before.get(key, set()))
             else:
                 behind.difference_update(place.variables)
-        new = [New(key, place, self.new_variables(key, names))
-               for key, place, (_, names) in zip(keys, found, in_run)]
         its = [(key, place, names) for key, place, (_, names) in zip(keys, found, in_run)]
+        new = [New(key, place, self.new_variables(key, names)) for key, place, names in its]
         if self.is_endless and not is_behind:
             self.met.update((way_to(process, place, raw), (key, name)) for key, place, names in its
                             for raw, name in names.items())
         return [one for one in new if one.variables], its
 
     def has_met(self, process, found):
-        """Whether earlier segments had all these places of one. What is on a stack may be another local
-        in each segment."""
+        """Whether earlier segments had all these places. A stack may have another local in each segment."""
         return not any(place.has_more or raw.startswith(b"stack.")
                        or way_to(process, place, raw) not in self.met
                        for place in found for raw in place.variables)

@@ -44,16 +44,15 @@ class Results:
         self.first = [] if spared else list(self.names)     # which say nothing if they are all
 
     def remove_earlier(self, spared):
-        """Deletes what the list of an earlier call names but a file that is still needed, and says so.
-        Returns the name of that."""
+        """Deletes what an earlier call's list names, and says so. Returns names of what is still needed."""
         self.list.seek(0)
         first, *names = self.list.read().splitlines() or [LIST_BEGIN]
         if not first.startswith(LIST_BEGIN):
             raise Refused(f"{self.folder / LIST} is there, and shb-record didn't make it")
-        kept = [name for name in names if spared and re.fullmatch(OURS, name)
-                and is_same(self.folder / name, spared)]
-        removed = [name for name in reversed(names) if re.fullmatch(OURS, name) and name not in kept
-                   and remove(self.folder / name)]
+        ours = {name: self.folder / name for name in names if re.fullmatch(OURS, name)}
+        kept = [name for name, path in ours.items()
+                if spared and path.exists() and os.path.samefile(path, spared)]
+        removed = [name for name in reversed(ours) if name not in kept and remove(ours[name])]
         if removed:
             say(f"replacing the results in {self.folder}, made{first[len(LIST_BEGIN):]}")
         return kept
@@ -123,10 +122,6 @@ def look_at_owner(folder):
         raise Refused(f"{folder} belongs to another user, who can change what is in it: -o names another "
                       "folder")
     say(f"{folder} belongs to another user, who can change the results")
-
-
-def is_same(path, other):
-    return path.exists() and os.path.samefile(path, other)
 
 
 def remove(path):

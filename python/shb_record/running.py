@@ -59,8 +59,7 @@ def adopt_orphans():
     ctypes.CDLL(None).prctl(BECOME_PARENT_OF_ORPHANS, 1, 0, 0, 0)
 
 
-# What became of a run: the program's own status, as a shell has it, the last signal that was to end it, and
-# when the first one came.
+# What became of a run: the program's status in a shell, the last signal to end it, and when the first came.
 Outcome = collections.namedtuple("Outcome", "own stop stopped")
 
 
@@ -78,9 +77,9 @@ class Run:
             self.program = started(words, environment(options, number, folder),
                                    before if blocked is None else blocked)
             while self.program.poll() is None:
-                pause = [0 if look() else POLL] if look else []
-                self.take_signal(WATCHED, min(
-                    [*pause, *[end - time.monotonic() for end in [self.end] if end]], default=None))
+                pauses = [0 if look() else POLL] if look else []
+                pauses += [self.end - time.monotonic()] if self.end else []
+                self.take_signal(WATCHED, min(pauses, default=None))
             self.wait_for_orphans()
         finally:
             signal.pthread_sigmask(signal.SIG_SETMASK, before)
@@ -134,10 +133,10 @@ class Run:
 def children():
     """The processes that are ours now."""
     try:
-        return [int(number)
-                for number in pathlib.Path(f"/proc/self/task/{os.getpid()}/children").read_text().split()]
+        numbers = pathlib.Path(f"/proc/self/task/{os.getpid()}/children").read_text()
     except OSError:
         return []
+    return list(map(int, numbers.split()))
 
 
 MARKS = {b"Go build ID": "Go", b"/rustc/": "Rust"}  # that compilers leave in a program

@@ -70,8 +70,7 @@ class Second:
 
 
 def besides(first, second):
-    """What a second look found that the first hadn't: places with the variables that have no race there
-    in either order."""
+    """What a second look alone found: places with the variables that have no race there in either order."""
     known = {(frozenset((place.first, place.second)), name) for place in first for name in place.variables}
     found = []
     for place in second:

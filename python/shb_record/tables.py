@@ -1,5 +1,4 @@
-"""The tables of the results: places as tab-separated values, for programs, for code review, and as a file
-of known places."""
+"""The tables of the results: as tab-separated values, for programs, for code review, as known places."""
 
 import os
 import pathlib
@@ -18,11 +17,12 @@ from shb_record.places import count, table
 
 def tables_of(look, rows, status):
     """The tables of all that was looked at, by their names. `rows` are those of its places."""
-    entries, groups = {}, []
-    for (process, trace), found in look.found.items():
-        places = [{**place, "group": len(groups) + place["group"]} for place in found["places"]]
-        entries.update(result.entries_of((process, trace), places))
-        groups += [{**group, "process": process, "trace": trace.name} for group in found["groups"]]
+    found, groups = {}, []
+    for (process, trace), its in look.found.items():
+        places = [{**place, "group": len(groups) + place["group"]} for place in its["places"]]
+        found.update(result.entries_of((process, trace), places))
+        groups += [{**group, "process": process, "trace": trace.name} for group in its["groups"]]
+    entries = [entry(look, row, result.entry_of(found, row)) for row in rows]
     return {"unknown.places": unknown_places(rows), "places.tsv": b"".join(table(rows)),
             "places.json": result.in_bytes(document(look, rows, entries, groups, status)),
             "places.sarif": log(look, rows, entries, status),
@@ -36,18 +36,16 @@ def document(look, rows, entries, groups, status):
                "behind": count(row for row in rows if row.state() == "behind"),
                "known": count(rows) - unknown, "stale": len(stale),
                "status": status, "runs": len(look.runs)}
-    return result.document("shb-record", summary, [entry(look, row, entries) for row in rows],
-                           stale=result.stale_of(stale),
+    return result.document("shb-record", summary, entries, stale=result.stale_of(stale),
                            notes=[*look.meaning(), *look.counts()], groups=groups)
 
 
-def entry(look, row, entries):
-    """A row with the two accesses of its first race, and the processes that have it."""
+def entry(look, row, found):
+    """A row with the two accesses of its first race, what the view found, and the processes that have it."""
     process, trace = row.example
     reads = list(zip(row.race.events, row.race.accesses))
     if row.race.accesses[0].location != row.texts[0]:
         reads.reverse()
-    found = result.entry_of(entries, row)
     return result.entry(row, found, reads, process=process, trace=trace.name,
                         **({"group": found["group"]} if found else {}),
                         processes=[name for name, _ in look.places.seen[pair_of(row.key)].traces])
@@ -56,13 +54,12 @@ def entry(look, row, entries):
 def log(look, rows, entries, status):
     """The same for code review tools."""
     alerts = []
-    for row in rows:
+    for row, found in zip(rows, entries):
         process, trace = row.example
-        found = result.entry_of(entries, row)
-        sides, blamed = entry(look, row, entries)["accesses"], found.get("blamed")
         names = dict(zip(map(result.text, row.texts), row.names))
-        with_stacks = [one for one in sides if found and one.get("stacks")]
-        accesses = tuple(access_of(one, look.sources[row.example]) for one in with_stacks)
+        accesses = tuple(access_of(one, look.sources[row.example])
+                         for one in found["accesses"] if one.get("stacks"))
+        blamed = found.get("blamed")
         if blamed:
             blamed = (names.get(blamed["in_trace"], blamed["in_trace"].encode()),
                       blamed.get("file", "").encode())
@@ -74,10 +71,9 @@ def log(look, rows, entries, status):
 
 
 def without_numbers(found):
-    """What is said of a place in each run alike: its headline and its remedy, without the
-    numbers of blocks."""
-    return re.sub(r"#\d+", "", ". ".join(part for part in (
-        found.get("headline", ""), f"Remedy: {found['remedy']}" if found.get("remedy") else "") if part))
+    """What is said of a place in each run alike: headline and remedy without the numbers of blocks."""
+    remedy = f"Remedy: {found['remedy']}" if found.get("remedy") else ""
+    return re.sub(r"#\d+", "", ". ".join(filter(None, (found.get("headline", ""), remedy))))
 
 
 def access_of(one, sources):

@@ -1,5 +1,4 @@
-"""The list of a run's turns, as the recorder leaves it beside the record (runtime/replay.c says
-what it has)."""
+"""The list of a run's turns, which the recorder leaves beside the record (runtime/replay.c)."""
 
 import array
 import collections
