@@ -3,6 +3,7 @@ commands' own, and says so."""
 
 import gc
 import importlib
+import os
 import sys
 
 NEEDED = (3, 8)
@@ -26,4 +27,10 @@ def run(command, status):
         end("Python %d.%d or later is needed, and this is %d.%d" % (NEEDED + sys.version_info[:2]))
     sys.excepthook = told
     gc.set_threshold(COLLECT_EVERY)
-    sys.exit(importlib.import_module(command.replace("-", "_") + ".command").main(sys.argv[1:]))
+    status = importlib.import_module(command.replace("-", "_") + ".command").main(sys.argv[1:])
+    try:
+        sys.stdout.flush()
+        sys.stderr.flush()
+    except OSError:
+        sys.exit(status)    # tells of it
+    os._exit(status)    # what Python would free now takes a short run a tenth of its time
