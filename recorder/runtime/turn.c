@@ -39,9 +39,7 @@
 #define PATIENCE_NS 300000             /* then a lone waiter looks at the holder; one of several after ten times it */
 #define TEST_YIELD() (void)0
 #endif
-#ifdef PATIENT                         /* for the tests: no waiter looks at the holder, so who waits has to give the turn up */
-#define IS_PATIENT 1
-#else
+#ifndef IS_PATIENT                     /* 1 in tests: no waiter looks, so who blocks has to give the turn up */
 #define IS_PATIENT 0
 #endif
 #define START_SECONDS 1                /* the longest wait for a new thread: on a busy machine it begins late */
@@ -513,16 +511,14 @@ int end_turns(void) {
 }
 
 /* ---- the memory of threads: that of one which is over is used again, for a waiter may still look into it ---- */
-static thread *ended;                  /* a list; under the guard */
+static thread *ended;                  /* a list; with the turn */
 
 /* With the turn, so no word of the turn names it from here on. */
 void end_thread(thread *t) {
     t->is_over = 1;
     free_numbers[free_count++] = t->number;
-    lock_guard();
     t->next_ended = ended;
     ended = t;
-    unlock_guard();
 }
 
 /* With the turn. Its handle may be another one's as soon as it is gone. */
@@ -542,24 +538,17 @@ static void end_those_gone(void) {
         } else at = &t->next_ended;
 }
 
-static thread *used_again(void) {
+thread *new_thread(void) {             /* with the turn; it may sleep in the system */
     end_those_gone();
-    lock_guard();
     thread *t = ended;
-    if (t) ended = t->next_ended;
-    unlock_guard();
-    if (!t) return 0;
-    memset(t, 0, sizeof *t);
-    t->frames = t->own_frames;
-    return t;
-}
-
-thread *new_thread(void) {             /* it may sleep in the system */
-    thread *t = used_again();
-    if (t) return t;
-    t = mmap(0, sizeof *t + MOST_FRAMES * sizeof *t->frames, PROT_READ | PROT_WRITE,
-                     MAP_PRIVATE | MAP_ANONYMOUS | MAP_NORESERVE, -1, 0);
-    if (t == MAP_FAILED) return 0;
+    if (t) {
+        ended = t->next_ended;
+        memset(t, 0, sizeof *t);
+    } else {
+        t = mmap(0, sizeof *t + MOST_FRAMES * sizeof *t->frames, PROT_READ | PROT_WRITE,
+                 MAP_PRIVATE | MAP_ANONYMOUS | MAP_NORESERVE, -1, 0);
+        if (t == MAP_FAILED) return 0;
+    }
     t->frames = t->own_frames;
     return t;
 }
