@@ -8,18 +8,9 @@ LOCKS(g_mutex_lock, g_mutex_trylock, OP_LOCK)
 UNLOCKS(g_mutex_unlock, OP_UNLOCK)
 
 /* These are a POSIX lock within, which would be seen besides where the call waits for it. So the call never does. */
-static int waits_a_little(void) {
-    struct timespec little = {0, 50000};
-    return syscall(SYS_nanosleep, &little, 0);
-}
 #define LOCKS_BY_TRYING(name, try, operation) \
-    PUBLIC void name(void *m) { \
-        thread *t = enter(MAY_YIELD); \
-        if (!t) return REAL(name)(m); \
-        while (!REAL(try)(m)) BLOCKING(t, waits_a_little()); \
-        put(t, operation, m, 0, CALLER); \
-        leave(t); \
-    }
+    TAKES_BY_TRYING(void, name, operation, DONE(REAL(name)(m)), REAL(try)(m), \
+                    syscall(SYS_nanosleep, &(struct timespec){.tv_nsec = 50000}, 0), (void *m))
 TRIES_LOCK(gboolean, g_rec_mutex_trylock, OP_LOCK)
 LOCKS_BY_TRYING(g_rec_mutex_lock, g_rec_mutex_trylock, OP_LOCK)
 UNLOCKS(g_rec_mutex_unlock, OP_UNLOCK)
@@ -38,21 +29,21 @@ WAKES(g_cond_signal)
 WAKES(g_cond_broadcast)
 
 /* ---- queues: what is taken out comes after all that was put in before ---- */
-#define TAKES_ITEM(name, real, quick, parameters) TAKES_BY(void *, name, OP_WAIT, q, real, !r, quick, r, parameters)
-TRIES_BY(void *, g_async_queue_try_pop, OP_WAIT, q, REAL(g_async_queue_try_pop)(q), 0, r, (void *q))
-TRIES_BY(void *, g_async_queue_try_pop_unlocked, OP_WAIT, q, REAL(g_async_queue_try_pop_unlocked)(q), 0, r, (void *q))
-TAKES_ITEM(g_async_queue_pop, REAL(g_async_queue_pop)(q), REAL(g_async_queue_try_pop)(q), (void *q))
-TAKES_ITEM(g_async_queue_pop_unlocked, REAL(g_async_queue_pop_unlocked)(q), REAL(g_async_queue_try_pop_unlocked)(q), (void *q))
-TAKES_ITEM(g_async_queue_timeout_pop, REAL(g_async_queue_timeout_pop)(q, time), REAL(g_async_queue_try_pop)(q), (void *q, uint64_t time))
-TAKES_ITEM(g_async_queue_timeout_pop_unlocked, REAL(g_async_queue_timeout_pop_unlocked)(q, time),
-           REAL(g_async_queue_try_pop_unlocked)(q), (void *q, uint64_t time))
-POSTS(g_async_queue_push, q, (void *q, void *item), (q, item))
-POSTS(g_async_queue_push_unlocked, q, (void *q, void *item), (q, item))
-POSTS(g_async_queue_push_front, q, (void *q, void *item), (q, item))
-POSTS(g_async_queue_push_front_unlocked, q, (void *q, void *item), (q, item))
 typedef int (*comparison)(const void *, const void *, void *);
-POSTS(g_async_queue_push_sorted, q, (void *q, void *item, comparison f, void *more), (q, item, f, more))
-POSTS(g_async_queue_push_sorted_unlocked, q, (void *q, void *item, comparison f, void *more), (q, item, f, more))
+#define TAKES_ITEM(name, form, real, parameters) \
+    TAKES_BY(void *, name##form, OP_WAIT, q, real, !r, REAL(g_async_queue_try_pop##form)(q), r, parameters)
+#define QUEUE(form) \
+    TRIES_BY(void *, g_async_queue_try_pop##form, OP_WAIT, q, \
+             REAL(g_async_queue_try_pop##form)(q), 0, r, (void *q)) \
+    TAKES_ITEM(g_async_queue_pop, form, REAL(g_async_queue_pop##form)(q), (void *q)) \
+    TAKES_ITEM(g_async_queue_timeout_pop, form, \
+               REAL(g_async_queue_timeout_pop##form)(q, time), (void *q, uint64_t time)) \
+    POSTS(g_async_queue_push##form, q, (void *q, void *item), (q, item)) \
+    POSTS(g_async_queue_push_front##form, q, (void *q, void *item), (q, item)) \
+    POSTS(g_async_queue_push_sorted##form, q, \
+          (void *q, void *item, comparison f, void *more), (q, item, f, more))
+QUEUE()
+QUEUE(_unlocked)
 
 /* ---- once: the macros of the first read the word themselves ---- */
 READS_WORD(gboolean, g_once_init_enter, p, REAL(g_once_init_enter)(p), !r, (void *p))

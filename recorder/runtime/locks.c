@@ -31,24 +31,21 @@
 #define TRIES_LOCK(name, operation, type) TRIES(name, operation, m, EBUSY, !r || r == EOWNERDEAD, (type *m), (m))
 
 /* ---- locks ---- */
-LOCKS(pthread_mutex_lock, OP_LOCK, pthread_mutex_trylock, (pthread_mutex_t *m), (m))
-LOCKS(pthread_mutex_timedlock, OP_LOCK, pthread_mutex_trylock, (pthread_mutex_t *m, deadline d), (m, d))
-LOCKS(pthread_mutex_clocklock, OP_LOCK, pthread_mutex_trylock, (pthread_mutex_t *m, clockid_t c, deadline d), (m, c, d))
-TRIES_LOCK(pthread_mutex_trylock, OP_LOCK, pthread_mutex_t)
+/* All calls that take one, of which `try` never waits. */
+#define LOCKS_IN_ALL_WAYS(type, lock, operation) \
+    LOCKS(pthread_##type##_##lock, operation, pthread_##type##_try##lock, (pthread_##type##_t *m), (m)) \
+    LOCKS(pthread_##type##_timed##lock, operation, pthread_##type##_try##lock, \
+          (pthread_##type##_t *m, deadline d), (m, d)) \
+    LOCKS(pthread_##type##_clock##lock, operation, pthread_##type##_try##lock, \
+          (pthread_##type##_t *m, clockid_t c, deadline d), (m, c, d)) \
+    TRIES_LOCK(pthread_##type##_try##lock, operation, pthread_##type##_t)
+LOCKS_IN_ALL_WAYS(mutex, lock, OP_LOCK)
 GIVES(pthread_mutex_unlock, OP_UNLOCK, m, 0, (pthread_mutex_t *m), (m))
 BEGINS(pthread_mutex_init, OP_LOCK_INIT, m, 0, (pthread_mutex_t *m, const pthread_mutexattr_t *a), (m, a))
 ENDS(int, pthread_mutex_destroy, pthread_mutex_t)
 
-LOCKS(pthread_rwlock_rdlock, OP_READ_LOCK, pthread_rwlock_tryrdlock, (pthread_rwlock_t *m), (m))
-LOCKS(pthread_rwlock_wrlock, OP_WRITE_LOCK, pthread_rwlock_trywrlock, (pthread_rwlock_t *m), (m))
-LOCKS(pthread_rwlock_timedrdlock, OP_READ_LOCK, pthread_rwlock_tryrdlock, (pthread_rwlock_t *m, deadline d), (m, d))
-LOCKS(pthread_rwlock_timedwrlock, OP_WRITE_LOCK, pthread_rwlock_trywrlock, (pthread_rwlock_t *m, deadline d), (m, d))
-LOCKS(pthread_rwlock_clockrdlock, OP_READ_LOCK, pthread_rwlock_tryrdlock,
-      (pthread_rwlock_t *m, clockid_t c, deadline d), (m, c, d))
-LOCKS(pthread_rwlock_clockwrlock, OP_WRITE_LOCK, pthread_rwlock_trywrlock,
-      (pthread_rwlock_t *m, clockid_t c, deadline d), (m, c, d))
-TRIES_LOCK(pthread_rwlock_tryrdlock, OP_READ_LOCK, pthread_rwlock_t)
-TRIES_LOCK(pthread_rwlock_trywrlock, OP_WRITE_LOCK, pthread_rwlock_t)
+LOCKS_IN_ALL_WAYS(rwlock, rdlock, OP_READ_LOCK)
+LOCKS_IN_ALL_WAYS(rwlock, wrlock, OP_WRITE_LOCK)
 GIVES(pthread_rwlock_unlock, OP_RW_UNLOCK, m, 0, (pthread_rwlock_t *m), (m))
 BEGINS(pthread_rwlock_init, OP_LOCK_INIT, m, 0, (pthread_rwlock_t *m, const pthread_rwlockattr_t *a), (m, a))
 ENDS(int, pthread_rwlock_destroy, pthread_rwlock_t)
@@ -57,15 +54,8 @@ TRIES_LOCK(pthread_spin_trylock, OP_LOCK, pthread_spinlock_t)
 GIVES(pthread_spin_unlock, OP_UNLOCK, m, 0, (pthread_spinlock_t *m), (m))
 BEGINS(pthread_spin_init, OP_LOCK_INIT, m, 0, (pthread_spinlock_t *m, int shared), (m, shared))
 ENDS(int, pthread_spin_destroy, pthread_spinlock_t)
-PUBLIC int pthread_spin_lock(pthread_spinlock_t *m) {
-    thread *t = enter(MAY_YIELD);
-    if (!t) return REAL(pthread_spin_lock)(m);
-    int error;
-    while ((error = REAL(pthread_spin_trylock)(m)) == EBUSY) BLOCKING(t, syscall(SYS_sched_yield));
-    if (!error) put(t, OP_LOCK, m, 0, CALLER);
-    leave(t);
-    return error;
-}
+TAKES_BY_TRYING(int, pthread_spin_lock, OP_LOCK, REAL(pthread_spin_lock)(m), !REAL(pthread_spin_trylock)(m),
+                syscall(SYS_sched_yield), (pthread_spinlock_t *m))
 
 #define C11_LOCKS(name, parameters, arguments) \
     TAKES(name, OP_LOCK, m, r == thrd_busy, REAL(mtx_trylock)(m), r == thrd_success, parameters, arguments)
@@ -159,9 +149,8 @@ static int plain_acquire(char *byte) {
     for (;;) {
         char idle = 0;
         if (__atomic_load_n(byte, __ATOMIC_ACQUIRE)) return 0;
-        if (__atomic_compare_exchange_n(byte + 1, &idle, 1, 0, __ATOMIC_ACQUIRE, __ATOMIC_RELAXED)) {
+        if (__atomic_compare_exchange_n(byte + 1, &idle, 1, 0, __ATOMIC_ACQUIRE, __ATOMIC_RELAXED))
             return __atomic_load_n(byte, __ATOMIC_ACQUIRE) ? plain_abort(byte) : 1;
-        }
         syscall(SYS_sched_yield);
     }
 }

@@ -124,16 +124,15 @@ static void note_lock(enum operation operation, void *lock, uint64_t caller) {
     if (lock) note(operation, lock, caller);
 }
 
-#define TAKES_LOCK(name, parameters, arguments, lock) \
-    PUBLIC void name parameters { \
+#define LOCKS(takes, gives, parameters, arguments, lock) \
+    PUBLIC void takes parameters { \
         let_others_run(); \
-        REAL(name) arguments; \
+        REAL(takes) arguments; \
         note_lock(OP_LOCK, lock, CALLER); \
-    }
-#define GIVES_LOCK(name, parameters, arguments, lock) \
-    PUBLIC void name parameters { \
+    } \
+    PUBLIC void gives parameters { \
         note_lock(OP_UNLOCK, lock, CALLER); \
-        REAL(name) arguments; \
+        REAL(gives) arguments; \
     }
 #define TESTS_LOCK(name) \
     PUBLIC int name(void *lock) { \
@@ -143,19 +142,13 @@ static void note_lock(enum operation operation, void *lock, uint64_t caller) {
         return r; \
     }
 #define ORDERED (now ? (void *)now->team->ordered : 0)
-TAKES_LOCK(GOMP_critical_start, (void), (), critical)
-GIVES_LOCK(GOMP_critical_end, (void), (), critical)
-TAKES_LOCK(GOMP_critical_name_start, (void **lock), (lock), lock)
-GIVES_LOCK(GOMP_critical_name_end, (void **lock), (lock), lock)
-TAKES_LOCK(GOMP_atomic_start, (void), (), atomic)
-GIVES_LOCK(GOMP_atomic_end, (void), (), atomic)
-TAKES_LOCK(GOMP_ordered_start, (void), (), ORDERED)
-GIVES_LOCK(GOMP_ordered_end, (void), (), ORDERED)
-TAKES_LOCK(omp_set_lock, (void *lock), (lock), lock)
-GIVES_LOCK(omp_unset_lock, (void *lock), (lock), lock)
+LOCKS(GOMP_critical_start, GOMP_critical_end, (void), (), critical)
+LOCKS(GOMP_critical_name_start, GOMP_critical_name_end, (void **lock), (lock), lock)
+LOCKS(GOMP_atomic_start, GOMP_atomic_end, (void), (), atomic)
+LOCKS(GOMP_ordered_start, GOMP_ordered_end, (void), (), ORDERED)
+LOCKS(omp_set_lock, omp_unset_lock, (void *lock), (lock), lock)
 TESTS_LOCK(omp_test_lock)
-TAKES_LOCK(omp_set_nest_lock, (void *lock), (lock), lock)
-GIVES_LOCK(omp_unset_nest_lock, (void *lock), (lock), lock)
+LOCKS(omp_set_nest_lock, omp_unset_nest_lock, (void *lock), (lock), lock)
 TESTS_LOCK(omp_test_nest_lock)
 
 /* ---- tasks: a task comes after its creation, and before what waits for it ---- */

@@ -45,6 +45,16 @@ enum { MOST_TRIES = 8 };
         leave(t); \
         return r; \
     }
+/* Taken by trying again and again, where the real call would be seen besides, or never sleeps. */
+#define TAKES_BY_TRYING(type, name, operation, real, try, wait, parameters) \
+    PUBLIC type name parameters { \
+        thread *t = enter(MAY_YIELD); \
+        if (!t) return (type)(real); \
+        while (!(try)) BLOCKING(t, wait); \
+        put(t, operation, m, 0, CALLER); \
+        leave(t); \
+        return (type)0; \
+    }
 /* Recorded before it; never waits. */
 #define GIVES_BY(type, name, operation, object, size, real, parameters) \
     PUBLIC type name parameters { \

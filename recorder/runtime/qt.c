@@ -41,12 +41,9 @@ TRY_UNTIL(_ZN14QReadWriteLock14tryLockForReadE14QDeadlineTimer, OP_READ_LOCK, r)
 TRY_UNTIL(_ZN14QReadWriteLock15tryLockForWriteE14QDeadlineTimer, OP_WRITE_LOCK, r && takes_to_write(m))
 LOCK(_ZN14QReadWriteLock11lockForReadEv, OP_READ_LOCK, REAL(_ZN14QReadWriteLock14tryLockForReadEv)(m), 1)
 LOCK(_ZN14QReadWriteLock12lockForWriteEv, OP_WRITE_LOCK, REAL(_ZN14QReadWriteLock15tryLockForWriteEv)(m), takes_to_write(m))
-static void unlock_both_ways(void *m);
-GIVES_BY(void, _ZN14QReadWriteLock6unlockEv, OP_RW_UNLOCK, m, 0, DONE(unlock_both_ways(m)), (void *m))
-static void unlock_both_ways(void *m) {
-    if (written == m) written = 0;
-    REAL(_ZN14QReadWriteLock6unlockEv)(m);
-}
+static void gives(void *m) { if (written == m) written = 0; }
+GIVES_BY(void, _ZN14QReadWriteLock6unlockEv, OP_RW_UNLOCK, m, 0,
+         DONE((gives(m), REAL(_ZN14QReadWriteLock6unlockEv)(m))), (void *m))
 
 /* ---- QSemaphore ---- */
 TRIES_BY(bool, _ZN10QSemaphore10tryAcquireEi, OP_WAIT, s, REAL(_ZN10QSemaphore10tryAcquireEi)(s, n), 0, r, (void *s, int n))
