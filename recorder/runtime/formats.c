@@ -106,25 +106,20 @@ static void note_output(uint64_t seen, const char *format, va_list given) {
         if (seen) { sends; } \
         int r = REAL_OF_NAME(#vname, __typeof__(&as_##vname))(ALL arguments, more); \
         if (seen && r >= 0) { __VA_ARGS__; }
-#define PRINTS(name, vname, parameters, arguments, ...) PRINTS_TO(name, vname, parameters, arguments, , __VA_ARGS__)
-#define PRINTS_TO(name, vname, parameters, arguments, sends, ...) IN_BOTH_FORMS(name, vname, parameters, OUTPUTS(vname, arguments, sends, __VA_ARGS__))
+/* What -D_FORTIFY_SOURCE makes of each has further arguments before the format. */
+#define PRINTS(name, to, its, checks, passed, sends, ...) \
+    IN_BOTH_FORMS(name, v##name, (ALL to const char *format), \
+                  OUTPUTS(v##name, (ALL its format), sends, __VA_ARGS__)) \
+    IN_BOTH_FORMS(__##name##_chk, __v##name##_chk, (ALL to ALL checks const char *format), \
+                  OUTPUTS(__v##name##_chk, (ALL its ALL passed format), sends, __VA_ARGS__))
 #define WRITES_TEXT(s) WRITES(s, (size_t)r + 1)
-#define WRITES_TEXT_WITHIN(s, n) WRITES(s, least((size_t)r + 1, n))
-#define WRITES_NEW_TEXT(s) WRITES(s, sizeof *s), WRITES_TEXT(*s)
-PRINTS(printf, vprintf, (const char *format), (format), )
-PRINTS_TO(fprintf, vfprintf, (FILE *f, const char *format), (f, format), note_stream(OP_POST, f, seen), )
-PRINTS_TO(dprintf, vdprintf, (int f, const char *format), (f, format), note_transfer(OP_POST, f, seen), )
-PRINTS(sprintf, vsprintf, (char *s, const char *format), (s, format), WRITES_TEXT(s))
-PRINTS(snprintf, vsnprintf, (char *s, size_t n, const char *format), (s, n, format), WRITES_TEXT_WITHIN(s, n))
-PRINTS(asprintf, vasprintf, (char **s, const char *format), (s, format), WRITES_NEW_TEXT(s))
-/* What -D_FORTIFY_SOURCE makes of them. */
-PRINTS(__printf_chk, __vprintf_chk, (int k, const char *format), (k, format), )
-PRINTS_TO(__fprintf_chk, __vfprintf_chk, (FILE *f, int k, const char *format), (f, k, format), note_stream(OP_POST, f, seen), )
-PRINTS_TO(__dprintf_chk, __vdprintf_chk, (int f, int k, const char *format), (f, k, format), note_transfer(OP_POST, f, seen), )
-PRINTS(__sprintf_chk, __vsprintf_chk, (char *s, int k, size_t room, const char *format), (s, k, room, format), WRITES_TEXT(s))
-PRINTS(__snprintf_chk, __vsnprintf_chk, (char *s, size_t n, int k, size_t room, const char *format), (s, n, k, room, format),
-       WRITES_TEXT_WITHIN(s, n))
-PRINTS(__asprintf_chk, __vasprintf_chk, (char **s, int k, const char *format), (s, k, format), WRITES_NEW_TEXT(s))
+PRINTS(printf, (), (), (int k,), (k,), , )
+PRINTS(fprintf, (FILE *f,), (f,), (int k,), (k,), note_stream(OP_POST, f, seen), )
+PRINTS(dprintf, (int f,), (f,), (int k,), (k,), note_transfer(OP_POST, f, seen), )
+PRINTS(sprintf, (char *s,), (s,), (int k, size_t room,), (k, room,), , WRITES_TEXT(s))
+PRINTS(snprintf, (char *s, size_t n,), (s, n,), (int k, size_t room,), (k, room,), ,
+       WRITES(s, least((size_t)r + 1, n)))
+PRINTS(asprintf, (char **s,), (s,), (int k,), (k,), , WRITES(s, sizeof *s), WRITES_TEXT(*s))
 
 /* ---- input ---- */
 static size_t stored_bytes(const struct conversion *c, const void *to) {

@@ -71,6 +71,12 @@ static void appends(uint64_t seen, const char *to, const char *from, size_t n) {
     WRITES(to + before, added + 1);
 }
 
+/* What -D_FORTIFY_SOURCE makes of a function has one argument more: how much room there is. */
+#define ALL(...) __VA_ARGS__
+#define COPIES(name, parameters, arguments, accesses) \
+    AFTER(char *, name, parameters, arguments, accesses) \
+    AFTER(char *, __##name##_chk, (ALL parameters, size_t room), (ALL arguments, room), accesses)
+
 /* ---- strings ---- */
 AFTER(size_t, strlen, (const char *s), (s), READS(s, r + 1))
 AFTER(size_t, strnlen, (const char *s, size_t n), (s, n), READS(s, least(r + 1, n)))
@@ -86,12 +92,12 @@ AFTER(char *, strcasestr, (const char *s, const char *o), (s, o), READS(s, r ? u
 AFTER(size_t, strspn, (const char *s, const char *set), (s, set), READS(s, r + 1), READS(set, text(set)))
 AFTER(size_t, strcspn, (const char *s, const char *set), (s, set), READS(s, r + 1), READS(set, text(set)))
 AFTER(char *, strpbrk, (const char *s, const char *set), (s, set), READS(s, to_match(s, r)), READS(set, text(set)))
-AFTER(char *, strcpy, (char *to, const char *from), (to, from), copies(seen, to, from))
-AFTER(char *, stpcpy, (char *to, const char *from), (to, from), copies(seen, to, from))
-AFTER(char *, strncpy, (char *to, const char *from, size_t n), (to, from, n), copies_within(seen, to, from, n))
-AFTER(char *, stpncpy, (char *to, const char *from, size_t n), (to, from, n), copies_within(seen, to, from, n))
-AFTER(char *, strcat, (char *to, const char *from), (to, from), appends(seen, to, from, SIZE_MAX))
-AFTER(char *, strncat, (char *to, const char *from, size_t n), (to, from, n), appends(seen, to, from, n))
+COPIES(strcpy, (char *to, const char *from), (to, from), copies(seen, to, from))
+COPIES(stpcpy, (char *to, const char *from), (to, from), copies(seen, to, from))
+COPIES(strncpy, (char *to, const char *from, size_t n), (to, from, n), copies_within(seen, to, from, n))
+COPIES(stpncpy, (char *to, const char *from, size_t n), (to, from, n), copies_within(seen, to, from, n))
+COPIES(strcat, (char *to, const char *from), (to, from), appends(seen, to, from, SIZE_MAX))
+COPIES(strncat, (char *to, const char *from, size_t n), (to, from, n), appends(seen, to, from, n))
 AFTER(char *, strdup, (const char *s), (s), READS(s, text(s)); if (r) WRITES(r, text(r)))
 AFTER(char *, strndup, (const char *s, size_t n), (s, n), READS(s, text_within(s, n)); if (r) WRITES(r, text(r)))
 AFTER(char *, __strdup, (const char *s), (s), READS(s, text(s)); if (r) WRITES(r, text(r)))
@@ -145,18 +151,13 @@ AFTER(void *, memmem, (const void *p, size_t n, const void *q, size_t m), (p, n,
 BEFORE(void *, mempcpy, (void *to, const void *from, size_t n), (to, from, n), READS(from, n), WRITES(to, n))
 BEFORE(void, bzero, (void *p, size_t n), (p, n), WRITES(p, n))
 
-/* What -D_FORTIFY_SOURCE makes of them. */
-typedef size_t room;                   /* of what is written to */
-BEFORE(void *, __memcpy_chk, (void *to, const void *from, size_t n, room k), (to, from, n, k), READS(from, n), WRITES(to, n))
-BEFORE(void *, __memmove_chk, (void *to, const void *from, size_t n, room k), (to, from, n, k), READS(from, n), WRITES(to, n))
-BEFORE(void *, __mempcpy_chk, (void *to, const void *from, size_t n, room k), (to, from, n, k), READS(from, n), WRITES(to, n))
-BEFORE(void *, __memset_chk, (void *to, int c, size_t n, room k), (to, c, n, k), WRITES(to, n))
-AFTER(char *, __strcpy_chk, (char *to, const char *from, room k), (to, from, k), copies(seen, to, from))
-AFTER(char *, __stpcpy_chk, (char *to, const char *from, room k), (to, from, k), copies(seen, to, from))
-AFTER(char *, __strncpy_chk, (char *to, const char *from, size_t n, room k), (to, from, n, k), copies_within(seen, to, from, n))
-AFTER(char *, __stpncpy_chk, (char *to, const char *from, size_t n, room k), (to, from, n, k), copies_within(seen, to, from, n))
-AFTER(char *, __strcat_chk, (char *to, const char *from, room k), (to, from, k), appends(seen, to, from, SIZE_MAX))
-AFTER(char *, __strncat_chk, (char *to, const char *from, size_t n, room k), (to, from, n, k), appends(seen, to, from, n))
+BEFORE(void *, __memcpy_chk, (void *to, const void *from, size_t n, size_t room), (to, from, n, room),
+       READS(from, n), WRITES(to, n))
+BEFORE(void *, __memmove_chk, (void *to, const void *from, size_t n, size_t room), (to, from, n, room),
+       READS(from, n), WRITES(to, n))
+BEFORE(void *, __mempcpy_chk, (void *to, const void *from, size_t n, size_t room), (to, from, n, room),
+       READS(from, n), WRITES(to, n))
+BEFORE(void *, __memset_chk, (void *to, int c, size_t n, size_t room), (to, c, n, room), WRITES(to, n))
 
 /* Elements are moved between calls of a function that may give up the turn: so from the beginning on they are others. (bsearch
    reads elements by that function alone.) */
@@ -200,14 +201,13 @@ AFTER(int, gettimeofday, (struct timeval *p, void *zone), (p, zone), if (!r) WRI
 AFTER(int, clock_gettime, (clockid_t c, struct timespec *p), (c, p), if (!r) WRITES(p, sizeof *p))
 AFTER(int, clock_getres, (clockid_t c, struct timespec *p), (c, p), if (!r) WRITES(p, sizeof *p))
 AFTER(clock_t, times, (struct tms *p), (p), if (r != -1) WRITES(p, sizeof *p))
-AFTER(struct tm *, localtime, (const time_t *p), (p), READS(p, sizeof *p); if (r) WRITES(r, sizeof *r))
-AFTER(struct tm *, gmtime, (const time_t *p), (p), READS(p, sizeof *p); if (r) WRITES(r, sizeof *r))
-AFTER(struct tm *, localtime_r, (const time_t *p, struct tm *to), (p, to), READS(p, sizeof *p); if (r) WRITES(r, sizeof *r))
-AFTER(struct tm *, gmtime_r, (const time_t *p, struct tm *to), (p, to), READS(p, sizeof *p); if (r) WRITES(r, sizeof *r))
-AFTER(char *, ctime, (const time_t *p), (p), READS(p, sizeof *p); if (r) WRITES(r, text(r)))
-AFTER(char *, ctime_r, (const time_t *p, char *to), (p, to), READS(p, sizeof *p); if (r) WRITES(r, text(r)))
-AFTER(char *, asctime, (const struct tm *p), (p), if (r) READS(p, sizeof *p), WRITES(r, text(r)))
-AFTER(char *, asctime_r, (const struct tm *p, char *to), (p, to), if (r) READS(p, sizeof *p), WRITES(r, text(r)))
+#define SHOWN(type, name, time, bytes) \
+    AFTER(type *, name, (const time *p), (p), READS(p, sizeof *p); if (r) WRITES(r, bytes)) \
+    AFTER(type *, name##_r, (const time *p, type *to), (p, to), READS(p, sizeof *p); if (r) WRITES(r, bytes))
+SHOWN(struct tm, localtime, time_t, sizeof *r)
+SHOWN(struct tm, gmtime, time_t, sizeof *r)
+SHOWN(char, ctime, time_t, text(r))
+SHOWN(char, asctime, struct tm, text(r))
 AFTER(time_t, mktime, (struct tm *p), (p), READS(p, sizeof *p), WRITES(p, sizeof *p))
 
 /* ---- names: of files, users, machines ---- */
@@ -228,16 +228,13 @@ AFTER(int, inet_pton, (int family, const char *s, void *p), (family, s, p),
       if (r == 1) READS(s, text(s)), WRITES(p, address_bytes(family)))
 AFTER(const char *, inet_ntop, (int family, const void *p, char *s, socklen_t n), (family, p, s, n),
       if (r) READS(p, address_bytes(family)), gets_text(seen, s))
-AFTER(struct passwd *, getpwnam, (const char *s), (s), READS(s, text(s)); if (r) WRITES(r, sizeof *r))
-AFTER(struct passwd *, getpwuid, (uid_t u), (u), if (r) WRITES(r, sizeof *r))
-AFTER(struct group *, getgrnam, (const char *s), (s), READS(s, text(s)); if (r) WRITES(r, sizeof *r))
-AFTER(struct group *, getgrgid, (gid_t g), (g), if (r) WRITES(r, sizeof *r))
 AFTER(struct hostent *, gethostbyname, (const char *s), (s), READS(s, text(s)); if (r) WRITES(r, sizeof *r))
-AFTER(int, getpwnam_r, (const char *s, struct passwd *p, char *room, size_t n, struct passwd **to), (s, p, room, n, to),
-      READS(s, text(s)), WRITES(to, sizeof *to); if (!r && *to) WRITES(p, sizeof *p))
-AFTER(int, getpwuid_r, (uid_t u, struct passwd *p, char *room, size_t n, struct passwd **to), (u, p, room, n, to),
-      WRITES(to, sizeof *to); if (!r && *to) WRITES(p, sizeof *p))
-AFTER(int, getgrnam_r, (const char *s, struct group *p, char *room, size_t n, struct group **to), (s, p, room, n, to),
-      READS(s, text(s)), WRITES(to, sizeof *to); if (!r && *to) WRITES(p, sizeof *p))
-AFTER(int, getgrgid_r, (gid_t g, struct group *p, char *room, size_t n, struct group **to), (g, p, room, n, to),
-      WRITES(to, sizeof *to); if (!r && *to) WRITES(p, sizeof *p))
+/* An entry in the library's own memory, and one in the caller's. */
+#define ENTRY(type, name, parameter, reads) \
+    AFTER(struct type *, name, (parameter), (by), reads; if (r) WRITES(r, sizeof *r)) \
+    AFTER(int, name##_r, (parameter, struct type *p, char *room, size_t n, struct type **to), \
+          (by, p, room, n, to), reads; WRITES(to, sizeof *to); if (!r && *to) WRITES(p, sizeof *p))
+ENTRY(passwd, getpwnam, const char *by, READS(by, text(by)))
+ENTRY(passwd, getpwuid, uid_t by, )
+ENTRY(group, getgrnam, const char *by, READS(by, text(by)))
+ENTRY(group, getgrgid, gid_t by, )
