@@ -104,8 +104,7 @@ static uint64_t size_and_order(int size, int order) { return size | (order & 7) 
 
 static thread *before_atomic(enum operation operation, const volatile void *p, uint64_t size_and_order, uint64_t caller) {
     thread *t = enter(MAY_YIELD);
-    if (!t) return 0;
-    if (others) put(t, operation, p, size_and_order, caller);
+    if (t && others) put(t, operation, p, size_and_order, caller);
     return t;
 }
 
@@ -125,17 +124,14 @@ static void after_exchange(thread *t, int done, const volatile void *p, uint64_t
     after_atomic(t, last_of(done, p, caller));
 }
 
-/* An exchange of 16 bytes, for which the compiler would call another library. */
+/* An exchange of 16 bytes, for which __atomic_compare_exchange_n would be a call of another library. */
 typedef unsigned __int128 uint128_t;
 
-ATOMIC static int exchange_16(volatile uint128_t *p, uint128_t *expected, uint128_t value) {
-    uint64_t low = (uint64_t)*expected, high = (uint64_t)(*expected >> 64);
-    char done;
-    __asm__ volatile("lock cmpxchg16b %1; sete %0"
-                     : "=q"(done), "+m"(*p), "+a"(low), "+d"(high)
-                     : "b"((uint64_t)value), "c"((uint64_t)(value >> 64)) : "memory", "cc");
-    if (!done) *expected = (uint128_t)high << 64 | low;
-    return done;
+ATOMIC __attribute__((target("cx16")))
+static int exchange_16(volatile uint128_t *p, uint128_t *expected, uint128_t value) {
+    uint128_t old = *expected;
+    *expected = __sync_val_compare_and_swap(p, old, value);
+    return *expected == old;
 }
 
 ATOMIC static uint128_t load_16(const volatile uint128_t *p) {

@@ -57,7 +57,7 @@ enum { MOST_OUTER = 16 };
 static void note_where_made(fiber *new, uint64_t caller, uint64_t function) {
     thread *t = self;
     if (!t || !records_calls) return;
-    uint32_t end = t->depth < MOST_FRAMES ? t->depth : MOST_FRAMES, from = end > MOST_OUTER ? end - MOST_OUTER : 0;
+    uint32_t end = recordable_depth(t), from = end > MOST_OUTER ? end - MOST_OUTER : 0;
     for (; from <= end; from++) {
         frame *f = &new->frames[new->depth];
         context like = from < end ? *t->frames[from].in : (context){.caller = caller, .function = function};

@@ -35,8 +35,8 @@ void set_depth(thread *t, uint32_t depth) {
 
 int is_kept_context(const context *c) { return c >= kept && c < kept + MOST_KEPT; }
 
-static int is_call(const context *c, const context *of) {
-    return c->outer == of->outer && c->caller == of->caller && c->function == of->function && c->way == of->way;
+static int is_same_call(const context *c, const context *of) {
+    return c->caller == of->caller && c->function == of->function && c->way == of->way;
 }
 
 static _Atomic uint32_t *bucket_of(const context *c) {
@@ -47,7 +47,7 @@ static _Atomic uint32_t *bucket_of(const context *c) {
 static uint32_t find_context(context *new) {
     int count = 0;
     for (uint32_t k = atomic_load(bucket_of(new)); k; k = kept[k].next) {
-        if (!is_call(&kept[k], new)) continue;
+        if (kept[k].outer != new->outer || !is_same_call(&kept[k], new)) continue;
         if (kept[k].extent == new->extent || kept[k].extent == MOVES) return k;
         count++;
     }
@@ -72,9 +72,6 @@ static uint32_t add_context(const context *new) {
    in the tree too, as a list: its first call, with the function that this is in, and the rest as what is further out. In C it has no more than
    the innermost calls, for there functions of the system's headers are short and seldom stand in each other. */
 enum { CALLS_IN_C = 3 };
-static int is_call_of(const context *kind, const context *call) {
-    return kind->caller == call->caller && kind->function == call->function && kind->way == call->way;
-}
 
 /* Null where there is no room. */
 static context *kind_with(context *rest, const context *call) {
@@ -86,7 +83,7 @@ static context *kind_with(context *rest, const context *call) {
 
 /* The call is in it, once. */
 static context *kind_without(const context *kind, const context *call) {
-    return is_call_of(kind, call) ? kind->outer : kind_with(kind_without(kind->outer, call), kind);
+    return is_same_call(kind, call) ? kind->outer : kind_with(kind_without(kind->outer, call), kind);
 }
 
 /* So many of its calls, the innermost ones. */
@@ -100,7 +97,7 @@ static uint64_t kind_of(const context *c) {
     const struct module *module = module_of(c->function);
     if (rest && module && module->is_in_c) rest = inner_calls_of(rest, CALLS_IN_C - 1);
     context *k = rest;
-    while (k && k != kept && !is_call_of(k, &call)) k = k->outer;
+    while (k && k != kept && !is_same_call(k, &call)) k = k->outer;
     context *kind = kind_with(k == kept ? rest : k ? kind_without(rest, &call) : 0, &call);
     return kind ? (uint64_t)(kind - kept) << KIND_AT : NO_KIND;
 }

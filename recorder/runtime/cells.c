@@ -370,12 +370,6 @@ static void use_whole_page(cell_page *page, uint32_t serial, uint16_t number, ui
     page->is_whole = 1;
 }
 
-static void use_part_of_page(uint32_t serial, uint16_t number, uint64_t address, uint64_t end) {
-    cell_page *page = page_at(address, 1);
-    cell *c = cell_in(page, address);
-    for (uint64_t at = address / GRAIN * GRAIN; c && at < end; at += GRAIN, c++) use_cell(page, c, at, serial, number);
-}
-
 static uint64_t end_in_page(uint64_t address, uint64_t end) {
     uint64_t page_end = (address / CELL_PAGE + 1) * CELL_PAGE;
     return page_end < end ? page_end : end;
@@ -384,9 +378,12 @@ static uint64_t end_in_page(uint64_t address, uint64_t end) {
 static void use_range(uint32_t serial, uint16_t number, uint64_t address, uint64_t end) {
     for (uint64_t stop; address < end; address = stop) {
         stop = end_in_page(address, end);
-        cell_page *page = stop - address == CELL_PAGE ? page_at(address, 1) : 0;
-        if (page) use_whole_page(page, serial, number, address);
-        else use_part_of_page(serial, number, address, stop);
+        cell_page *page = page_at(address, 1);
+        int is_whole = page && stop - address == CELL_PAGE;
+        cell *c = is_whole ? 0 : cell_in(page, address);
+        if (is_whole) use_whole_page(page, serial, number, address);
+        for (uint64_t at = address / GRAIN * GRAIN; c && at < stop; at += GRAIN, c++)
+            use_cell(page, c, at, serial, number);
     }
 }
 

@@ -16,10 +16,7 @@ static void end_with(const char *reason) {
 /* The record takes address space, of which only what is in use counts where the program locks its own. */
 PUBLIC int mlockall(int flags) {
     int error = REAL(mlockall)(flags);
-    if (!error) {
-        unlock_record();
-        unlock_list();
-    }
+    if (!error) unlock_record();
     thread *t = error && errno == ENOMEM && recording ? enter(NEVER_YIELD) : 0;
     if (t) {
         end_with("the program locks its memory (mlockall), and the record takes more than it may lock");
@@ -63,12 +60,12 @@ PUBLIC int prctl(int option, ...) {
 }
 
 /* ---- calls without a function of their own ---- */
+enum { LOCK_PI2 = 13, EPOLL_PWAIT2 = 441, FUTEX_WAITV = 449 };          /* older headers don't name these */
+
 static int is_waiting_futex(int operation) {
     switch (operation & FUTEX_CMD_MASK) {
-    case FUTEX_WAIT: case FUTEX_WAIT_BITSET: case FUTEX_WAIT_REQUEUE_PI: case FUTEX_LOCK_PI: return 1;
-#ifdef FUTEX_LOCK_PI2
-    case FUTEX_LOCK_PI2: return 1;
-#endif
+    case FUTEX_WAIT: case FUTEX_WAIT_BITSET: case FUTEX_WAIT_REQUEUE_PI:
+    case FUTEX_LOCK_PI: case LOCK_PI2: return 1;
     default: return 0;
     }
 }
@@ -77,15 +74,10 @@ static int is_waiting_futex(int operation) {
 static int often_waits(long number, long second) {
     switch (number) {
     case SYS_futex: return is_waiting_futex(second);
-#ifdef SYS_futex_waitv
-    case SYS_futex_waitv: return 1;
-#endif
-#ifdef SYS_epoll_pwait2
-    case SYS_epoll_pwait2: return 1;
-#endif
     case SYS_sched_yield: case SYS_pause: case SYS_rt_sigsuspend: case SYS_rt_sigtimedwait:
     case SYS_nanosleep: case SYS_clock_nanosleep: case SYS_flock:
-    case SYS_poll: case SYS_ppoll: case SYS_select: case SYS_pselect6: case SYS_epoll_wait: case SYS_epoll_pwait:
+    case SYS_poll: case SYS_ppoll: case SYS_select: case SYS_pselect6:
+    case SYS_epoll_wait: case SYS_epoll_pwait: case EPOLL_PWAIT2: case FUTEX_WAITV:
     case SYS_wait4: case SYS_waitid: case SYS_msgrcv: case SYS_msgsnd: case SYS_semop: case SYS_semtimedop:
     case SYS_mq_timedreceive: case SYS_mq_timedsend: case SYS_io_getevents: case SYS_io_uring_enter: return 1;
     default: return 0;

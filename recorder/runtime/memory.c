@@ -151,18 +151,14 @@ static void copy_down(void *to, const void *from, size_t n) {
     __asm__ volatile("std; rep movsb; cld" : "+D"(last), "+S"(source), "+c"(n) : : "memory");
 }
 
-PUBLIC void *memcpy(void *to, const void *from, size_t n) {
-    note_copy(to, from, n, CALLER);
-    copy_up(to, from, n);
-    return to;
-}
-
 PUBLIC void *memmove(void *to, const void *from, size_t n) {
     note_copy(to, from, n, CALLER);
     if ((uint64_t)to - (uint64_t)from >= n) copy_up(to, from, n);
     else copy_down(to, from, n);
     return to;
 }
+
+PUBLIC void *memcpy(void *, const void *, size_t) __attribute__((alias("memmove"), copy(memmove)));
 
 PUBLIC void *memset(void *to, int c, size_t n) {
     note_copy(to, 0, n, CALLER);

@@ -3,7 +3,6 @@
    Of a program that runs on it is in segments: each is a record of its own, and the oldest are deleted. */
 #include "runtime.h"
 #include "cells.h"
-#include <fcntl.h>
 #include <sys/resource.h>
 #include <sys/sysinfo.h>
 
@@ -125,11 +124,6 @@ static uint32_t count_recorded(const thread *t) {
     return depth;
 }
 
-static int room_of_contexts(const thread *t) {
-    uint32_t count = recordable_depth(t) - count_recorded(t);
-    return count ? 4 * count + 1 : 0;
-}
-
 static void note_told(thread *t, const context *c) { t->told = is_kept_context(c) ? c : 0; }
 
 /* Tells the record that the thread is in so many of its functions, where it hasn't these; or these alone. */
@@ -139,20 +133,6 @@ static void tell_context(thread *t, uint32_t depth, int is_exact) {
     if (c == now) return;
     add(t, OP_CONTEXT, now->number, 0, 0);
     note_told(t, now);
-}
-
-static void add_contexts(thread *t) {
-    uint32_t depth = recordable_depth(t), d = count_recorded(t);
-    if (d < depth) tell_context(t, d, 0);
-    for (; d < depth; d++) {
-        context *c = t->frames[d].in;
-        uint64_t place = place_of_frame(t, d);
-        if (place) add(t, OP_PLACE, place, 0, 0);
-        if (c->way) add(t, OP_WAY, 0, 0, c->way);
-        add(t, OP_FRAME, c->function, d, c->caller);
-        c->number = ++contexts;
-        note_told(t, c);
-    }
 }
 
 static int has_depth_inside(enum operation operation, uint64_t size) { return is_plain(operation) && size <= 16 && !(size & (size - 1)); }
@@ -178,6 +158,21 @@ static int make_room(uint64_t count) {
         else grow();
     }
     return recording;
+}
+
+static void add_contexts(thread *t) {
+    uint32_t depth = recordable_depth(t), d = count_recorded(t);
+    if (d == depth || !make_room(4 * (depth - d) + 1)) return;
+    tell_context(t, d, 0);
+    for (; d < depth; d++) {
+        context *c = t->frames[d].in;
+        uint64_t place = place_of_frame(t, d);
+        if (place) add(t, OP_PLACE, place, 0, 0);
+        if (c->way) add(t, OP_WAY, 0, 0, c->way);
+        add(t, OP_FRAME, c->function, d, c->caller);
+        c->number = ++contexts;
+        note_told(t, c);
+    }
 }
 
 int begin_work(thread *t) {
@@ -244,8 +239,7 @@ static int is_held_back(thread *t, enum operation operation, struct record r, ui
 }
 
 static void put_now(thread *t, enum operation operation, const volatile void *address, uint64_t size, uint64_t caller) {
-    int of_contexts = room_of_contexts(t);
-    if (of_contexts && make_room(of_contexts)) add_contexts(t);
+    add_contexts(t);
     uint64_t inside = inside_of(t, operation, size);
     changes += !only_reads(operation);
     struct record r = record_of(t, operation, (uint64_t)address, inside, caller);
@@ -334,11 +328,9 @@ static int can_look_at_threads(void) { /* without it no turn could be taken over
 static void read_command(void) {
     strcpy(command, "command ");
     size_t at = strlen(command);
-    int f = open("/proc/self/cmdline", O_RDONLY | O_CLOEXEC);
-    ssize_t n = f < 0 ? 0 : read(f, command + at, sizeof command - at - 2);
-    if (f >= 0) close(f);
+    int n = read_task_file(syscall(SYS_gettid), "cmdline", command + at, sizeof command - at - 1);
     if (n > 0 && !command[at + n - 1]) n--;                  /* the end of the last word */
-    for (ssize_t i = 0; i < n; i++)
+    for (int i = 0; i < n; i++)
         if ((unsigned char)command[at + i] < ' ') command[at + i] = ' ';
     strcpy(command + at + (n > 0 ? n : 0), "\n");
 }
@@ -490,9 +482,10 @@ int limit_record(uint64_t addresses) {
     return !munmap(header + most, before - most);
 }
 
-/* What a program locks in memory is its own, and not the room for the record. */
+/* What a program locks in memory is its own, and not what the recorder has. */
 void unlock_record(void) {
     if (header) munlock(header, map_bytes());
+    unlock_list();
     unlock_cells();
     unlock_contexts();
 }

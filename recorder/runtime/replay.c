@@ -78,7 +78,6 @@ void close_list(void) {
     turns = 0;
 }
 
-/* What a program locks in memory is its own. */
 void unlock_list(void) { if (header) munlock(header, MOST_BYTES); }
 
 /* ---- the list that is followed ---- */

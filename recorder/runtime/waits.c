@@ -2,7 +2,6 @@
 #include "runtime.h"
 #include <mqueue.h>
 #include <poll.h>
-#include <signal.h>
 #include <sys/file.h>
 #include <sys/msg.h>
 #include <sys/resource.h>
