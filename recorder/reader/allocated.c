@@ -79,22 +79,19 @@ static int read_name(const char *at, const char *ends, char *name) {
 }
 
 /* The types of a name and a size in an entry's children. */
-typedef struct { const char *name; u64 size; int count; Dwarf_Die found; const void *last; } search;
+typedef struct { const char *name; u64 size; int count; Dwarf_Die found; } search;
 
-static void look_in(search *s, Dwarf_Die *in, int depth) {
-    Dwarf_Die e, type;
-    if (depth > MOST_STEPS) return;
-    for (int more = first_entry(in, &e, &s->last); more; more = next_entry(&e, &s->last)) {
-        int tag = dwarf_tag(&e), is_type = is_structure(&e) || tag == DW_TAG_typedef;
-        const char *name = is_type ? dwarf_diename(&e) : 0;
-        type = e;
-        u64 size = name && !strcmp(name, s->name) && plain_type(&type) && is_structure(&type) ? size_of_type(&type) : 0;
-        if (size && s->size % size == 0 && (!s->count || s->found.addr != type.addr)) {
-            s->count++;
-            s->found = dwarf_diename(&type) ? type : e;
-        }
-        if (may_have_types(tag)) look_in(s, &e, depth + 1);
+static int look_at(void *to, Dwarf_Die *e) {
+    search *s = to;
+    Dwarf_Die type = *e;
+    const char *name = is_structure(e) || dwarf_tag(e) == DW_TAG_typedef ? dwarf_diename(e) : 0;
+    int is_named = name && !strcmp(name, s->name);
+    u64 size = is_named && plain_type(&type) && is_structure(&type) ? size_of_type(&type) : 0;
+    if (size && s->size % size == 0 && (!s->count || s->found.addr != type.addr)) {
+        s->count++;
+        s->found = dwarf_diename(&type) ? type : *e;
     }
+    return may_have_types(dwarf_tag(e)) ? GO_IN : GO_ON;
 }
 
 /* Is the function one of a template? A name in it may be that of an argument. */
@@ -111,7 +108,7 @@ int type_by_text(struct debug *d, u64 pc, u64 size, Dwarf_Die *type) {
     const char *created = behind_only(line, "new"), *sized = behind_only(line, "sizeof");
     if (!created == !sized || !read_name(created ? created : sized, created ? "({;,)" : ")", name)) return 0;
     search s = {.name = name, .size = size};
-    look_in(&s, &unit, 0);
+    each_entry(&unit, look_at, &s);
     *type = s.found;
     return s.count == 1 && (!created || size_of_type(type) == size);
 }

@@ -30,24 +30,15 @@ int has_own_lines(struct debug *d) {
     return elf && (has_section(elf, ".debug_line") || has_section(elf, ".zdebug_line"));
 }
 
-/* In a scope and the namespaces in it. */
-static int has_typed_code_in(Dwarf_Die *scope, int *typed, int depth) {
-    int has = 0;
-    Dwarf_Die e;
-    const void *last = 0;
-    for (int more = first_entry(scope, &e, &last); more && !(has && *typed); more = next_entry(&e, &last)) {
-        if (dwarf_tag(&e) == DW_TAG_namespace && depth < MOST_STEPS) has |= has_typed_code_in(&e, typed, depth + 1);
-        if (dwarf_tag(&e) != DW_TAG_subprogram) continue;
-        has |= dwarf_hasattr(&e, DW_AT_high_pc) || dwarf_hasattr(&e, DW_AT_ranges);
-        *typed |= dwarf_hasattr(&e, DW_AT_type);
-    }
-    return has;
-}
-
-static int has_typed_code(struct debug *d, int *typed) {
-    int has = 0;
-    for (u64 k = 0; k < d->units.count && !(has && *typed); k++) has |= has_typed_code_in(&d->units.at[k].whole, typed, 0);
-    return has;
+/* What units have, in namespaces too: functions with code, and with types. */
+typedef struct { int has_code, has_types; } functions;
+static int note_functions(void *to, Dwarf_Die *e) {
+    functions *f = to;
+    if (f->has_code && f->has_types) return STOP;
+    if (dwarf_tag(e) != DW_TAG_subprogram) return dwarf_tag(e) == DW_TAG_namespace ? GO_IN : GO_ON;
+    f->has_code |= dwarf_hasattr(e, DW_AT_high_pc) || dwarf_hasattr(e, DW_AT_ranges);
+    f->has_types |= dwarf_hasattr(e, DW_AT_type);
+    return GO_ON;
 }
 
 /* Does the entry name a type in a unit of its own that the library doesn't find? */
@@ -79,7 +70,9 @@ static const char no_debug_information[] = "isn't there (no -g); lines are addre
 /* Why a part of the debug information is missing: that of a file that has some, and of all that it names. */
 static const char *why_in_part(struct debug *d) {
     Elf *elf = dwarf_getelf(d->dwarf);
-    int typed = 0, has_shared = dwarf_getalt(d->dwarf) != 0, has_code = has_typed_code(d, &typed);
+    int has_shared = dwarf_getalt(d->dwarf) != 0;
+    functions f = {0};
+    EACH(u, d->units.at, d->units.count) each_entry(&u->whole, note_functions, &f);
     if (!has_shared && has_section(elf, ".debug_sup")) return "is in part in a file that this version of libdw doesn't read (dwz --dwarf-5)";
     if (d->is_alien || (!has_shared && has_section(elf, ".gnu_debugaltlink")))
         return "is in part in a file that isn't there, or not of this build (dwz -m)";
@@ -87,7 +80,7 @@ static const char *why_in_part(struct debug *d) {
     if (d->lacks_split && has_package(d)) return "is in a package that this version of libdw doesn't read (.dwp)";
     if (d->lacks_split) return "is in other files that aren't there, not of this build, or of a form that this version of libdw doesn't read (-gsplit-dwarf)";
     if (lacks_types(d)) return "has types that this version of libdw doesn't read (-gsplit-dwarf -fdebug-types-section)";
-    return !has_code ? no_debug_information : typed ? 0 : "has no types (-g1)";
+    return !f.has_code ? no_debug_information : f.has_types ? 0 : "has no types (-g1)";
 }
 
 const char *why_unread(struct debug *d) {
@@ -135,20 +128,12 @@ static void read_dwarf(struct debug *d) {
     d->is_alien = d->dwarf && is_of_other_build(d->dwarf);
 }
 
-static void note_spans(struct debug *d, Dwarf_Die *die, u64 number) {
-    Dwarf_Addr base, low, high;
-    for (ptrdiff_t at = 0; (at = dwarf_ranges(die, at, &base, &low, &high)) > 0;) {
-        if (!low || low >= high) continue;                   /* code that the linker left out */
-        *PUSH(d->spans) = (span){low, high, number};
-    }
-}
-
-static void note_code(unit *u, Dwarf_Die *die) {
-    Dwarf_Addr base, low, high;
-    for (ptrdiff_t at = 0; (at = dwarf_ranges(die, at, &base, &low, &high)) > 0;) {
-        if (!low || low >= high) continue;
-        *PUSH(u->functions) = (code){low, high, *die};
-    }
+/* The next code of an entry, but what the linker left out. 0: there is no more. */
+static int next_code(Dwarf_Die *die, ptrdiff_t *at, u64 *low, u64 *high) {
+    Dwarf_Addr base;
+    do *at = dwarf_ranges(die, *at, &base, low, high);
+    while (*at > 0 && (!*low || *low >= *high));
+    return *at > 0;
 }
 
 static int is_behind(const Dwarf_Die *e, const void **last) {
@@ -160,27 +145,39 @@ static int is_behind(const Dwarf_Die *e, const void **last) {
 int first_entry(Dwarf_Die *in, Dwarf_Die *e, const void **last) { return !dwarf_child(in, e) && is_behind(e, last); }
 int next_entry(Dwarf_Die *e, const void **last) { return !dwarf_siblingof(e, e) && is_behind(e, last); }
 
+static int each_inside(Dwarf_Die *in, take_entry take, void *to, const void **last, int depth) {
+    Dwarf_Die e;
+    for (int more = depth <= MOST_STEPS && first_entry(in, &e, last); more; more = next_entry(&e, last)) {
+        int what = take(to, &e);
+        if (what == GO_IN) what = each_inside(&e, take, to, last, depth + 1);
+        if (what == STOP) return STOP;
+    }
+    return GO_ON;
+}
+
+void each_entry(Dwarf_Die *in, take_entry take, void *to) {
+    const void *last = 0;
+    each_inside(in, take, to, &last, 0);
+}
+
 /* As functions in a lambda's type. */
 int may_have_types(int tag) {
     return tag == DW_TAG_subprogram || tag == DW_TAG_namespace || tag == DW_TAG_structure_type || tag == DW_TAG_class_type
         || tag == DW_TAG_union_type || tag == DW_TAG_lexical_block || tag == DW_TAG_module;
 }
 
-static void find_functions(unit *u, Dwarf_Die *in, const void **last, int depth) {
-    Dwarf_Die e;
-    if (depth > MOST_STEPS) return;
-    for (int more = first_entry(in, &e, last); more; more = next_entry(&e, last)) {
-        int tag = dwarf_tag(&e);
-        if (tag == DW_TAG_subprogram) note_code(u, &e);
-        if (may_have_types(tag)) find_functions(u, &e, last, depth + 1);
-    }
+static int note_function(void *to, Dwarf_Die *e) {
+    unit *u = to;
+    u64 low, high;
+    ptrdiff_t at = 0;
+    if (dwarf_tag(e) == DW_TAG_subprogram)
+        while (next_code(e, &at, &low, &high)) *PUSH(u->functions) = (code){low, high, *e};
+    return may_have_types(dwarf_tag(e)) ? GO_IN : GO_ON;
 }
 
 static void index_functions(unit *u) {
-    if (u->is_indexed) return;
-    u->is_indexed = 1;
-    const void *last = 0;
-    find_functions(u, &u->whole, &last, 0);
+    if (u->is_indexed++) return;
+    each_entry(&u->whole, note_function, u);
     if (u->functions.count) qsort(u->functions.at, u->functions.count, sizeof *u->functions.at, by_number);
 }
 
@@ -204,9 +201,10 @@ void read_units(struct debug *d) {
         int is_lacking = kind == DW_UT_skeleton && !split.addr;
         d->lacks_split |= is_lacking;
         d->is_in_objects |= is_lacking && is_in_object(&die);
-        u64 before = d->spans.count, number = d->units.count;
+        u64 before = d->spans.count, number = d->units.count, low, high;
         *PUSH(d->units) = (unit){.linked = die, .whole = split.addr ? split : die};
-        note_spans(d, &die, number);
+        ptrdiff_t at = 0;
+        while (next_code(&die, &at, &low, &high)) *PUSH(d->spans) = (span){low, high, number};
         if (d->spans.count > before) continue;
         unit *u = &d->units.at[number];          /* it doesn't tell where its code is */
         index_functions(u);

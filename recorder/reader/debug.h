@@ -62,6 +62,10 @@ int has_own_lines(struct debug *d);    /* in the module's file itself */
    none is met often. */
 int first_entry(Dwarf_Die *in, Dwarf_Die *e, const void **last);
 int next_entry(Dwarf_Die *e, const void **last);
+/* Gives each of these, up to one for which `take` returns STOP; before the next one those inside, if it returns GO_IN. */
+enum { STOP = -1, GO_ON, GO_IN };
+typedef int (*take_entry)(void *to, Dwarf_Die *e);
+void each_entry(Dwarf_Die *in, take_entry take, void *to);
 int find_function(struct debug *d, u64 pc, Dwarf_Die *function);         /* that has this code; 0 where none is known */
 int find_unit(struct debug *d, u64 pc, Dwarf_Die *whole);    /* the same */
 int may_have_types(int tag);           /* may an entry have functions or types in it? */

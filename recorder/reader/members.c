@@ -20,20 +20,15 @@ static u64 address_of_variable(Dwarf_Die *die) {
     return is_numbered && !dwarf_getlocation_attr(&a, operations, &number) && !dwarf_formaddr(&number, &address) ? address : 0;
 }
 
-static void note_variable(struct debug *d, Dwarf_Die *e) {
-    u64 address = address_of_variable(e);
+static int note_variable(void *to, Dwarf_Die *e) {
+    struct debug *d = to;
+    int tag = dwarf_tag(e);
+    u64 address = tag == DW_TAG_variable ? address_of_variable(e) : 0;
     Dwarf_Die *known = address ? ENTRY(d->variables, address + d->bias, 0) : 0;
     if (known && !known->addr) *known = *e;
-}
-
-static void find_variables(struct debug *d, Dwarf_Die *in, int also_in_functions, const void **last, int depth) {
-    Dwarf_Die e;
-    if (depth > MOST_STEPS) return;
-    for (int more = first_entry(in, &e, last); more; more = next_entry(&e, last)) {
-        int tag = dwarf_tag(&e), is_in_function = tag == DW_TAG_subprogram || tag == DW_TAG_lexical_block || tag == DW_TAG_inlined_subroutine;
-        if (tag == DW_TAG_variable) note_variable(d, &e);
-        if (tag == DW_TAG_namespace || tag == DW_TAG_module || (also_in_functions && is_in_function)) find_variables(d, &e, also_in_functions, last, depth + 1);
-    }
+    if (tag == DW_TAG_namespace || tag == DW_TAG_module) return GO_IN;
+    int has_code = tag == DW_TAG_subprogram || tag == DW_TAG_lexical_block || tag == DW_TAG_inlined_subroutine;
+    return has_code && d->has_variables > 1 ? GO_IN : GO_ON;
 }
 
 /* Those in functions are read when one isn't among the others. */
@@ -43,10 +38,7 @@ Dwarf_Die *variable_at(struct debug *d, u64 address) {
     for (int many = 1; !(number = map_find(&d->variables.numbers, address, 0)) && many <= 2; many++) {
         if (d->has_variables >= many) continue;
         d->has_variables = many;
-        EACH(u, d->units.at, d->units.count) {
-            const void *last = 0;
-            find_variables(d, &u->whole, many > 1, &last, 0);
-        }
+        EACH(u, d->units.at, d->units.count) each_entry(&u->whole, note_variable, d);
     }
     return number ? &d->variables.at[number - 1] : 0;
 }

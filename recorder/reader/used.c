@@ -43,31 +43,31 @@ static int find_member(view *v, Dwarf_Die type, const char *name, Dwarf_Die *fou
 }
 
 /* ---- variables by their names ---- */
-typedef struct { const char *name; Dwarf_Die at, type; int is_found, is_unclear; const void *last; } search;
+/* inner: where it may lie, as the blocks of a function, or the namespaces of a unit. */
+typedef struct { view *v; const char *name; int inner; Dwarf_Die at, type; int is_found, is_unclear; } search;
 
-/* In a function with its blocks, or in a unit with its namespaces. Of several of one type it may be any. */
-static void look_in(view *v, search *s, Dwarf_Die *in, int inner, int depth) {
-    Dwarf_Die e, type;
-    for (int more = first_entry(in, &e, &s->last); more; more = next_entry(&e, &s->last)) {
-        int tag = dwarf_tag(&e);
-        if (v->entries++ >= MOST_ENTRIES) s->is_unclear = 1;
-        if (s->is_unclear) return;
-        if (tag == inner && depth < MOST_STEPS) look_in(v, s, &e, inner, depth + 1);
-        if ((tag != DW_TAG_variable && tag != DW_TAG_formal_parameter) || !has_name(&e, s->name)) continue;
-        s->is_unclear |= !named_type(&e, &type) || (s->is_found && type.addr != s->type.addr);
-        s->at = e;
-        s->type = type;
-        s->is_found = 1;
-    }
+/* Of several of one type it may be any. */
+static int look_at(void *to, Dwarf_Die *e) {
+    search *s = to;
+    Dwarf_Die type;
+    int tag = dwarf_tag(e);
+    if (s->v->entries++ >= MOST_ENTRIES) s->is_unclear = 1;
+    if (s->is_unclear) return STOP;
+    if (tag == s->inner) return GO_IN;
+    if ((tag != DW_TAG_variable && tag != DW_TAG_formal_parameter) || !has_name(e, s->name)) return GO_ON;
+    s->is_unclear |= !named_type(e, &type) || (s->is_found && type.addr != s->type.addr);
+    s->at = *e;
+    s->type = type;
+    s->is_found = 1;
+    return GO_ON;
 }
 
 /* In the innermost function; of one that is inlined also what was left out there. */
 static search local_named(view *v, const char *name) {
-    search s = {.name = name};
+    search s = {.v = v, .name = name, .inner = DW_TAG_lexical_block};
     Dwarf_Die function = v->function;
-    look_in(v, &s, &function, DW_TAG_lexical_block, 0);
-    s.last = 0;
-    if (follow(&function, DW_AT_abstract_origin)) look_in(v, &s, &function, DW_TAG_lexical_block, 0);
+    each_entry(&function, look_at, &s);
+    if (follow(&function, DW_AT_abstract_origin)) each_entry(&function, look_at, &s);
     return s;
 }
 
@@ -77,8 +77,8 @@ static Dwarf_Die global_named(view *v, const char *name) {
     snprintf(key, sizeof key, "%lx %s", (u64)v->unit.addr, name);
     u32 number = map_text(&v->d->global_names, key);
     if (number > v->d->globals.count) {
-        search s = {.name = name};
-        look_in(v, &s, &v->unit, DW_TAG_namespace, 0);
+        search s = {.v = v, .name = name, .inner = DW_TAG_namespace};
+        each_entry(&v->unit, look_at, &s);
         if (!s.is_found || s.is_unclear) s.type.addr = 0;
         *PUSH(v->d->globals) = s.type;
     }
