@@ -138,6 +138,11 @@ static int means_name(view *v, const char *word, meaning *m) {
 static const char *skip(const char *at) { return at + strspn(at, " \t"); }
 static int is_arrow(const char *at) { return at[0] == '-' && at[1] == '>'; }
 
+/* Do these two characters stand before `at`? */
+static int is_before(const char *sign, const char *line, const char *at) {
+    return at - line > 1 && !strncmp(at - 2, sign, 2);
+}
+
 static const char *read_word(const char *at, char *word) {
     size_t length = 0;
     for (at = skip(at); is_of_word(*at) && length + 1 < WORD; at++) word[length++] = *at;
@@ -201,45 +206,43 @@ static const char *begin_before(const char *line, const char *end) {
         while (at > line && is_of_word(at[-1])) at--;
         const char *before = before_spaces(line, at);
         if (before > line && before[-1] == '.') at = before - 1;
-        else if (before - line > 1 && is_arrow(before - 2)) at = before - 2;
+        else if (is_before("->", line, before)) at = before - 2;
         else return at;
     }
 }
 
-/* After the names with members and indices that begin here; counts the indices, and tells where the last one ends. */
-static const char *end_behind(const char *at, int *indices, const char **index_end) {
+/* Names with members and indices, which begin here: where they end, or null, and where the last index does. */
+typedef struct { const char *end, *index_end; int indices; } names;
+static names names_from(const char *at) {
     char word[WORD];
+    names n = {0};
     at = skip(at);
-    at = *at == '(' ? behind_bracket(at) : read_word(at, word);
-    for (*indices = 0; at;) {
-        const char *next = skip(at);
+    for (n.end = *at == '(' ? behind_bracket(at) : read_word(at, word); n.end;) {
+        const char *next = skip(n.end);
         if (*next == '[') {
-            *index_end = at = behind_bracket(next);
-            ++*indices;
-        } else if (is_arrow(next) || *next == '.') at = read_word(next + 1 + is_arrow(next), word);
+            n.index_end = n.end = behind_bracket(next);
+            n.indices++;
+        } else if (is_arrow(next) || *next == '.') n.end = read_word(next + 1 + is_arrow(next), word);
         else break;
     }
-    return at;
+    return n;
 }
 
 static int means_from(view *v, const char *at, meaning *m) {
-    int indices;
-    const char *index_end, *end = end_behind(at, &indices, &index_end);
+    const char *end = names_from(at).end;
     return end && means(v, at, end, m, 0);
 }
 
 static int means_before(view *v, const char *line, const char *end, meaning *m) {
     const char *begin = begin_before(line, end);
-    int is_qualified = begin > line && begin[-1] == ':' && begin - line > 1 && begin[-2] == ':';
-    return !is_qualified && means(v, begin, end, m, 0);
+    return !is_before("::", line, begin) && means(v, begin, end, m, 0);
 }
 
 /* Is what begins here all that is assigned to? Before it may stand what ends a statement, or begins one. */
 static int begins_statement(const char *line, const char *begin) {
     static const char *const words[] = {"if", "while", "for", "switch", "else", "do", "return"};
     const char *end = before_spaces(line, begin);
-    int is_qualified = end == begin && end - line > 1 && end[-1] == ':' && end[-2] == ':';
-    if (end == line || (strchr(";{},(=:", end[-1]) && !is_qualified)) return 1;
+    if (end == line || (strchr(";{},(=:", end[-1]) && !is_before("::", line, begin))) return 1;
     if (end[-1] == ')') end = before_spaces(line, before_bracket(line, end));
     const char *word = end;
     while (word > line && is_of_word(word[-1])) word--;
@@ -251,8 +254,7 @@ static int begins_statement(const char *line, const char *begin) {
 /* A write is of what stands before the sign; a read may have the sign's column if all after it is what is read. */
 static int means_assigned(view *v, const char *line, const char *at, int is_write, meaning *m) {
     if (*at == '=' && !is_write) {
-        int indices;
-        const char *index_end, *end = end_behind(at + 1, &indices, &index_end);
+        const char *end = names_from(at + 1).end;
         return end && strchr(";,)", *skip(end)) && *skip(end) && means(v, at + 1, end, m, 0);
     }
     const char *begin = begin_before(line, at);
@@ -283,16 +285,14 @@ static int means_argument(view *v, const char *function, const char *at, meaning
 /* At a name: a member, a call's function, or where clang has the begin of an element. */
 static int means_word(view *v, const char *line, const char *at, meaning *m) {
     char word[WORD];
-    const char *behind = read_word(at, word), *next = skip(behind), *before = before_spaces(line, at), *index_end;
-    int indices;
+    const char *behind = read_word(at, word), *next = skip(behind), *before = before_spaces(line, at);
+    const names all = names_from(at);
     if (*next == '(') return means_argument(v, word, next + 1, m);
-    if (before > line && (before[-1] == '.' || (before - line > 1 && is_arrow(before - 2))))
-        return means_before(v, line, behind, m);
-    if (before - line > 1 && before[-1] == ':' && before[-2] == ':') return 0;
-    if (!end_behind(at, &indices, &index_end)) return 0;
-    if (!indices) return means(v, at, behind, m, 0);
+    if ((before > line && before[-1] == '.') || is_before("->", line, before)) return means_before(v, line, behind, m);
+    if (is_before("::", line, before) || !all.end) return 0;
+    if (!all.indices) return means(v, at, behind, m, 0);
     int may_be_name = means_name(v, word, m) && m->has_member;
-    return indices == 1 && !may_be_name && means(v, at, index_end, m, 0);
+    return all.indices == 1 && !may_be_name && means(v, at, all.index_end, m, 0);
 }
 
 /* What the access at a column means. Compilers have for a read the column of the last `->`, `.` or `[`, of the name
