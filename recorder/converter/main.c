@@ -13,7 +13,6 @@
 #include <string.h>
 #include "converter.h"
 
-enum { NOT_WHOLE = 1 };   /* the status where the trace is a part of the run */
 #define MAX_RANGE_STEPS (1ull << 28)   /* in a pass: seconds */
 
 static int is_of_stack(enum operation operation) { return operation >= OP_FRAME && operation <= OP_CONTEXT; }
@@ -171,6 +170,11 @@ static const char help[] =
 static const char *stacks_path, *only_path, *page_path, *uses_path, *blocks_path, *left_path;
 static int for_list;
 static u64 event_limit = SHB_EVENTS;
+
+static void bad_words(const char *which, const char *why) {
+    fprintf(stderr, "shb-std: %s%s; shb-std --help says more\n", which, why);
+    exit(BAD_WORDS);
+}
 
 static void read_words(int count, char **words) {
     static const struct option options[] = {{"stacks", required_argument, 0, 's'}, {"strip", required_argument, 0, 'd'},

@@ -1,33 +1,29 @@
 /* Arrays that grow, and maps. */
 #define _GNU_SOURCE
 #include <errno.h>
+#include <fcntl.h>
 #include <stdarg.h>
 #include <stdio.h>
 #include <stdlib.h>
 #include <string.h>
 #include <sys/mman.h>
 #include <sys/random.h>
+#include <sys/stat.h>
+#include <unistd.h>
 #include "tables.h"
 
-const char *program_name = "shb-std";
-int failed_status = 2;
 static const u64 prime = (1ull << 61) - 1;
 
 void die(const char *format, ...) {
     va_list arguments;
     va_start(arguments, format);
-    fprintf(stderr, "%s: ", program_name);
+    fputs("shb-std: ", stderr);
     vfprintf(stderr, format, arguments);
     fputc('\n', stderr);
-    exit(failed_status);
+    exit(FAILED);
 }
 
 void cannot_write(const char *path) { die("cannot write to %s: %s", path, strerror(errno)); }
-
-void bad_words(const char *which, const char *why) {
-    failed_status = 3;
-    die("%s%s; %s --help says more", which, why, program_name);
-}
 
 /* A long array is in large pages where the system has them: fewer faults, and fewer pages to look up. The whole mapping is,
    with the allocator's words before the array; else it could not be moved when it grows. */
@@ -48,6 +44,20 @@ char *copied(const char *text) {
     char *copy = strdup(text);
     if (!copy) die("out of memory");
     return copy;
+}
+
+/* A device or FIFO may have no end. */
+char *text_of(const char *path, u64 *size) {
+    enum { MOST_BYTES = 64 << 20 };
+    struct stat status;
+    char *text = 0;
+    int f = open(path, O_RDONLY | O_NONBLOCK | O_CLOEXEC);
+    int is_text = f >= 0 && !fstat(f, &status) && S_ISREG(status.st_mode) && status.st_size <= MOST_BYTES;
+    if (is_text) text = zeroed(status.st_size + 1, 1);
+    ssize_t length = is_text ? read(f, text, status.st_size) : 0;
+    if (f >= 0) close(f);
+    *size = length > 0 ? length : 0;
+    return text;
 }
 
 void *mapped(size_t count, size_t size) {

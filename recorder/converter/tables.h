@@ -9,13 +9,12 @@ enum { NAME_BYTES = 1400 };            /* of a variable */
 /* tables.c: arrays that grow, and maps from two words to a number from 1, in the order of asking. */
 typedef struct { u64 a, b; u32 value; } map_entry;
 typedef struct { map_entry *entries; u64 count, capacity; } map;
-extern const char *program_name;       /* as messages begin */
-extern int failed_status;
+enum { NOT_WHOLE = 1, FAILED, BAD_WORDS };                   /* statuses; 1: the trace is a part of the run */
 void die(const char *format, ...) __attribute__((noreturn, format(printf, 1, 2)));
 void cannot_write(const char *path) __attribute__((noreturn));
-void bad_words(const char *which, const char *why) __attribute__((noreturn));    /* the command line is wrong */
 void *zeroed(size_t count, size_t size);
 char *copied(const char *text);
+char *text_of(const char *path, u64 *size);                  /* of a regular file, with an end; or null */
 void *mapped(size_t count, size_t size);                     /* what isn't used of it takes addresses alone */
 void *grown(void *array, u64 count, u64 *capacity, size_t size);
 /* An array that grows. PUSH points to a new entry at its end, which has to be written. */

@@ -1,23 +1,16 @@
 /* The type of what a call in the program's own code allocates, by the text of its line: one `new NAME`, or one `sizeof(NAME)`, where a type
    of that name and size is in the unit. Debug information doesn't tell it. */
-#include <fcntl.h>
 #include <stdio.h>
 #include <stdlib.h>
 #include <string.h>
-#include <unistd.h>
 #include "debug.h"
 
 /* A source file: its text, and where each line begins. */
 typedef struct { char *text; VECTOR(u64) begins; } source;
 
 static source read_source(const char *path) {
-    enum { MOST_SOURCE = 1 << 26 };
-    source s = {0};
-    int f = open(path, O_RDONLY);
-    off_t size = f < 0 ? 0 : lseek(f, 0, SEEK_END);
-    if (size > 0 && size <= MOST_SOURCE) s.text = zeroed(size + 1, 1);
-    if (s.text && pread(f, s.text, size, 0) != size) *s.text = 0;
-    if (f >= 0) close(f);
+    u64 size;
+    source s = {.text = text_of(path, &size)};
     for (char *at = s.text, *end; at && (end = strchr(at, '\n')); at = end + 1) *PUSH(s.begins) = at - s.text;
     return s;
 }
