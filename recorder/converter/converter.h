@@ -63,7 +63,6 @@ u64 find_late(const struct record *of_record, u64 record_entries);       /* retu
 u64 merge(struct record *to, u64 *contexts, u64 room, u64 *at);
 
 /* sources.c: the source files of modules, and how they are named. */
-extern int whole_paths;
 void strip_folder(const char *folder); /* names of files below it are paths from it */
 void note_source(const char *path);
 void write_sources(FILE *file);        /* a line "source NAME TAB PATH" for each file of the program's own, before any is added */

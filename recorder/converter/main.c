@@ -160,14 +160,14 @@ static const char help[] =
     "  --strip DIR    files below this folder are named by their paths from it; else\n"
     "                 a file is named by the end of its path that no other file of\n"
     "                 the program has\n"
-    "  -p             whole paths\n"
     "  --version      print the version and exit\n"
     "  -h, --help     print this text and exit\n"
     "\n"
     "Exit status: 0; 1 the trace was written, and isn't the whole run; 2 it failed;\n"
     "3 wrong command line.\n" VERSION_LINE;
 
-static const char *stacks_path, *only_path, *page_path, *uses_path, *blocks_path, *left_path;
+enum file { STACKS = 1, STRIP, ONLY, PAGE, USES, BLOCKS, LEFT, FILES };
+static const char *paths[FILES];       /* of the options that have one; or null */
 static int for_list;
 static u64 event_limit = SHB_EVENTS;
 
@@ -177,34 +177,29 @@ static void bad_words(const char *which, const char *why) {
 }
 
 static void read_words(int count, char **words) {
-    static const struct option options[] = {{"stacks", required_argument, 0, 's'}, {"strip", required_argument, 0, 'd'},
-                                            {"list", no_argument, &for_list, 1}, {"only", required_argument, 0, 'r'}, {"page", required_argument, 0, 'g'},
-                                            {"uses", required_argument, 0, 'u'}, {"blocks", required_argument, 0, 'b'}, {"left", required_argument, 0, 'l'}, {"version", no_argument, 0, 'v'},
-                                            {"help", no_argument, 0, 'h'}, {0, 0, 0, 0}};
+    enum { VALUE = required_argument };
+    static const struct option options[] = {
+        {"stacks", VALUE, 0, STACKS}, {"strip", VALUE, 0, STRIP}, {"only", VALUE, 0, ONLY}, {"page", VALUE, 0, PAGE},
+        {"uses", VALUE, 0, USES}, {"blocks", VALUE, 0, BLOCKS}, {"left", VALUE, 0, LEFT},
+        {"list", 0, &for_list, 1}, {"version", 0, 0, 'v'}, {"help", 0, 0, 'h'}, {0}};
     opterr = 0;
-    for (int c; (c = getopt_long(count, words, "ahn:p", options, 0)) >= 0;)
+    for (int c; (c = getopt_long(count, words, "ahn:", options, 0)) >= 0;)
         if (c == 'h') {
             fputs(help, stdout);
             exit(0);
         } else if (c == 'v') {
             puts("shb-std " VERSION);
             exit(0);
-        } else if (c == 's') stacks_path = optarg;
-        else if (c == 'd') strip_folder(optarg);
-        else if (c == 'g') page_path = optarg;
-        else if (c == 'r') only_path = optarg;
-        else if (c == 'u') uses_path = optarg;
-        else if (c == 'b') blocks_path = optarg;
-        else if (c == 'l') left_path = optarg;
+        } else if (c && c < FILES) paths[c] = optarg;
         else if (c == 'a') whole_trace = 1;
-        else if (c == 'p') whole_paths = 1;
         else if (c == 'n') {
             if (!(event_limit = strtoull(optarg, 0, 10))) bad_words(optarg, " isn't a number of events");
         } else if (c) bad_words(words[optind - 1], " isn't an option, or has no value");
     if (optind == count) bad_words("no RECORD is named", "");
     if (optind + 1 < count) bad_words(words[optind + 1], " is one word too many");
-    if (!only_path && (uses_path || page_path)) bad_words(uses_path ? "--uses" : "--page", " needs --only");
-    if (for_list && only_path && !page_path) bad_words("--list", " with --only needs --page");
+    if (paths[USES] && !paths[ONLY]) bad_words("--uses", " needs --only");
+    if (paths[PAGE] && !paths[ONLY]) bad_words("--page", " needs --only");
+    if (for_list && paths[ONLY] && !paths[PAGE]) bad_words("--list", " with --only needs --page");
 }
 
 static void write_to(const char *path) {
@@ -225,28 +220,29 @@ static const char *write_run(void) {
 static void write_page(u64 run_events) {
     most = LIMITS_OF_LIST;
     most.events = event_limit;
-    if (!read_races(only_path, run_events)) return;
-    if (uses_path) open_uses(uses_path);
+    if (!read_races(paths[ONLY], run_events)) return;
+    if (paths[USES]) open_uses(paths[USES]);
     write_trace(1);
 }
 
 int main(int count, char **words) {
     read_words(count, words);
     open_record(words[optind]);
-    if (blocks_path) carry_blocks(blocks_path);
-    if (stacks_path) open_stacks(stacks_path);
+    if (paths[STRIP]) strip_folder(paths[STRIP]);
+    if (paths[BLOCKS]) carry_blocks(paths[BLOCKS]);
+    if (paths[STACKS]) open_stacks(paths[STACKS]);
     pass(meet_record, 1);
     record_threads = threads_met();
     pass(find_cuts, 0);
     find_places();
     pass(find_sharing, 0);
-    int has_run = for_list || !only_path;
+    int has_run = for_list || !paths[ONLY];
     const char *cut = has_run ? write_run() : 0;
     u64 run_events = events;
-    if (page_path) write_to(page_path);
-    if (only_path) write_page(has_run ? run_events : -1ull);
+    if (paths[PAGE]) write_to(paths[PAGE]);
+    if (paths[ONLY]) write_page(has_run ? run_events : -1ull);
     if (!has_run) run_events = events;
-    if (left_path) write_blocks(left_path);
+    if (paths[LEFT]) write_blocks(paths[LEFT]);
     fprintf(stderr, "shb-std: %lu records, %u threads, %lu events\n", entry_count, record_threads, run_events);
     say_crash();
     if (!cut) cut = shortened;

@@ -89,13 +89,10 @@ static symbol *symbol_at(module *m, u64 address) {
 /* A module's name. */
 static const char *leaf(const char *path) {
     const char *slash = strrchr(path, '/');
-    return slash && !whole_paths ? slash + 1 : path;
+    return slash ? slash + 1 : path;
 }
 
-static int is_recorder(const module *m) {
-    const char *slash = strrchr(m->path, '/');
-    return slash && !strncmp(slash, "/libtsan.so", 11);
-}
+static int is_recorder(const module *m) { return !strncmp(leaf(m->path), "libtsan.so", 10); }
 
 int is_of_recorder(u64 caller) {
     const module *m = module_at(caller);

@@ -1,12 +1,11 @@
 /* Names of source files: the shortest end of a file's path that no other file's path ends in; at most the path from the folder
-   that all files of the program have in common.  Or, if one was named, the path from that folder (--strip), or all of it (-p). */
+   that all files of the program have in common.  Or, if one was named, the path from that folder (--strip). */
 #include <stdio.h>
 #include <stdlib.h>
 #include <string.h>
 #include "converter.h"
 
-int whole_paths;
-static const char *stripped_folder;
+static const char *stripped;
 static VECTOR(char *) sources;         /* as by normal_path, each once; when they are named, sorted by their ends */
 static u64 sorted_count;
 static u64 common_length;              /* of the folder that the program's own have in common, with its last '/' */
@@ -98,9 +97,9 @@ static const char *unique_end(char *const *found) {
 
 const char *source_name(const char *path) {
     char *normal = normal_path(path);
-    size_t strip = stripped_folder ? strlen(stripped_folder) : 0;
-    if (whole_paths || !*normal) return path;
-    if (strip && !strncmp(normal, stripped_folder, strip) && normal[strip] == '/') return normal + strip + 1;
+    size_t strip = stripped ? strlen(stripped) : 0;
+    if (!*normal) return path;
+    if (stripped && !strncmp(normal, stripped, strip) && normal[strip] == '/') return normal + strip + 1;
     if (sorted_count != sources.count) sort_sources();
     char **found = 0;
     if (sources.count) found = bsearch(&normal, sources.at, sources.count, sizeof *sources.at, by_end);
@@ -120,6 +119,6 @@ void write_sources(FILE *file) {
 
 void strip_folder(const char *folder) {
     char *real = realpath(folder, 0);
-    stripped_folder = normal_path(real ? real : folder);
+    stripped = normal_path(real ? real : folder);
     free(real);
 }

@@ -157,7 +157,7 @@ class Files(recorder.Case):
                 self.assertEqual(self.locations("--strip", folder / "a"), {"util.c:3", "b/util.c:3"})
                 self.assertEqual(self.locations("--strip", self.folder),
                                  {f"{name}/sources/{file}/util.c:3".replace("\n", "!") for file in "ab"})
-                self.assertEqual(self.locations("-p"), {f"{folder}/{file}/util.c:3".replace("\n", "!") for file in "ab"})
+                self.assertEqual(self.locations("--strip", "/"), {f"{folder}/{file}/util.c:3"[1:].replace("\n", "!") for file in "ab"})
 
     def test_names_are_the_same_whatever_ran(self):
         self.record(self.folder / "sources", "a alone")
