@@ -74,9 +74,7 @@ static use use_of(u64 i) {
 }
 
 static void note_atomic_writer(u32 number, u32 thread) {
-    u64 before = atomic_writers.count;
-    map_number(&atomic_writers, number, thread);
-    if (atomic_writers.count > before) add_to_list(&piece_of(number)->atomic_writers, thread);
+    if (map_adds(&atomic_writers, number, thread)) add_to_list(&piece_of(number)->atomic_writers, thread);
     use_of_piece(number)->written_atomically = 1;
 }
 

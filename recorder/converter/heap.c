@@ -73,9 +73,7 @@ static void ask_own(const in_block *i) {
         name[a->type_length] = 0;
         o.type = map_text(&types, name);
         a->object = object_number(i->block, o);
-        u64 count = met.count;
-        map_number(&met, a->object, a->use.caller);
-        if (a->object) objects.at[a->object - 1].callers += met.count > count;
+        if (a->object) objects.at[a->object - 1].callers += map_adds(&met, a->object, a->use.caller);
     }
 }
 

@@ -310,8 +310,7 @@ const char *local_now(u64 at, const block *b) {
 /* Of what isn't the program's own in a variable. */
 static void note_own_name(u64 at) {
     static map met;
-    u64 count = met.count;
-    if (map_number(&met, at, 0) <= count) return;
+    if (!map_adds(&met, at, 0)) return;
     part name = variable_name(at, 0);
     int length = own_length(name.at);
     if (name.at[length]) fprintf(lines, "local 0\t%.*s\t%.*s\n", (int)name.length, name.at, length, name.at);
@@ -363,10 +362,7 @@ static int notes_uses(void) {
 /* Loads with acquire are counted apart from others. */
 static int is_first_load(u64 store, u32 t, int acquires) {
     static map loaded;
-    static u64 loads;
-    if (map_number(&loaded, store, (u64)t << 1 | acquires) <= loads) return 0;
-    loads++;
-    return 1;
+    return map_adds(&loaded, store, (u64)t << 1 | acquires);
 }
 
 void note_use(u64 i, u64 object, int gives) {

@@ -111,6 +111,11 @@ u32 map_number(map *m, u64 a, u64 b) {
     return found->value;
 }
 
+int map_adds(map *m, u64 a, u64 b) {
+    u64 before = m->count;
+    return map_number(m, a, b) > before;
+}
+
 /* array: where its address is, of any type. */
 u32 intern(map *numbers, u64 a, u64 b, void *array, u64 *capacity, size_t size) {
     u64 before = numbers->count;
