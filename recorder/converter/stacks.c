@@ -38,7 +38,7 @@
 #include "converter.h"
 
 #define STACKS_BEGIN "shb-stacks 1 %020lu\n"
-enum { NODES_AT_ONCE = 1 << 14, MOST_FRAMES_OF_A_CALL = 64, MOST_LEFT = 256, MOST_USES = 1 << 20 };
+enum { MOST_FRAMES_OF_A_CALL = 64, MOST_LEFT = 256, MOST_USES = 1 << 20 };
 
 /* function: what was called, by a place in it; of an event 0. A way has a node of its own. */
 typedef struct { u64 caller, function; u32 outer; uint8_t used, is_way; } node;
@@ -53,8 +53,7 @@ static const char *path;
 static u64 told_way, has_way;          /* of which record; the passes pass over some */
 static VECTOR(context) contexts;
 static INTERNED(node) nodes;
-static u32 buffer[NODES_AT_ONCE];
-static u64 buffered, nodes_written;
+static u64 nodes_written;
 static VECTOR(u32) block_nodes;
 typedef struct { u64 first, last; } events_of_free;
 static VECTOR(events_of_free) frees;
@@ -341,16 +340,10 @@ void keep_stack(u32 number) {
     for (; number && !node_at(number)->used; number = node_at(number)->outer) node_at(number)->used = 1;
 }
 
-static void write_nodes(void) {
-    if (fwrite(buffer, sizeof *buffer, buffered, file) != buffered) cannot_write(path);
-    nodes_written += buffered;
-    buffered = 0;
-}
-
 void stack_of_event(u32 number) {
     if (!with_stacks) return;
-    if (buffered == NODES_AT_ONCE) write_nodes();
-    buffer[buffered++] = number;
+    if (fwrite_unlocked(&number, sizeof number, 1, file) != 1) cannot_write(path);
+    nodes_written++;
     keep_stack(number);
 }
 
@@ -519,7 +512,6 @@ void say_crash(void) {
 
 void end_stacks(void) {
     if (!with_stacks) return;
-    write_nodes();
     for (u32 t = 0; t < thread_bound(); t = next_thread(t)) keep_stack(threads[t].created_at);
     for (u64 b = 1; b < block_nodes.count; b++)
         if (block_of(b)->named) keep_stack(block_nodes.at[b]);
