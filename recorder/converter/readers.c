@@ -13,7 +13,7 @@
 #include <unistd.h>
 #include "readers.h"
 
-enum { BUFFER = 1 << 16, MOST_SECONDS = 360 };               /* of processor time, of all readers */
+enum { MOST_SECONDS = 360 };           /* of processor time, of all readers */
 #define MOST_TAKEN (1ull << 31)        /* bytes of all answers of all readers */
 #define MOST_HELD (sysconf(_SC_PHYS_PAGES) / 2 * sysconf(_SC_PAGESIZE))    /* bytes of memory, of all readers before one is asked */
 
@@ -23,9 +23,8 @@ struct reader {
     pid_t process;
     double seconds;                    /* of processor time that are counted */
     u64 held;                          /* bytes of memory, when another was asked after it */
-    int socket;                        /* -1: it isn't asked */
-    u64 at, end;                       /* in the buffer */
-    char buffer[BUFFER], first[MOST_TEXT + 1], second[MOST_TEXT + 1];
+    FILE *answers;                     /* from its socket; null: it isn't asked */
+    char first[MOST_TEXT + 1], second[MOST_TEXT + 1];
 };
 
 static struct reader *readers;
@@ -56,8 +55,8 @@ static int spawn(struct reader *r, int socket) {
 /* Returns how it ended. One that has ended by itself isn't touched by the signal. */
 static int stop(struct reader *r) {
     int status = 0;
-    close(r->socket);
-    r->socket = -1;
+    fclose(r->answers);
+    r->answers = 0;
     if (r->process) kill(r->process, SIGKILL);
     if (r->process) waitpid(r->process, &status, 0);
     return status;
@@ -66,7 +65,7 @@ static int stop(struct reader *r) {
 /* None outlives this process. */
 static void stop_all(void) {
     for (struct reader *r = readers; r; r = r->next)
-        if (r->socket >= 0) stop(r);
+        if (r->answers) stop(r);
 }
 
 /* A file that is there twice, as a library that was loaded again, has one. None asks a server for debug information. */
@@ -82,10 +81,9 @@ struct reader *open_reader(const char *path) {
     r->next = readers;
     readers = r;
     r->path = path;
-    r->socket = -1;
     if (!strchr(path, '/')) return r;      /* it is no file, as the kernel's own library */
     if (socketpair(AF_UNIX, SOCK_STREAM | SOCK_CLOEXEC, 0, ends)) die("cannot make a socket: %s", strerror(errno));
-    r->socket = ends[0];
+    if (!(r->answers = fdopen(ends[0], "r"))) die("out of memory");
     if (!spawn(r, ends[1])) r->process = 0;
     close(ends[1]);
     return r;
@@ -106,7 +104,7 @@ static const char *why_ended(const struct reader *r, int status) {
 /* It is ended for a reason, or ended by itself. */
 static void end_reader(struct reader *r, const char *why) {
     static int is_said;
-    if (r->socket < 0) return;
+    if (!r->answers) return;
     int status = stop(r);
     if (!why) why = why_ended(r, status);
     if (why) fprintf(stderr, "shb-std: %s: names and places may be addresses, for %s\n", r->path, why);
@@ -146,7 +144,7 @@ static void limit_memory(struct reader *r) {
     if (last) last->held = held_by(last);
     last = r;
     for (struct reader *it = readers; it; it = it->next) {
-        if (it->socket < 0) continue;
+        if (!it->answers) continue;
         all += it->held;
         if (it->held > most->held) most = it;
     }
@@ -156,11 +154,12 @@ static void limit_memory(struct reader *r) {
 void ask(struct reader *r, enum request_kind kind, const u64 *numbers, u64 count) {
     const request head = {kind, count};
     const size_t bytes = count * sizeof *numbers;
-    if (r->socket >= 0) limit_memory(r);
-    if (r->socket < 0) return;
+    if (r->answers) limit_memory(r);
+    if (!r->answers) return;
+    const int socket = fileno(r->answers);
     if (!is_in_time(r)) end_reader(r, UNREAD "all modules together take too much time");
-    else if (send(r->socket, &head, sizeof head, MSG_NOSIGNAL) != sizeof head || send(r->socket, numbers, bytes, MSG_NOSIGNAL) != (ssize_t)bytes)
-        end_reader(r, 0);
+    else if (send(socket, &head, sizeof head, MSG_NOSIGNAL) != sizeof head
+             || send(socket, numbers, bytes, MSG_NOSIGNAL) != (ssize_t)bytes) end_reader(r, 0);
 }
 
 static int take(struct reader *r, void *to, size_t count) {
@@ -169,24 +168,9 @@ static int take(struct reader *r, void *to, size_t count) {
         end_reader(r, wrong_answer);
         return 0;
     }
-    for (char *at = to; count;) {
-        if (r->at == r->end) {
-            ssize_t got = recv(r->socket, r->buffer, BUFFER, 0);
-            if (got < 0 && errno == EINTR) continue;
-            if (got <= 0) {
-                end_reader(r, 0);
-                return 0;
-            }
-            r->at = 0;
-            r->end = got;
-        }
-        size_t part = r->end - r->at < count ? r->end - r->at : count;
-        memcpy(at, r->buffer + r->at, part);
-        r->at += part;
-        at += part;
-        count -= part;
-    }
-    return 1;
+    if (fread(to, 1, count, r->answers) == count) return 1;
+    end_reader(r, 0);
+    return 0;
 }
 
 /* A text has no byte 0 inside. */
@@ -198,7 +182,7 @@ static int take_text(struct reader *r, char *to, u32 length) {
 
 int next_answer(struct reader *r, answer *to) {
     row head;
-    if (r->socket < 0 || !take(r, &head, sizeof head) || head.first == END_ROW) return 0;
+    if (!r->answers || !take(r, &head, sizeof head) || head.first == END_ROW) return 0;
     if (!take_text(r, r->first, head.first) || !take_text(r, r->second, head.second)) {
         end_reader(r, wrong_answer);
         return 0;
@@ -214,5 +198,5 @@ int ask_one(struct reader *r, enum request_kind kind, const u64 *numbers, u64 co
     ask(r, kind, numbers, count);
     if (!next_answer(r, to)) return 0;
     if (take(r, &end, sizeof end) && end.first != END_ROW) refuse_answer(r);
-    return r->socket >= 0;
+    return r->answers != 0;
 }
