@@ -187,7 +187,7 @@ static u64 piece_event(u64 i, u64 own, u32 number, const char *operation, u32 wr
     else {
         part name = variable_name(p->at, block_of(p->block));
         int length = snprintf(text, sizeof text, "%.*s!%s", (int)name.length, name.at, thread_name(writer));
-        event_number = event(t, operation, (part){text, length}, caller_of(i));
+        event_number = event(t, operation, (part){text, length}, 0, caller_of(i));
     }
     if (is_kept) note_sight(t, own, number, writer, *operation == 'w');
     if (!event_number || !is_repeated(i)) return event_number;

@@ -188,11 +188,10 @@ enum event_kind { IS_ACCESS, IS_ACQUIRE, IS_RELEASE, IS_FORK, IS_JOIN, IS_MARK }
 u32 trace_lock(part name);             /* its number, from 1 */
 part lock_name(u32 number);            /* with WIDE bytes that may be read; it stands for good */
 u32 trace_threads(void);               /* so many were met */
-u32 trace_thread(const char *name, u64 length);              /* its number, from 1 */
 /* 0 where the trace can't go on with it; other: the lock that it takes or releases, or the thread that it forks or joins. */
 int trace_event(u64 length, enum event_kind kind, u32 thread, u32 other);
 int trace_access(u64 length, u32 thread);                    /* the same of an access, in a thread that is in the trace already */
-void forget_trace(void);
+void forget_trace(void);               /* its locks: threads are forgotten with all that is known of them */
 
 /* page.c: which of the run's events the trace has that is written, and the uses of variables in races. */
 enum trace_step { TRACE_PAUSES, SPAN_BEGINS, SPAN_GOES_ON, SPAN_ENDS, TRACE_ENDS };
@@ -252,8 +251,8 @@ int has_events(u32 t);
 void pass_event(u32 t, int writes);    /* an access that the page's trace lacks */
 part name_of_thread(u32 t);            /* with WIDE bytes that may be read */
 part variable_name(u64 address, const block *b);             /* it stands until the next call */
-/* Each returns the event's number in the trace, or 0. name: with WIDE bytes that may be read. */
-u64 event(u32 t, const char *operation, part name, u64 caller);
+/* Each returns the event's number in the trace, or 0. name: with WIDE bytes that may be read. other: see trace_event. */
+u64 event(u32 t, const char *operation, part name, u32 other, u64 caller);
 u64 access_event(u32 t, const char *operation, u32 piece, u64 caller, u64 own_place);
 void lock_event(u32 t, const char *operation, u32 lock, u64 caller);   /* the lock's number in state.c */
 void hold_event(u32 t, const char *operation, u32 lock, u64 caller, u32 stack);       /* the same, which orders no thread */

@@ -59,7 +59,7 @@ part name_of_thread(u32 t) {
 
 const char *thread_name(u32 t) { return name_of_thread(t).at; }
 
-int has_events(u32 t) { return threads[t].number > 0; }
+int has_events(u32 t) { return threads[t].has_begun; }
 
 /* ---- texts: each adds to what is written before `to`, and gives where the next may stand ---- */
 static inline char *add(char *to, part text) { return mempcpy(to, text.at, text.length); }
@@ -224,21 +224,18 @@ void pass_event(u32 t, int writes) {
 }
 
 /* ---- an event ---- */
-/* lock: its number, or 0. */
-static u64 write_event(u32 t, const char *operation, part name, u32 lock, u64 caller, u32 stack) {
+static u64 write_event(u32 t, const char *operation, part name, u32 other, u64 caller, u32 stack) {
     enum event_kind kind = kind_of(operation);
-    int is_first = !threads[t].number;
+    int is_first = !has_events(t);
     enum trace_step step = meet_span();
     char *line = room_for_line();
     part line_end = line_end_of(caller), thread = name_of_thread(t);
     char *end = add_line(line, thread, operation, name, line_end);
-    if (is_first) threads[t].number = trace_thread(thread.at, thread.length);
     if (written == most.events || bytes + (end - line) > most.bytes) {
         end_trace(written == most.events ? "at the limit of events" : "at 1 GiB of text");
         return 0;
     }
-    u32 other = kind == IS_FORK || kind == IS_JOIN ? trace_thread(name.at, name.length) : lock;
-    need_event(name.length && trace_event(end - line - 1, kind, threads[t].number, other), line, end);
+    need_event(name.length && trace_event(end - line - 1, kind, t, other), line, end);
     events++;
     if (!has_event(step, kind, is_first)) return 0;
     if (!is_inside(step) && (kind == IS_ACQUIRE || kind == IS_RELEASE))
@@ -260,14 +257,14 @@ void lock_event(u32 t, const char *operation, u32 lock, u64 caller) {
 }
 
 /* `name` may lie in a buffer that the writing of another event uses. */
-u64 event(u32 t, const char *operation, part name, u64 caller) {
+u64 event(u32 t, const char *operation, part name, u32 other, u64 caller) {
     char own_name[NAME_BYTES + THREAD_BYTES];
     if (is_over()) return 0;
     if (threads[t].unwritten) {
         name = (part){memcpy(own_name, name.at, name.length), name.length};
         write_holds(t);
     }
-    u64 number = write_event(t, operation, name, 0, own_place(t, caller), stack_at(t, caller));
+    u64 number = write_event(t, operation, name, other, own_place(t, caller), stack_at(t, caller));
     if (*operation != 'r' || operation[1]) threads[t].epoch++;
     return number;
 }
@@ -276,10 +273,10 @@ u64 event(u32 t, const char *operation, part name, u64 caller) {
 u64 access_event(u32 t, const char *operation, u32 number, u64 caller, u64 own) {
     part name = piece_name(number);
     int has_room = events < span_last && written < most.events;
-    int is_usual = has_room && !threads[t].unwritten && threads[t].number && name.length;
+    int is_usual = has_room && !threads[t].unwritten && has_events(t) && name.length;
     char *line = room_for_line(), *end = is_usual ? add_line(line, name_of_thread(t), operation, name, line_end_of(own)) : line;
-    if (!is_usual || bytes + (end - line) > most.bytes) return event(t, operation, name, caller);
-    need_event(trace_access(end - line - 1, threads[t].number), line, end);
+    if (!is_usual || bytes + (end - line) > most.bytes) return event(t, operation, name, 0, caller);
+    need_event(trace_access(end - line - 1, t), line, end);
     events++;
     keep_line(end, stack_at(t, caller));
     note_written(events, written);

@@ -40,8 +40,9 @@ typedef struct { u32 object, version; } note;
 typedef struct {
     /* the trace that is written (events.c) */
     char name[THREAD_BYTES + WIDE];
-    u32 name_length, number;           /* number: in state.c, from its first event on */
+    u32 name_length;
     uint8_t is_named;                  /* has it a name besides its number? */
+    uint8_t has_begun, is_forked, is_joined;                 /* in the trace (state.c) */
     u64 epoch;                         /* it grows with each event of the thread that could order another, and each trace */
     u32 forked_by;                     /* plus one */
     u32 created_at;                    /* a node of the file of stacks */
