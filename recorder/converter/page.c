@@ -38,6 +38,7 @@ typedef struct { u64 first, last; } span;
 typedef struct {
     VECTOR(span) spans;
     map names;
+    map blocks;                        /* numbers: each block of the heap that has a variable of these names */
     u64 at;                            /* the span that it is in, or that comes next */
 } sink;
 static span whole_run = {1, -1};
@@ -51,13 +52,14 @@ static const char *uses_path;
 /* ---- the races ---- */
 /* One whose accesses lie far apart has two spans. What stands behind the last "!" may be the thread of an atomic's writer. */
 static void add_race(u64 first, u64 second, char *variable) {
-    char *sign = strrchr(variable, '!');
+    char *sign = strrchr(variable, '!'), *block = strrchr(variable, '#');
     int is_apart = second - first > FAR_APART || second - first > most.events;
     *PUSH(page.spans) = (span){first, is_apart ? first : second};
     if (is_apart) *PUSH(page.spans) = (span){second, second};
     *PUSH(wanted) = first;
     *PUSH(wanted) = second;
     map_text(&page.names, variable);
+    if (block) map_adds(&page.blocks, strtoull(block + 1, 0, 10), 0);
     if (!sign) return;
     *sign = 0;
     map_text(&page.names, variable);
@@ -105,12 +107,14 @@ int read_races(const char *path, u64 run_events) {
 static int is_racing(u32 number) {
     static VECTOR(uint8_t) answers;
     enum { NO = 1, YES };
-    char text[NAME_BYTES + 1];
     while (answers.count <= number) *PUSH(answers) = 0;
     if (answers.at[number]) return answers.at[number] == YES;
-    part name = variable_name(piece_of(number)->at, block_of(piece_of(number)->block));
-    *(char *)mempcpy(text, name.at, name.length) = 0;
-    answers.at[number] = map_find_text(&page.names, text) ? YES : NO;
+    const piece *p = piece_of(number);
+    block *b = block_of(p->block);
+    int may_be = !b || b->stack || map_find(&page.blocks, p->block, 0);
+    if (!may_be) b->named = 1;         /* as if its name had been made: the file of stacks has it */
+    part name = may_be ? variable_name(p->at, b) : (part){0};
+    answers.at[number] = may_be && map_find_bytes(&page.names, name.at, name.length) ? YES : NO;
     return answers.at[number] == YES;
 }
 

@@ -156,7 +156,7 @@ u32 map_bytes(map *m, const char *text, u64 length) {
 
 u32 map_text(map *m, const char *text) { return map_bytes(m, text, strlen(text)); }
 
-u32 map_find_text(const map *m, const char *text) {
-    sums s = sums_of(text, strlen(text));
+u32 map_find_bytes(const map *m, const char *text, u64 length) {
+    sums s = sums_of(text, length);
     return map_find(m, s.random, s.plain);
 }
