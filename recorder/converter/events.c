@@ -22,6 +22,7 @@ static void set_name(u32 t, const char *name) {
     for (char *p = threads[t].name; *p; p++)
         if ((unsigned char)*p < ' ' || strchr("|!@#", *p)) *p = '_';
     threads[t].name_length = strlen(threads[t].name);
+    threads[t].is_named = *name != 0;
 }
 
 enum { FUNCTION_BYTES = 60 };
@@ -32,15 +33,12 @@ void name_thread(u32 t, u64 function) {
     function_name(function, name, sizeof name);
     if (!strncmp(name, "std::sys::", 10)) return;            /* Rust's library's */
     set_name(t, name);
-    threads[t].is_named = *name != 0;
 }
 
 void name_by_own(u32 t, u64 i) {
     char name[FUNCTION_BYTES];
     u64 function = t && !threads[t].is_named ? own_function(i) : 0;
-    if (!function || !own_function_name(function, name, sizeof name)) return;
-    set_name(t, name);
-    threads[t].is_named = 1;
+    if (function && own_function_name(function, name, sizeof name)) set_name(t, name);
 }
 
 void give_name(u32 t, const char *piece, int is_first) {
@@ -48,7 +46,6 @@ void give_name(u32 t, const char *piece, int is_first) {
     if (!t || !*piece || !begun) return;
     snprintf(name, sizeof name, "%s%s", begun + 1, piece);
     set_name(t, name);
-    threads[t].is_named = 1;
 }
 
 part name_of_thread(u32 t) {

@@ -35,9 +35,7 @@ void note_use_of_block(u64 at, u32 block_number, use_of_block use) {
 }
 
 /* ---- names by uses ---- */
-static chain *objects_of(u32 block_number) {
-    return ENTRY(chains, block_number, 0);
-}
+static chain *objects_of(u32 block_number) { return ENTRY(chains, block_number, 0); }
 
 /* The number of an object of a block, from 1; 0 of too many. */
 static u32 object_number(u32 block_number, object o) {
