@@ -121,7 +121,11 @@ size_t name_by_use(u64 caller, const u64 use[6], char name[NAME_BYTES], u64 *beg
 int is_variable(const char *name, size_t length);            /* is a static variable named so? */
 
 /* memory.c: blocks and pieces. */
-typedef struct { u64 at, size, caller; int stack, many_users, named, freed; u32 thread, user; } block;
+typedef struct {
+    u64 at, size, caller;
+    u32 thread, user, node;            /* node: of the file of stacks, where it was allocated; or 0 */
+    uint8_t stack, many_users, named, freed;
+} block;
 typedef struct {
     u64 at;
     u32 block;                         /* its number, or 0 */
@@ -141,6 +145,7 @@ block *meet_block(u64 i);              /* it, or null; each pass calls it for ea
 block *block_at(u64 address);          /* or null */
 void end_block(u64 address);           /* it is freed */
 void write_blocks(const char *path);   /* those that are there, for carry_blocks */
+u32 block_count(void);
 u32 block_number(const block *b);      /* from 1; of null 0 */
 block *block_of(u32 number);
 void cut(u64 address);
@@ -163,7 +168,6 @@ u64 own_place(u32 t, u64 caller);      /* of what a thread does now: the innermo
 u32 stack_at(u32 t, u64 caller);
 void stack_of_event(u32 number);       /* of the event that comes next */
 void keep_stack(u32 number);           /* it is written, though no event has it */
-void stack_of_block(const block *b, u32 number);
 void note_crash(u64 i);                /* a record OP_CRASH */
 void say_crash(void);                  /* at the end */
 void note_free(u64 first, u64 last);   /* the events of one call that frees a block */

@@ -79,7 +79,7 @@ static void write_events(u64 i) {
 }
 
 static void name_block(block *b, u64 i) {
-    stack_of_block(b, stack_at(thread_of(i), caller_of(i)));
+    b->node = stack_at(thread_of(i), caller_of(i));
     b->caller = own_place(thread_of(i), caller_of(i));
 }
 

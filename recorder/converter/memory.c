@@ -105,6 +105,7 @@ void write_blocks(const char *path) {
 }
 
 int in_one_grain(u64 address, u64 end) { return address / GRAIN == (end - 1) / GRAIN; }
+u32 block_count(void) { return blocks.count; }
 u32 block_number(const block *b) { return b ? b - blocks.at + 1 : 0; }
 block *block_of(u32 number) { return number ? &blocks.at[number - 1] : 0; }
 

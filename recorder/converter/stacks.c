@@ -54,7 +54,6 @@ static u64 told_way, has_way;          /* of which record; the passes pass over 
 static VECTOR(context) contexts;
 static INTERNED(node) nodes;
 static u64 nodes_written;
-static VECTOR(u32) block_nodes;
 typedef struct { u64 first, last; } events_of_free;
 static VECTOR(events_of_free) frees;
 static FILE *lines;                    /* of atomics and locals, in memory */
@@ -294,8 +293,8 @@ static const char *local_at(const thread_calls *s, u64 address, u64 length, u32 
 }
 
 u64 allocated_by(u32 block_number) {
-    u32 number = block_number < block_nodes.count ? block_nodes.at[block_number] : 0;
-    return number ? node_at(number)->caller : 0;
+    const block *b = block_of(block_number);
+    return b && b->node ? node_at(b->node)->caller : 0;
 }
 
 enum { MOST_LENGTH = 4096 };            /* of what has a name */
@@ -385,11 +384,6 @@ void note_fence(u64 i) {
 void note_free(u64 first, u64 last) {
     if (!with_stacks || first > last) return;
     *PUSH(frees) = (events_of_free){first, last};
-}
-
-void stack_of_block(const block *b, u32 number) {
-    while (block_nodes.count <= block_number(b)) *PUSH(block_nodes) = 0;
-    block_nodes.at[block_number(b)] = number;
 }
 
 /* ---- the tables ---- */
@@ -513,14 +507,14 @@ void say_crash(void) {
 void end_stacks(void) {
     if (!with_stacks) return;
     for (u32 t = 0; t < thread_bound(); t = next_thread(t)) keep_stack(threads[t].created_at);
-    for (u64 b = 1; b < block_nodes.count; b++)
-        if (block_of(b)->named) keep_stack(block_nodes.at[b]);
+    for (u32 b = 1; b <= block_count(); b++)
+        if (block_of(b)->named) keep_stack(block_of(b)->node);
     for (u64 k = 1; k <= nodes.numbers.count; k++)
         if (node_at(k)->used) write_stack(k);
     for (u32 t = 0; t < thread_bound(); t = next_thread(t))
         if (threads[t].created_at) fprintf(file, "thread %s\t%u\n", thread_name(t), threads[t].created_at);
-    for (u64 b = 1; b < block_nodes.count; b++)
-        if (block_of(b)->named && block_nodes.at[b]) fprintf(file, "block %lu %u\n", b, block_nodes.at[b]);
+    for (u32 b = 1; b <= block_count(); b++)
+        if (block_of(b)->named && block_of(b)->node) fprintf(file, "block %u %u\n", b, block_of(b)->node);
     EACH(f, frees.at, frees.count) fprintf(file, "free %lu %lu\n", f->first, f->last);
     if (crash.is_met) write_crash();
     write_names_in_blocks(lines);
