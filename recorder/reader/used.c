@@ -270,15 +270,14 @@ static int is_assignment(const char *at) {
 
 /* A lock, or the object of an atomic operation, if it is the argument. */
 static int means_argument(view *v, const char *function, const char *at, meaning *m) {
-    static const char *const of_locks[] = {"pthread_", "sem_", "mtx_", "cnd_"};
-    static const char *const of_atomics[] = {"__atomic_", "__sync_", "atomic_"};
-    int is_of_lock = 0, is_of_atomic = 0;
-    for (int k = 0; k < 4; k++) is_of_lock |= !strncmp(function, of_locks[k], strlen(of_locks[k]));
-    for (int k = 0; k < 3; k++) is_of_atomic |= !strncmp(function, of_atomics[k], strlen(of_atomics[k]));
+    static const char *const begins[] = {"pthread_", "sem_", "mtx_", "cnd_", "__atomic_", "__sync_", "atomic_"};
+    enum { OF_LOCKS = 4, ALL = sizeof begins / sizeof *begins };
+    int k = 0;
+    while (k < ALL && strncmp(function, begins[k], strlen(begins[k]))) k++;
     at = skip(at);
     m->has_member = 0;
-    if ((!is_of_lock && !is_of_atomic) || *at != '&' || !means_from(v, at + 1, m)) return 0;
-    m->is_lock = is_of_lock;
+    if (k == ALL || *at != '&' || !means_from(v, at + 1, m)) return 0;
+    m->is_lock = k < OF_LOCKS;
     return 1;
 }
 
