@@ -255,7 +255,7 @@ int has_events(u32 t);
 void pass_event(u32 t, int writes);    /* an access that the page's trace lacks */
 part name_of_thread(u32 t);            /* with WIDE bytes that may be read */
 part variable_name(u64 address, const block *b);             /* it stands until the next call */
-/* Each returns the event's number in the trace, or 0. name: with WIDE bytes that may be read. other: see trace_event. */
+/* Each returns the event's number in the trace, or 0. name: with WIDE bytes behind; other: see trace_event */
 u64 event(u32 t, const char *operation, part name, u32 other, u64 caller);
 u64 access_event(u32 t, const char *operation, u32 piece, u64 caller, u64 own_place);
 void lock_event(u32 t, const char *operation, u32 lock, u64 caller);   /* the lock's number in state.c */

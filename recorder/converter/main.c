@@ -177,10 +177,10 @@ static void bad_words(const char *which, const char *why) {
 }
 
 static void read_words(int count, char **words) {
-    enum { VALUE = required_argument };
+    enum { ARG = required_argument };
     static const struct option options[] = {
-        {"stacks", VALUE, 0, STACKS}, {"strip", VALUE, 0, STRIP}, {"only", VALUE, 0, ONLY}, {"page", VALUE, 0, PAGE},
-        {"uses", VALUE, 0, USES}, {"blocks", VALUE, 0, BLOCKS}, {"left", VALUE, 0, LEFT},
+        {"stacks", ARG, 0, STACKS}, {"strip", ARG, 0, STRIP}, {"only", ARG, 0, ONLY},
+        {"page", ARG, 0, PAGE}, {"uses", ARG, 0, USES}, {"blocks", ARG, 0, BLOCKS}, {"left", ARG, 0, LEFT},
         {"list", 0, &for_list, 1}, {"version", 0, 0, 'v'}, {"help", 0, 0, 'h'}, {0}};
     opterr = 0;
     for (int c; (c = getopt_long(count, words, "ahn:", options, 0)) >= 0;)

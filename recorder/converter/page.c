@@ -38,7 +38,7 @@ typedef struct { u64 first, last; } span;
 typedef struct {
     VECTOR(span) spans;
     map names;
-    map blocks;                        /* numbers: each block of the heap that has a variable of these names */
+    map blocks;                        /* numbers: each block of the heap that has such a variable */
     u64 at;                            /* the span that it is in, or that comes next */
 } sink;
 static span whole_run = {1, -1};

@@ -1,5 +1,5 @@
 /* Names of source files: the shortest end of a file's path that no other file's path ends in; at most the path from the folder
-   that all files of the program have in common.  Or, if one was named, the path from that folder (--strip). */
+   that all files of the program have in common. Or, if one was named, the path from there (--strip). */
 #include <stdio.h>
 #include <stdlib.h>
 #include <string.h>

@@ -62,7 +62,7 @@ int has_own_lines(struct debug *d);    /* in the module's file itself */
    none is met often. */
 int first_entry(Dwarf_Die *in, Dwarf_Die *e, const void **last);
 int next_entry(Dwarf_Die *e, const void **last);
-/* Gives each of these, up to one for which `take` returns STOP; before the next one those inside, if it returns GO_IN. */
+/* Gives each of these until `take` returns STOP; where it returns GO_IN, those inside before the next one. */
 enum { STOP = -1, GO_ON, GO_IN };
 typedef int (*take_entry)(void *to, Dwarf_Die *e);
 void each_entry(Dwarf_Die *in, take_entry take, void *to);

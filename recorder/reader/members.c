@@ -27,8 +27,8 @@ static int note_variable(void *to, Dwarf_Die *e) {
     Dwarf_Die *known = address ? ENTRY(d->variables, address + d->bias, 0) : 0;
     if (known && !known->addr) *known = *e;
     if (tag == DW_TAG_namespace || tag == DW_TAG_module) return GO_IN;
-    int has_code = tag == DW_TAG_subprogram || tag == DW_TAG_lexical_block || tag == DW_TAG_inlined_subroutine;
-    return has_code && d->has_variables > 1 ? GO_IN : GO_ON;
+    int is_code = tag == DW_TAG_subprogram || tag == DW_TAG_lexical_block || tag == DW_TAG_inlined_subroutine;
+    return is_code && d->has_variables > 1 ? GO_IN : GO_ON;
 }
 
 /* Those in functions are read when one isn't among the others. */

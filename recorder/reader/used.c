@@ -138,9 +138,9 @@ static int means_name(view *v, const char *word, meaning *m) {
 static const char *skip(const char *at) { return at + strspn(at, " \t"); }
 static int is_arrow(const char *at) { return at[0] == '-' && at[1] == '>'; }
 
-/* Do these two characters stand before `at`? */
-static int is_before(const char *sign, const char *line, const char *at) {
-    return at - line > 1 && !strncmp(at - 2, sign, 2);
+static int precedes(const char *sign, const char *line, const char *at) {
+    const ptrdiff_t length = strlen(sign);
+    return at - line >= length && !strncmp(at - length, sign, length);
 }
 
 static const char *read_word(const char *at, char *word) {
@@ -205,13 +205,13 @@ static const char *begin_before(const char *line, const char *end) {
         while (at > line && (at[-1] == ']' || at[-1] == ')')) at = before_bracket(line, at);
         while (at > line && is_of_word(at[-1])) at--;
         const char *before = before_spaces(line, at);
-        if (before > line && before[-1] == '.') at = before - 1;
-        else if (is_before("->", line, before)) at = before - 2;
+        if (precedes(".", line, before)) at = before - 1;
+        else if (precedes("->", line, before)) at = before - 2;
         else return at;
     }
 }
 
-/* Names with members and indices, which begin here: where they end, or null, and where the last index does. */
+/* Names with members and indices that begin here: where they end, or null, and where the last index does. */
 typedef struct { const char *end, *index_end; int indices; } names;
 static names names_from(const char *at) {
     char word[WORD];
@@ -235,14 +235,14 @@ static int means_from(view *v, const char *at, meaning *m) {
 
 static int means_before(view *v, const char *line, const char *end, meaning *m) {
     const char *begin = begin_before(line, end);
-    return !is_before("::", line, begin) && means(v, begin, end, m, 0);
+    return !precedes("::", line, begin) && means(v, begin, end, m, 0);
 }
 
 /* Is what begins here all that is assigned to? Before it may stand what ends a statement, or begins one. */
 static int begins_statement(const char *line, const char *begin) {
     static const char *const words[] = {"if", "while", "for", "switch", "else", "do", "return"};
     const char *end = before_spaces(line, begin);
-    if (end == line || (strchr(";{},(=:", end[-1]) && !is_before("::", line, begin))) return 1;
+    if (end == line || (strchr(";{},(=:", end[-1]) && !precedes("::", line, begin))) return 1;
     if (end[-1] == ')') end = before_spaces(line, before_bracket(line, end));
     const char *word = end;
     while (word > line && is_of_word(word[-1])) word--;
@@ -270,10 +270,10 @@ static int is_assignment(const char *at) {
 
 /* A lock, or the object of an atomic operation, if it is the argument. */
 static int means_argument(view *v, const char *function, const char *at, meaning *m) {
-    static const char *const begins[] = {"pthread_", "sem_", "mtx_", "cnd_", "__atomic_", "__sync_", "atomic_"};
-    enum { OF_LOCKS = 4, ALL = sizeof begins / sizeof *begins };
+    static const char *const all[] = {"pthread_", "sem_", "mtx_", "cnd_", "__atomic_", "__sync_", "atomic_"};
+    enum { OF_LOCKS = 4, ALL = sizeof all / sizeof *all };
     int k = 0;
-    while (k < ALL && strncmp(function, begins[k], strlen(begins[k]))) k++;
+    while (k < ALL && strncmp(function, all[k], strlen(all[k]))) k++;
     at = skip(at);
     m->has_member = 0;
     if (k == ALL || *at != '&' || !means_from(v, at + 1, m)) return 0;
@@ -287,8 +287,8 @@ static int means_word(view *v, const char *line, const char *at, meaning *m) {
     const char *behind = read_word(at, word), *next = skip(behind), *before = before_spaces(line, at);
     const names all = names_from(at);
     if (*next == '(') return means_argument(v, word, next + 1, m);
-    if ((before > line && before[-1] == '.') || is_before("->", line, before)) return means_before(v, line, behind, m);
-    if (is_before("::", line, before) || !all.end) return 0;
+    if (precedes(".", line, before) || precedes("->", line, before)) return means_before(v, line, behind, m);
+    if (precedes("::", line, before) || !all.end) return 0;
     if (!all.indices) return means(v, at, behind, m, 0);
     int may_be_name = means_name(v, word, m) && m->has_member;
     return all.indices == 1 && !may_be_name && means(v, at, all.index_end, m, 0);
