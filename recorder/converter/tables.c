@@ -50,10 +50,9 @@ char *copied(const char *text) {
 char *text_of(const char *path, u64 *size) {
     enum { MOST_BYTES = 64 << 20 };
     struct stat status;
-    char *text = 0;
     int f = open(path, O_RDONLY | O_NONBLOCK | O_CLOEXEC);
     int is_text = f >= 0 && !fstat(f, &status) && S_ISREG(status.st_mode) && status.st_size <= MOST_BYTES;
-    if (is_text) text = zeroed(status.st_size + 1, 1);
+    char *text = zeroed(is_text ? status.st_size + 1 : 1, 1);
     ssize_t length = is_text ? read(f, text, status.st_size) : 0;
     if (f >= 0) close(f);
     *size = length > 0 ? length : 0;

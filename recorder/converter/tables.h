@@ -14,7 +14,7 @@ void die(const char *format, ...) __attribute__((noreturn, format(printf, 1, 2))
 void cannot_write(const char *path) __attribute__((noreturn));
 void *zeroed(size_t count, size_t size);
 char *copied(const char *text);
-char *text_of(const char *path, u64 *size);                  /* of a regular file, with an end; or null */
+char *text_of(const char *path, u64 *size);                  /* of a regular file, with an end; else "" */
 void *mapped(size_t count, size_t size);                     /* what isn't used of it takes addresses alone */
 void *grown(void *array, u64 count, u64 *capacity, size_t size);
 /* An array that grows. PUSH points to a new entry at its end, which has to be written. */

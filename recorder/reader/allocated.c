@@ -11,7 +11,7 @@ typedef struct { char *text; VECTOR(u64) begins; } source;
 static source read_source(const char *path) {
     u64 size;
     source s = {.text = text_of(path, &size)};
-    for (char *at = s.text, *end; at && (end = strchr(at, '\n')); at = end + 1) *PUSH(s.begins) = at - s.text;
+    for (char *at = s.text, *end; (end = strchr(at, '\n')); at = end + 1) *PUSH(s.begins) = at - s.text;
     return s;
 }
 
