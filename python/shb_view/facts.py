@@ -86,8 +86,9 @@ class Site:
             elif kind == b"under":
                 self.locks[locals.get(name, name)] += count
             elif kind == b"reading":
-                self.reading[locals.get(name, name)] += count
-                self.wrong[locals.get(name, name)] += count * (word != b"r")
+                lock = locals.get(name, name)
+                self.reading[lock] += count
+                self.wrong[lock] += count * (word != b"r")
             elif kind == b"bare":
                 self.bare += count
             elif kind == b"many":
@@ -299,8 +300,8 @@ def handed_words(pair):
     """What is said of an atomic that was handed on, as parts."""
     store, load = pair.store, pair.load
     return [Code(store.thread), " and ", Code(load.thread), " hand this on by the atomic ", Code(pair.name),
-            ": ", place(store.location), " ",
-            *store.words(), " after the first access, and ", place(load.location), " ", *load.words(),
+            ": ", place(store.location), " ", *store.words(), " after the first access, and ",
+            place(load.location), " ", *load.words(),
             f" before the second. Without {' and '.join(pair.lacking())} that orders nothing."]
 
 
@@ -328,26 +329,21 @@ def freed(racing, whole):
         return None
     used = dict.fromkeys(partner for site in frees
                          for partner in sorted(site.partners) if partner != site.location)
-    threads = listed([[Code(thread)] for thread in sorted(set().union(*(site.writers for site in frees)))],
-                     MOST_NAMED)
-    uses = (["the use at ", *listed([[place(location)] for location in used], MOST_NAMED)] if used
-            else ["another free of it"])
-    sentence = [f"In this {whole} ", *threads, " frees the block at " if len(threads) == 1
-                else " free the block at ", *lines_of(frees),
-                ", and nothing orders the free and ", *uses, "."]
+    threads = sorted(set().union(*(site.writers for site in frees)))
+    verb, at = "frees" if len(threads) == 1 else "free", listed([[place(it)] for it in used], MOST_NAMED)
+    uses = ["the use at ", *at] if used else ["another free of it"]
+    sentence = [f"In this {whole} ", *listed([[Code(thread)] for thread in threads], MOST_NAMED),
+                f" {verb} the block at ", *lines_of(frees), ", and nothing orders the free and ", *uses, "."]
     found = set().union(*(site.later for site in frees if site.accesses[b"f"] == site.total()))
     after = [site for site in racing if site.location in found and not site.accesses[b"f"]]
     said = {"frees": names_of(frees), "uses": list(map(text, used)), "after": names_of(after)}
-    at = listed([[place(location)] for location in used], MOST_NAMED)
-    late = ["don't use it at ", *at, " once it may be freed at ", *lines_of(frees),
-            ", or free it after that use."]
-    remedy = late if used else ["free it once."]
-    if not after:
-        return Fact("freed", said, ["freed at " if used else "freed twice at ", *lines_of(frees),
-                                    " while in use" if used else ""], [sentence], remedy)
-    sentence += [" The use at ", *lines_of(after), " came after it here: a use after free."]
-    return Fact("freed", said, ["used at ", *lines_of(after), " after it was freed at ", *lines_of(frees)],
-                [sentence], remedy)
+    remedy = ["don't use it at ", *at, " once it may be freed at ", *lines_of(frees),
+              ", or free it after that use."] if used else ["free it once."]
+    tag = ["freed at ", *lines_of(frees), " while in use"] if used else ["freed twice at ", *lines_of(frees)]
+    if after:
+        tag = ["used at ", *lines_of(after), " after it was freed at ", *lines_of(frees)]
+        sentence += [" The use at ", *lines_of(after), " came after it here: a use after free."]
+    return Fact("freed", said, tag, [sentence], remedy)
 
 
 def not_atomic(racing, whole):
@@ -359,15 +355,15 @@ def not_atomic(racing, whole):
     verb, write = "is" if len(plain) == 1 else "are", "writes" if len(atomic) == 1 else "write"
     sentence = [f"In this {whole} ", *lines_of(atomic), f" {write} atomically, and ", *lines_of(plain),
                 f" {verb} not atomic."]
-    return Fact("plain", {"atomic": names_of(atomic),
-                          "plain": names_of(plain)}, [*lines_of(plain), f" {verb} not atomic"], [sentence],
+    said = {"atomic": names_of(atomic), "plain": names_of(plain)}
+    return Fact("plain", said, [*lines_of(plain), f" {verb} not atomic"], [sentence],
                 ["make the accesses at ", *lines_of(plain), " atomic too."])
 
 
 def uncounted(sites, whole):
     count = counted(sum(site.unknown for site in sites), "access", "accesses")
-    return Fact("uncounted", {}, ["locks not counted"],
-                [[f"In this {whole} the locks held at {count} aren't counted."]])
+    sentence = f"In this {whole} the locks held at {count} aren't counted."
+    return Fact("uncounted", {}, ["locks not counted"], [[sentence]])
 
 
 def by_weight(sites, locks):
@@ -414,28 +410,27 @@ def under_read_lock(sites, racing, lock, locks, whole):
 def without(sites, racing, lock, locks, whole):
     """Racing lines that don't hold a lock which all others, or all others that race, hold at each access.
     Where they hold other locks, that more lines have this one says that it is theirs too."""
-    lacking, holding = (
-        [site for site in racing if site.lacks(lock)], [site for site in sites if not site.lacks(lock)])
+    lacking = [site for site in racing if site.lacks(lock)]
+    holding = [site for site in sites if not site.lacks(lock)]
     variables = set().union(*(site.variables for site in racing)) - {b""}
     if not is_rule(lacking, holding, variables, lock, is_beside(locks.of(lock), variables)):
         return None
     scope = scope_of([site for site in sites if site.lacks(lock) and not site.partners], lacking, holding)
     who = {"writes": ["every write"], "reads": ["every read"], "all": ["every other access"],
            "lines": ["every access at ", *lines_of(holding)]}[scope]
-    some, name, lines = [site for site in lacking if site.guarded(lock)], lock_name(lock), lines_of(lacking)
-    verb = verb_of(lacking)
+    some = [site for site in lacking if site.guarded(lock)]
+    name, lines, verb = lock_name(lock), lines_of(lacking), verb_of(lacking)
     at = (f" at {sum(site.total() - site.guarded(lock) for site in lacking):,} of "
           f"{sum(site.total() for site in lacking):,} accesses" if some else "")
     sentence = [f"In this {whole} ", *who, " holds ", *name, ", and ", *lines, f" {verb} without it{at}."]
-    instead = [[place(site.location), " holds ", *listed(
-        [lock_name(other) for other in site.held()], MOST_NAMED)] for site in lacking if site.held()]
+    instead = [[place(site.location), " holds ", *listed(map(lock_name, site.held()), MOST_NAMED)]
+               for site in lacking if site.held()]
     if instead:
         sentence += [" ", *listed(instead, MOST_NAMED), "."]
     said = {"lines": names_of(lacking), "sometimes": names_of(some), "scope": scope,
             "holding": names_of(holding), "name": text(lock),
             "locks": by_variable(locks, lock), "instead": held_of(lacking, locks)}
-    tag = ([*lines, f" {verb} without ", *name] if not some
-           else [*lines, " doesn't always hold " if len(lacking) == 1 else " don't always hold ", *name])
+    tag = [*lines, not_always(lacking) if some else f" {verb} without ", *name]
     return Fact("without", said, tag, [sentence], ["hold ", *name, " at ", *lines, "."], lock)
 
 
@@ -488,13 +483,15 @@ def sometimes(sites, racing, lock, locks, whole):
     counts = [[f"{site.guarded(lock):,} of {counted(site.total(), 'access', 'accesses')} at ",
                place(site.location)] for site in some]
     said = {"lines": {text(site.location or b""): [site.guarded(lock), site.total()] for site in some},
-            "name": text(lock),
-            "locks": by_variable(locks, lock)}
-    tag = [*lines_of(some), " doesn't always hold " if len(some) == 1 else " don't always hold ",
-           *lock_name(lock)]
-    return Fact("sometimes", said, tag,
-                [[f"In this {whole} ", *lock_name(lock), " is held at ", *listed(counts, MOST_NAMED), "."]],
-                ["hold ", *lock_name(lock), " at each access."], lock)
+            "name": text(lock), "locks": by_variable(locks, lock)}
+    name = lock_name(lock)
+    sentence = [f"In this {whole} ", *name, " is held at ", *listed(counts, MOST_NAMED), "."]
+    return Fact("sometimes", said, [*lines_of(some), not_always(some), *name], [sentence],
+                ["hold ", *name, " at each access."], lock)
+
+
+def not_always(sites):
+    return " doesn't always hold " if len(sites) == 1 else " don't always hold "
 
 
 def holds_another(site, lock):
@@ -516,8 +513,8 @@ def apart(racing, locks, whole):
     common = set.intersection(*(set(site.held()) for site in racing))
     if common:
         name = lock_name(min(common))
-        return Fact("ordered", {}, ["every access holds ", *name],
-                    [[f"In this {whole} every access holds ", *name, ": these are no races."]])
+        sentence = [f"In this {whole} every access holds ", *name, ": these are no races."]
+        return Fact("ordered", {}, ["every access holds ", *name], [sentence])
     held = [listed(map(lock_name, site.held()), MOST_NAMED) or [unlike_words(site)] for site in racing]
     holds = [[place(site.location), " holds ", *its] for site, its in zip(racing, held)]
     all_hold = all(site.held() for site in racing)
@@ -528,19 +525,18 @@ def apart(racing, locks, whole):
     private = sorted(locks.private & {lock for site in racing for lock in (*site.locks, *site.reading)})
     sentence = [f"In this {whole} ", *listed(holds, MOST_NAMED), ", and no lock is common to them."]
     only = [["One thread alone uses ", Code(lock), "."] for lock in private[:MOST_NAMED]]
-    return Fact("apart", {"lines": names_of(racing), "all_hold": all_hold, "held": held_of(racing, locks)},
-                tag,
-                [sentence, *only],
+    said = {"lines": names_of(racing), "all_hold": all_hold, "held": held_of(racing, locks)}
+    return Fact("apart", said, tag, [sentence, *only],
                 [] if private else ["hold one lock at ", *lines_of(racing), "."])
 
 
 def no_lock(sites, racing, whole):
     """No lock is held at any access."""
-    writing, writers = ([site for site in racing if site.writes()],
-                        set().union(*(site.writers for site in racing)))
-    verb, count = ("writes" if len(writing) == 1 else "write",
-                   f"{len(writers):,} threads" if len(writers) > 1 else "one thread")
+    writing = [site for site in racing if site.writes()]
     readers = [site for site in racing if not site.writes()]
+    writers = set().union(*(site.writers for site in racing))
+    verb = "writes" if len(writing) == 1 else "write"
+    count = f"{len(writers):,} threads" if len(writers) > 1 else "one thread"
     also = [", ", *lines_of(readers), " reads" if len(readers) == 1 else " read"] if readers else []
     sentence = [f"In this {whole} no lock is held at any access; {count} ",
                 "writes, at " if len(writers) == 1 else "write, at ", *lines_of(writing), "."]

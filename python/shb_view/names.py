@@ -8,11 +8,9 @@ import unicodedata
 
 MOST_MARKS = 3  # combining marks that stay with one character
 MOST_BYTES = 4 * (MOST_MARKS + 1)  # of what takes a column
-# Letters and marks that print as nothing: Unicode's Default_Ignorable_Code_Point, and the empty
-# Braille pattern.
+# Letters and marks that print as nothing: Unicode's Default_Ignorable_Code_Point, the empty Braille pattern.
 UNSEEN = frozenset(map(chr, (0x34f, 0x115f, 0x1160, 0x17b4, 0x17b5, *range(0x180b, 0x1810), 0x2800, 0x3164,
-                             *range(0xfe00, 0xfe10), 0xffa0,
-                             *range(0xe0100, 0xe01f0))))
+                             *range(0xfe00, 0xfe10), 0xffa0, *range(0xe0100, 0xe01f0))))
 ISOLATE, END = "\u2068", "\u2069"  # around a name with letters that are read from right to left
 
 

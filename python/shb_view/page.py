@@ -3,6 +3,7 @@ group's text for an issue. What page.js draws a group from stands in one element
 never become markup."""
 
 import base64
+import itertools
 import json
 import pathlib
 import shlex
@@ -99,12 +100,11 @@ def island(found):
 
 
 def header(view):
-    bad = [bad_words(view)] * (view.verdict.is_good is False)
-    verdict = [element("p", with_commands(words), class_="verdict bad") for words in bad]
+    verdict = ([element("p", with_commands(bad_words(view)), class_="verdict bad")]
+               if view.verdict.is_good is False else [])
     races, size = summary(view)
-    notes = [element("p", with_commands(note), class_="verdict good" if view.verdict.is_good and not number
-                     else "faint")
-             for number, note in enumerate(notes_of(view))]
+    kinds = itertools.chain(["verdict good"] * bool(view.verdict.is_good), itertools.repeat("faint"))
+    notes = [element("p", with_commands(note), class_=kind) for note, kind in zip(notes_of(view), kinds)]
     return element("header", *verdict, element("h1", view.title),
                    *(element("p", note, class_="verdict bad") for note in view.notes),
                    element("p", races, class_="sum"), element("p", size, class_="faint size"), *notes,
@@ -191,11 +191,11 @@ def side_data(view, section, access, tables):
         uses = [view.source.place(use.location) for pair in section.fact.pairs()
                 for use in (pair.store, pair.load)]
         atomics = {use.number for use in uses if use and use.path == found.path}
+        head = function_words(lines.head, frames, row.event.location) if lines.head else b""
         side.update(first=lines.numbers[0],
                     lines=[code_line(found.lines[number - 1].rstrip(), LINE) for number in lines.numbers],
                     hit=found.number, held=list(lines.held), atomics=sorted(atomics & set(lines.numbers)),
-                    head=code_line(function_words(lines.head, frames, row.event.location), LINE) if lines.head
-                    else "")
+                    head=code_line(head, LINE))
     return side
 
 

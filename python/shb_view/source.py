@@ -54,9 +54,9 @@ class Source:
         if not candidates:
             return None
         if len(candidates) > 1:
-            base = readable(path.split(b"/")[-1])
-            return Place(path, number, [], f"{len(candidates)} files are named {base}; --source can name the "
-                                           "folder of one of them", False)
+            fault = (f"{len(candidates)} files are named {readable(path.split(b'/')[-1])}; --source can name "
+                     "the folder of one of them")
+            return Place(path, number, [], fault, False)
         [(name, file)] = candidates
         lines, modified, fault = self.read(file)
         is_newer = modified > self.written
@@ -79,11 +79,12 @@ class Source:
                   for found in [line_of(location)] if found}
         found = [place for place in places.values() if place and place.lines]
         newer = sum(place.is_newer for place in found)
-        folders = ", ".join([*(readable(os.fsencode(folder)) for folder in self.folders),
-                             *["the recorded program"] * bool(self.recorded)])
+        folders = [readable(os.fsencode(folder)) for folder in self.folders]
+        folders += ["the recorded program"] * bool(self.recorded)
         some = f" Only {sources.MOST_FILES:,} files were looked at." if self.index.is_full() else ""
         if newer or some or len(found) < len(places):
-            yield (f"Source lines of {folders}: {len(found)} of {counted(len(places), 'file')} found, "
+            files = counted(len(places), "file")
+            yield (f"Source lines of {', '.join(folders)}: {len(found)} of {files} found, "
                    f"{newer or 'none'} newer than the trace.{some}")
 
 

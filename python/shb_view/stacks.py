@@ -35,8 +35,7 @@ def origins(view, section):
     stack. Threads, and blocks, whose stacks are told alike are told together, and neighbours in one block
     once."""
     threads = sorted({thread for site in section.sites if site.partners for thread in site.threads})
-    found = told_together("thread",
-                          "created", [(thread, view.stacks.of_thread(thread)) for thread in threads])
+    found = told_together("thread", "created", [(it, view.stacks.of_thread(it)) for it in threads])
     blocks = {OFFSET.sub(b"", name): view.stacks.of_variable(name)
               for name in map(view.kinds.in_trace, section.group.names)}
     found += told_together("block", "allocated", blocks.items())
@@ -55,8 +54,8 @@ def told_together(kind, verb, its):
     for name, frames in its:
         key = tuple(map(tuple, caller_lines(frames, len(frames))))
         found.setdefault(key, ([], frames))[0].append([Code(name)])
-    return [([f"{kind}{'s' * (len(names) > 1)} ", *listed(names, MOST_NAMED),
-              f" {'was' if len(names) == 1 else 'were'} {verb}"], frames)
+    return [([f"{kind} " if len(names) == 1 else f"{kind}s ", *listed(names, MOST_NAMED),
+              f" was {verb}" if len(names) == 1 else f" were {verb}"], frames)
             for names, frames in found.values()]
 
 
@@ -73,8 +72,9 @@ def caller_lines(frames, most):
     found = []
     for in_system, its in itertools.groupby(frames[own[0]:own[-1] + 1], lambda frame: frame.in_system):
         lines = list(map(frame_parts, its))
-        found += ([[f"({counted(len(lines), 'function')} of the system's headers or libraries)"]] if in_system
-                  and len(lines) > 1 else lines)
+        if in_system and len(lines) > 1:
+            lines = [[f"({counted(len(lines), 'function')} of the system's headers or libraries)"]]
+        found += lines
     if len(found) > most:
         found = [*found[:most - 1], [f"({len(found) - most + 1:,} more)"]]
     return found

@@ -74,8 +74,8 @@ def site_lines(view, section, site, colours):
     by = flat([" by ", *thread_parts(site)]) if site.location is not None else ""
     location = colours.red(location) if site.partners else location
     yield f"   {location}: {accesses_text(site, not view.of_run)}{by}"
-    code, source = (view.source.code(site.location),
-                    view.source.place(site.location) if site.location else None)
+    code = view.source.code(site.location)
+    source = view.source.place(site.location) if site.location else None
     if code is not None:
         yield f"     | {code_line(code, LINE)}"
     if source and source.fault:

@@ -66,8 +66,8 @@ def flat_in(most):
 
 def thread_parts(site):
     """The threads that use a line, those with most accesses first."""
-    return listed([[Code(thread)] for thread in sorted(
-        site.threads, key=lambda thread: (-site.threads[thread], thread))], MOST_THREADS)
+    threads = sorted(site.threads, key=lambda thread: (-site.threads[thread], thread))
+    return listed([[Code(thread)] for thread in threads], MOST_THREADS)
 
 
 def lock_words(site):
@@ -85,8 +85,8 @@ def lock_words(site):
     if len(names) > len(always) + len(some):
         found.append(("some", [f"and {len(names) - len(always) - len(some):,} more"]))
     if site.bare:
-        found.append(("none", [NO_LOCK]) if site.bare == total
-                     else ("some", [NO_LOCK, f" at {site.bare:,} of {total:,}"]))
+        some = f" at {site.bare:,} of {total:,}"
+        found.append(("none", [NO_LOCK]) if site.bare == total else ("some", [NO_LOCK, some]))
     if site.unknown:
         found.append(("some", [f"locks not counted at {site.unknown:,} of {total:,}"]))
     return found
@@ -166,20 +166,18 @@ def seen_parts(section):
 
 def about(section):
     """All that is said of a group before its lines, each as parts."""
-    names = section.group.variables
-    variables = [["Variables: ", *listed([[Code(name)] for name in names], MOST_VARIABLES)]] * (
-        len(names) > 1)
+    names = [[Code(name)] for name in section.group.variables]
+    variables = [["Variables: ", *listed(names, MOST_VARIABLES)]] * (len(names) > 1)
     return [*told_of(section), *seen_parts(section), *variables]
 
 
 def told_of(section):
     """What is said of a group's fact, each as parts: its sentences, and what would order the accesses."""
-    behind = [
-        ["Found behind known races, which were skipped: real if these are harmless."]] * section.is_behind
+    behind = [["Found behind known races, which were skipped: real if these are harmless."]]
     unseen = [["Perhaps ordered: code of both sides calls, or is called by, ",
                *listed([[Code(module)] for module in section.unseen], MOST_SOME),
                ", whose locks and queues aren't seen."]] * bool(section.unseen)
-    return [*behind, *unseen, *section.fact.sentences,
+    return [*behind * section.is_behind, *unseen, *section.fact.sentences,
             *[["Remedy: ", *section.fact.remedy]] * bool(section.fact.remedy)]
 
 
