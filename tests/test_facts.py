@@ -10,14 +10,13 @@ import facts_reader
 import facts_traces
 import program
 import shb
-from viewing import QUIET, asked
+from viewing import QUIET, asked, gathered_of
 
 from shb_common.report import Counts
 from shb_common.result import text
 from shb_common.stacks import Stacks
 from shb_view import result, view
 from shb_view.analyser import Verdict
-from shb_view.groups import Gathered
 from shb_view.trace import Trace
 
 MADE = int(os.environ.get("SHB_FACTS", 300))  # traces
@@ -34,9 +33,8 @@ def facts_of(trace, stacks, written=None):
         for one in (file, report, beside):
             one.flush()
         report.seek(0)
-        given = view.Given((), report, Verdict(None, ""), None)
-        counts, gathered = Counts(*shb.counts_of(shb.read_trace(trace)[0])), Gathered()
-        view.read_report(given, gathered, QUIET)
+        given = view.Given((), report, Verdict(None, ""))
+        counts, gathered = Counts(*shb.counts_of(shb.read_trace(trace)[0])), gathered_of(report)
         kinds = view.Kinds(gathered, Stacks(beside.name, counts.events))
         shown = types.SimpleNamespace(kinds=kinds, gathered=gathered)
         made = view.Subject(given, counts, 0, False, counts.events)

@@ -22,7 +22,7 @@ from shb_common import progress
 from shb_common.uses import Uses
 from shb_view import command, view
 from shb_view.analyser import Verdict
-from shb_view.groups import Gathered
+from shb_view.groups import Gathered, place_of
 from shb_view.trace import Trace
 
 MADE = 150  # traces
@@ -36,12 +36,20 @@ def sections(text, report, is_good=True):
         written.write(report)
         file.flush()
         written.seek(0)
-        given = view.Given((), written, Verdict(is_good, ""), None)
-        counts, gathered = Counts(*shb.counts_of(shb.read_trace(text)[0])), Gathered()
-        view.read_report(given, gathered, QUIET)
+        given = view.Given((), written, Verdict(is_good, ""))
+        counts, gathered = Counts(*shb.counts_of(shb.read_trace(text)[0])), gathered_of(written)
         kinds = view.Kinds(gathered, view.Stacks())
         made = view.Subject(given, counts, 0, False, counts.events)
         return view.make_sections(asked(), kinds, made, Trace(file, QUIET), gathered.groups())[1]
+
+
+def gathered_of(file):
+    """The races of an open report that has all of them."""
+    gathered, report = Gathered(), Report(file)
+    for race, accesses in report.races():
+        gathered.share(race, *accesses)
+        gathered.add(race, place_of(accesses), report.places.get(place_of(accesses), 0))
+    return gathered
 
 
 def asked(shb=None):

@@ -68,8 +68,8 @@ class Analyser:
                 self.ended(HEAD, run)
                 raise Refused(f"`shb races --list` wrote no report: {fault}") from None
 
-    def share_variables(self, take):
-        """Gives one race of each variable at each place to `take`, whatever the number of races."""
+    def list_variables(self, take):
+        """Gives the nearest race of each variable at each place to `take`, that of the place first."""
         with tempfile.TemporaryFile() as listed:
             self.write(LIST_VARIABLES, listed)
             for race, accesses in Report(listed).races():

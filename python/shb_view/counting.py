@@ -37,7 +37,7 @@ class Kinds:
         gathered.name_locals(stacks)
         self.gathered, self.stacks, self.locks = gathered, stacks, stacks.lasting_locals
         self.atomics, self.locals = gathered.atomics, gathered.locals
-        self.racing = set(map(self.in_trace, gathered.races))
+        self.racing = set(map(self.in_trace, gathered.events))
 
     def of(self, number, word, variable):
         """The word of `words.KINDS` for an event."""
@@ -77,12 +77,9 @@ class Counting:
     def __init__(self, groups, wanted, kinds, uses=None):
         """`groups` has a number for each racing variable; `wanted` are the accesses to be noted, `kinds` says
         what an access is; `uses` are those of the whole run if the trace is a part of it."""
-        self.uses = uses and uses.uses
-        self.are_apart = uses.are_apart if uses else lambda first, second: False
+        self.uses, self.are_apart = uses and uses.uses, uses and uses.are_apart
         self.groups, self.wanted, self.access_kinds = groups, wanted, kinds
-        self.lines = kinds.gathered.lines
-        self.reads, self.racing_reads = racing_reads(kinds.gathered.races)
-        self.racing = kinds.gathered.events_of(groups)
+        self.racing = kinds.gathered.accesses
         # By group, how many accesses there are of each kind: its location (None where lines aren't told apart
         # any more), thread, word of `words.KINDS`, the names of the locks held (None where they aren't
         # counted), and the variable (not of a free).
@@ -94,12 +91,13 @@ class Counting:
         # by thread: its last events
         self.recent = collections.defaultdict(lambda: collections.deque(maxlen=BEFORE))
         self.before = {}  # by group and thread: its last access
-        self.writes = {}  # by variable: its last write, and the location of that
+        self.writes = {}  # by variable: its last write
+        self.sources = {}  # by a racing read: the write that it saw, or None
         # By variable and location: the stacks of the racing accesses, or of a run of all accesses, each with
         # whether no lock is held.
         self.callers = collections.defaultdict(collections.Counter)
-        # where races write and read
-        self.seen = {sight[1:] for sight in self.racing_reads.intersection(uses.sights if uses else ())}
+        self.sights = uses.sights if uses else ()
+        self.seen = set()  # where races write and then read that, as pairs
         self.joined = {}  # by a join its thread's last event
         self.lockers = collections.defaultdict(set)  # by lock: the threads that use it
         self.begins, self.ends = {}, {}  # by thread: where it is created and joined, as `Step`
@@ -112,8 +110,9 @@ class Counting:
         self.take_all(trace)
         if self.uses is not None:
             self.take_uses()
-        if trace.count() != events or self.found != len(self.lines):
+        if trace.count() != events or self.found != len(self.racing):
             raise Refused(CHANGED)
+        self.see()
 
     def take_all(self, trace):
         groups = {word + name + b")": group for name, group in self.groups.items() for word in (b"r(", b"w(")}
@@ -122,9 +121,10 @@ class Counting:
             if number in parts:
                 self.begin_part()
             if operation[1] != OPENS:
-                if operations[operation]:
-                    held[thread].take(*operations[operation], number)
-                    self.lockers[operations[operation][1]].add(thread)
+                lock = operations[operation]
+                if lock:
+                    held[thread].take(*lock, number)
+                    self.lockers[lock[1]].add(thread)
                 elif operation.startswith(b"fork("):
                     self.begins[operation[5:-1]] = Step(thread, number, line)
                 elif operation.startswith(b"join(") and recent.get(operation[5:-1]):
@@ -141,14 +141,14 @@ class Counting:
 
     def access(self, number, thread, operation, line, group):
         word, variable, location = operation[:1], operation[2:-1], line[len(thread) + len(operation) + 2:]
-        if number in self.lines:
+        if number in self.racing:
             self.found += 1
-            if self.lines[number] != line:
+            if self.racing[number] != (thread, word, variable, location):
                 raise Refused(CHANGED)
+            if word == b"r":
+                self.sources[number] = self.writes.get(variable)
         if word == b"w":
-            self.writes[variable] = number, location
-        elif variable in self.writes:
-            self.see(number, variable, location)
+            self.writes[variable] = number
         if number in self.repeated:
             since = self.alike.get((thread, operation, location), 0)
             self.again[variable].append(Repeated(thread, word, since, number))
@@ -164,9 +164,8 @@ class Counting:
             word, of = self.access_kinds.of(number, word, variable), self.access_kinds.in_trace(variable)
             if number in self.racing and stacks.numbers:
                 self.callers[of, location][stacks.numbers[number - 1], not held.locks] += 1
-            self.count(group, Access(number, variable,
-                                     (location, thread, word, held.names(), b"" if word == b"f" else of),
-                                     stacks.free_of(number) if word == b"f" else None))
+            free, of = (stacks.free_of(number), b"") if word == b"f" else (None, of)
+            self.count(group, Access(number, variable, (location, thread, word, held.names(), of), free))
 
     def count(self, group, access):
         """Counts an access, but for what is of the same one as the event before it: a free writes each
@@ -189,10 +188,14 @@ class Counting:
             self.kinds += 1
         counts[kind] = counts.get(kind, 0) + 1
 
-    def see(self, number, variable, location):
-        write, written = self.writes[variable]
-        if (write, number) in self.reads:
-            self.seen.add((written, location))
+    def see(self):
+        """Notes the races that read what they wrote, here or, as the uses say, elsewhere in the run."""
+        for name in self.groups:
+            for race in self.access_kinds.gathered.races([name]):
+                lines = race.place if race.words[0] == b"w" else race.place[::-1]
+                if (self.sources.get(race.second) == race.first
+                    or b"r" in race.words and (name, *lines) in self.sights):
+                    self.seen.add(lines)
 
     def take_uses(self):
         """Takes the uses of the whole run. A free is one of all variables of its block: those of one
@@ -218,12 +221,3 @@ class Counting:
 
     def uses_of(self, group):
         return sites_in(self.counts[group]) if self.uses is None else self.used[group]
-
-
-def racing_reads(races):
-    """Pairs of events whose second one reads; and by variable the locations of writes and reads, as pairs."""
-    found = [(variable, place, race) for variable, its in races.items() for place, races in its.items()
-             for race in races]
-    return ({race[:2] for _, _, race in found if race.words[1] == b"r"},
-            {(variable, *(place if race.words[0] == b"w" else place[::-1]))
-             for variable, place, race in found if b"r" in race.words})

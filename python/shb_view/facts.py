@@ -243,7 +243,7 @@ def sites_of(group, uses, private):
         for location, partner in {(one, other), (other, one)}:
             if location in sites:
                 sites[location].partners[partner] = pair.races
-        for first, second in pair.orders:
+        for first, second in pair.places:
             if first in sites:
                 sites[first].later.add(second)
     order = sorted(sites.values(), key=lambda site: (site.location is None, by_numbers(site.location or b"")))

@@ -7,7 +7,6 @@ from shb_common.stacks import bare
 from shb_view.facts import RANKS, fact_of, joined, sites_of
 from shb_view.groups import ON_STACK, Group, Pair, object_of
 from shb_view.handed import MOST_RACES, handed, published, stores_of
-from shb_view.trace import event_of
 from shb_view.words import Code, listed
 
 MOST_NAMED = 3  # variables in a sentence
@@ -42,7 +41,7 @@ class Facts:
     def of_all(self, group, uses):
         """What holds of a group's uses, whichever variable they are of."""
         sites, locks = sites_of(group, uses, self.private)
-        races = self.kinds.gathered.races_of(group.names) if self.pairs else {}
+        races = self.kinds.gathered.races_at(group.names) if self.pairs else {}
         may_hand = self.pairs and not self.has_far(group)
         by = (published(races, self.pairs, lambda event: self.kinds.stacks.free_of(event) is not None)
               if may_hand else ())
@@ -56,8 +55,8 @@ class Facts:
     def has_far(self, group):
         """Whether the page's trace lacks something between the accesses of a race: then it says
         nothing of that."""
-        return any(self.are_apart(*race[:2]) for its in self.kinds.gathered.races_of(group.names).values()
-                   for race in its)
+        races = self.kinds.gathered.races(group.names) if self.are_apart else ()
+        return any(self.are_apart(race.first, race.second) for race in races)
 
     def with_gone(self, group, fact):
         """A fact, with the lines that use a local of another thread when that has the system's ones there."""
@@ -65,12 +64,12 @@ class Facts:
         if len(owners) != 1 or fact.form not in ("no-lock", "apart"):
             return fact
         [owner], lines = owners, set()
-        for race in {race for its in self.kinds.gathered.races_of(group.names).values() for race in its}:
+        for race in self.kinds.gathered.races(group.names):
             event, other = race[:2] if race.giver == owner else race[1::-1]
             local = self.kinds.stacks.local_of(race.variable, event).rpartition(b" of ")[2]
             is_of_system = local and last_name(local) in self.system_at(event)
-            if owner in race[2:4] and is_of_system and not self.system_at(other):
-                lines.add(event_of(self.kinds.gathered.lines[other]).location)
+            if owner in (race.giver, race.taker) and is_of_system and not self.system_at(other):
+                lines.add(self.kinds.gathered.accesses[other].location)
         return fact.of_gone(owner, lines) if lines else fact
 
     def system_at(self, event):
@@ -140,19 +139,18 @@ def last_name(function):
 
 def races_looked_at(group, kinds):
     """The races that a fact is of, as pairs of events."""
-    return sorted(race[:2] for its in kinds.gathered.races_of(group.names).values()
+    return sorted(race[:2] for its in kinds.gathered.races_at(group.names).values()
                   for race in its[:MOST_RACES])
 
 
 def part_of(group, names, kinds):
     """A group's races of some of its variables, by their names in the trace."""
-    pairs, gathered = [], kinds.gathered
+    pairs, races = [], collections.Counter(race.place for race in kinds.gathered.races(names))
     for pair in group.pairs:
-        races = {place: [gathered.variables[place][name] for name in names
-                         if name in gathered.variables.get(place, ())] for place in pair.orders}
-        orders = {place: sum(its) for place, its in races.items() if its}
-        if orders:
-            pairs.append(Pair(pair.locations, pair.closest, orders))
+        places = tuple(place for place in pair.places if place in races)
+        if places:
+            count = min(pair.races, sum(races[place] for place in places))  # none where they aren't counted
+            pairs.append(Pair(pair.locations, pair.closest, places, count))
     return Group(tuple(pairs), tuple(dict.fromkeys(map(kinds.name, names))), tuple(names))
 
 

@@ -1,6 +1,7 @@
 """Groups of places: pairs of lines that share a racing variable, directly or by other pairs,
 are one group."""
 
+import array
 import collections
 import re
 
@@ -15,23 +16,19 @@ IN_BLOCK = re.compile(rb"(?P<base>.+?)" + INSIDE
                       + rb"(?P<of> of .+(?::[0-9]+|\+0x[0-9a-f]+))(?P<block>#[0-9]+)", re.S)
 NAME = re.compile(rb"(?P<base>.*?)(?P<block>#[0-9]+)?" + INSIDE + rb"(?P<of>(?: of .+)?)", re.S)
 
-# A race that was read: its events, the threads of the first and the second, its variable, and whether each
-# reads or writes.
-Between = collections.namedtuple("Between", "first second giver taker variable words")
+# A race that was read: its events, its place, the threads of the first and the second, its variable, and
+# whether each reads or writes.
+Between = collections.namedtuple("Between", "first second place giver taker variable words")
 
 
 class Pair:
-    """Two lines that race, whichever comes first. `orders` has how many races each of its places has, and
-    `closest` is the listed one whose events are closest in the trace."""
+    """Two lines that race, whichever comes first. `places` are the one or two that they are, `races` how many
+    these have, and `closest` is the listed race whose events are closest in the trace."""
 
-    __slots__ = "locations", "closest", "orders"  # a trace may have very many
+    __slots__ = "locations", "closest", "places", "races"  # a trace may have very many
 
-    def __init__(self, locations, race, orders=()):
-        self.locations, self.closest, self.orders = locations, race, dict(orders)
-
-    @property
-    def races(self):
-        return sum(self.orders.values())
+    def __init__(self, locations, closest=None, places=(), races=0):
+        self.locations, self.closest, self.places, self.races = locations, closest, places, races
 
 
 class Group(collections.namedtuple("Group", "pairs variables names")):
@@ -44,7 +41,7 @@ class Group(collections.namedtuple("Group", "pairs variables names")):
 
     def count(self):
         """How many places it has."""
-        return sum(len(pair.orders) for pair in self.pairs)
+        return sum(len(pair.places) for pair in self.pairs)
 
     def locations(self):
         """The racing lines."""
@@ -59,6 +56,10 @@ class Group(collections.namedtuple("Group", "pairs variables names")):
         return {pair.locations for pair in self.pairs}
 
 
+def place_of(accesses):
+    return accesses[0].location, accesses[1].location
+
+
 def shown_first(race):
     return race.schedule is None, race.second - race.first, race.first
 
@@ -70,47 +71,62 @@ class Gathered:
         self.atomics = {}  # by a name in the trace: the atomic that it is of
         self.locals = {}  # by a variable on a stack: the local that it is
         self.pairs = {}  # by the two locations, the lesser first
-        self.above = {}  # by location pair or variable: another one of its group
-        self.lines = {}  # the line of each event that is named
-        self.races = {}  # by variable, by place: the races that were read
-        self.variables = {}  # by place: how many races each variable has, by its name in the trace
+        self.listed = []  # those with a race that may be shown, in the order of the report
+        self.above = {}  # by pair or variable: another one of its group
+        self.accesses = {}  # by event, of the races that were read
+        self.events = {}  # by variable: the two events of each of these races, one after the other
 
-    def share(self, race, first, second, races=1):
-        """Takes the variable of two racing accesses that aren't shown themselves. They count as
-        so many races."""
-        place = first.location, second.location
-        by_variable = self.variables.setdefault(place, {})
-        by_variable[first.name] = by_variable.get(first.name, 0) + races
+    def share(self, race, first, second):
+        """Takes a race of a variable, once, with its accesses."""
         atomic = atomic_of(first, second)
         if atomic:
             self.atomics[first.name] = atomic
-        self.above[self.top(atomic or first.name)] = self.top(tuple(sorted(place)))
-        its = Between(race.first, race.second, first.thread, second.thread,
-                      self.atomics.get(first.name, first.name), (first.word, second.word))
-        self.races.setdefault(first.name, {}).setdefault(place, {})[its] = None
+        self.above[self.top(atomic or first.name)] = self.top(self.pair_at(place_of((first, second))))
+        self.accesses[race.first], self.accesses[race.second] = first, second
+        if first.name not in self.events:
+            self.events[first.name] = array.array("Q")
+        self.events[first.name].extend(race[1:3])
 
-    def add(self, race, first, second, places):
-        """Takes a race and its accesses; `places` has how many races each place has, if that is known; it is
-        empty where they aren't counted."""
-        place = first.location, second.location
-        locations = tuple(sorted(place))
-        pair = self.pairs.setdefault(locations, Pair(locations, race))
-        pair.orders[place] = pair.orders.get(place, 0) + (places.pop(place, 0) if places is not None else 1)
-        pair.closest = min(pair.closest, race, key=shown_first)
-        self.share(race, first, second, 1 if places is None else 0)
-        self.lines.update({race.first: race.first_line, race.second: race.second_line})
+    def add(self, race, place, races):
+        """Takes a race that may be shown, of a place that has so many; 0 where they aren't counted."""
+        pair = self.pair_at(place)
+        if not pair.places:
+            self.listed.append(pair)
+        if not pair.places or shown_first(race) < shown_first(pair.closest):
+            pair.closest = race
+        if place not in pair.places:
+            pair.places += (place,)
+            pair.races += races
 
-    def races_of(self, names):
-        """By place: the races of these variables that were read."""
-        found = {}
+    def pair_at(self, place):
+        locations = place if place[0] <= place[1] else place[::-1]
+        if locations not in self.pairs:
+            self.pairs[locations] = Pair(locations)
+        return self.pairs[locations]
+
+    def races(self, names):
+        """The races of these variables that were read."""
         for name in names:
-            for place, races in self.races.get(name, {}).items():
-                found.setdefault(place, []).extend(races)
+            events = iter(self.events.get(name, ()))
+            for first, second in zip(events, events):
+                one, other = self.accesses[first], self.accesses[second]
+                yield Between(first, second, (one.location, other.location), one.thread, other.thread,
+                              self.atomics.get(name, name), (one.word, other.word))
+
+    def races_at(self, names):
+        """The same by place, those of each in order."""
+        found = {}
+        for race in self.races(names):
+            found.setdefault(race.place, []).append(race)
         return {place: sorted(races) for place, races in found.items()}
 
-    def events_of(self, names):
-        """The events of these races."""
-        return {event for races in self.races_of(names).values() for race in races for event in race[:2]}
+    def variables(self):
+        """By place: how many of the races that were read each variable has, by its name in the trace."""
+        found = collections.defaultdict(collections.Counter)
+        for name in self.events:
+            for race in self.races([name]):
+                found[race.place][name] += 1
+        return found
 
     def top(self, one):
         """What stands for the group of a pair or a variable."""
@@ -122,23 +138,23 @@ class Gathered:
     def name_locals(self, stacks):
         """Takes the names of locals: of a variable that is the same one at all events of its races."""
         found = {}
-        for name in self.races:
+        for name, events in self.events.items():
             variable = self.atomics.get(name, name)
             if variable in stacks.locals:
                 found.setdefault(variable, set()).update(stacks.local_of(variable, event)
-                                                         for event in self.events_of([name]))
+                                                         for event in set(events))
         self.locals = {variable: names.pop() for variable, names in found.items() if len(names) == 1
                        and b"" not in names}
 
     def groups(self):
         """The groups, in the order in which the report names them."""
         found = {}
-        for pair in self.pairs.values():
-            found.setdefault(self.top(pair.locations), ([], [], []))[0].append(pair)
+        for pair in self.listed:
+            found.setdefault(self.top(pair), ([], [], []))[0].append(pair)
         for name in self.above:
             if isinstance(name, bytes):
                 found[self.top(name)][1].append(self.locals.get(name, name))
-        for name in self.races:
+        for name in self.events:
             found[self.top(self.atomics.get(name, name))][2].append(name)
         return [Group(tuple(pairs), tuple(dict.fromkeys(variables)), tuple(names))
                 for pairs, variables, names in found.values()]

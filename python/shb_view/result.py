@@ -2,6 +2,7 @@
 
 from shb_common import result
 from shb_common.programs import naming
+from shb_common.variables import without_block
 from shb_view.facts import blamed_of
 from shb_view.group_facts import races_looked_at
 from shb_view.issue import flat
@@ -14,8 +15,9 @@ def document(view):
     """The places of the groups that are shown, as `result.document` has them."""
     pairs = [(number, section, pair) for number, section in enumerate(view.sections, 1)
              for pair in section.group.pairs]
+    variables = view.kinds.gathered.variables()
     origin, names = naming(view.stacks, {location for _, _, pair in pairs for location in pair.locations})
-    places = [{**entry(view, section, pair, origin, names), "group": number}
+    places = [{**entry(view, section, pair, origin, names, variables), "group": number}
               for number, section, pair in pairs]
     races = {} if view.of_run else {"races": view.made.races}
     summary = {**races, "places": view.pairs, "groups": view.groups, **view.made.counts._asdict()}
@@ -24,8 +26,9 @@ def document(view):
                            groups=[group_entry(view, section) for section in view.sections])
 
 
-def entry(view, section, pair, origin, names):
-    """Two lines that race: what the trace has at their locations, and what is said of their group."""
+def entry(view, section, pair, origin, names, variables):
+    """Two lines that race: what the trace has at their locations, and what is said of their group.
+    `variables` are those of each place, as `Gathered.variables` has them."""
     sites, accesses = {site.location: site for site in section.sites}, []
     blamed = blamed_of(section.fact, pair.locations)
     for location in pair.locations:
@@ -38,11 +41,24 @@ def entry(view, section, pair, origin, names):
         found["stacks"] = [stack_entry(frames, count) for (frames, _),
                            count in section.callers.get(location, ())[:MOST_STACKS] if frames]
         accesses.append(found)
-    return {"places": len(pair.orders), "accesses": accesses, "variables": view.variables(pair),
+    return {"places": len(pair.places), "accesses": accesses,
+            "variables": variables_of(view, pair, variables),
             **({} if view.of_run else {"races": pair.races}),
             **({"blamed": named(blamed, origin, names)} if blamed else {}),
             "headline": flat(section.fact.tag), "remedy": flat(section.fact.remedy),
             "facts": [flat(parts) for parts in told_of(section)]}
+
+
+def variables_of(view, pair, variables):
+    """The variables that race at two lines, each with how many races it has where they are counted."""
+    found = {}
+    for place in pair.places:
+        for name, races in variables[place].items():
+            name = result.text(without_block(view.kinds.name(name)))
+            found[name] = found.get(name, 0) + races
+    if view.of_run or view.made.is_sample:
+        return [{"name": name} for name in sorted(found)]
+    return [{"name": name, "races": races} for name, races in sorted(found.items())]
 
 
 def named(location, origin, names):

@@ -10,7 +10,7 @@ from shb_common.report import Report
 from shb_common.variables import without_end
 from shb_common.words import Refused
 from shb_view.analyser import Analyser
-from shb_view.trace import OPENS, event_of
+from shb_view.trace import OPENS, event_of, line_of
 from shb_view.words import listed, place
 
 MOST_LINES = 400_000  # of all copies
@@ -41,13 +41,13 @@ def move_of(found, counting):
     """The move of a thread's only accesses that would order the races of a group, or None: an access that
     comes after its thread creates the others that race with it, or before it joins them."""
     gathered = counting.access_kinds.gathered
-    races = {race for its in gathered.races_of(found.group.names).values() for race in its}
-    family = family_of(races, counting.begins)
+    races = gathered.races(found.group.names)
+    family = family_of({(race.giver, race.taker) for race in races}, counting.begins)
     if not family:
         return None
     creator, others = family
     sides = {(race.first, race.words[0]) if race.giver == creator else (race.second, race.words[1])
-             for race in races}
+             for race in gathered.races(found.group.names)}
     events, words = sorted({event for event, _ in sides}), {word for _, word in sides}
     sites = [its.values() for its in found.uses.variables.values()]
     repeating = {one.thread for name in found.group.names for one in counting.again.get(name, ())}
@@ -62,19 +62,19 @@ def move_of(found, counting):
         event, where = step.event, " before the thread's creation at "
     if not step:
         return None
-    lines = [gathered.lines[event] for event in events]
-    at = [[place(location)] for location in dict.fromkeys(event_of(line).location for line in lines)]
+    moved = [gathered.accesses[event] for event in events]
+    at = [[place(location)] for location in dict.fromkeys(access.location for access in moved)]
     remedy = ["move ", *listed(at, MOST_NAMED), where, place(event_of(without_end(step.line)).location), "."]
-    return Change(set(found.group.names), {event: lines}, set(events), remedy)
+    return Change(set(found.group.names), {event: list(map(line_of, moved))}, set(events), remedy)
 
 
-def family_of(races, begins):
-    """The thread that created all others of some races and is in each race, and these others; or None."""
-    threads = {thread for race in races for thread in (race.giver, race.taker)}
+def family_of(pairs, begins):
+    """The thread that created all others of some pairs and is in each, and these others; or None."""
+    threads = {thread for pair in pairs for thread in pair}
     for creator in {begins[thread].thread for thread in threads if thread in begins} & threads:
         others = threads - {creator}
         are_created = all(other in begins and begins[other].thread == creator for other in others)
-        if are_created and all(creator in (race.giver, race.taker) for race in races):
+        if are_created and all(creator in pair for pair in pairs):
             return creator, others
     return None
 

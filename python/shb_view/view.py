@@ -9,7 +9,6 @@ import tempfile
 
 from shb_common.analyser import FULL, VARIABLES
 from shb_common.report import Report, in_order
-from shb_common.result import text
 from shb_common.stacks import BadStacks, Stacks
 from shb_common.variables import without_block
 from shb_common.words import Refused
@@ -17,7 +16,7 @@ from shb_view.analyser import MOST_LISTED, Analyser, Verdict
 from shb_view.counting import Counting, Kinds
 from shb_view.facts import RANKS
 from shb_view.group_facts import Facts, merged_groups
-from shb_view.groups import Gathered
+from shb_view.groups import Gathered, place_of
 from shb_view.names import by_numbers, readable
 from shb_view.source import Source
 from shb_view.stacks import Damaged, perhaps_ordered
@@ -33,8 +32,8 @@ OWN = Verdict(None, "")  # `check` finds each report of `shb` good
 TOO_LONG = Verdict(None, "No schedules were made, since they would take over 100 MB.")
 
 
-class Given(collections.namedtuple("Given", "words file verdict places")):
-    """What `shb` wrote by these words. `places` has the races of each place, if one of each is listed."""
+class Given(collections.namedtuple("Given", "words file verdict")):
+    """What `shb` wrote by these words."""
 
     def order(self, race, events):
         """Some events in the order of a race's schedule, with that, if it may be shown; else as they are."""
@@ -42,7 +41,7 @@ class Given(collections.namedtuple("Given", "words file verdict places")):
         return in_order(self.file, race, events) if is_known and race.schedule is not None else (events, None)
 
 
-NO_REPORT = Given((), None, OWN, None)
+NO_REPORT = Given((), None, OWN)
 
 
 # The races of a trace with so many events, and how many these are. Of a sample (`is_sample`) one race of each
@@ -77,17 +76,6 @@ class View(collections.namedtuple("View", "title made pairs groups sections sour
     @property
     def verdict(self):
         return self.made.given.verdict
-
-    def variables(self, pair):
-        """The variables that race at two lines, each with how many races it has where they are counted."""
-        found = {}
-        for place in pair.orders:
-            for name, races in self.kinds.gathered.variables.get(place, {}).items():
-                name = text(without_block(self.kinds.name(name)))
-                found[name] = found.get(name, 0) + races
-        if self.of_run or self.made.is_sample:
-            return [{"name": name} for name in sorted(found)]
-        return [{"name": name, "races": races} for name, races in sorted(found.items())]
 
 
 def are_at(places, section):
@@ -143,24 +131,30 @@ def analysed(shb, file, gathered, progress, room):
 
     def take(race, *accesses):
         gathered.share(race, *accesses)
-        place = tuple(access.location for access in accesses)
-        before, *_ = nearest.setdefault(place, (race, *accesses))
-        if (race.second, -race.first) < (before.second, -before.first):
-            nearest[place] = race, *accesses
+        its = nearest.setdefault(place_of(accesses), race)
+        if (race.second, -race.first) < (its.second, -its.first):
+            nearest[place_of(accesses)] = race
+
+    def take_nearest(race, *accesses):
+        """Of a place the first one is the nearest. These may be very many, so none is kept here."""
+        gathered.share(race, *accesses)
+        place = place_of(accesses)
+        if is_long and place in head.places:
+            gathered.add(race, place, head.places.pop(place))
 
     head = analyser.head(take)
-    is_sample = head.count > MOST_LISTED
+    is_sample, given = head.count > MOST_LISTED, NO_REPORT
+    is_long = len(head.places) * head.counts.events * NUMBER > MOST_REPORT
     if is_sample:
-        analyser.share_variables(take)
-    given = NO_REPORT._replace(verdict=TOO_LONG, places=head.places)
-    if len(head.places) * head.counts.events * NUMBER <= MOST_REPORT:
-        given = Given(FULL, room.enter_context(tempfile.TemporaryFile()), OWN, head.places)
-    if head.count and given.file:
+        analyser.list_variables(take_nearest)
+    if is_long:
+        given = NO_REPORT._replace(verdict=TOO_LONG)
+        for place, race in sorted(nearest.items(), key=lambda it: (it[1].second, it[1].first)):
+            gathered.add(race, place, head.places[place])
+    elif head.count:
+        given = Given(FULL, room.enter_context(tempfile.TemporaryFile()), OWN)
         analyser.write(FULL, given.file)
-        read_report(given, gathered, progress)
-    else:
-        for its in sorted(nearest.values(), key=lambda it: (it[0].second, it[0].first)):
-            gathered.add(*its, head.places)
+        read_report(given, gathered, head.places, progress)
     return Subject(given, head.counts, head.count, is_sample, head.counts.events)
 
 
@@ -173,7 +167,8 @@ def of_run(run, asked, file, gathered, room):
     given, found = schedules(asked.shb, file, near, room) if near and asked.has_windows else (NO_REPORT, {})
     of_near = {(race.first, race.second): found.get((race.first, race.second), race) for race, _ in near}
     for race, accesses in races:
-        gathered.add(of_near.get((race.first, race.second), race), *accesses, {})
+        gathered.share(race, *accesses)
+        gathered.add(of_near.get((race.first, race.second), race), place_of(accesses), 0)
     return Subject(given, run.counts, len(races), False, run.uses.count, run.uses)
 
 
@@ -182,14 +177,14 @@ def schedules(shb, file, races, room):
     races by their events: those of each variable at each place, or of each place alone if these would be too
     long. A schedule has events before the second access alone."""
     most, every = MOST_REPORT // NUMBER, sum(race.second for race, _ in races)
-    ends = {tuple(access.location for access in accesses): race.second for race, accesses in races}
+    ends = {place_of(accesses): race.second for race, accesses in races}
     if sum(ends.values()) > most:
         return NO_REPORT._replace(verdict=TOO_LONG), {}
     words = VARIABLES if every <= most else FULL
     analyser, report = Analyser(shb, file), room.enter_context(tempfile.TemporaryFile())
     try:
         analyser.write(words, report)
-        given = Given(words, report, analyser.check(report), None)
+        given = Given(words, report, analyser.check(report))
         good = Report(report).races() if given.verdict.is_good else ()
         return given, {(race.first, race.second): race for race, _ in good}
     except Refused as fault:
@@ -222,11 +217,12 @@ def open_regular(path):
     return open(path, "rb")
 
 
-def read_report(given, gathered, progress):
-    """Gathers the races of a report."""
+def read_report(given, gathered, places, progress):
+    """Gathers the nearest races of a report; `places` has how many each place has."""
     size, report = os.fstat(given.file.fileno()).st_size, Report(given.file)
     for race, accesses in report.races():
-        gathered.add(race, *accesses, given.places)
+        place = place_of(accesses)
+        gathered.add(race, place, places[place])
         progress.step("reading the report", report.lines.bytes, size)
 
 
