@@ -42,8 +42,8 @@ class Analyser:
         said = short(without_note(answer.said).rstrip(b"\n"), MOST_SAID)
         if answer.status == REFUSED and said:
             raise Refused(f"`shb` refuses the trace: {said}{self.refused_line(said)}")
-        how = (f"was ended by signal {-answer.status}" if answer.status < 0 else "ended with status "
-               f"{answer.status}")
+        how = (f"was ended by signal {-answer.status}" if answer.status < 0
+               else f"ended with status {answer.status}")
         raise Refused(f"`shb {' '.join(words)}` {how}{': ' if said else ''}{said}")
 
     def refused_line(self, said):

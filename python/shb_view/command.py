@@ -95,9 +95,9 @@ def write_text(view, out, progress, is_whole=False, has_notes=True):
 def try_target(path, trace):
     """Refuses a file to be written that is the trace, no file, or in a folder that takes none."""
     if os.path.exists(path) and os.path.exists(trace) and os.path.samefile(path, trace):
-        raise Refused(f"the page would take the place of {readable(os.fsencode(trace))}")
+        raise Refused(f"the page would take the place of {readable(trace)}")
     if os.path.exists(path) and not os.path.isfile(path):
-        raise Refused(f"{readable(os.fsencode(path))} isn't a regular file")
+        raise Refused(f"{readable(path)} isn't a regular file")
     with faults_of(path), temporary_file(os.path.dirname(os.path.abspath(path))):
         pass
 

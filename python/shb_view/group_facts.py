@@ -41,10 +41,9 @@ class Facts:
     def of_all(self, group, uses):
         """What holds of a group's uses, whichever variable they are of."""
         sites, locks = sites_of(group, uses, self.private)
-        races = self.kinds.gathered.races_at(group.names) if self.pairs else {}
         may_hand = self.pairs and not self.has_far(group)
-        by = (published(races, self.pairs, lambda event: self.kinds.stacks.free_of(event) is not None)
-              if may_hand else ())
+        races = self.kinds.gathered.races_at(group.names) if may_hand else {}
+        by = published(races, self.pairs, lambda event: self.kinds.stacks.free_of(event) is not None)
         fact, pairs = fact_of(sites, locks, self.whole, by), [pair for pair, _ in by]
         if fact.form == "published":
             fact = fact._replace(handed=((group.names, pairs),))
@@ -119,16 +118,14 @@ class Facts:
     def mixed(self, parts):
         """What is said of a group whose variables differ: of each part its fact."""
         names = [listed([[Code(name)] for name in one.group.variables], MOST_NAMED) for one in parts]
-        said = [{"form": one.fact.form, "group": list(map(text, one.group.names)), **one.fact.said,
-                 "all_races": races_looked_at(one.group, self.kinds),
-                 "pairs": [list(map(text, pair)) for pair in sorted(one.group.places())]} for one in parts]
+        said = [fact_entry(one, self.kinds) for one in parts]
         sentences = [[*its, ": ", *sentence] for its, one in zip(names, parts)
                      for sentence in one.fact.sentences]
         remedy = [part for its, one in zip(names, parts) if one.fact.remedy
                   for part in ("Of ", *its, ": ", *one.fact.remedy, " ")][:-1]
         first = parts[0].fact
-        return first._replace(form="mixed", said={"parts": said}, tag=[
-            *first.tag, " (", *names[0], "; others differ)"], sentences=sentences, remedy=remedy,
+        tag = [*first.tag, " (", *names[0], "; others differ)"]
+        return first._replace(form="mixed", said={"parts": said}, tag=tag, sentences=sentences, remedy=remedy,
                               handed=sum((one.fact.handed for one in parts), ()))
 
 
@@ -137,10 +134,13 @@ def last_name(function):
     return bare(function).rpartition(b"::")[2]
 
 
-def races_looked_at(group, kinds):
-    """The races that a fact is of, as pairs of events."""
-    return sorted(race[:2] for its in kinds.gathered.races_at(group.names).values()
-                  for race in its[:MOST_RACES])
+def fact_entry(one, kinds):
+    """The fact of a group, as programs read it: with its variables, the races that were looked at and its
+    pairs of lines."""
+    races = kinds.gathered.races_at(one.group.names).values()
+    return {"form": one.fact.form, "group": list(map(text, one.group.names)), **one.fact.said,
+            "all_races": sorted(race[:2] for its in races for race in its[:MOST_RACES]),
+            "pairs": [list(map(text, pair)) for pair in sorted(one.group.places())]}
 
 
 def part_of(group, names, kinds):

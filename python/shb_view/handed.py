@@ -40,8 +40,8 @@ def handed(uses, has_frees, locals):
             for store in chain.values():
                 if (store.thread != use.thread and not (store.gives() and use.takes())
                     and (has_frees or store.kind != use.kind)):
-                    passed = Handed(store, use, fence, locals.get(use.name, use.name))
-                    found[store.thread, use.thread].append(passed)
+                    pair = Handed(store, use, fence, locals.get(use.name, use.name))
+                    found[store.thread, use.thread].append(pair)
         if use.kind == b"store":
             chains[use.name] = {way: use}
         elif use.kind == b"update":

@@ -55,8 +55,8 @@ def access_lines(view, window, access):
         yield f"    {NO_LOCK}"
     if fork:
         start = window.events[fork].event
-        yield (f"    thread started by {flat([Code(start.thread), ' at ', place(start.location)])} (event "
-               f"{fork})")
+        by = flat([Code(start.thread), " at ", place(start.location)])
+        yield f"    thread started by {by} (event {fork})"
     yield from stack_lines(view.stacks.of_thread(event.thread))
 
 
@@ -73,7 +73,7 @@ def order_text(view, window):
     if window.schedule is None:
         of_run = of_run or "No schedule of this race is at hand"
         return f"{of_run}: events are shown in the order of the trace."
-    of = f"`shb check` found the schedule of race {window.race.number} good" if view.verdict.is_good else (
-        f"`shb places` has a schedule of it, race {window.race.number}")
+    of = (f"`shb check` found the schedule of race {window.race.number} good" if view.verdict.is_good
+          else f"`shb places` has a schedule of it, race {window.race.number}")
     its = counted(window.schedule.length, "event") + " of the page's trace" * view.of_run
     return f"{of}: after its {its} both accesses can execute next." + f" {of_run}." * bool(of_run)

@@ -3,6 +3,7 @@ the same only where they are the same: what doesn't print, what can't be seen an
 as an escape, and so is a backslash."""
 
 import functools
+import os
 import re
 import unicodedata
 
@@ -16,8 +17,8 @@ ISOLATE, END = "\u2068", "\u2069"  # around a name with letters that are read fr
 
 @functools.lru_cache(maxsize=1024)
 def readable(name):
-    """The whole name as text."""
-    return isolated(characters(name))
+    """The whole name, or a path, as text."""
+    return isolated(characters(os.fsencode(name)))
 
 
 @functools.lru_cache(maxsize=4096)

@@ -4,7 +4,7 @@ from shb_common import result
 from shb_common.programs import naming
 from shb_common.variables import without_block
 from shb_view.facts import blamed_of
-from shb_view.group_facts import races_looked_at
+from shb_view.group_facts import fact_entry
 from shb_view.issue import flat
 from shb_view.words import KINDS, notes_of, told_of
 
@@ -68,15 +68,12 @@ def named(location, origin, names):
 
 
 def group_entry(view, section):
-    """The fact of a group, with its pairs of lines, the variables and the races that were looked at; of
-    variables on stacks the locals that they are."""
+    """The fact of a group, with what else is known of its race; of variables on stacks the locals that they
+    are."""
     names, locals = section.group.names, view.kinds.locals
     unseen = {"perhaps_ordered_by": list(map(result.text, section.unseen))} if section.unseen else {}
-    return {"form": section.fact.form, "group": [result.text(name) for name in names], **section.fact.said,
-            **unseen,
-            **schedule_entry(view, section.window), "all_races": races_looked_at(section.group, view.kinds),
-            "locals": {result.text(name): result.text(locals[name]) for name in names if name in locals},
-            "pairs": [list(map(result.text, pair)) for pair in sorted(section.group.places())]}
+    return {**fact_entry(section, view.kinds), **unseen, **schedule_entry(view, section.window),
+            "locals": {result.text(name): result.text(locals[name]) for name in names if name in locals}}
 
 
 def schedule_entry(view, window):
@@ -97,7 +94,6 @@ def site_entry(site):
 
 
 def stack_entry(frames, count):
-    return {"accesses": count,
-            "frames": [{"function": result.text(frame.function), "location": result.text(frame.location),
-                                            **({"in_system": True} if frame.in_system else {})}
-                                          for frame in frames[:MOST_FRAMES]]}
+    its = [{"function": result.text(frame.function), "location": result.text(frame.location),
+            **({"in_system": True} if frame.in_system else {})} for frame in frames[:MOST_FRAMES]]
+    return {"accesses": count, "frames": its}

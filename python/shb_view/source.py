@@ -18,7 +18,7 @@ HEAD = re.compile(rb"[A-Za-z_$]")  # what the first line of a function begins wi
 
 # Lines around a place. `head` is the first line of its function, nothing if that is the place; `held` are the
 # numbers of the lines from the acquire of a lock to the place, if both are in one function.
-Excerpt = collections.namedtuple("Excerpt", "place head numbers held")
+Excerpt = collections.namedtuple("Excerpt", "head numbers held")
 
 
 class Place(collections.namedtuple("Place", "path number lines fault is_newer")):
@@ -39,7 +39,7 @@ class Source:
         self.read = functools.lru_cache(maxsize=64)(sources.read_lines)
         for folder in folders:
             if not os.path.isdir(folder):
-                raise Refused(f"--source: {readable(os.fsencode(folder))} isn't a folder")
+                raise Refused(f"--source: {readable(folder)} isn't a folder")
         self.index = sources.Index(folders)
 
     def place(self, location):
@@ -79,8 +79,7 @@ class Source:
                   for found in [line_of(location)] if found}
         found = [place for place in places.values() if place and place.lines]
         newer = sum(place.is_newer for place in found)
-        folders = [readable(os.fsencode(folder)) for folder in self.folders]
-        folders += ["the recorded program"] * bool(self.recorded)
+        folders = [*map(readable, self.folders), *["the recorded program"] * bool(self.recorded)]
         some = f" Only {sources.MOST_FILES:,} files were looked at." if self.index.is_full() else ""
         if newer or some or len(found) < len(places):
             files = counted(len(places), "file")
@@ -117,4 +116,4 @@ def excerpt(place, acquire):
         if acquire.number >= place.number - REACH:
             top = min(top, acquire.number)
     numbers = range(max(top, 1), min(place.number + AFTER, len(place.lines)) + 1)
-    return Excerpt(place, place.lines[head - 1] if 0 < head < place.number else b"", numbers, held)
+    return Excerpt(place.lines[head - 1] if 0 < head < place.number else b"", numbers, held)

@@ -107,10 +107,10 @@ def view_of(file, made, kinds, asked, progress, unseen={}):
     groups = kinds.gathered.groups()
     trace = Trace(file, progress, made.uses.parts if made.uses else ())
     count, sections = make_sections(asked, kinds, made, trace, groups, unseen)
-    title = readable(os.fsencode(asked.title or os.path.basename(file.name)))
+    title = readable(asked.title or os.path.basename(file.name))
     source = Source(asked.sources, os.fstat(file.fileno()).st_mtime,
                     kinds.stacks.sources if asked.has_recorded else {})
-    notes = [*(readable(os.fsencode(line)) for line in asked.notes), *warnings(file.name)]
+    notes = [*map(readable, asked.notes), *warnings(file.name)]
     return View(title, made, sum(group.count() for group in groups), count, sections, source, notes,
                 kinds.stacks, kinds)
 
@@ -120,9 +120,8 @@ def with_run(view, run):
     sections = [section._replace(is_asked_for=run.new is None or are_at(run.new, section),
                                  is_behind=are_at(run.behind, section))
                 for section in view.sections]
-    about, turns, command = ([readable(os.fsencode(line)) for line in its]
-                             for its in (run.about, [run.turns], [run.command]))
-    return view._replace(sections=sections, about=about, turns=turns[0], command=command[0])
+    return view._replace(sections=sections, about=list(map(readable, run.about)), turns=readable(run.turns),
+                         command=readable(run.command))
 
 
 def analysed(shb, file, gathered, progress, room):
@@ -196,7 +195,7 @@ def judge_of(made, path):
     if not made.given.words:
         return ""
     path = os.path.abspath(path) if os.path.relpath(path).startswith("..") else os.path.relpath(path)
-    path = shlex.quote(readable(os.fsencode(path)))
+    path = shlex.quote(readable(path))
     return f"shb {' '.join(made.given.words)} {path} | shb check {path}"
 
 
@@ -206,13 +205,13 @@ def damage_of(path):
     try:
         yield
     except BadStacks as fault:
-        raise Damaged(f"{readable(os.fsencode(path))} {fault}") from None
+        raise Damaged(f"{readable(path)} {fault}") from None
 
 
 def open_regular(path):
     """A file that can be read as often as is needed, which - as a name of standard input isn't."""
     if path == "-" or not stat.S_ISREG(os.stat(path).st_mode):
-        raise Refused(f"{readable(os.fsencode(path))} isn't a regular file: the trace is read more than "
+        raise Refused(f"{readable(path)} isn't a regular file: the trace is read more than "
                       "once, so save it to a file")
     return open(path, "rb")
 
